@@ -1,0 +1,37 @@
+-- The ways in which the laws go by cases of a test. They know no ring.
+-- Assumes nothing.
+use Prim.Native.Nat.{ℕ, suc, _≤_, _<_}
+use mathlib.Core.Path.{_≡_, refl, sym, subst}
+use mathlib.Core.Bool.{Bool, true, false, cond, _&&_, false≢true}
+use mathlib.Core.Logic.{_⊎_, inl, inr, ⊎-elim}
+use native.Mathlib.Nat.{eq-or-lt-of-le, le-of-suc-le-suc}
+use native.Mathlib.Omega.{arith}
+use lib.Dec.{leb}
+use borrow.Author.Tests.{leb-true, leb-false}
+
+-- What holds in either case of a test holds of what the test picks.
+pub by-test {ℓ} : {A : Type 0} (P : A → Type ℓ) (t : Bool) {x y : A} → (t ≡ true → P x) → (t ≡ false → P y) → P (cond t x y)
+by-test P true a b = a refl
+by-test P false a b = b refl
+
+-- Both tests of a conjunction are true where it is.
+pub and-true : (a b : Bool) → (a && b) ≡ true → (a ≡ true) × (b ≡ true)
+and-true true b e = (refl, e)
+and-true false b e = absurd (false≢true e)
+
+-- A conjunction with a true first test is its second test.
+pub and-yes : (a b : Bool) → a ≡ true → (a && b) ≡ b
+and-yes true b e = refl
+and-yes false b e = absurd (false≢true e)
+
+-- A number is at most another, or above it.
+pub le-or-lt : (a b : ℕ) → (a ≤ b) ⊎ (b < a)
+le-or-lt a b = go (leb a b) refl
+  where
+    go : (t : Bool) → leb a b ≡ t → (a ≤ b) ⊎ (b < a)
+    go true e = inl (leb-true a b e)
+    go false e = inr (leb-false a b e)
+
+-- What holds below n and at n holds below n + 1.
+pub below-suc : (P : ℕ → Type 0) (n : ℕ) → ((s : ℕ) → s < n → P s) → P n → (s : ℕ) → s < suc n → P s
+below-suc P n h e s l = ⊎-elim (λ q. subst P (sym q) e) (h s) (eq-or-lt-of-le (le-of-suc-le-suc l))

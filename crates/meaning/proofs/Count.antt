@@ -1,0 +1,43 @@
+-- Laws of `count`: a range is split, moved along, and bounded by its length. Induction on the length.
+-- Assumes nothing.
+use Prim.Native.Nat.{ℕ, zero, suc, _+_, _≤_}
+use mathlib.Core.Path.{_≡_, refl, sym, ap, _∙_}
+use mathlib.Core.Bool.{Bool, true, false}
+use native.Mathlib.Nat.{add-zero, zero-add, add-suc, suc-add}
+use native.Mathlib.Numerals.{add-one}
+use native.Mathlib.Omega.{arith}
+use Rattle.meaning.specs.Numbers.{oneIf, count}
+
+-- A count over x + y numbers is that over the first x and that over the other y.
+pub count-split : (p : ℕ → Bool) (a x y : ℕ) → count p a (x + y) ≡ count p a x + count p (a + x) y
+unfolding count
+count-split p a zero y = rw (zero-add y, add-zero a, zero-add)
+count-split p a (suc x) y =
+    ap (count p a) (suc-add x y) ∙ ap (λ (n : ℕ). oneIf (p a) + n) (count-split p (suc a) x y)
+    ∙ rw (suc-add a x, ← add-suc a x) (omega arith)
+
+-- One number more at the end.
+pub count-last : (p : ℕ → Bool) (a n : ℕ) → count p a (suc n) ≡ count p a n + oneIf (p (a + n))
+unfolding count
+count-last p a n = ap (count p a) (sym (add-one n)) ∙ count-split p a n 1 ∙ omega arith
+
+-- The same test, moved along by d.
+pub count-shift : (p p′ : ℕ → Bool) (d : ℕ) → ((x : ℕ) → p x ≡ p′ (d + x)) → (a n : ℕ) → count p a n ≡ count p′ (d + a) n
+unfolding count
+count-shift p p′ d h a zero = refl
+count-shift p p′ d h a (suc n) = rw (h a, count-shift p p′ d h (suc a) n, add-suc d a)
+
+-- One or none.
+pub oneIf-le : (t : Bool) → oneIf t ≤ 1
+oneIf-le true = omega arith
+oneIf-le false = omega arith
+
+-- A count is at most the length of its range.
+pub count-le : (p : ℕ → Bool) (a n : ℕ) → count p a n ≤ n
+unfolding count
+count-le p a zero = omega arith
+count-le p a (suc n) = omega (arith, oneIf-le (p a), count-le p (suc a) n)
+
+-- Part of a range counts no more than the whole.
+pub count-part-le : (p : ℕ → Bool) (a x v y : ℕ) → count p (a + x) v ≤ count p a (x + v + y)
+count-part-le p a x v y = omega (arith, count-split p a (x + v) y, count-split p a x v)

@@ -1,0 +1,109 @@
+-- Demand 2, of the definitions: a finding is in the list exactly when `IsFinding` says so, and a start has one exactly when some rotation
+-- differs in at most k places. The list is a run of `foundAt` over the places, so membership comes from one of them; the lowest rotation is
+-- unique, so what `IsFinding` describes is what `findingAt` computes.
+-- Assumes nothing.
+use Prim.Native.Nat.{ℕ, zero, suc, _+_, _≤_, _<_}
+use mathlib.Core.Path.{_≡_, refl, sym, ap, _∙_, subst}
+use mathlib.Core.Logic.{_↔_, ⊎-elim}
+use mathlib.Core.List.{List, [], _∷_, _++_, List·Memᴰ, List·Memᴰ·head, List·Memᴰ·not-nil, List·Memᴰ·append-cases, Memᴰ·append-left, Memᴰ·append-right, Memᴰ·cast}
+use native.Mathlib.Nat.{eq-or-lt-of-le, le-of-suc-le-suc}
+use native.Mathlib.Omega.{arith}
+use lib.ListN.{length}
+use Rattle.meaning.specs.Meanings.{IsStart, distance, lowestRotation, leastDistance}
+use Rattle.meaning.specs.Findings.{Finding, IsFinding, findingAt, foundAt, findingsBelow, findings}
+use Rattle.meaning.proofs.Lowest.{IsLowest, lowest-unique}
+use Rattle.meaning.proofs.Places.{lowestRotation-is, found-yes, found-mem}
+
+module _ (ring line : List ℕ) (k : ℕ) where
+  -- What is in the list below n comes from a place below n.
+  below-mem : (n : ℕ) (f : Finding) → List·Memᴰ f (findingsBelow ring line k n)
+      → (f ≡ findingAt ring line (f .start)) × IsStart ring line (f .start) × (leastDistance ring line (f .start) ≤ k)
+  unfolding findingsBelow
+  below-mem zero f h = absurd (List·Memᴰ·not-nil h)
+  below-mem (suc n) f h =
+      ⊎-elim
+      (λ m. below-mem n f m)
+      (λ m.
+      let r = found-mem ring line k n f m in
+      let at : n ≡ f .start = sym (ap (λ (g : Finding). g .start) (r .0)) in
+      subst (λ (i : ℕ). (f ≡ findingAt ring line i) × IsStart ring line i × (leastDistance ring line i ≤ k)) at r)
+      (List·Memᴰ·append-cases (findingsBelow ring line k n) h)
+
+  -- A place below n that is a start and near enough has its finding in the list.
+  mem-below : (n i : ℕ) → i < n → i + length ring ≤ length line → leastDistance ring line i ≤ k
+      → List·Memᴰ (findingAt ring line i) (findingsBelow ring line k n)
+  unfolding findingsBelow
+  mem-below zero i l s h = absurd (omega arith)
+  mem-below (suc n) i l s h =
+      ⊎-elim
+      (λ q.
+      let here : List·Memᴰ (findingAt ring line i) (foundAt ring line k i) =
+      rw (found-yes ring line k i s h) (List·Memᴰ·head refl)
+      in
+      Memᴰ·append-right (findingsBelow ring line k n) (subst (λ (j : ℕ). List·Memᴰ (findingAt ring line i) (foundAt ring line k j)) q here))
+      (λ m. Memᴰ·append-left (foundAt ring line k n) (mem-below n i m s h))
+      (eq-or-lt-of-le (le-of-suc-le-suc l))
+
+  module _ (pos : 0 < length ring) where
+    -- What is in the list is a finding.
+    findings-yes : (f : Finding) → List·Memᴰ f (findings ring line k) → IsFinding ring line k f
+    findings-yes f h =
+        let r = below-mem (length line) f h in
+        let i : ℕ = f .start in
+        let low = lowestRotation-is ring line pos i in
+        let rotation : f .rotation ≡ lowestRotation ring line i = ap (λ (g : Finding). g .rotation) (r .0) in
+        let far : f .distance ≡ leastDistance ring line i = ap (λ (g : Finding). g .distance) (r .0) in
+        record {
+          is-start = r .1;
+          is-rotation = omega (arith, low .below);
+          distance-is = far ∙ ap (distance ring line i) (sym rotation);
+          at-most-k = omega (arith, r .2);
+          least = λ s l. omega (arith, low .least s l);
+          lowest = λ s l. omega (arith, low .first s (omega arith));
+        }
+
+    -- The finding's rotation is the lowest at which the distance is least.
+    rotation-is : (f : Finding) → IsFinding ring line k f → f .rotation ≡ lowestRotation ring line (f .start)
+    rotation-is f h =
+        lowest-unique (distance ring line (f .start)) (length ring) (f .rotation) (lowestRotation ring line (f .start))
+        (record {
+          below = h .is-rotation;
+          least = λ s l. omega (arith, h .least s l, h .distance-is);
+          first = λ s l. omega (arith, h .lowest s l, h .distance-is);
+        })
+        (lowestRotation-is ring line pos (f .start))
+
+    -- A finding is in the list.
+    findings-by : (f : Finding) → IsFinding ring line k f → List·Memᴰ f (findings ring line k)
+    findings-by f h =
+        let i : ℕ = f .start in
+        let rotation = rotation-is f h in
+        let far : f .distance ≡ leastDistance ring line i = h .distance-is ∙ ap (distance ring line i) rotation in
+        let whole : f ≡ findingAt ring line i = λ j. record { start = i; rotation = rotation j; distance = far j } in
+        Memᴰ·cast whole
+        (mem-below (length line) i (omega (arith, h .is-start .in-line)) (h .is-start .in-line) (omega (arith, h .at-most-k)))
+
+    -- A finding is in the list exactly when it is a start, its distance is the one under its rotation and at most k, no rotation has less,
+    -- and no lower rotation reaches it.
+    pub findings-iff : (f : Finding) → List·Memᴰ f (findings ring line k) ↔ IsFinding ring line k f
+    findings-iff f = (findings-yes f, findings-by f)
+
+    -- A start is found exactly when some rotation differs in at most k places.
+    pub found-iff : (i : ℕ)
+        → ((f : Finding) × (f .start ≡ i) × List·Memᴰ f (findings ring line k))
+        ↔ (IsStart ring line i × ((r : ℕ) × (r < length ring) × (distance ring line i r ≤ k)))
+    found-iff i = (
+      λ w.
+          let f : Finding = w .0 in
+          let h = findings-yes f (w .2) in
+          let near : distance ring line (f .start) (f .rotation) ≤ k = omega (arith, h .distance-is, h .at-most-k) in (
+            subst (IsStart ring line) (w .1) (h .is-start),
+            (f .rotation, h .is-rotation, subst (λ (j : ℕ). distance ring line j (f .rotation) ≤ k) (w .1) near),
+          ),
+      λ w.
+          let low = lowestRotation-is ring line pos i in (
+            findingAt ring line i,
+            refl,
+            mem-below (length line) i (omega (arith, w .0 .in-line)) (w .0 .in-line) (omega (arith, low .least (w .1 .0) (w .1 .1), w .1 .2)),
+          ),
+    )

@@ -1,0 +1,126 @@
+-- Nothing is lost at a jump: where a window is left at break k + 1 with j edges read, no start from its own to the last one jumped over is
+-- a finding. Each break stands for a stretch that is the beginning of no rotation, so in every alignment one of its edges is unlike
+-- (`unlike-in-stretch`). The stretches of the breaks lie apart, within the edges read; and all starts up to the break's place hold those.
+-- Assumes nothing.
+use Prim.Native.Nat.{ℕ, zero, suc, pred, _+_, _-_, _*_, _≤_, _<_}
+use mathlib.Core.Path.{_≡_, refl, ap, subst}
+use mathlib.Core.Bool.{Bool, true, false}
+use mathlib.Core.List.{List, [], _∷_}
+use native.Mathlib.Nat.{add-zero, add-suc}
+use native.Mathlib.Omega.{arith}
+use lib.Dec.{ltb}
+use lib.ListN.{length}
+use Rattle.meaning.specs.Numbers.{count}
+use Rattle.meaning.specs.Meanings.{windowEdge, distance, lowestRotation}
+use Rattle.meaning.specs.Findings.{foundAt}
+use Rattle.meaning.specs.Stretch.{fits}
+use Rattle.meaning.specs.Rules.{Reading, unread, readEdge, readLeft, readWindow, nextStart}
+use Rattle.meaning.proofs.Cases.{by-test}
+use Rattle.meaning.proofs.Count.{count-split, count-part-le}
+use Rattle.meaning.proofs.FitDecided.{fits-no}
+use Rattle.meaning.proofs.Alignment.{unlike, distance-aligned, FromLine, unlike-in-stretch}
+use Rattle.meaning.proofs.WindowRead.{window-read}
+use Rattle.meaning.proofs.Places.{found-no}
+
+module _ (ring line : List ℕ) (pos : 0 < length ring) (k i : ℕ) where
+  -- Each break counted is an unlike place among the edges read, in every alignment.
+  abbrev Costs : Reading → Type 0
+  Costs w = (c : ℕ) → w .breaks ≤ count (unlike ring line c) (i + (length ring - w .read)) (w .read)
+
+  -- While the window is read: the held stretch is the line's, and each break counted is an unlike place among the edges past it.
+  record Counting (left : ℕ) (w : Reading) : Type 0 where
+    past : ℕ
+    all : w .read + left ≡ length ring
+    parts : length (w .held) + past ≡ w .read
+    from-line : FromLine ring line (i + left) (w .held)
+    cost : (c : ℕ) → w .breaks ≤ count (unlike ring line c) (i + left + length (w .held)) past
+
+  counting-start : Counting (length ring) (unread i)
+  counting-start = record { past = 0; all = omega arith; parts = omega arith; from-line = tt; cost = λ c. omega arith }
+
+  counting-end : (left : ℕ) (w : Reading) → Counting left w → Costs w
+  counting-end left w h c =
+      let at : i + (length ring - w .read) ≡ i + left = omega (arith, h .all) in
+      omega (
+        arith,
+        h .cost c,
+        count-split (unlike ring line c) (i + left) (length (w .held)) (h .past),
+        ap (count (unlike ring line c) (i + left)) (h .parts),
+        ap (λ (n : ℕ). count (unlike ring line c) n (w .read)) at,
+      )
+
+  module _ (left : ℕ) (w : Reading) (h : Counting (suc left) w) where
+    abbrev grown : List ℕ
+    grown = windowEdge line i left ∷ w .held
+
+    grown-from-line : FromLine ring line (i + left) grown
+    grown-from-line = (refl, subst (λ (n : ℕ). FromLine ring line n (w .held)) (add-suc i left) (h .from-line))
+
+    grown-cost : (c : ℕ) → w .breaks ≤ count (unlike ring line c) (i + left + length grown) (h .past)
+    grown-cost c =
+        let at : i + suc left + length (w .held) ≡ i + left + length grown = omega arith in
+        subst (λ (n : ℕ). w .breaks ≤ count (unlike ring line c) n (h .past)) at (h .cost c)
+
+    -- The grown stretch fits, and is held; or it does not, and one unlike place more is past.
+    counting-turn : Counting left (readEdge ring (windowEdge line i left) w)
+    unfolding readEdge
+    counting-turn =
+        by-test (Counting left) (fits ring grown)
+        (λ _. record {
+          past = h .past;
+          all = omega (arith, h .all);
+          parts = omega (arith, h .parts);
+          from-line = grown-from-line;
+          cost = grown-cost;
+        })
+        (λ e. record {
+          past = length grown + h .past;
+          all = omega (arith, h .all);
+          parts = omega (arith, h .parts);
+          from-line = tt;
+          cost = λ c.
+              let no = fits-no ring grown pos (omega (arith, h .all, h .parts)) e (c + (i + left)) in
+              rw add-zero (omega (
+                arith,
+                grown-cost c,
+                unlike-in-stretch ring line c (i + left) grown grown-from-line no,
+                count-split (unlike ring line c) (i + left) (length grown) (h .past),
+              ));
+        })
+
+  left-costs : (left : ℕ) (w : Reading) → Counting left w → Costs (readLeft ring line k i left w)
+  unfolding readLeft
+  left-costs zero w h = counting-end zero w h
+  left-costs (suc left) w h =
+      by-test Costs (ltb k (w .breaks))
+      (λ _. counting-end (suc left) w h)
+      (λ _. left-costs left (readEdge ring (windowEdge line i left) w) (counting-turn left w h))
+
+  window-costs : Costs (readWindow ring line k i)
+  unfolding readWindow
+  window-costs = left-costs (length ring) (unread i) counting-start
+
+  -- Every start before the next window is at least as far from the ring as there were breaks, under every rotation.
+  pub breaks-le : (i′ r : ℕ) → i ≤ i′ → i′ < nextStart ring (readWindow ring line k i) → readWindow ring line k i .breaks ≤ distance ring line i′ r
+  breaks-le i′ r lo hi =
+      let w : Reading = readWindow ring line k i in
+      let was = window-read ring line k i in
+      let left : ℕ = length ring - w .read in
+      let c : ℕ = r + i′ * pred (length ring) in
+      let before : ℕ = i + left - i′ in
+      let after : ℕ = i′ - i in
+      let at : i′ + before ≡ i + left = omega (arith, was .start-is) in
+      let all : before + w .read + after ≡ length ring = omega (arith, was .start-is, was .read-le) in
+      omega (
+        arith,
+        distance-aligned ring line pos i′ r,
+        window-costs c,
+        ap (λ (n : ℕ). count (unlike ring line c) n (w .read)) at,
+        ap (count (unlike ring line c) i′) all,
+        count-part-le (unlike ring line c) i′ before (w .read) after,
+      )
+
+  -- A window left at break k + 1 hides no finding: neither at its own start nor at one jumped over.
+  pub nothing-lost : k < readWindow ring line k i .breaks
+      → (i′ : ℕ) → i ≤ i′ → i′ < nextStart ring (readWindow ring line k i) → foundAt ring line k i′ ≡ []
+  nothing-lost h i′ lo hi = found-no ring line k i′ (omega (arith, breaks-le i′ (lowestRotation ring line i′) lo hi))

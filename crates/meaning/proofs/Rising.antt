@@ -1,0 +1,67 @@
+-- The findings stand by strictly rising start, so each start has at most one. A list that rises from lo to mid and one from mid to hi
+-- rise together; each place adds at most its own start.
+-- Assumes nothing.
+use Prim.Native.Nat.{ℕ, zero, suc, _≤_, _<_}
+use mathlib.Core.Path.{_≡_, ap, _∙_, sym}
+use mathlib.Core.Bool.{_&&_}
+use mathlib.Core.Logic.{⊎-elim}
+use mathlib.Core.List.{List, [], _∷_, _++_, List·Memᴰ, List·Memᴰ·not-nil, List·Memᴰ·cases-cons}
+use native.Mathlib.Omega.{arith}
+use lib.Dec.{leb}
+use lib.ListN.{length}
+use Rattle.meaning.specs.Meanings.{isStart, leastDistance}
+use Rattle.meaning.specs.Findings.{Finding, foundAt, findingsBelow, findings}
+use Rattle.meaning.proofs.Cases.{by-test}
+
+-- The starts rise strictly, the first at least lo, all below hi.
+abbrev pub Rising : ℕ → ℕ → List Finding → Type 0
+Rising lo hi [] = lo ≤ hi
+Rising lo hi (f ∷ fs) = (lo ≤ f .start) × Rising (suc (f .start)) hi fs
+
+lower : (lo lo′ hi : ℕ) (l : List Finding) → lo ≤ lo′ → Rising lo′ hi l → Rising lo hi l
+lower lo lo′ hi [] h r = omega arith
+lower lo lo′ hi (f ∷ fs) h r = (omega arith, r .1)
+
+join : (lo mid hi : ℕ) (a b : List Finding) → Rising lo mid a → Rising mid hi b → Rising lo hi (a ++ b)
+join lo mid hi [] b ra rb = lower lo mid hi b ra rb
+join lo mid hi (f ∷ a) b ra rb = (ra .0, join (suc (f .start)) mid hi a b (ra .1) rb)
+
+module _ (ring line : List ℕ) (k : ℕ) where
+  at-rising : (i : ℕ) → Rising i (suc i) (foundAt ring line k i)
+  unfolding foundAt
+  at-rising i =
+      by-test (Rising i (suc i)) (isStart ring line i && leb (leastDistance ring line i) k) (λ _. (omega arith, omega arith)) (λ _. omega arith)
+
+  below-rising : (i : ℕ) → Rising 0 i (findingsBelow ring line k i)
+  unfolding findingsBelow
+  below-rising zero = omega arith
+  below-rising (suc i) = join 0 i (suc i) (findingsBelow ring line k i) (foundAt ring line k i) (below-rising i) (at-rising i)
+
+  -- The findings' starts rise strictly.
+  pub findings-rising : Rising 0 (length line) (findings ring line k)
+  findings-rising = below-rising (length line)
+
+-- In a list that rises from lo on, no start is below lo.
+rising-from : (lo hi : ℕ) (l : List Finding) → Rising lo hi l → (f : Finding) → List·Memᴰ f l → lo ≤ f .start
+rising-from lo hi [] r f h = absurd (List·Memᴰ·not-nil h)
+rising-from lo hi (g ∷ l) r f h =
+    ⊎-elim
+    (λ e. omega (arith, r .0, ap (λ (x : Finding). x .start) e))
+    (λ m. omega (arith, r .0, rising-from (suc (g .start)) hi l (r .1) f m))
+    (List·Memᴰ·cases-cons h)
+
+-- Each start has at most one finding in a list that rises.
+pub rising-unique : (lo hi : ℕ) (l : List Finding) → Rising lo hi l
+    → (f g : Finding) → List·Memᴰ f l → List·Memᴰ g l → f .start ≡ g .start → f ≡ g
+rising-unique lo hi [] r f g hf hg e = absurd (List·Memᴰ·not-nil hf)
+rising-unique lo hi (x ∷ l) r f g hf hg e =
+    ⊎-elim
+    (λ ef. ⊎-elim
+    (λ eg. ef ∙ sym eg)
+    (λ mg. absurd (omega (arith, rising-from (suc (x .start)) hi l (r .1) g mg, ap (λ (y : Finding). y .start) ef)))
+    (List·Memᴰ·cases-cons hg))
+    (λ mf. ⊎-elim
+    (λ eg. absurd (omega (arith, rising-from (suc (x .start)) hi l (r .1) f mf, ap (λ (y : Finding). y .start) eg)))
+    (λ mg. rising-unique (suc (x .start)) hi l (r .1) f g mf mg e)
+    (List·Memᴰ·cases-cons hg))
+    (List·Memᴰ·cases-cons hf)

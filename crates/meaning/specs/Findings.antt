@@ -1,0 +1,62 @@
+-- Document 01, "Meanings", the finding; and of "What each call returns" the words of findings and what an area holds after them.
+-- `IsFinding` is the sentence to believe; `findings` is the list that a call writes, and `findings-iff` of proofs/ joins them.
+-- Assumes nothing.
+use Prim.Native.Nat.{ℕ, zero, suc, _≤_, _<_}
+use mathlib.Core.Path.{_≡_}
+use mathlib.Core.Bool.{Bool, cond, _&&_}
+use mathlib.Core.List.{List, [], _∷_, _++_}
+use lib.Dec.{leb}
+use lib.ListN.{length, drop}
+use Rattle.meaning.specs.Meanings.{IsStart, isStart, distance, lowestRotation, leastDistance}
+
+-- A finding "carries start, rotation, distance".
+pub record Finding : Type 0 where
+  pub start : ℕ
+  pub rotation : ℕ
+  pub distance : ℕ
+
+-- "A finding is a start whose least distance over all r is at most k. It carries start, rotation, distance: the least distance, and the
+-- lowest r that reaches it."
+pub record IsFinding (ring line : List ℕ) (k : ℕ) (f : Finding) : Type 0 where
+  pub is-start : IsStart ring line (f .start)
+  pub is-rotation : f .rotation < length ring
+  pub distance-is : f .distance ≡ distance ring line (f .start) (f .rotation)
+  pub at-most-k : f .distance ≤ k
+  pub least : (r : ℕ) → r < length ring → f .distance ≤ distance ring line (f .start) r
+  pub lowest : (r : ℕ) → r < f .rotation → f .distance < distance ring line (f .start) r
+
+-- What place i carries: the least distance, and the lowest rotation that reaches it.
+abbrev pub findingAt : List ℕ → List ℕ → ℕ → Finding
+findingAt ring line i = record { start = i; rotation = lowestRotation ring line i; distance = leastDistance ring line i }
+
+-- The finding at place i, if i is a start whose least distance is at most k.
+unfoldable pub foundAt : List ℕ → List ℕ → ℕ → ℕ → List Finding
+foundAt ring line k i =
+    let found : List Finding = findingAt ring line i ∷ [] in
+    cond (isStart ring line i && leb (leastDistance ring line i) k) found []
+
+-- The findings at places below i, "by rising start".
+unfoldable pub findingsBelow : List ℕ → List ℕ → ℕ → ℕ → List Finding
+findingsBelow ring line k zero = []
+findingsBelow ring line k (suc i) = findingsBelow ring line k i ++ foundAt ring line k i
+
+-- The findings of a ring, a line and an allowance: those at the line's places.
+abbrev pub findings : List ℕ → List ℕ → ℕ → List Finding
+findings ring line k = findingsBelow ring line k (length line)
+
+-- "Findings go as three 32-bit words each (start, rotation, distance) into the lent words."
+abbrev pub wordsEach : ℕ
+wordsEach = 3
+
+-- The words of one finding.
+abbrev pub findingWords : Finding → List ℕ
+findingWords f = f .start ∷ f .rotation ∷ f .distance ∷ []
+
+-- The words of a list of findings, one after the other without a gap.
+unfoldable pub wordsOf : List Finding → List ℕ
+wordsOf [] = []
+wordsOf (f ∷ fs) = findingWords f ++ wordsOf fs
+
+-- What a lent area holds after words are written at its beginning. "Words after the last one written keep their values."
+unfoldable pub written : List ℕ → List ℕ → List ℕ
+written words area = words ++ drop (length words) area

@@ -1,0 +1,49 @@
+-- Document 01, "Meanings", up to the distance: rotation, start, window, distance, the least distance and the lowest rotation that reaches it.
+-- The document's limits (m 1 to 256, n at most 65,536, k below m) are refusals of the calls and stand with them; here every list is taken.
+-- Assumes nothing.
+use Prim.Native.Nat.{ℕ, _+_, _%_, _≤_}
+use mathlib.Core.Bool.{Bool, not}
+use mathlib.Core.List.{List}
+use lib.Dec.{leb, eqb}
+use lib.ListN.{length, getD, take, drop}
+use Rattle.meaning.specs.Numbers.{count, lowest}
+
+-- "Rotation r of the ring, 0 ≤ r < m, has at its place q the ring's edge (r + q) mod m."
+abbrev pub rotationEdge : List ℕ → ℕ → ℕ → ℕ
+rotationEdge ring r q = getD ring ((r + q) % length ring) 0
+
+-- A window of m edges fits in the line at place i: i + m ≤ n.
+abbrev pub fitsInLine : List ℕ → List ℕ → ℕ → Bool
+fitsInLine ring line i = leb (i + length ring) (length line)
+
+-- "A start i is a line place with i + m ≤ n."
+pub record IsStart (ring line : List ℕ) (i : ℕ) : Type 0 where
+  pub in-line : i + length ring ≤ length line
+
+-- The same as a test. This is the one place that says which places are starts.
+abbrev pub isStart : List ℕ → List ℕ → ℕ → Bool
+isStart ring line i = fitsInLine ring line i
+
+-- "Its window is the m edges from i."
+unfoldable pub window : List ℕ → List ℕ → ℕ → List ℕ
+window ring line i = take (length ring) (drop i line)
+
+-- The window's edge at place q, counted from its start.
+abbrev pub windowEdge : List ℕ → ℕ → ℕ → ℕ
+windowEdge line i q = getD line (i + q) 0
+
+-- Window and rotation r differ at place q.
+unfoldable pub differs : List ℕ → List ℕ → ℕ → ℕ → ℕ → Bool
+differs ring line i r q = not (eqb (windowEdge line i q) (rotationEdge ring r q))
+
+-- "The distance of start i under r is the number of places where window and rotation r differ."
+unfoldable pub distance : List ℕ → List ℕ → ℕ → ℕ → ℕ
+distance ring line i r = count (differs ring line i r) 0 (length ring)
+
+-- "The lowest r that reaches" the least distance over all r.
+unfoldable pub lowestRotation : List ℕ → List ℕ → ℕ → ℕ
+lowestRotation ring line i = lowest (distance ring line i) (length ring)
+
+-- The "least distance over all r".
+abbrev pub leastDistance : List ℕ → List ℕ → ℕ → ℕ
+leastDistance ring line i = distance ring line i (lowestRotation ring line i)

@@ -1,0 +1,124 @@
+-- Document 01, "Readings that look right", those that speak of the search: each is written down as it would be read, and refuted by a
+-- sample, which antt computes. (Cell 0 as all cells speaks of the silence book and is refuted there.)
+-- Assumes nothing.
+use Prim.Native.Nat.{ℕ, zero, suc, _+_, _-_, _*_, _/_, _≤_, min}
+use mathlib.Core.Path.{_≡_, refl}
+use mathlib.Core.Bool.{Bool, true, false, cond, _&&_, _||_}
+use mathlib.Core.List.{List, [], _∷_, _++_, map}
+use lib.Dec.{leb, eqb}
+use lib.ListN.{length, getD, take}
+use Rattle.meaning.specs.Numbers.{count, lowest, someBelow}
+use Rattle.meaning.specs.Meanings.{fitsInLine, differs, distance, lowestRotation}
+use Rattle.meaning.specs.Findings.{Finding, foundAt, findingsBelow, findings}
+use Rattle.meaning.specs.Stretch.{begins, fits}
+use Rattle.meaning.specs.Rules.{Reading, readEdge, readLeft, readWindow, windowsFrom, windows, candidatesOf, candidates, reported}
+use Rattle.meaning.specs.Looks.{readLooks}
+use Rattle.meaning.specs.Samples.{ascii, at}
+
+-- ---- "Cutting the doubled ring into 2k+4 near-equal fragments, as source document 000 does."
+
+-- 000's doubled ring: the ring followed by its first m − 1 edges.
+abbrev doubled : List ℕ → List ℕ
+doubled ring = ring ++ take (length ring - 1) ring
+
+-- A fragment of the doubled ring: where it begins, and how many edges it has.
+record Fragment : Type 0 where
+  place : ℕ
+  size : ℕ
+
+-- So many near-equal fragments of the edges that are left from a place on, "longer fragments first".
+unfoldable cut : ℕ → ℕ → ℕ → List Fragment
+cut zero place edges = []
+cut (suc fragments) place edges =
+    let size : ℕ = (edges + fragments) / suc fragments in
+    record { place = place; size = size } ∷ cut fragments (place + size) (edges - size)
+
+-- The 2k+4 fragments of a ring.
+abbrev fragmentsOf : List ℕ → ℕ → List Fragment
+fragmentsOf ring k = cut (2 * k + 4) 0 (length (doubled ring))
+
+-- How many of the fragments lie whole in the doubled ring's m edges from r on, that is in rotation r.
+unfoldable wholeIn : ℕ → ℕ → List Fragment → ℕ
+wholeIn m r [] = 0
+wholeIn m r (f ∷ fs) = cond (leb r (f .place) && leb (f .place + f .size) (r + m)) 1 0 + wholeIn m r fs
+
+-- The fragment's edges are the line's from place p on.
+unfoldable hits : List ℕ → List ℕ → ℕ → ℕ → ℕ → Bool
+hits ring line place p zero = true
+hits ring line place p (suc size) =
+    eqb (getD (doubled ring) place 0) (getD line p 0) && (leb (suc p) (length line) && hits ring line (suc place) (suc p) size)
+
+-- A hit at line place p, extended to both sides as far as line and doubled ring reach, whatever differs there, has m edges.
+abbrev extends : List ℕ → List ℕ → Fragment → ℕ → Bool
+extends ring line f p =
+    leb (length ring) (min (f .place) p + min (length (doubled ring) - f .place) (length line - p))
+
+-- Some hit of some fragment can be extended to m edges: without one, 000 reports nothing.
+unfoldable someExtends : List ℕ → List ℕ → List Fragment → Bool
+someExtends ring line [] = false
+someExtends ring line (f ∷ fs) =
+    someBelow (λ p. hits ring line (f .place) p (f .size) && extends ring line f p) (length line) || someExtends ring line fs
+
+-- "Its Lemma 3 fails when longer fragments lie side by side: at m = 8, k = 3, longer fragments first, a window can hold only three whole
+-- fragments" (the lemma says k + 1, four), "and extending each hit within the doubled ring loses P3."
+fragments-lose-P3 :
+    (wholeIn 8 1 (fragmentsOf (ascii "ABCDEFGH") 3) ≡ 3)
+    × (someExtends (ascii "ABCDEFGH") (ascii "BCzEzGzA") (fragmentsOf (ascii "ABCDEFGH") 3) ≡ false)
+    × (findings (ascii "ABCDEFGH") (ascii "BCzEzGzA") 3 ≡ at 0 1 3 ∷ [])
+unfolding ascii cut wholeIn hits someExtends someBelow count lowest differs distance lowestRotation foundAt findingsBelow
+fragments-lose-P3 = (refl, refl, refl)
+
+-- ---- "Taking Example 3 of 000 as a full answer."
+
+-- "It follows one fragment and gives starts 10 and 11; start 9 is found too."
+example-3-lacks-9 :
+    map (λ (f : Finding). f .start) (findings (ascii "GGGTCTA") (ascii "GATACGATACCTAGGGTGATAGAATAG") 1) ≡ 9 ∷ 10 ∷ 11 ∷ []
+unfolding ascii count lowest differs distance lowestRotation foundAt findingsBelow
+example-3-lacks-9 = refl
+
+-- ---- "Stopping at k breaks, or moving onto the break edge instead of past it."
+
+-- Stopping at k breaks is reading each window as if one fewer were allowed. With P2's ring, line and allowance only one finding is left.
+stopping-at-k-loses-P2 :
+    reported (ascii "GGGTCTA") (ascii "GATACGATACCTAGGGTGATAGAATAG") 1
+    (candidatesOf (ascii "GGGTCTA") 1 (windows (ascii "GGGTCTA") (ascii "GATACGATACCTAGGGTGATAGAATAG") 0))
+    ≡ at 10 4 0 ∷ []
+unfolding ascii count lowest someBelow differs distance lowestRotation foundAt begins fits readEdge readLeft readWindow windowsFrom candidatesOf reported
+stopping-at-k-loses-P2 = refl
+
+-- The windows where each next one starts at the break edge, m − j further on.
+unfoldable ontoTheBreak : List ℕ → List ℕ → ℕ → ℕ → ℕ → List Reading
+ontoTheBreak ring line k zero i = []
+ontoTheBreak ring line k (suc more) i =
+    let w : Reading = readWindow ring line k i in
+    let onward : List Reading = w ∷ ontoTheBreak ring line k more (i + (length ring - w .read)) in
+    cond (fitsInLine ring line i) onward []
+
+-- On P7 it costs 8 looks where the rules take 6 (and past a window with all edges read it never comes: the next one is the same).
+onto-the-break-costs-P7 :
+    (readLooks (ontoTheBreak (ascii "abcd") (ascii "zzzzzzzzzz") 1 11 0) ≡ 8)
+    × (readLooks (windows (ascii "abcd") (ascii "zzzzzzzzzz") 1) ≡ 6)
+unfolding ascii someBelow begins fits readEdge readLeft readWindow windowsFrom ontoTheBreak readLooks
+onto-the-break-costs-P7 = (refl, refl)
+
+-- ---- "Reporting every candidate."
+
+-- "P11 is a candidate at distance 3", with an allowance of 1.
+candidate-P11-is-no-finding :
+    (candidates (ascii "abcdef") (ascii "bcdfab") 1 ≡ 0 ∷ [])
+    × (findings (ascii "abcdef") (ascii "bcdfab") 1 ≡ [])
+    × (distance (ascii "abcdef") (ascii "bcdfab") 0 (lowestRotation (ascii "abcdef") (ascii "bcdfab") 0) ≡ 3)
+unfolding ascii count lowest someBelow differs distance lowestRotation foundAt findingsBelow begins fits readEdge readLeft readWindow windowsFrom candidatesOf
+candidate-P11-is-no-finding = (refl, refl, refl)
+
+-- ---- "Using a linear stretch test, which cuts a good match at the ring's seam."
+
+-- A linear test takes the stretch only where it ends before the ring does.
+unfoldable linearFits : List ℕ → List ℕ → Bool
+linearFits ring stretch =
+    someBelow (λ r. leb (r + length stretch) (length ring) && begins ring r stretch) (length ring)
+
+-- P9's window is the ring from its last edge on: it fits, and the linear test cuts it.
+linear-test-cuts-P9 : (fits (ascii "abc") (ascii "cab") ≡ true) × (linearFits (ascii "abc") (ascii "cab") ≡ false)
+unfolding ascii begins someBelow fits linearFits
+linear-test-cuts-P9 = (refl, refl)

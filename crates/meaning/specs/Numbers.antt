@@ -1,0 +1,25 @@
+-- Counting, the lowest of the least, and "some": the three helpers of the meanings that know no ring and no line.
+-- Assumes nothing.
+use Prim.Native.Nat.{ℕ, zero, suc, _+_}
+use mathlib.Core.Bool.{Bool, true, false, cond, _||_}
+use lib.Dec.{ltb}
+
+-- One where the test is true, else nothing: what it adds to a count.
+abbrev pub oneIf : Bool → ℕ
+oneIf true = 1
+oneIf false = 0
+
+-- How many of the n numbers a, a + 1, .. pass the test.
+unfoldable pub count : (ℕ → Bool) → ℕ → ℕ → ℕ
+count p a zero = 0
+count p a (suc n) = oneIf (p a) + count p (suc a) n
+
+-- The lowest of the numbers below n at which f is least (0 where n is 0). A later number takes its place only where f is less there.
+unfoldable pub lowest : (ℕ → ℕ) → ℕ → ℕ
+lowest f zero = 0
+lowest f (suc n) = let before : ℕ = lowest f n in cond (ltb (f n) (f before)) n before
+
+-- Some number below n passes the test.
+unfoldable pub someBelow : (ℕ → Bool) → ℕ → Bool
+someBelow p zero = false
+someBelow p (suc n) = someBelow p n || p n

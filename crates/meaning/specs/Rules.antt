@@ -1,0 +1,83 @@
+-- Document 01, "Rules of the quick scan", rules 1 to 4. (Rule 5 decides no finding, only looks: it stands in Looks.)
+-- The recursion `windowsFrom` carries a number that only bounds how many windows there can be. Read in its place the two equations of
+-- proofs/WindowSteps: `windows-step`, that a window in the line is read and followed by those from the next one on, and `windows-end`.
+-- Assumes nothing.
+use Prim.Native.Nat.{ℕ, zero, suc, _+_, _-_}
+use mathlib.Core.Bool.{Bool, cond, _&&_}
+use mathlib.Core.List.{List, [], _∷_, _++_}
+use lib.Dec.{ltb, leb, eqb}
+use lib.ListN.{length}
+use Rattle.meaning.specs.Meanings.{fitsInLine, windowEdge}
+use Rattle.meaning.specs.Findings.{Finding, foundAt}
+use Rattle.meaning.specs.Stretch.{fits}
+
+-- How far a window is read: its start, how many edges are read, how many of them were breaks, the stretch held.
+pub record Reading : Type 0 where
+  pub start : ℕ
+  pub read : ℕ
+  pub breaks : ℕ
+  pub held : List ℕ
+
+-- "A stretch is held, empty at first": the window at i before its first edge is read.
+abbrev pub unread : ℕ → Reading
+unread i = record { start = i; read = 0; breaks = 0; held = [] }
+
+-- Rule 2. The stretch "grows to the left by each edge read. If the grown stretch doesn't fit the ring, that edge is a break: count one and
+-- empty the stretch."
+unfoldable pub readEdge : List ℕ → ℕ → Reading → Reading
+readEdge ring x w =
+    let grown : List ℕ = x ∷ w .held in
+    let kept : Reading = record { start = w .start; read = suc (w .read); breaks = w .breaks; held = grown } in
+    let broken : Reading = record { start = w .start; read = suc (w .read); breaks = suc (w .breaks); held = [] } in
+    cond (fits ring grown) kept broken
+
+-- Rules 1 and 3. "Read its edges from the last towards the first"; "stop at break k+1, or when all m edges are read." The third number is
+-- how many edges of the window at i are left.
+unfoldable pub readLeft : List ℕ → List ℕ → ℕ → ℕ → ℕ → Reading → Reading
+readLeft ring line k i zero w = w
+readLeft ring line k i (suc left) w =
+    let further : Reading = readLeft ring line k i left (readEdge ring (windowEdge line i left) w) in
+    cond (ltb k (w .breaks)) w further
+
+-- The window at i, read until it is left or all of it is read.
+unfoldable pub readWindow : List ℕ → List ℕ → ℕ → ℕ → Reading
+readWindow ring line k i = readLeft ring line k i (length ring) (unread i)
+
+-- Rule 3. "With j edges read, the next window starts m − j + 1 further on."
+abbrev pub nextStart : List ℕ → Reading → ℕ
+nextStart ring w = w .start + (length ring - w .read + 1)
+
+-- Rule 1. The windows read from place i on, "while a window fits in the line". Each starts after the one before, so more than n there
+-- cannot be; the number before the last is how many may still come.
+unfoldable pub windowsFrom : List ℕ → List ℕ → ℕ → ℕ → ℕ → List Reading
+windowsFrom ring line k zero i = []
+windowsFrom ring line k (suc more) i =
+    let w : Reading = readWindow ring line k i in
+    let onward : List Reading = w ∷ windowsFrom ring line k more (nextStart ring w) in
+    cond (fitsInLine ring line i) onward []
+
+-- Rule 1. "The first window starts at 0."
+abbrev pub windows : List ℕ → List ℕ → ℕ → List Reading
+windows ring line k = windowsFrom ring line k (length line + 1) 0
+
+-- Rule 4. "A window with all m edges read and at most k breaks is a candidate."
+abbrev pub isCandidate : List ℕ → ℕ → Reading → Bool
+isCandidate ring k w = eqb (w .read) (length ring) && leb (w .breaks) k
+
+-- The starts of those windows that are candidates.
+unfoldable pub candidatesOf : List ℕ → ℕ → List Reading → List ℕ
+candidatesOf ring k [] = []
+candidatesOf ring k (w ∷ ws) = cond (isCandidate ring k w) (w .start ∷ candidatesOf ring k ws) (candidatesOf ring k ws)
+
+-- The candidates of a ring, a line and an allowance.
+abbrev pub candidates : List ℕ → List ℕ → ℕ → List ℕ
+candidates ring line k = candidatesOf ring k (windows ring line k)
+
+-- Rule 4. "Each candidate is verified, and reported if it is a finding."
+unfoldable pub reported : List ℕ → List ℕ → ℕ → List ℕ → List Finding
+reported ring line k [] = []
+reported ring line k (i ∷ starts) = foundAt ring line k i ++ reported ring line k starts
+
+-- What the rules report.
+abbrev pub quickFindings : List ℕ → List ℕ → ℕ → List Finding
+quickFindings ring line k = reported ring line k (candidates ring line k)

@@ -1,0 +1,112 @@
+-- Document 01, "Sample rings": P1 to P12 as one table under one claim, which antt computes. Beside it a second table of the same form
+-- that pins what no row of the first does: rule 5's choice between a fresh count and steps, the plain survey's looks, and the codes 0 and
+-- 255. A number that the document leaves out of a row is left out here.
+-- Assumes nothing.
+use Prim.Native.Nat.{ℕ}
+use Prim.Native.Char.{code}
+use Prim.Native.String.{String, [] as []ˢ, _∷_ as _∷ˢ_}
+use mathlib.Core.Path.{_≡_, refl}
+use mathlib.Core.List.{List, [], _∷_, map}
+use mathlib.Core.Option.{Option, none, some}
+use lib.ListN.{length}
+use Rattle.meaning.specs.Numbers.{count, lowest, someBelow}
+use Rattle.meaning.specs.Meanings.{differs, distance, lowestRotation}
+use Rattle.meaning.specs.Findings.{Finding, foundAt, findingsBelow, findings}
+use Rattle.meaning.specs.Stretch.{begins, fits}
+use Rattle.meaning.specs.Rules.{readEdge, readLeft, readWindow, windowsFrom, candidatesOf, candidates, reported, quickFindings}
+use Rattle.meaning.specs.Looks.{readLooks, tallyLooks, verifyLooks, quickLooks, surveyLooksBelow, surveyLooks}
+
+-- "Letters stand for their ASCII codes."
+unfoldable pub ascii : String → List ℕ
+ascii []ˢ = []
+ascii (c ∷ˢ s) = code c ∷ ascii s
+
+-- "Findings as (start, rotation, distance)."
+abbrev pub at : ℕ → ℕ → ℕ → Finding
+at i r d = record { start = i; rotation = r; distance = d }
+
+-- A row: its name; ring, line and k; the findings, and what the rules report; quick looks, how many candidates and the plain survey's
+-- looks, each where it is given.
+pub record Sample : Type 0 where
+  pub name : String
+  pub ring : List ℕ
+  pub line : List ℕ
+  pub k : ℕ
+  pub found : List Finding
+  pub quick-found : List Finding
+  pub looks : Option ℕ
+  pub candidate-count : Option ℕ
+  pub survey-looks : Option ℕ
+
+-- A row as the tables below give it: the rules report the findings.
+abbrev row : String → List ℕ → List ℕ → ℕ → List Finding → Option ℕ → Option ℕ → Option ℕ → Sample
+row name ring line k found looks cands survey =
+    record {
+      name = name;
+      ring = ring;
+      line = line;
+      k = k;
+      found = found;
+      quick-found = found;
+      looks = looks;
+      candidate-count = cands;
+      survey-looks = survey;
+    }
+
+-- A number where the row gives one.
+abbrev given : Option ℕ → ℕ → Option ℕ
+given none n = none
+given (some _) n = some n
+
+-- The row as the meanings and rules have it.
+abbrev pub answered : Sample → Sample
+answered s =
+    record {
+      name = s .name;
+      ring = s .ring;
+      line = s .line;
+      k = s .k;
+      found = findings (s .ring) (s .line) (s .k);
+      quick-found = quickFindings (s .ring) (s .line) (s .k);
+      looks = given (s .looks) (quickLooks (s .ring) (s .line) (s .k));
+      candidate-count = given (s .candidate-count) (length (candidates (s .ring) (s .line) (s .k)));
+      survey-looks = given (s .survey-looks) (surveyLooks (s .ring) (s .line));
+    }
+
+-- The document's table. "P11: none, one candidate."
+unfoldable pub samples : List Sample
+samples =
+    row "P1" (ascii "GGGTCTA") (ascii "GATACGATACCTAGGGTGATAGAATAG") 0 (at 10 4 0 ∷ []) none none none
+    ∷ row "P2" (ascii "GGGTCTA") (ascii "GATACGATACCTAGGGTGATAGAATAG") 1 (at 9 3 1 ∷ at 10 4 0 ∷ at 11 5 1 ∷ []) none none none
+    ∷ row "P3" (ascii "ABCDEFGH") (ascii "BCzEzGzA") 3 (at 0 1 3 ∷ []) none none none
+    ∷ row "P4" (ascii "ABCDEFGH") (ascii "BCzEzGzA") 2 [] none none none
+    ∷ row "P5" (ascii "a") (ascii "ba") 0 (at 1 0 0 ∷ []) (some 3) none none
+    ∷ row "P6" (ascii "aa") (ascii "aaa") 0 (at 0 0 0 ∷ at 1 0 0 ∷ []) (some 12) none none
+    ∷ row "P7" (ascii "abcd") (ascii "zzzzzzzzzz") 1 [] (some 6) none none
+    ∷ row "P8" (ascii "abc") (ascii "ab") 0 [] (some 0) none none
+    ∷ row "P9" (ascii "abc") (ascii "cab") 0 (at 0 2 0 ∷ []) (some 12) none none
+    ∷ row "P10" (ascii "ab") (ascii "zbz") 1 (at 0 0 1 ∷ at 1 1 1 ∷ []) none none none
+    ∷ row "P11" (ascii "abcdef") (ascii "bcdfab") 1 [] (some 42) (some 1) none
+    ∷ row "P12" (ascii "abcdef") (ascii "bcdfab") 3 (at 0 1 3 ∷ []) (some 42) none none
+    ∷ []
+
+-- The meanings and rules give what the document's table gives, row for row.
+pub samples-right : map answered samples ≡ samples
+unfolding samples ascii count lowest someBelow differs distance lowestRotation foundAt findingsBelow begins fits readEdge readLeft readWindow windowsFrom candidatesOf reported readLooks tallyLooks verifyLooks surveyLooksBelow
+samples-right = refl
+
+-- Rows of our own. Of the first three the last candidate is s beyond the one before it: m = 3, s = 2, afresh by 2·s > m; m = 3, s = 1, one
+-- step; m = 5, s = 2, two steps although 3·s > m. Then m = 1, where the scan counts afresh and the survey steps; and the codes 0 and 255.
+unfoldable pub own-samples : List Sample
+own-samples =
+    row "afresh where 2·s > m" (ascii "aab") (ascii "baaab") 0 (at 0 2 0 ∷ at 2 0 0 ∷ []) (some 27) (some 2) (some 21)
+    ∷ row "one step" (ascii "aaa") (ascii "aaaa") 0 (at 0 0 0 ∷ at 1 0 0 ∷ []) (some 21) (some 2) (some 15)
+    ∷ row "two steps over a start that is no candidate" (ascii "aaaab") (ascii "baaaaab") 0 (at 0 4 0 ∷ at 2 0 0 ∷ []) (some 60) (some 2) (some 45)
+    ∷ row "one edge" (ascii "a") (ascii "aaa") 0 (at 0 0 0 ∷ at 1 0 0 ∷ at 2 0 0 ∷ []) (some 6) (some 3) (some 5)
+    ∷ row "codes 0 and 255" (0 ∷ 255 ∷ []) (255 ∷ 0 ∷ 255 ∷ 255 ∷ []) 0 (at 0 1 0 ∷ at 1 0 0 ∷ []) (some 14) (some 2) (some 12)
+    ∷ []
+
+-- The meanings and rules give these rows too.
+pub own-samples-right : map answered own-samples ≡ own-samples
+unfolding own-samples ascii count lowest someBelow differs distance lowestRotation foundAt findingsBelow begins fits readEdge readLeft readWindow windowsFrom candidatesOf reported readLooks tallyLooks verifyLooks surveyLooksBelow
+own-samples-right = refl
