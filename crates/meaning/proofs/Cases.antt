@@ -6,8 +6,8 @@ use mathlib.Core.Bool.{Bool, true, false, cond, _&&_, false≢true}
 use mathlib.Core.Logic.{_⊎_, inl, inr, ⊎-elim}
 use native.Mathlib.Nat.{eq-or-lt-of-le, le-of-suc-le-suc}
 use native.Mathlib.Omega.{arith}
-use lib.Dec.{leb}
-use borrow.Author.Tests.{leb-true, leb-false}
+use lib.Dec.{leb, eqb}
+use borrow.Author.Tests.{leb-true, leb-false, eqb-true, eqb-false, eq-eqb, ne-eqb}
 
 -- What holds in either case of a test holds of what the test picks.
 pub by-test {ℓ} : {A : Type 0} (P : A → Type ℓ) (t : Bool) {x y : A} → (t ≡ true → P x) → (t ≡ false → P y) → P (cond t x y)
@@ -35,3 +35,11 @@ le-or-lt a b = go (leb a b) refl
 -- What holds below n and at n holds below n + 1.
 pub below-suc : (P : ℕ → Type 0) (n : ℕ) → ((s : ℕ) → s < n → P s) → P n → (s : ℕ) → s < suc n → P s
 below-suc P n h e s l = ⊎-elim (λ q. subst P (sym q) e) (h s) (eq-or-lt-of-le (le-of-suc-le-suc l))
+
+-- Equality can be tested either way round.
+pub eqb-sym : (a b : ℕ) → eqb a b ≡ eqb b a
+eqb-sym a b = go (eqb b a) refl
+  where
+    go : (t : Bool) → eqb b a ≡ t → eqb a b ≡ t
+    go true e = eq-eqb a b (sym (eqb-true b a e))
+    go false e = ne-eqb a b (λ q. eqb-false b a e (sym q))

@@ -1,6 +1,6 @@
 -- Laws of `count`: a range is split, moved along, and bounded by its length. Induction on the length.
 -- Assumes nothing.
-use Prim.Native.Nat.{ℕ, zero, suc, _+_, _≤_}
+use Prim.Native.Nat.{ℕ, zero, suc, _+_, _≤_, _<_}
 use mathlib.Core.Path.{_≡_, refl, sym, ap, _∙_}
 use mathlib.Core.Bool.{Bool, true, false}
 use native.Mathlib.Nat.{add-zero, zero-add, add-suc, suc-add}
@@ -41,3 +41,10 @@ count-le p a (suc n) = omega (arith, oneIf-le (p a), count-le p (suc a) n)
 -- Part of a range counts no more than the whole.
 pub count-part-le : (p : ℕ → Bool) (a x v y : ℕ) → count p (a + x) v ≤ count p a (x + v + y)
 count-part-le p a x v y = omega (arith, count-split p a (x + v) y, count-split p a x v)
+
+-- Tests that agree on the range count alike.
+pub count-same : (p p′ : ℕ → Bool) (a n : ℕ) → ((x : ℕ) → a ≤ x → x < a + n → p x ≡ p′ x) → count p a n ≡ count p′ a n
+unfolding count
+count-same p p′ a zero h = refl
+count-same p p′ a (suc n) h =
+    rw (h a (omega arith) (omega arith)) (ap (λ (c : ℕ). oneIf (p′ a) + c) (count-same p p′ (suc a) n (λ x lo hi. h x (omega arith) (omega arith))))

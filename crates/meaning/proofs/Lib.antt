@@ -16,3 +16,7 @@ pub mod LookBound
 pub mod SurveyLooks
 pub mod Words
 pub mod BoundReached
+pub mod WindowAlone
+pub mod TallyStep
+pub mod WindowLoop
+pub mod ScanLoop

@@ -23,9 +23,9 @@ start-iff ring line i = (
 )
 
 -- The window, as a list, has the window's edges.
-pub window-edge-is : (ring line : List ℕ) (i q : ℕ) → q < length ring → getD (window ring line i) q 0 ≡ windowEdge line i q
+pub window-edge-is : (m : ℕ) (line : List ℕ) (i q : ℕ) → q < m → getD (window m line i) q 0 ≡ windowEdge line i q
 unfolding window
-window-edge-is ring line i q l = getD-take (length ring) (drop i line) q 0 l ∙ getD-drop i line q 0
+window-edge-is m line i q l = getD-take m (drop i line) q 0 l ∙ getD-drop i line q 0
 
 -- The lowest rotation is the lowest at which the distance is least.
 pub lowestRotation-is : (ring line : List ℕ) → 0 < length ring → (i : ℕ)

@@ -1,7 +1,7 @@
 -- `someBelow` says what it is called: some number below n passes the test. Induction on n.
 -- Assumes nothing.
 use Prim.Native.Nat.{ℕ, zero, suc, _<_}
-use mathlib.Core.Path.{_≡_, refl, sym, ap, _∙_}
+use mathlib.Core.Path.{_≡_, refl, sym, ap, ap₂, _∙_}
 use mathlib.Core.Bool.{Bool, true, false, _||_, false≢true, true≢false, or-true}
 use mathlib.Core.Logic.{⊎-elim}
 use native.Mathlib.Nat.{eq-or-lt-of-le, le-of-suc-le-suc}
@@ -36,3 +36,9 @@ some-no p n e r l = go (p r) refl
     go : (t : Bool) → p r ≡ t → p r ≡ false
     go true q = absurd (true≢false (sym (some-by p n r l q) ∙ e))
     go false q = q
+
+-- Tests that agree below n agree on whether some number below n passes.
+pub some-same : (p p′ : ℕ → Bool) (n : ℕ) → ((r : ℕ) → r < n → p r ≡ p′ r) → someBelow p n ≡ someBelow p′ n
+unfolding someBelow
+some-same p p′ zero h = refl
+some-same p p′ (suc n) h = ap₂ (λ (a b : Bool). a || b) (some-same p p′ n (λ r l. h r (omega arith))) (h n (omega arith))

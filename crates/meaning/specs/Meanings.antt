@@ -25,8 +25,8 @@ abbrev pub isStart : List ℕ → List ℕ → ℕ → Bool
 isStart ring line i = fitsInLine ring line i
 
 -- "Its window is the m edges from i."
-unfoldable pub window : List ℕ → List ℕ → ℕ → List ℕ
-window ring line i = take (length ring) (drop i line)
+unfoldable pub window : ℕ → List ℕ → ℕ → List ℕ
+window m line i = take m (drop i line)
 
 -- The window's edge at place q, counted from its start.
 abbrev pub windowEdge : List ℕ → ℕ → ℕ → ℕ

@@ -1,0 +1,67 @@
+-- A window read by itself: handed out as a list, it has at start 0 the distances and the reading that it has in the line at its start. Both
+-- look at its m edges only.
+-- Assumes nothing.
+use Prim.Native.Nat.{ℕ, zero, suc, _+_, _≤_, _<_}
+use mathlib.Core.Path.{_≡_, refl, ap, _∙_}
+use mathlib.Core.Bool.{Bool, true, false, not, cond, true≢false, false≢true}
+use mathlib.Core.List.{List, [], _∷_}
+use native.Mathlib.Nat.{zero-add}
+use native.Mathlib.Omega.{arith}
+use lib.Dec.{ltb, eqb}
+use lib.ListN.{length}
+use Rattle.meaning.specs.Numbers.{count}
+use Rattle.meaning.specs.Meanings.{window, windowEdge, rotationEdge, differs, distance}
+use Rattle.meaning.specs.Stretch.{fits}
+use Rattle.meaning.specs.Rules.{Reading, unread, readEdge, readLeft, readWindow}
+use Rattle.meaning.proofs.Count.{count-same}
+use Rattle.meaning.proofs.Places.{window-edge-is}
+
+-- The same reading, wherever the window starts.
+pub record SameReading (v w : Reading) : Type 0 where
+  pub read-is : v .read ≡ w .read
+  pub breaks-is : v .breaks ≡ w .breaks
+  pub held-is : v .held ≡ w .held
+
+module _ (ring line : List ℕ) (i : ℕ) where
+  abbrev m : ℕ
+  m = length ring
+
+  -- Its edges are the line's.
+  pub alone-edge : (q : ℕ) → q < m → windowEdge (window m line i) 0 q ≡ windowEdge line i q
+  alone-edge q l = rw (zero-add q) (window-edge-is m line i q l)
+
+  -- Its distances are those of the start.
+  pub alone-distance : (r : ℕ) → distance ring (window m line i) 0 r ≡ distance ring line i r
+  unfolding distance differs
+  alone-distance r =
+      count-same (differs ring (window m line i) 0 r) (differs ring line i r) 0 m
+      (λ q _ l. ap (λ (x : ℕ). not (eqb x (rotationEdge ring r q))) (alone-edge q (omega arith)))
+
+  same-edge : (x : ℕ) (v w : Reading) → SameReading v w → SameReading (readEdge ring x v) (readEdge ring x w)
+  unfolding readEdge
+  same-edge x v w s = rw (s .held-is, s .read-is, s .breaks-is) (either (fits ring (x ∷ w .held)))
+    where
+      either : (t : Bool) → SameReading
+          (cond t (record { start = v .start; read = suc (w .read); breaks = w .breaks; held = x ∷ w .held }) (record { start = v .start; read = suc (w .read); breaks = suc (w .breaks); held = [] }))
+          (cond t (record { start = w .start; read = suc (w .read); breaks = w .breaks; held = x ∷ w .held }) (record { start = w .start; read = suc (w .read); breaks = suc (w .breaks); held = [] }))
+      either true = record { read-is = refl; breaks-is = refl; held-is = refl }
+      either false = record { read-is = refl; breaks-is = refl; held-is = refl }
+
+  same-left : (k left : ℕ) (v w : Reading) → left ≤ m → SameReading v w
+      → SameReading (readLeft ring (window m line i) k 0 left v) (readLeft ring line k i left w)
+  unfolding readLeft
+  same-left k zero v w l s = s
+  same-left k (suc left) v w l s =
+      either _ _ (ap (ltb k) (s .breaks-is)) s
+      (rw (alone-edge left (omega arith)) (same-left k left _ _ (omega arith) (same-edge (windowEdge line i left) v w s)))
+    where
+      either : (t t′ : Bool) → t ≡ t′ → {v w v′ w′ : Reading} → SameReading v w → SameReading v′ w′ → SameReading (cond t v v′) (cond t′ w w′)
+      either true true e a b = a
+      either true false e a b = absurd (true≢false e)
+      either false true e a b = absurd (false≢true e)
+      either false false e a b = b
+
+  -- It is read as the line's window at i.
+  pub alone-reading : (k : ℕ) → SameReading (readWindow ring (window m line i) k 0) (readWindow ring line k i)
+  unfolding readWindow
+  alone-reading k = same-left k m (unread 0) (unread i) (omega arith) (record { read-is = refl; breaks-is = refl; held-is = refl })
