@@ -1,0 +1,73 @@
+-- Number and place determine the refusal, and the paper determines the answer, whatever its counts are. Each by a left inverse: `refusalOf` and
+-- `answerOf` read the answer back. So any two answers that meet a contract on the paper are equal.
+-- Assumes nothing.
+use Prim.Native.Nat.{ℕ, _≤_}
+use mathlib.Core.Path.{_≡_, refl, sym, ap, ap₂, _∙_}
+use mathlib.Core.Bool.{cond}
+use native.Mathlib.Omega.{arith}
+use lib.Dec.{eqb}
+use borrow.Author.Tests.{ne-eqb}
+use Rattle.answers.specs.declared.refusals.Refusal.{Refusal}
+use Rattle.answers.specs.declared.refusals.Refusal.the-variants.{Ring, Allowance, Line, FindingsRoom, BookLength, Field, NotAbove, WordCount, RingNumber, OutputRoom, Input}
+use Rattle.answers.specs.Refusals.{numberOf, placeOf}
+use Rattle.answers.specs.Paper.{Answer, accepted, refused, Paper, answerPaper}
+
+-- the refusal that has this number and this place
+unfoldable refusalOf : ℕ → ℕ → Refusal
+refusalOf number place =
+    cond (eqb number 1) Ring
+    (cond (eqb number 2) Allowance
+    (cond (eqb number 3) Line
+    (cond (eqb number 4) FindingsRoom
+    (cond (eqb number 5) BookLength
+    (cond (eqb number 6) (Field place)
+    (cond (eqb number 7) (NotAbove place)
+    (cond (eqb number 8) WordCount
+    (cond (eqb number 9) (RingNumber place)
+    (cond (eqb number 10) OutputRoom (Input place))))))))))
+
+refusal-back : (r : Refusal) → refusalOf (numberOf r) (placeOf r) ≡ r
+unfolding refusalOf
+refusal-back Ring = refl
+refusal-back Allowance = refl
+refusal-back Line = refl
+refusal-back FindingsRoom = refl
+refusal-back BookLength = refl
+refusal-back (Field place) = refl
+refusal-back (NotAbove place) = refl
+refusal-back WordCount = refl
+refusal-back (RingNumber place) = refl
+refusal-back OutputRoom = refl
+refusal-back (Input place) = refl
+
+-- number and place determine the refusal
+pub refusal-unique : (a b : Refusal) → numberOf a ≡ numberOf b → placeOf a ≡ placeOf b → a ≡ b
+refusal-unique a b n p = sym (refusal-back a) ∙ ap₂ refusalOf n p ∙ refusal-back b
+
+-- the numbers are 1 to 11
+pub number-in : (r : Refusal) → (1 ≤ numberOf r) × (numberOf r ≤ 11)
+number-in Ring = omega arith
+number-in Allowance = omega arith
+number-in Line = omega arith
+number-in FindingsRoom = omega arith
+number-in BookLength = omega arith
+number-in (Field place) = omega arith
+number-in (NotAbove place) = omega arith
+number-in WordCount = omega arith
+number-in (RingNumber place) = omega arith
+number-in OutputRoom = omega arith
+number-in (Input place) = omega arith
+
+module _ {C : Type 0} (zeros : C) where
+  -- the answer that has this paper
+  unfoldable answerOf : Paper C → Answer C
+  answerOf p = cond (eqb (p .number) 0) (accepted (p .counts)) (refused (refusalOf (p .number) (p .place)))
+
+  answer-back : (a : Answer C) → answerOf (answerPaper zeros a) ≡ a
+  unfolding answerOf
+  answer-back (accepted counts) = refl
+  answer-back (refused r) = rw (ne-eqb (numberOf r) 0 (λ e. omega (arith, number-in r .0))) (ap refused (refusal-back r))
+
+  -- the paper determines the answer
+  pub answer-unique : (a b : Answer C) → answerPaper zeros a ≡ answerPaper zeros b → a ≡ b
+  answer-unique a b e = sym (answer-back a) ∙ ap answerOf e ∙ answer-back b

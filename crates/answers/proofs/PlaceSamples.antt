@@ -1,0 +1,41 @@
+-- The two conversions of a place, computed on a window across the ring's seam and on each kind of input that document 01 does not speak of.
+-- Assumes nothing.
+use Prim.Native.Nat.{ℕ}
+use mathlib.Core.Path.{_≡_, refl}
+use Rattle.answers.specs.declared.places.RingPlace.{RingPlace}
+use Rattle.answers.specs.declared.places.LinePlace.{LinePlace}
+use Rattle.answers.specs.Places.{around, lastPlace, ringPlaceOf, linePlaceOf}
+
+abbrev ringPlace : ℕ → RingPlace
+ringPlace n = record { 0 = n }
+
+abbrev linePlace : ℕ → LinePlace
+linePlace n = record { 0 = n }
+
+-- a ring of 4 edges turned by 3, the window at 10: line places 10, 11 and 13 are the ring places 3, 0 and 2
+ring-places : (ringPlaceOf (linePlace 10) (linePlace 10) (ringPlace 3) 4 ≡ ringPlace 3)
+    × (ringPlaceOf (linePlace 11) (linePlace 10) (ringPlace 3) 4 ≡ ringPlace 0)
+    × (ringPlaceOf (linePlace 13) (linePlace 10) (ringPlace 3) 4 ≡ ringPlace 2)
+unfolding ringPlaceOf around
+ring-places = (refl, refl, refl)
+
+-- and back
+line-places : (linePlaceOf (ringPlace 3) (linePlace 10) (ringPlace 3) 4 ≡ linePlace 10)
+    × (linePlaceOf (ringPlace 0) (linePlace 10) (ringPlace 3) 4 ≡ linePlace 11)
+    × (linePlaceOf (ringPlace 2) (linePlace 10) (ringPlace 3) 4 ≡ linePlace 13)
+unfolding linePlaceOf around
+line-places = (refl, refl, refl)
+
+-- no ring; a line place before the start; a rotation of m and more
+ring-places-beyond : (ringPlaceOf (linePlace 11) (linePlace 10) (ringPlace 3) 0 ≡ ringPlace 0)
+    × (ringPlaceOf (linePlace 9) (linePlace 10) (ringPlace 3) 4 ≡ ringPlace 3)
+    × (ringPlaceOf (linePlace 11) (linePlace 10) (ringPlace 7) 4 ≡ ringPlace 0)
+unfolding ringPlaceOf around
+ring-places-beyond = (refl, refl, refl)
+
+-- no ring; a ring place and a rotation of m and more; a sum past the largest usize
+line-places-beyond : (linePlaceOf (ringPlace 2) (linePlace 10) (ringPlace 3) 0 ≡ linePlace 10)
+    × (linePlaceOf (ringPlace 6) (linePlace 10) (ringPlace 7) 4 ≡ linePlace 13)
+    × (linePlaceOf (ringPlace 2) (linePlace lastPlace) (ringPlace 3) 4 ≡ linePlace lastPlace)
+unfolding linePlaceOf around
+line-places-beyond = (refl, refl, refl)

@@ -1,0 +1,41 @@
+-- `answers::places::sum_around` meets its contract: each return cites the law of `around` for its case, and what is taken from m is
+-- a number mod m.
+-- Assumes nothing.
+use native.Mathlib.Nat.{mod-lt}
+use native.Mathlib.Omega.{arith}
+use borrow.Author.Needs.{needs}
+use Rattle.answers.proofs.AroundRing.{around-none, around-sum-lt, around-sum-ge, pos-of-ne}
+use Rattle.answers.proofs.places.sum_around.Statement.{statement}
+use Rattle.answers.proofs.places.sum_around.Tie as tie
+
+returns : tie.Need-returns
+returns c = around-none _ _ (c .if1 .taken)
+
+rem-x : tie.Need-rem-x
+rem-x c = search needs
+
+rem-y : tie.Need-rem-y
+rem-y c = search needs
+
+sub-if2 : tie.Need-sub-if2
+sub-if2 c = omega (arith, mod-lt (c .before .args .b) (pos-of-ne (c .if1 .left)))
+
+add-result : tie.Need-add-result
+add-result c = omega (arith, mod-lt (c .before .before .args .b) (pos-of-ne (c .before .if1 .left)))
+
+sub-result : tie.Need-sub-result
+sub-result c = omega (arith, mod-lt (c .before .before .args .b) (pos-of-ne (c .before .if1 .left)))
+
+sub-result-2 : tie.Need-sub-result-2
+sub-result-2 c = search needs
+
+returns-2 : tie.Need-returns-2
+returns-2 c = around-sum-lt _ _ _ (pos-of-ne (c .before .if1 .left)) (c .if2 .taken)
+
+returns-3 : tie.Need-returns-3
+returns-3 c = around-sum-ge _ _ _ (pos-of-ne (c .before .if1 .left)) (c .if2 .left)
+
+pub sum-around-spec : {M : Type 1} → statement M
+sum-around-spec =
+    tie.close
+    (tie.spec returns rem-x rem-y sub-if2 add-result sub-result sub-result-2 returns-2 returns-3)

@@ -1,0 +1,60 @@
+-- Document 01, "What each call returns": the table of refusals, rows 1 to 11. Here stand the number and the place of each
+-- refusal; when a row is given is said where its call is defined.
+--
+--   numberOf    the column "No."
+--   placeOf     the column "Place"
+--
+-- A refusal whose place is always 0 holds none. Leaves nothing out and adds no row.
+use Prim.Native.Nat.{ℕ}
+use Rattle.answers.specs.declared.refusals.Refusal.{Refusal}
+use Rattle.answers.specs.declared.refusals.Refusal.the-variants.{Ring, Allowance, Line, FindingsRoom, BookLength, Field, NotAbove, WordCount, RingNumber, OutputRoom, Input}
+
+-- The number of a refusal, the table's own, under the sentence of its row.
+abbrev pub numberOf : Refusal → ℕ
+-- "m = 0 or m > 256"
+numberOf Ring = 1
+-- "k ≥ m"
+numberOf Allowance = 2
+-- "n > 65,536"
+numberOf Line = 3
+-- "n ≥ m and fewer than 3·(n − m + 1) words are lent for findings"
+numberOf FindingsRoom = 4
+-- "book longer than 13,000 bytes"
+numberOf BookLength = 5
+-- "a field isn't 13 bytes beginning 21 00 0A hex, or is cut off"
+numberOf (Field place) = 6
+-- "a record isn't above the one before it"
+numberOf (NotAbove place) = 7
+-- "words to pack aren't a multiple of 3, or exceed 3,000"
+numberOf WordCount = 8
+-- "a ring number to pack is above 65,535"
+numberOf (RingNumber place) = 9
+-- "packing or unpacking lacks room for its whole output"
+numberOf OutputRoom = 10
+-- "the program's input isn't as laid down below"
+numberOf (Input place) = 11
+
+-- The place of a refusal, under the words of its row.
+abbrev pub placeOf : Refusal → ℕ
+-- 1: "0"
+placeOf Ring = 0
+-- 2: "0"
+placeOf Allowance = 0
+-- 3: "0"
+placeOf Line = 0
+-- 4: "0"
+placeOf FindingsRoom = 0
+-- 5: "0"
+placeOf BookLength = 0
+-- 6: "its byte offset"
+placeOf (Field place) = place
+-- 7: "byte offset (reading) or record number from 0 (packing)"
+placeOf (NotAbove place) = place
+-- 8: "0"
+placeOf WordCount = 0
+-- 9: "record number"
+placeOf (RingNumber place) = place
+-- 10: "0"
+placeOf OutputRoom = 0
+-- 11: "the offset where the first such field begins or should begin", or 0
+placeOf (Input place) = place

@@ -1,0 +1,56 @@
+-- A list of silences names an address, by the test, exactly when one of its silences is that cell, ring number and start. Silence by silence: the
+-- first one is the address, or the rest names it.
+-- Assumes nothing.
+use Prim.Native.Nat.{ℕ}
+use mathlib.Core.Logic.{_↔_}
+use mathlib.Core.Path.{_≡_, refl, sym, ap, _∙_}
+use mathlib.Core.Bool.{Bool, true, false, _||_}
+use mathlib.Core.List.{List, [], _∷_, List·Memᴰ, List·Memᴰ·head, List·Memᴰ·tail}
+use Rattle.book.specs.Silences.{Silence, silence, isSame, names, Names}
+use Rattle.book.proofs.SilenceOrder.{false-not-true, isSame-yes, isSame-refl}
+
+module _ (cell ringNumber start : ℕ) where
+  address : Silence
+  address = silence cell ringNumber start
+
+  -- one silence more at the front
+  names-tail : (s : Silence) (ss : List Silence) → Names ss cell ringNumber start → Names (s ∷ ss) cell ringNumber start
+  names-tail s ss n =
+      record { named = n .named; among = List·Memᴰ·tail (n .among); cell-is = n .cell-is; ring-number-is = n .ring-number-is; start-is = n .start-is }
+
+  names-head : (s : Silence) (ss : List Silence) → s ≡ address → Names (s ∷ ss) cell ringNumber start
+  unfolding address
+  names-head s ss e =
+      record {
+        named = s;
+        among = List·Memᴰ·head refl;
+        cell-is = ap (λ (t : Silence). t .cell) e;
+        ring-number-is = ap (λ (t : Silence). t .ringNumber) e;
+        start-is = ap (λ (t : Silence). t .start) e;
+      }
+
+  -- what the test finds named is named
+  pub names-yes : (ss : List Silence) → names ss cell ringNumber start ≡ true → Names ss cell ringNumber start
+  unfolding names address
+  names-yes [] e = absurd (false-not-true e)
+  names-yes (s ∷ ss) e = go (isSame s address) refl (names-yes ss) e
+    where
+      go : (t : Bool) → isSame s address ≡ t → (names ss cell ringNumber start ≡ true → Names ss cell ringNumber start)
+          → (t || names ss cell ringNumber start) ≡ true → Names (s ∷ ss) cell ringNumber start
+      go true h more e′ = names-head s ss (isSame-yes s address h)
+      go false h more e′ = names-tail s ss (more e′)
+
+  or-right : (a b : Bool) → b ≡ true → (a || b) ≡ true
+  or-right true b e = refl
+  or-right false b e = e
+
+  -- a silence that stands in the list, and is the address, is found
+  names-of : {s : Silence} {ss : List Silence} → List·Memᴰ s ss → s ≡ address → names ss cell ringNumber start ≡ true
+  unfolding names address
+  names-of (List·Memᴰ·head {x = x} {xs = xs} e) is = ap (λ (t : Bool). t || names xs cell ringNumber start) (ap (λ (t : Silence). isSame t address) (sym e ∙ is) ∙ isSame-refl address)
+  names-of (List·Memᴰ·tail {x = x} {xs = xs} m) is = or-right (isSame x address) (names xs cell ringNumber start) (names-of m is)
+
+  -- the test is the proposition
+  pub names-iff : (ss : List Silence) → (names ss cell ringNumber start ≡ true) ↔ Names ss cell ringNumber start
+  unfolding address
+  names-iff ss = (names-yes ss, λ n. names-of (n .among) (λ i. record { cell = n .cell-is i; ringNumber = n .ring-number-is i; start = n .start-is i }))

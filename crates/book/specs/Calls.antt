@@ -1,0 +1,62 @@
+-- What the four calls on a book promise, each in one record: the answer in document 01's number, place and counts (`paper`), and the lent area at
+-- exit (`written`), on every input, accepted or refused. "Packer and unpacker return the number of records"; so does reading.
+use Prim.Native.Nat.{ℕ}
+use mathlib.Core.Path.{_≡_}
+use mathlib.Core.List.{List}
+use lib.ListN.{length}
+use Rattle.answers.specs.Paper.{Answer, accepted, refused, Paper, answerPaper}
+use Rattle.book.specs.declared.answering.BookAnswer.{BookAnswer}
+use Rattle.book.specs.declared.answering.BookAnswer.the-variants.{Records, Refused}
+use Rattle.book.specs.declared.answering.Address.{Address}
+use Rattle.book.specs.declared.answering.Sought.{Sought}
+use Rattle.book.specs.declared.answering.Sought.the-variants.{Field, Nothing}
+use Rattle.book.specs.Silences.{Silence, silence}
+use Rattle.book.specs.Layout.{layout}
+use Rattle.book.specs.Reading.{FieldAt, whole, faulty, readBook}
+use Rattle.book.specs.Packing.{wordsOfSilences, packed, unpacked, areaAtExit}
+use Rattle.book.specs.Seeking.{seekFrom}
+
+-- The answer that an enum's case stands for.
+abbrev pub answerOf : BookAnswer → Answer ℕ
+answerOf (Records records) = accepted records
+answerOf (Refused refusal) = refused refusal
+
+-- Document 01's number, place and number of records of an answer.
+abbrev pub paperOf : BookAnswer → Paper ℕ
+paperOf r = answerPaper 0 (answerOf r)
+
+-- "the number of records": how many silences there are, or the refusal.
+abbrev pub recordsOf : Answer (List Silence) → Answer ℕ
+recordsOf (accepted ss) = accepted (length ss)
+recordsOf (refused refusal) = refused refusal
+
+-- Document 01's number, place and number of records of what a definition gives.
+abbrev pub recordsPaper : Answer (List Silence) → Paper ℕ
+recordsPaper a = answerPaper 0 (recordsOf a)
+
+-- What `pack` promises: of the words, the area lent for the book, the answer and the area at exit.
+pub record IsPacked (words area : List ℕ) (r : BookAnswer) (out : List ℕ) : Type 0 where
+  pub paper : paperOf r ≡ recordsPaper (packed words (length area))
+  pub written : out ≡ areaAtExit layout (packed words (length area)) area
+
+-- What `unpack` promises: of the book, the area lent for the words, the answer and the area at exit.
+pub record IsUnpacked (book area : List ℕ) (r : BookAnswer) (out : List ℕ) : Type 0 where
+  pub paper : paperOf r ≡ recordsPaper (unpacked book (length area))
+  pub written : out ≡ areaAtExit wordsOfSilences (unpacked book (length area)) area
+
+-- What `read` promises of the book and the answer.
+pub record IsRead (book : List ℕ) (r : BookAnswer) : Type 0 where
+  pub paper : paperOf r ≡ recordsPaper (readBook book)
+
+-- The silence that an address stands for: its cell, ring number and start.
+abbrev pub silenceOf : Address → Silence
+silenceOf a = silence (a .cell) (a .ring_number) (a .start)
+
+-- The field that an enum's case stands for.
+abbrev pub soughtOf : Sought → FieldAt
+soughtOf (Field address next) = whole (silenceOf address) next
+soughtOf Nothing = faulty
+
+-- What `seek` promises: of the book, the byte offset to begin at, the address (cell, ring number, start) and the answer.
+pub record IsSought (book : List ℕ) (from : ℕ) (address : Address) (r : Sought) : Type 0 where
+  pub is : soughtOf r ≡ seekFrom book (silenceOf address) from
