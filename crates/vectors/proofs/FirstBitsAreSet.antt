@@ -1,0 +1,80 @@
+-- The vector of the first m bits. Word w has as many low bits set as are left of m from the word's first place on, at most a word: so bit j of it is set
+-- exactly when 64 · w + j is below m. What code computes for word w is 0, `(1 << s) - 1` or all ones, by how many bits are left.
+-- Assumes nothing.
+use mathlib.Core.Path.{_≡_, refl, sym, _∙_}
+use mathlib.Core.List.{List}
+use mathlib.Core.Logic.{dite}
+use Prim.Native.Nat.{ℕ, _+_, _-_, _*_, _/_, _%_, _^_, _≤_, _<_, min}
+use native.Mathlib.Nat.{mod-lt, one-mul, lt-of-lt-of-le}
+use native.Mathlib.Decide.{decLt}
+use native.Mathlib.Omega.{arith}
+use lib.ListN.{length, getD}
+use lib.Pow.{shl-exact, pow-mono, ones-lt}
+use Rattle.vectors.specs.Bits.{wordBits, Vector, bit, firstWord, firstBits, FirstBits}
+use Rattle.vectors.specs.Rotating.{Within}
+use Rattle.vectors.proofs.WordBits.{bit-ones, bit-ones-past}
+use Rattle.vectors.proofs.WordByWord.{vectorOf-length, vectorOf-word, vectorOf-past, vectorOf-isSet, vectorOf-isSet-past}
+
+-- In word w the bits whose place in the vector is below m are set.
+pub first-word-low : (m w j : ℕ) → j < wordBits → wordBits * w + j < m → bit (firstWord m w) j ≡ 1
+unfolding firstWord
+first-word-low m w j h l = bit-ones (min wordBits (m - wordBits * w)) j (omega arith)
+
+-- In word w the bits whose place in the vector is m or more are 0.
+pub first-word-rest : (m w j : ℕ) → m ≤ wordBits * w + j → bit (firstWord m w) j ≡ 0
+unfolding firstWord
+first-word-rest m w j l = bit-ones-past (min wordBits (m - wordBits * w)) j (omega arith)
+
+-- The vector of the first m bits has them set, and no other.
+pub first-bits-is : (m count : ℕ) → m ≤ wordBits * count → FirstBits m (firstBits m count)
+unfolding firstBits
+first-bits-is m count room = record {
+  low = λ i h. vectorOf-isSet count (firstWord m) i (omega arith)
+      ∙ rw (first-word-low m (i / wordBits) (i % wordBits) (mod-lt i (omega arith)) (omega arith)) refl;
+  rest = λ i h. dite (decLt i (wordBits * count))
+      (λ l. vectorOf-isSet count (firstWord m) i l ∙ rw (first-word-rest m (i / wordBits) (i % wordBits) (omega arith)) refl)
+      (λ past. vectorOf-isSet-past count (firstWord m) i (omega (arith, past)));
+}
+
+-- It has `count` words.
+pub first-bits-length : (m count : ℕ) → length (firstBits m count) ≡ count
+unfolding firstBits
+first-bits-length m count = vectorOf-length count (firstWord m)
+
+-- Its words are machine words.
+pub first-bits-vector : (m count : ℕ) → Vector (firstBits m count)
+unfolding firstBits firstWord
+first-bits-vector m count = record {
+  word-lt = λ w. dite (decLt w count)
+      (λ h. rw (vectorOf-word count (firstWord m) w h)
+      (lt-of-lt-of-le (ones-lt (min wordBits (m - wordBits * w))) (pow-mono {i = min wordBits (m - wordBits * w)} {j = wordBits} (omega arith))))
+      (λ past. omega (arith, vectorOf-past count (firstWord m) w (omega (arith, past))));
+}
+
+-- Word w of the vector, as a loop stores it.
+pub first-bits-word : (m count w : ℕ) → w < count → firstWord m w ≡ getD (firstBits m count) w 0
+unfolding firstBits
+first-bits-word m count w h = sym (vectorOf-word count (firstWord m) w h)
+
+-- Its first m bits are all that it has.
+pub first-bits-within : (m : ℕ) (ws : List ℕ) → FirstBits m ws → Within m ws
+first-bits-within m ws first = record { rest = first .rest }
+
+-- Word w is 0 where m is not above the word's first place.
+pub first-word-none : (m w : ℕ) → m ≤ wordBits * w → 0 ≡ firstWord m w
+unfolding firstWord
+first-word-none m w h = let e : min wordBits (m - wordBits * w) ≡ 0 = omega arith in sym (rw e refl)
+
+-- `1 << s` within a word loses nothing.
+pub shl-one : (s : ℕ) → s < wordBits → 1 * 2 ^ s % 2 ^ wordBits ≡ 2 ^ s
+shl-one s h = shl-exact {a = 1} 1 s wordBits (omega arith) (omega arith) ∙ one-mul (2 ^ s)
+
+-- Word w is `(1 << s) - 1` where s bits are left, less than a word.
+pub first-word-some : (m w s : ℕ) → wordBits * w + s ≡ m → s < wordBits → 1 * 2 ^ s % 2 ^ wordBits - 1 ≡ firstWord m w
+unfolding firstWord
+first-word-some m w s is h = let e : min wordBits (m - wordBits * w) ≡ s = omega arith in sym (rw (e, shl-one s h) refl)
+
+-- Word w has every bit set where a word or more is left.
+pub first-word-full : (m w : ℕ) → wordBits * w + wordBits ≤ m → 2 ^ wordBits - 1 ≡ firstWord m w
+unfolding firstWord
+first-word-full m w h = let e : min wordBits (m - wordBits * w) ≡ wordBits = omega arith in sym (rw e refl)

@@ -1,0 +1,98 @@
+-- The held vector grown by one edge: rotated, then AND. A bit of `x & y` is set where both are; so a bit below m is set exactly when the rotated
+-- one is and the edge occurs there, and from m on the rotated vector has none. Which machine word gives each word is said at the end.
+-- Assumes nothing.
+use mathlib.Core.Path.{_≡_, refl, _∙_}
+use mathlib.Core.Bool.{_&&_}
+use mathlib.Core.List.{List}
+use mathlib.Core.Logic.{dite}
+use Prim.Native.Nat.{ℕ, _+_, _-_, _*_, _/_, _%_, _≤_, _<_}
+use native.Mathlib.Decide.{decLt}
+use native.Mathlib.Omega.{arith}
+use lib.ListN.{length, getD, List·getD-eq-default}
+use lib.Bits.{bitAnd, and-le-r}
+use lib.Dec.{eqb}
+use Rattle.vectors.specs.Bits.{wordBits, Vector, bit, isSet, putWord}
+use Rattle.vectors.specs.Rotating.{shiftedWord, Within, rotated, Rotated}
+use Rattle.vectors.specs.Holding.{both, Both, grown, Grown, Occurs}
+use Rattle.vectors.proofs.VectorBits.{isSet-word, isSet-past, test-and}
+use Rattle.vectors.proofs.WordByWord.{vectorOf-length, vectorOf-word, vectorOf-isSet, vectorOf-isSet-past}
+use Rattle.vectors.proofs.WrapToLastBit.{rotated-is, rotated-length, rotated-word-inner, rotated-word-last}
+
+module _ (xs ys : List ℕ) where
+  -- The vector of both has as many words as the first.
+  pub both-length : length (both xs ys) ≡ length xs
+  unfolding both
+  both-length = vectorOf-length (length xs) (λ w. bitAnd (getD xs w 0) (getD ys w 0))
+
+  -- Each of its words is the AND of the two.
+  pub both-word : (w : ℕ) → w < length xs → getD (both xs ys) w 0 ≡ bitAnd (getD xs w 0) (getD ys w 0)
+  unfolding both
+  both-word w h = vectorOf-word (length xs) (λ w. bitAnd (getD xs w 0) (getD ys w 0)) w h
+
+  -- They are machine words where the second vector's are.
+  pub both-vector : Vector ys → Vector (both xs ys)
+  both-vector vector = record {
+    word-lt = λ w. dite (decLt w (length xs))
+        (λ h. omega (arith, both-word w h, and-le-r (getD xs w 0) (getD ys w 0), vector .word-lt w))
+        (λ past. omega (arith, List·getD-eq-default (both xs ys) 0 {n = w} (omega (arith, past, both-length))));
+  }
+
+  -- In it a bit is set exactly when it is set in both.
+  pub both-is : Both xs ys (both xs ys)
+  unfolding both
+  both-is = record {
+    each = λ i. dite (decLt i (wordBits * length xs))
+        (λ h. vectorOf-isSet (length xs) (λ w. bitAnd (getD xs w 0) (getD ys w 0)) i h
+        ∙ (test-and (getD xs (i / wordBits) 0) (getD ys (i / wordBits) 0) (i % wordBits)
+        ∙ rw (isSet-word xs i (i / wordBits) (i % wordBits) refl refl, isSet-word ys i (i / wordBits) (i % wordBits) refl refl) refl))
+        (λ past. vectorOf-isSet-past (length xs) (λ w. bitAnd (getD xs w 0) (getD ys w 0)) i (omega (arith, past))
+        ∙ rw (isSet-past xs i (omega (arith, past))) refl);
+  }
+
+-- Rotated, and then AND the occurrence vector: grown, however the words are kept.
+pub grown-of : (m : ℕ) (occurs old mid new : List ℕ) → Rotated m old mid → Both mid occurs new → Grown m occurs old new
+grown-of m occurs old mid new turn and = record {
+  each = λ r h. and .each r ∙ rw (turn .next r h) refl;
+  rest = λ i h. and .each i ∙ rw (turn .rest i h) refl;
+}
+
+module _ (m : ℕ) (occurs held : List ℕ) where
+  -- The grown vector is grown.
+  pub grown-is : Vector held → 0 < m → m ≤ wordBits * length held → Within m held → Grown m occurs held (grown m occurs held)
+  unfolding grown
+  grown-is vector some room within =
+      grown-of m occurs held (rotated m held) (both (rotated m held) occurs) (rotated-is m held vector some room within) (both-is (rotated m held) occurs)
+
+  -- What has grown still has m bits.
+  pub grown-within : (new : List ℕ) → Grown m occurs held new → Within m new
+  grown-within new g = record { rest = g .rest }
+
+  -- Its words are machine words where the occurrence vector's are.
+  pub grown-vector : Vector occurs → Vector (grown m occurs held)
+  unfolding grown
+  grown-vector vector = both-vector (rotated m held) occurs vector
+
+  -- The grown vector has as many words.
+  pub grown-length : length (grown m occurs held) ≡ length held
+  unfolding grown
+  grown-length = both-length (rotated m held) occurs ∙ rotated-length m held
+
+  -- A word that does not hold bit m − 1: `(x >> 1 | next << 63) & occurs`.
+  pub grown-word-inner : (w : ℕ) → w < length held → (w ≡ (m - 1) / wordBits → ⊥)
+      → getD (grown m occurs held) w 0 ≡ bitAnd (shiftedWord (getD held w 0) (getD held (w + 1) 0)) (getD occurs w 0)
+  unfolding grown
+  grown-word-inner w h inner =
+      both-word (rotated m held) occurs w (omega (arith, rotated-length m held)) ∙ rw (rotated-word-inner m w held h inner) refl
+
+  -- The word that holds bit m − 1: `(x >> 1 | next << 63 | first << (m - 1) % 64) & occurs`.
+  pub grown-word-last : (w : ℕ) → w < length held → w ≡ (m - 1) / wordBits
+      → getD (grown m occurs held) w 0
+      ≡ bitAnd (putWord (shiftedWord (getD held w 0) (getD held (w + 1) 0)) ((m - 1) % wordBits) (bit (getD held 0 0) 0)) (getD occurs w 0)
+  unfolding grown
+  grown-word-last w h last =
+      both-word (rotated m held) occurs w (omega (arith, rotated-length m held)) ∙ rw (rotated-word-last m w held h last) refl
+
+-- Grown by an edge code's occurrence vector: bit r is set exactly when bit (r + 1) mod m was and the ring has the code at r.
+pub grown-occurs : (ring : List ℕ) (code : ℕ) (occurs old new : List ℕ) → Occurs ring code occurs → Grown (length ring) occurs old new
+    → (r : ℕ) → r < length ring → isSet new r ≡ (isSet old ((r + 1) % length ring) && eqb (getD ring r 0) code)
+grown-occurs ring code occurs old new o g r h = g .each r h ∙ rw (o .each r h) refl

@@ -1,0 +1,13 @@
+pub mod WordBits
+pub mod VectorBits
+pub mod WordByWord
+pub mod OneBitPut
+pub mod FirstBitsAreSet
+pub mod NoBitIsSet
+pub mod CarryBetweenWords
+pub mod WrapToLastBit
+pub mod HeldVectorGrows
+pub mod GrowingLoop
+pub mod PartOfTable
+pub mod OccurrenceLoop
+pub mod OccurrenceTableLoop

@@ -1,0 +1,56 @@
+-- The loop over the ring's places that makes an edge code's occurrence vector out of one with no bit set: before turn r the bits below r are right
+-- and no other is set. A place with the code has its bit put in, which was not set; any other place has its bit right already.
+-- Assumes nothing.
+use mathlib.Core.Path.{_≡_, sym, _∙_}
+use mathlib.Core.Bool.{false}
+use mathlib.Core.List.{List}
+use mathlib.Core.Logic.{dite}
+use Prim.Native.Nat.{ℕ, _+_, _≤_, _<_}
+use native.Mathlib.Decide.{ℕ-discrete}
+use native.Mathlib.Omega.{arith}
+use lib.ListN.{length, getD}
+use lib.Dec.{eqb}
+use borrow.Author.Tests.{eq-eqb, ne-eqb}
+use Rattle.vectors.specs.Bits.{isSet, Put, NoBit}
+use Rattle.vectors.specs.Holding.{Occurs}
+
+-- Before turn r: the bits below r tell where the ring has the code, and no other bit is set.
+pub record OccursBelow (ring : List ℕ) (code : ℕ) (ws : List ℕ) (r : ℕ) : Type 0 where
+  pub turn-le : r ≤ length ring
+  pub below : (q : ℕ) → q < r → isSet ws q ≡ eqb (getD ring q 0) code
+  pub rest : (i : ℕ) → r ≤ i → isSet ws i ≡ false
+
+module _ (ring : List ℕ) (code : ℕ) where
+  -- Before the first turn no bit is set.
+  pub occurs-below-start : (ws : List ℕ) → NoBit ws → OccursBelow ring code ws 0
+  occurs-below-start ws no-bit = record { turn-le = omega arith; below = λ q h. absurd (omega arith); rest = λ i h. no-bit .none i }
+
+  -- A place with the code has its bit put in.
+  pub occurs-below-turn-yes : (ws new : List ℕ) (r : ℕ) → OccursBelow ring code ws r → r < length ring → getD ring r 0 ≡ code → Put ws r 1 new
+      → OccursBelow ring code new (r + 1)
+  occurs-below-turn-yes ws new r known h same put = record {
+    turn-le = omega arith;
+    below = λ q l. dite (ℕ-discrete q r)
+        (λ e. rw e (put .there ∙ (rw (known .rest r (omega arith)) (sym (eq-eqb (getD ring r 0) code same)))))
+        (λ other. put .others q other ∙ known .below q (omega (arith, other)));
+    rest = λ i l. put .others i (λ e. omega arith) ∙ known .rest i (omega arith);
+  }
+
+  -- A place with another code leaves the vector as it is.
+  pub occurs-below-turn-no : (ws : List ℕ) (r : ℕ) → OccursBelow ring code ws r → r < length ring → (getD ring r 0 ≡ code → ⊥)
+      → OccursBelow ring code ws (r + 1)
+  occurs-below-turn-no ws r known h differs = record {
+    turn-le = omega arith;
+    below = λ q l. dite (ℕ-discrete q r)
+        (λ e. rw e (known .rest r (omega arith) ∙ sym (ne-eqb (getD ring r 0) code differs)))
+        (λ other. known .below q (omega (arith, other)));
+    rest = λ i l. known .rest i (omega arith);
+  }
+
+  -- At the end it is the code's occurrence vector.
+  pub occurs-below-end : (ws : List ℕ) (r : ℕ) → OccursBelow ring code ws r → length ring ≤ r → Occurs ring code ws
+  occurs-below-end ws r known h = record { each = λ q l. known .below q (omega arith); rest = λ i l. known .rest i (omega (arith, known .turn-le)) }
+
+  -- What is known of a vector before a turn is known of one with the same bits.
+  pub occurs-below-same : (ws new : List ℕ) (r : ℕ) → OccursBelow ring code ws r → ((i : ℕ) → isSet new i ≡ isSet ws i) → OccursBelow ring code new r
+  occurs-below-same ws new r known same = record { turn-le = known .turn-le; below = λ q h. same q ∙ known .below q h; rest = λ i h. same i ∙ known .rest i h }

@@ -1,0 +1,52 @@
+-- One bit put into a vector. In its word `b << j` is b at place j and 0 elsewhere, so `x | b << j` has that bit set if it was or if b is 1, and
+-- every other bit as it was; every other word is kept.
+-- Assumes nothing.
+use mathlib.Core.Path.{_≡_, refl, sym, _∙_}
+use mathlib.Core.Bool.{true, _||_, or-false, or-true}
+use mathlib.Core.List.{List}
+use mathlib.Core.Logic.{dite}
+use Prim.Native.Nat.{ℕ, _*_, _/_, _%_, _^_, _<_}
+use native.Mathlib.Nat.{mod-lt}
+use native.Mathlib.Decide.{ℕ-discrete}
+use native.Mathlib.Omega.{arith}
+use lib.ListN.{length, getD, length-set}
+use lib.Dec.{eqb}
+use Rattle.vectors.specs.Bits.{wordBits, bit, isSet, putWord, putBit, Put}
+use Rattle.vectors.proofs.WordBits.{bit-mod, bit-lone-there, bit-lone-else}
+use Rattle.vectors.proofs.VectorBits.{isSet-word, isSet-set-same, isSet-set-other, test-or}
+
+module _ (x j b : ℕ) (bit-b : b < 2) where
+  -- In a word, the place put in is set if it was or if b is 1.
+  pub put-word-there : j < wordBits → eqb (bit (putWord x j b) j) 1 ≡ (eqb (bit x j) 1 || eqb b 1)
+  put-word-there h = test-or x (b * 2 ^ j % 2 ^ wordBits) j ∙ rw (bit-mod (b * 2 ^ j) j wordBits h, bit-lone-there b j bit-b) refl
+
+  -- In a word, every other place is as it was.
+  pub put-word-else : (l : ℕ) → l < wordBits → (l ≡ j → ⊥) → eqb (bit (putWord x j b) l) 1 ≡ eqb (bit x l) 1
+  put-word-else l h other =
+      test-or x (b * 2 ^ j % 2 ^ wordBits) l ∙ rw (bit-mod (b * 2 ^ j) l wordBits h, bit-lone-else b j l bit-b other) (or-false (eqb (bit x l) 1))
+
+-- The vector with one bit put in has it, and no other bit has changed.
+pub put-is : (ws : List ℕ) (i b : ℕ) → b < 2 → i < wordBits * length ws → Put ws i b (putBit ws i b)
+unfolding putBit
+put-is ws i b bit-b h =
+    let within : i / wordBits < length ws = omega arith in
+    let old : ℕ = getD ws (i / wordBits) 0 in
+    let new : ℕ = putWord old (i % wordBits) b in
+    record {
+      there = isSet-set-same ws (i / wordBits) new i refl within
+          ∙ (put-word-there old (i % wordBits) b bit-b (mod-lt i (omega arith)) ∙ rw (isSet-word ws i (i / wordBits) (i % wordBits) refl refl) refl);
+      others = λ l other. dite (ℕ-discrete (l / wordBits) (i / wordBits))
+          (λ same. isSet-set-same ws (i / wordBits) new l same within
+          ∙ (put-word-else old (i % wordBits) b bit-b (l % wordBits) (mod-lt l (omega arith)) (λ e. other (omega arith))
+          ∙ sym (isSet-word ws l (i / wordBits) (l % wordBits) same refl)))
+          (isSet-set-other ws (i / wordBits) new l);
+    }
+
+-- With 1 put in, the bit is set.
+pub put-one : (old new : List ℕ) (i : ℕ) → Put old i 1 new → isSet new i ≡ true
+put-one old new i put = put .there ∙ or-true (isSet old i)
+
+-- The vector with one bit put in has as many words.
+pub put-length : (ws : List ℕ) (i b : ℕ) → length (putBit ws i b) ≡ length ws
+unfolding putBit
+put-length ws i b = simp length-set refl

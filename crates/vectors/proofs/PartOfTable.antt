@@ -1,0 +1,69 @@
+-- A vector that is a part of a longer list of words: its word w is the list's word base + w, its bit i the list's bit 64 · base + i. So a bit put into
+-- the list is put into the part that holds its place, and leaves every other part as it was.
+-- Assumes nothing.
+use mathlib.Core.Path.{_≡_, refl, sym, _∙_}
+use mathlib.Core.Bool.{false}
+use mathlib.Core.List.{List}
+use mathlib.Core.Logic.{dite}
+use Prim.Native.Nat.{ℕ, _+_, _*_, _/_, _%_, _≤_, _<_}
+use native.Mathlib.Decide.{decLt}
+use native.Mathlib.Omega.{arith}
+use lib.ListN.{length, getD, set, take, length-take, length-drop}
+use lib.Seq.{getD-take, getD-drop}
+use Rattle.vectors.specs.Bits.{wordBits, isSet, putWord, putBit, Put, NoBit}
+use Rattle.vectors.specs.Holding.{vectorAt}
+use Rattle.vectors.proofs.VectorBits.{isSet-word, isSet-past}
+
+module _ (table : List ℕ) (base count : ℕ) where
+  -- Word w of the part is word base + w of the list.
+  pub part-word : (w : ℕ) → w < count → getD (vectorAt table base count) w 0 ≡ getD table (base + w) 0
+  part-word w h = getD-drop base (take (base + count) table) w 0 ∙ getD-take (base + count) table (base + w) 0 (omega arith)
+
+  -- It has at most `count` words.
+  pub part-length-le : length (vectorAt table base count) ≤ count
+  part-length-le = simp (length-drop, length-take) (omega arith)
+
+  -- Past its words no bit is set.
+  pub part-past : (i : ℕ) → wordBits * count ≤ i → isSet (vectorAt table base count) i ≡ false
+  part-past i h = isSet-past (vectorAt table base count) i (omega (arith, part-length-le))
+
+  -- Bit i of the part is bit 64 · base + i of the list.
+  pub part-isSet : (i : ℕ) → i < wordBits * count → isSet (vectorAt table base count) i ≡ isSet table (wordBits * base + i)
+  part-isSet i h =
+      isSet-word (vectorAt table base count) i (i / wordBits) (i % wordBits) refl refl
+      ∙ (rw (part-word (i / wordBits) (omega arith)) refl
+      ∙ sym (isSet-word table (wordBits * base + i) (base + i / wordBits) (i % wordBits) (omega arith) (omega arith)))
+
+  -- Where no bit of the list is set, none of the part is.
+  pub part-no-bit : NoBit table → NoBit (vectorAt table base count)
+  part-no-bit no-bit = record {
+    none = λ i. dite (decLt i (wordBits * count))
+        (λ h. part-isSet i h ∙ no-bit .none (wordBits * base + i)) (λ past. part-past i (omega (arith, past)));
+  }
+
+-- A bit put into the list at a place of the part is put into the part.
+pub part-put : (table new : List ℕ) (base count i b : ℕ) → i < wordBits * count → Put table (wordBits * base + i) b new
+    → Put (vectorAt table base count) i b (vectorAt new base count)
+part-put table new base count i b h put = record {
+  there = part-isSet new base count i h ∙ (put .there ∙ rw (part-isSet table base count i h) refl);
+  others = λ j other. dite (decLt j (wordBits * count))
+      (λ l. part-isSet new base count j l ∙ (put .others (wordBits * base + j) (λ e. other (omega arith)) ∙ sym (part-isSet table base count j l)))
+      (λ past. part-past new base count j (omega (arith, past)) ∙ sym (part-past table base count j (omega (arith, past))));
+}
+
+-- A bit put into the list at a place outside the part leaves the part's bits as they were.
+pub part-put-outside : (table new : List ℕ) (base count p b : ℕ) → ((i : ℕ) → i < wordBits * count → wordBits * base + i ≡ p → ⊥)
+    → Put table p b new
+    → (j : ℕ) → isSet (vectorAt new base count) j ≡ isSet (vectorAt table base count) j
+part-put-outside table new base count p b outside put j = dite (decLt j (wordBits * count))
+    (λ l. part-isSet new base count j l ∙ (put .others (wordBits * base + j) (outside j l) ∙ sym (part-isSet table base count j l)))
+    (λ past. part-past new base count j (omega (arith, past)) ∙ sym (part-past table base count j (omega (arith, past))))
+
+-- What code stores to put a bit at place i of the part: word base + i / 64 with its bit i mod 64 put in.
+pub part-put-word : (table : List ℕ) (base i b : ℕ)
+    → set table (base + i / wordBits) (putWord (getD table (base + i / wordBits) 0) (i % wordBits) b) ≡ putBit table (wordBits * base + i) b
+unfolding putBit
+part-put-word table base i b =
+    let e : (wordBits * base + i) / wordBits ≡ base + i / wordBits = omega arith in
+    let f : (wordBits * base + i) % wordBits ≡ i % wordBits = omega arith in
+    sym (rw (e, f) refl)

@@ -1,0 +1,87 @@
+-- A vector given word by word, and a loop that builds one so. `vectorOf count f` has f w at word w and nothing behind. Before turn w of the loop
+-- (`Building`) the words below w are made and the others are the old ones, so a turn may still read word w and the one above it, in place too.
+-- At the end it is the vector to be made, if the words that the loop leaves alone were that vector's already.
+-- Assumes nothing.
+use mathlib.Core.Path.{_≡_, refl, sym, _∙_, ap}
+use mathlib.Core.Bool.{false}
+use mathlib.Core.List.{List}
+use mathlib.Core.Logic.{dite}
+use Prim.Native.Nat.{ℕ, zero, suc, _+_, _*_, _/_, _%_, _≤_, _<_}
+use native.Mathlib.Decide.{decLt, ℕ-discrete}
+use native.Mathlib.Omega.{arith}
+use lib.ListN.{length, getD, set, length-set, List·getD-eq-default}
+use lib.Seq.{getD-set-same, getD-set-other, ext-getD}
+use lib.Dec.{eqb}
+use Rattle.vectors.specs.Bits.{wordBits, bit, isSet, vectorOf}
+use Rattle.vectors.proofs.VectorBits.{isSet-word, isSet-past}
+
+-- It has `count` words.
+pub vectorOf-length : (count : ℕ) (f : ℕ → ℕ) → length (vectorOf count f) ≡ count
+unfolding vectorOf
+vectorOf-length zero f = refl
+vectorOf-length (suc count) f = ap suc (vectorOf-length count (λ w. f (suc w)))
+
+-- Word w is f w.
+pub vectorOf-word : (count : ℕ) (f : ℕ → ℕ) (w : ℕ) → w < count → getD (vectorOf count f) w 0 ≡ f w
+unfolding vectorOf
+vectorOf-word zero f w h = absurd (omega arith)
+vectorOf-word (suc count) f zero h = refl
+vectorOf-word (suc count) f (suc w) h = vectorOf-word count (λ w. f (suc w)) w (omega arith)
+
+-- From `count` on its words are 0.
+pub vectorOf-past : (count : ℕ) (f : ℕ → ℕ) (w : ℕ) → count ≤ w → getD (vectorOf count f) w 0 ≡ 0
+vectorOf-past count f w h = List·getD-eq-default (vectorOf count f) 0 {n = w} (omega (arith, vectorOf-length count f))
+
+-- Its bits are those of the words f w.
+pub vectorOf-isSet : (count : ℕ) (f : ℕ → ℕ) (i : ℕ) → i < wordBits * count
+    → isSet (vectorOf count f) i ≡ eqb (bit (f (i / wordBits)) (i % wordBits)) 1
+vectorOf-isSet count f i h =
+    isSet-word (vectorOf count f) i (i / wordBits) (i % wordBits) refl refl ∙ rw (vectorOf-word count f (i / wordBits) (omega arith)) refl
+
+-- Past its words no bit is set.
+pub vectorOf-isSet-past : (count : ℕ) (f : ℕ → ℕ) (i : ℕ) → wordBits * count ≤ i → isSet (vectorOf count f) i ≡ false
+vectorOf-isSet-past count f i h = isSet-past (vectorOf count f) i (omega (arith, vectorOf-length count f))
+
+-- Before turn w of a loop that makes `goal` out of `old`: the words below w are the goal's, the others are still the old ones.
+pub record Building (goal old : List ℕ) (count : ℕ) (ws : List ℕ) (w : ℕ) : Type 0 where
+  pub size : length ws ≡ length old
+  pub turn-le : w ≤ count
+  pub made : (v : ℕ) → v < w → getD ws v 0 ≡ getD goal v 0
+  pub kept : (v : ℕ) → w ≤ v → getD ws v 0 ≡ getD old v 0
+
+module _ (goal old : List ℕ) (count : ℕ) where
+  -- Before the first turn nothing is made.
+  pub building-start : Building goal old count old 0
+  building-start = record { size = refl; turn-le = omega arith; made = λ v h. absurd (omega arith); kept = λ v h. refl }
+
+  -- A turn stores the goal's word w.
+  pub building-turn : (ws : List ℕ) (w x : ℕ) → Building goal old count ws w → w < count → w < length old → x ≡ getD goal w 0
+      → Building goal old count (set ws w x) (w + 1)
+  building-turn ws w x b h within is = record {
+    size = length-set ws w x ∙ b .size;
+    turn-le = omega arith;
+    made = λ v l. dite (ℕ-discrete v w)
+        (λ e. rw (e, getD-set-same ws w x 0 (omega (arith, b .size))) is)
+        (λ other. getD-set-other ws w v x 0 other ∙ b .made v (omega (arith, other)));
+    kept = λ v l. getD-set-other ws w v x 0 (λ e. omega arith) ∙ b .kept v (omega arith);
+  }
+
+  -- A turn may leave word w alone where the old word was the goal's already.
+  pub building-turn-kept : (ws : List ℕ) (w : ℕ) → Building goal old count ws w → w < count → getD old w 0 ≡ getD goal w 0
+      → Building goal old count ws (w + 1)
+  building-turn-kept ws w b h right = record {
+    size = b .size;
+    turn-le = omega arith;
+    made = λ v l. dite (ℕ-discrete v w) (λ e. rw e (b .kept w (omega arith) ∙ right)) (λ other. b .made v (omega (arith, other)));
+    kept = λ v l. b .kept v (omega arith);
+  }
+
+  -- A loop is the beginning of a longer one.
+  pub building-longer : (more : ℕ) (ws : List ℕ) (w : ℕ) → count ≤ more → Building goal old count ws w → Building goal old more ws w
+  building-longer more ws w h b = record { size = b .size; turn-le = omega (arith, b .turn-le); made = b .made; kept = b .kept }
+
+  -- At the end the list is the goal, if the old words from `count` on were the goal's already.
+  pub building-end : (ws : List ℕ) (w : ℕ) → Building goal old count ws w → count ≤ w → length goal ≡ length old
+      → ((v : ℕ) → count ≤ v → v < length old → getD old v 0 ≡ getD goal v 0) → ws ≡ goal
+  building-end ws w b h size right = ext-getD 0 ws goal (b .size ∙ sym size) (λ v l. dite (decLt v w) (b .made v)
+      (λ past. b .kept v (omega (arith, past)) ∙ right v (omega (arith, past)) (omega (arith, b .size))))

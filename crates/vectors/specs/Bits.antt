@@ -1,0 +1,84 @@
+-- Vectors of bits kept in machine words, for any word count: what they hold, one bit set, the first m bits set, no bit set.
+-- Document 01 names them in rule 2: "003 decides the fit with one occurrence vector of m bits per edge code, rotated at each edge".
+-- Their rotating is in `Rotating`, what the scan does with them in `Holding`.
+-- A list of words stands for itself with any number of zero words behind it: past its end every bit is 0.
+-- The word's width is written once, in `wordBits`. Words are numbers; `>>`, `<<`, `|` and `&` on them are what the code's are:
+-- `x / 2 ^ j`, `x * 2 ^ j % 2 ^ wordBits`, `bitOr` and `bitAnd`.
+-- Letters: ws a vector, w the number of a word, x a word, j a place in a word, i a place in a vector, m a number of bits.
+--     wordBits     the bits of a machine word           Vector     a list of machine words
+--     wordCount    the words of m bits                  vectorOf    a vector given word by word
+--     bit          bit j of a word, 0 or 1              isSet      whether bit i of a vector is set
+--     putBit, Put              one bit put in           orBelow, noBit, NoBit    no bit set
+--     firstBits, FirstBits     the first m bits set
+-- Assumes nothing.
+use mathlib.Core.Path.{_≡_}
+use mathlib.Core.Bool.{Bool, true, false, _||_}
+use mathlib.Core.List.{List, [], _∷_}
+use Prim.Native.Nat.{ℕ, zero, suc, _+_, _-_, _*_, _/_, _%_, _^_, _≤_, _<_, min}
+use lib.ListN.{length, getD, set}
+use lib.Bits.{bitOr}
+use lib.Dec.{eqb}
+
+-- How many bits a machine word has.
+abbrev pub wordBits : ℕ
+wordBits = 64
+
+-- A vector is a list of machine words: each word is below 2 to the power of its width.
+pub record Vector (ws : List ℕ) : Type 0 where
+  pub word-lt : (w : ℕ) → getD ws w 0 < 2 ^ wordBits
+
+-- The word count of m bits: the fewest words that have room for them.
+abbrev pub wordCount : ℕ → ℕ
+wordCount m = (m + (wordBits - 1)) / wordBits
+
+-- Bit j of a word, 0 or 1, counted from its lowest.
+unfoldable pub bit : ℕ → ℕ → ℕ
+bit x j = x / 2 ^ j % 2
+
+-- Whether bit i of a vector is set: it is bit i mod 64 of word i / 64.
+unfoldable pub isSet : List ℕ → ℕ → Bool
+isSet ws i = eqb (bit (getD ws (i / wordBits) 0) (i % wordBits)) 1
+
+-- The vector of the words f 0, f 1 and so on, `count` of them.
+unfoldable pub vectorOf : ℕ → (ℕ → ℕ) → List ℕ
+vectorOf zero f = []
+vectorOf (suc count) f = f zero ∷ vectorOf count (λ w. f (suc w))
+
+-- A word with the bit b put in at place j: `x | b << j`.
+abbrev pub putWord : ℕ → ℕ → ℕ → ℕ
+putWord x j b = bitOr x (b * 2 ^ j % 2 ^ wordBits)
+
+-- A vector with the bit b put in at place i.
+unfoldable pub putBit : List ℕ → ℕ → ℕ → List ℕ
+putBit ws i b = set ws (i / wordBits) (putWord (getD ws (i / wordBits) 0) (i % wordBits) b)
+
+-- The bit b is put in at place i: where b is 1 that bit is now set, and no other bit has changed.
+pub record Put (old : List ℕ) (i b : ℕ) (new : List ℕ) : Type 0 where
+  pub there : isSet new i ≡ (isSet old i || eqb b 1)
+  pub others : (p : ℕ) → (p ≡ i → ⊥) → isSet new p ≡ isSet old p
+
+-- Word w of the vector whose first m bits are set: as many low bits as are left of m, at most a word.
+unfoldable pub firstWord : ℕ → ℕ → ℕ
+firstWord m w = 2 ^ min wordBits (m - wordBits * w) - 1
+
+-- The vector of `count` words whose first m bits are set.
+unfoldable pub firstBits : ℕ → ℕ → List ℕ
+firstBits m count = vectorOf count (firstWord m)
+
+-- The first m bits are set, and no other.
+pub record FirstBits (m : ℕ) (ws : List ℕ) : Type 0 where
+  pub low : (i : ℕ) → i < m → isSet ws i ≡ true
+  pub rest : (i : ℕ) → m ≤ i → isSet ws i ≡ false
+
+-- No bit is set.
+pub record NoBit (ws : List ℕ) : Type 0 where
+  pub none : (i : ℕ) → isSet ws i ≡ false
+
+-- The first `count` words of a vector, joined by `|`.
+unfoldable pub orBelow : List ℕ → ℕ → ℕ
+orBelow ws zero = 0
+orBelow ws (suc count) = bitOr (orBelow ws count) (getD ws count 0)
+
+-- Whether no bit is set: all words joined by `|` are 0.
+unfoldable pub noBit : List ℕ → Bool
+noBit ws = eqb (orBelow ws (length ws)) 0

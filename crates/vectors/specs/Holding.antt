@@ -1,0 +1,47 @@
+-- What the scan does with vectors. Rule 2: "A stretch is held, empty at first, and grows to the left by each edge read"; "003 decides the fit
+-- with one occurrence vector of m bits per edge code, rotated at each edge". Nothing here knows a stretch: that bit r tells whether the
+-- held stretch is the beginning of rotation r is said where stretches are.
+--     Occurs     the occurrence vector of an edge code        vectorAt, OccurrenceTable     one for each code, in one list
+--     both, Both     AND, bit for bit
+--     grown, Grown     the held vector rotated, AND the read edge's occurrence vector
+-- Assumes nothing.
+use mathlib.Core.Path.{_≡_}
+use mathlib.Core.Bool.{false, _&&_}
+use mathlib.Core.List.{List}
+use Prim.Native.Nat.{ℕ, _+_, _*_, _%_, _≤_, _<_}
+use lib.ListN.{length, getD}
+use lib.Seq.{slice}
+use lib.Bits.{bitAnd}
+use lib.Dec.{eqb}
+use Rattle.vectors.specs.Bits.{isSet, vectorOf}
+use Rattle.vectors.specs.Rotating.{rotated}
+
+-- The occurrence vector of an edge code: bit r is set exactly when the ring has that code at place r, and no bit from m on is set.
+pub record Occurs (ring : List ℕ) (code : ℕ) (ws : List ℕ) : Type 0 where
+  pub each : (r : ℕ) → r < length ring → isSet ws r ≡ eqb (getD ring r 0) code
+  pub rest : (i : ℕ) → length ring ≤ i → isSet ws i ≡ false
+
+-- The vector of `count` words that begins at word `base` of a longer list: `&table[base..base + count]`.
+abbrev pub vectorAt : List ℕ → ℕ → ℕ → List ℕ
+vectorAt table base count = slice base (base + count) table
+
+-- "One occurrence vector of m bits per edge code": vectors of `count` words, laid one behind the other by rising code.
+pub record OccurrenceTable (ring : List ℕ) (count : ℕ) (table : List ℕ) : Type 0 where
+  pub each : (code : ℕ) → Occurs ring code (vectorAt table (code * count) count)
+
+-- Two vectors joined by `&`, word by word.
+unfoldable pub both : List ℕ → List ℕ → List ℕ
+both xs ys = vectorOf (length xs) (λ w. bitAnd (getD xs w 0) (getD ys w 0))
+
+-- AND: a bit is set exactly when it is set in both.
+pub record Both (xs ys new : List ℕ) : Type 0 where
+  pub each : (i : ℕ) → isSet new i ≡ (isSet xs i && isSet ys i)
+
+-- A held vector of m bits grown by one edge: rotated, AND the edge's occurrence vector.
+unfoldable pub grown : ℕ → List ℕ → List ℕ → List ℕ
+grown m occurs held = both (rotated m held) occurs
+
+-- Grown by one edge: bit r is set exactly when bit (r + 1) mod m was set and the edge occurs at r, and no bit from m on is set.
+pub record Grown (m : ℕ) (occurs old new : List ℕ) : Type 0 where
+  pub each : (r : ℕ) → r < m → isSet new r ≡ (isSet old ((r + 1) % m) && isSet occurs r)
+  pub rest : (i : ℕ) → m ≤ i → isSet new i ≡ false

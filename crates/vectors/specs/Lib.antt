@@ -1,0 +1,4 @@
+pub mod Bits
+pub mod Rotating
+pub mod Holding
+pub mod Samples

@@ -1,0 +1,119 @@
+-- Vectors of one to four words, worked out by hand: one table of named rows, and one claim that the checker computes.
+-- A row gives m, the held vector and an edge's occurrence vector; then the held vector rotated and the places of its set bits, the held vector
+-- grown and whether that leaves no bit set, and the vector of the first m bits in as many words.
+-- Assumes nothing.
+use mathlib.Core.Path.{_≡_, refl}
+use mathlib.Core.Bool.{Bool, true, false, cond}
+use mathlib.Core.List.{List, [], _∷_, _++_, map}
+use Prim.Native.Nat.{ℕ, zero, suc}
+use lib.ListN.{length}
+use Rattle.vectors.specs.Bits.{bit, isSet, vectorOf, putBit, firstWord, firstBits, orBelow, noBit}
+use Rattle.vectors.specs.Rotating.{shifted, rotated}
+use Rattle.vectors.specs.Holding.{both, grown}
+
+-- What a row gives.
+pub record Sample : Type 0 where
+  pub m : ℕ
+  pub held : List ℕ
+  pub occurs : List ℕ
+  pub rotated : List ℕ
+  pub places : List ℕ
+  pub grown : List ℕ
+  pub noBit : Bool
+  pub firstBits : List ℕ
+
+-- The places below n whose bits are set, rising.
+unfoldable pub placesBelow : List ℕ → ℕ → List ℕ
+placesBelow ws zero = []
+placesBelow ws (suc n) = placesBelow ws n ++ cond (isSet ws n) (n ∷ []) []
+
+-- A row as the definitions have it.
+unfoldable pub computed : Sample → Sample
+computed s = record {
+  m = s .m;
+  held = s .held;
+  occurs = s .occurs;
+  rotated = rotated (s .m) (s .held);
+  places = placesBelow (rotated (s .m) (s .held)) (s .m);
+  grown = grown (s .m) (s .occurs) (s .held);
+  noBit = noBit (grown (s .m) (s .occurs) (s .held));
+  firstBits = firstBits (s .m) (length (s .held));
+}
+
+-- One bit: it stays where it is.
+abbrev one-bit : Sample
+one-bit = record { m = 1; held = 1 ∷ []; occurs = 0 ∷ []; rotated = 1 ∷ []; places = 0 ∷ []; grown = 0 ∷ []; noBit = true; firstBits = 1 ∷ [] }
+
+-- Five bits in one word: bits 0, 1 and 4 come to 4, 0 and 3.
+abbrev part-of-a-word : Sample
+part-of-a-word = record {
+  m = 5;
+  held = 0b10011 ∷ [];
+  occurs = 0b01010 ∷ [];
+  rotated = 0b11001 ∷ [];
+  places = 0 ∷ 3 ∷ 4 ∷ [];
+  grown = 0b01000 ∷ [];
+  noBit = false;
+  firstBits = 0b11111 ∷ [];
+}
+
+-- A whole word: bit 0 comes to its top.
+abbrev whole-word : Sample
+whole-word = record {
+  m = 64;
+  held = 1 ∷ [];
+  occurs = 0x7fff_ffff_ffff_ffff ∷ [];
+  rotated = 0x8000_0000_0000_0000 ∷ [];
+  places = 63 ∷ [];
+  grown = 0 ∷ [];
+  noBit = true;
+  firstBits = 0xffff_ffff_ffff_ffff ∷ [];
+}
+
+-- Seventy bits in two words: bits 0, 64 and 69 come to 69, 63 and 68, the second across the words.
+abbrev carry-between-words : Sample
+carry-between-words = record {
+  m = 70;
+  held = 1 ∷ 0x21 ∷ [];
+  occurs = 0 ∷ 0x10 ∷ [];
+  rotated = 0x8000_0000_0000_0000 ∷ 0x30 ∷ [];
+  places = 63 ∷ 68 ∷ 69 ∷ [];
+  grown = 0 ∷ 0x10 ∷ [];
+  noBit = false;
+  firstBits = 0xffff_ffff_ffff_ffff ∷ 0x3f ∷ [];
+}
+
+-- 130 bits in three words: bits 64, 128 and 129 come to 63, 127 and 128.
+abbrev three-words : Sample
+three-words = record {
+  m = 130;
+  held = 0 ∷ 1 ∷ 3 ∷ [];
+  occurs = 0x8000_0000_0000_0000 ∷ 0 ∷ 1 ∷ [];
+  rotated = 0x8000_0000_0000_0000 ∷ 0x8000_0000_0000_0000 ∷ 1 ∷ [];
+  places = 63 ∷ 127 ∷ 128 ∷ [];
+  grown = 0x8000_0000_0000_0000 ∷ 0 ∷ 1 ∷ [];
+  noBit = false;
+  firstBits = 0xffff_ffff_ffff_ffff ∷ 0xffff_ffff_ffff_ffff ∷ 3 ∷ [];
+}
+
+-- Seventy bits with two words to spare, which stay 0.
+abbrev words-to-spare : Sample
+words-to-spare = record {
+  m = 70;
+  held = 3 ∷ 0 ∷ 0 ∷ 0 ∷ [];
+  occurs = 1 ∷ 0x20 ∷ 0 ∷ 0 ∷ [];
+  rotated = 1 ∷ 0x20 ∷ 0 ∷ 0 ∷ [];
+  places = 0 ∷ 69 ∷ [];
+  grown = 1 ∷ 0x20 ∷ 0 ∷ 0 ∷ [];
+  noBit = false;
+  firstBits = 0xffff_ffff_ffff_ffff ∷ 0x3f ∷ 0 ∷ 0 ∷ [];
+}
+
+-- The table.
+abbrev pub samples : List Sample
+samples = one-bit ∷ part-of-a-word ∷ whole-word ∷ carry-between-words ∷ three-words ∷ words-to-spare ∷ []
+
+-- Every row is as the definitions have it.
+pub all-samples-right : map computed samples ≡ samples
+unfolding computed placesBelow rotated shifted putBit vectorOf bit isSet both grown orBelow noBit firstBits firstWord
+all-samples-right = refl
