@@ -50,7 +50,7 @@ pub record IsRead (book : List ℕ) (r : BookAnswer) : Type 0 where
 
 -- The silence that an address stands for: its cell, ring number and start.
 abbrev pub silenceOf : Address → Silence
-silenceOf a = silence (a .cell) (a .ring-number) (a .start)
+silenceOf a = silence (a .cell) (a .«ring_number») (a .start)
 
 -- The field that an enum's case stands for.
 abbrev pub soughtOf : Sought → FieldAt
