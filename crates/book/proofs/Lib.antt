@@ -4,3 +4,4 @@ pub mod NamesIff
 pub mod FieldEnds
 pub mod ReadFrom
 pub mod SeekFrom
+pub mod OrderCases

@@ -1,0 +1,24 @@
+// The order of silences.
+use crate::answering::Address;
+ghost use mathlib.Core.Path.{_≡_};
+ghost use Rattle.book.specs.Silences.{isBelow};
+ghost use Rattle.book.specs.Calls.{silenceOf};
+
+// Whether one address is below another: "by cell, then ring number, then start".
+pub fn is_below(a: Address, b: Address) -> bool
+    ensures { λ r. ⌜ r ≡ isBelow (silenceOf a) (silenceOf b) ⌝ }
+{
+    if a.cell < b.cell {
+        return true;
+    }
+    if b.cell < a.cell {
+        return false;
+    }
+    if a.ring_number < b.ring_number {
+        return true;
+    }
+    if b.ring_number < a.ring_number {
+        return false;
+    }
+    a.start < b.start
+}
