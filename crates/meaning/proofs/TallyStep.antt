@@ -3,19 +3,13 @@
 -- Assumes nothing.
 use Prim.Native.Nat.{ℕ, zero, suc, _+_, _-_, _%_, _≤_, _<_}
 use mathlib.Core.Path.{_≡_, ap, ap₂, _∙_}
-use mathlib.Core.Bool.{Bool, not}
 use mathlib.Core.List.{List}
 use native.Mathlib.Nat.{add-zero, zero-add, add-assoc, mod-add-mod, add-mod-right, mod-eq-of-lt}
 use native.Mathlib.Omega.{arith}
-use lib.Dec.{eqb}
 use lib.ListN.{length, getD}
 use Rattle.meaning.specs.Numbers.{oneIf, count}
-use Rattle.meaning.specs.Meanings.{windowEdge, rotationEdge, differs, distance}
+use Rattle.meaning.specs.Meanings.{windowEdge, rotationEdge, unequal, differs, distance}
 use Rattle.meaning.proofs.Count.{count-last, count-shift}
-
--- One comparison of two edges: what it adds to a count.
-abbrev pub unequal : ℕ → ℕ → ℕ
-unequal a b = oneIf (not (eqb a b))
 
 module _ (ring line : List ℕ) (i : ℕ) where
   abbrev m : ℕ
@@ -32,25 +26,25 @@ module _ (ring line : List ℕ) (i : ℕ) where
     -- So the window at i + 1 and the next rotation differ at q where the window at i and rotation r differ at q + 1.
     next-differs : (q : ℕ) → differs ring line (i + 1) next q ≡ differs ring line i r (1 + q)
     unfolding differs
-    next-differs q = ap₂ (λ (a b : ℕ). not (eqb a b)) (ap (λ (p : ℕ). getD line p 0) (add-assoc i 1 q)) (next-edge q)
+    next-differs q = ap₂ unequal (ap (λ (p : ℕ). getD line p 0) (add-assoc i 1 q)) (next-edge q)
 
     -- The leaving edge is compared with the ring's edge at r,
-    first-differs : oneIf (differs ring line i r 0) ≡ unequal (windowEdge line i 0) (getD ring r 0)
+    first-differs : oneIf (differs ring line i r 0) ≡ oneIf (unequal (windowEdge line i 0) (getD ring r 0))
     unfolding differs
-    first-differs = ap (λ (p : ℕ). unequal (windowEdge line i 0) (getD ring p 0)) (ap (λ (p : ℕ). p % m) (add-zero r) ∙ mod-eq-of-lt l)
+    first-differs = ap (λ (p : ℕ). oneIf (unequal (windowEdge line i 0) (getD ring p 0))) (ap (λ (p : ℕ). p % m) (add-zero r) ∙ mod-eq-of-lt l)
 
     -- and so is the entering edge.
-    last-differs : oneIf (differs ring line (i + 1) next (m - 1)) ≡ unequal (windowEdge line (i + 1) (m - 1)) (getD ring r 0)
+    last-differs : oneIf (differs ring line (i + 1) next (m - 1)) ≡ oneIf (unequal (windowEdge line (i + 1) (m - 1)) (getD ring r 0))
     unfolding differs
     last-differs =
         let whole : r + 1 + (m - 1) ≡ r + m = omega arith in
-        ap (λ (p : ℕ). unequal (windowEdge line (i + 1) (m - 1)) (getD ring p 0))
+        ap (λ (p : ℕ). oneIf (unequal (windowEdge line (i + 1) (m - 1)) (getD ring p 0)))
         (mod-add-mod (r + 1) m (m - 1) ∙ ap (λ (p : ℕ). p % m) whole ∙ add-mod-right r m ∙ mod-eq-of-lt l)
 
     -- A step: the distance at the next start with the leaving edge's comparison is the distance at this start with the entering edge's.
     pub distance-step :
-        unequal (windowEdge line i 0) (getD ring r 0) + distance ring line (i + 1) next
-        ≡ distance ring line i r + unequal (windowEdge line (i + 1) (m - 1)) (getD ring r 0)
+        oneIf (unequal (windowEdge line i 0) (getD ring r 0)) + distance ring line (i + 1) next
+        ≡ distance ring line i r + oneIf (unequal (windowEdge line (i + 1) (m - 1)) (getD ring r 0))
     unfolding distance count
     distance-step =
         let whole : m ≡ suc (m - 1) = omega arith in

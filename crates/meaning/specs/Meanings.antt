@@ -32,9 +32,13 @@ window m line i = take m (drop i line)
 abbrev pub windowEdge : List ℕ → ℕ → ℕ → ℕ
 windowEdge line i q = getD line (i + q) 0
 
+-- Two edges differ: one comparison.
+abbrev pub unequal : ℕ → ℕ → Bool
+unequal a b = not (eqb a b)
+
 -- Window and rotation r differ at place q.
 unfoldable pub differs : List ℕ → List ℕ → ℕ → ℕ → ℕ → Bool
-differs ring line i r q = not (eqb (windowEdge line i q) (rotationEdge ring r q))
+differs ring line i r q = unequal (windowEdge line i q) (rotationEdge ring r q)
 
 -- "The distance of start i under r is the number of places where window and rotation r differ."
 unfoldable pub distance : List ℕ → List ℕ → ℕ → ℕ → ℕ
