@@ -15,7 +15,7 @@ use Rattle.meaning.proofs.Lowest.{IsLowest, lowest-unique}
 use Rattle.meaning.proofs.Places.{lowestRotation-is, found-yes, found-mem}
 
 module _ (ring line : List ℕ) (k : ℕ) where
-  -- What is in the list below n comes from a place below n.
+  -- What is in the list below n is its own start's finding, and near enough.
   below-mem : (n : ℕ) (f : Finding) → List·Memᴰ f (findingsBelow ring line k n)
       → (f ≡ findingAt ring line (f .start)) × IsStart ring line (f .start) × (leastDistance ring line (f .start) ≤ k)
   unfolding findingsBelow

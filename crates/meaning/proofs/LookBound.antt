@@ -43,11 +43,11 @@ module _ (ring line : List ℕ) (k : ℕ) where
       windows-induct ring line k ReadsAtMost
       (λ i _ g _. omega arith)
       (λ i in-line rest g h.
-      one (readWindow ring line k i .read) _ g (omega arith) (window-read ring line k i .read-le)
+      one-window (readWindow ring line k i .read) _ g (omega arith) (window-read ring line k i .read-le)
       (rest (g - 1) (omega (arith, next-above ring line k i))))
     where
-      one : (a b g : ℕ) → 0 < g → a ≤ m → b ≤ (g - 1) * m → a + b ≤ g * m
-      one a b g left ha hb = let q : g ≡ suc (g - 1) = omega arith in omega (arith, ap (λ (x : ℕ). x * m) q)
+      one-window : (a b g : ℕ) → 0 < g → a ≤ m → b ≤ (g - 1) * m → a + b ≤ g * m
+      one-window a b g left ha hb = let q : g ≡ suc (g - 1) = omega arith in omega (arith, ap (λ (x : ℕ). x * m) q)
 
   -- Verifying after a verified start: g places beyond it, and no window starts after them.
   abbrev StepsAtMost : ℕ → List Reading → Type 0
@@ -112,7 +112,7 @@ module _ (ring line : List ℕ) (k : ℕ) where
   pub look-bound-le : 0 < m → m ≤ length line → 3 * m * length line - 2 * m * m + m ≤ 3 * m * length line
   look-bound-le pos h = omega (arith, mul-le-mul-left m pos, mul-le-mul-left m h)
 
-  -- "A line shorter than the ring is accepted: no start, no look."
+  -- "A line shorter than the ring is accepted: no start, no look, zero findings."
   pub quickLooks-short : length line < m → quickLooks ring line k ≡ 0
   unfolding readLooks verifyLooks candidatesOf
   quickLooks-short h = rw (windows-start, windows-end ring line k 0 (omega arith))

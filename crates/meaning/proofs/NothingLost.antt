@@ -12,7 +12,7 @@ use lib.Dec.{ltb}
 use lib.ListN.{length}
 use Rattle.meaning.specs.Numbers.{count}
 use Rattle.meaning.specs.Meanings.{windowEdge, distance, lowestRotation}
-use Rattle.meaning.specs.Findings.{foundAt}
+use Rattle.meaning.specs.Findings.{Finding, IsFinding, foundAt}
 use Rattle.meaning.specs.Stretch.{fits}
 use Rattle.meaning.specs.Rules.{Reading, unread, readEdge, readLeft, readWindow, nextStart}
 use Rattle.meaning.proofs.Cases.{by-test}
@@ -120,7 +120,12 @@ module _ (ring line : List ℕ) (pos : 0 < length ring) (k i : ℕ) where
         count-part-le (unlike ring line c) i′ before (w .read) after,
       )
 
-  -- A window left at break k + 1 hides no finding: neither at its own start nor at one jumped over.
+  -- A window left at break k + 1 loses no finding: neither at its own start nor at one jumped over.
   pub nothing-lost : k < readWindow ring line k i .breaks
       → (i′ : ℕ) → i ≤ i′ → i′ < nextStart ring (readWindow ring line k i) → foundAt ring line k i′ ≡ []
   nothing-lost h i′ lo hi = found-no ring line k i′ (omega (arith, breaks-le i′ (lowestRotation ring line i′) lo hi))
+
+  -- The same in the words of the meaning: no finding starts there.
+  pub no-finding-jumped : k < readWindow ring line k i .breaks
+      → (f : Finding) → i ≤ f .start → f .start < nextStart ring (readWindow ring line k i) → IsFinding ring line k f → ⊥
+  no-finding-jumped h f lo hi is = omega (arith, breaks-le (f .start) (f .rotation) lo hi, is .distance-is, is .at-most-k)

@@ -1,5 +1,6 @@
--- The findings by rules 1 to 5 are the findings. Over the windows from place i on: the findings below i, followed by what these windows
--- report, are all of them. A candidate reports its own place; a window left at break k + 1 jumps over places that have none
+-- The findings by the rules are the findings: rules 1 to 4 decide them, and that a tally moved by rule 5 holds the distances that verifying
+-- asks for is `distance-step` of TallyStep. Over the windows from place i on: the findings below i, followed by what these windows
+-- report, are all of them. A candidate reports its own place; a window left at break k + 1 jumps rest-end places that have none
 -- (`nothing-lost`); past the last window no place is a start.
 -- Assumes nothing.
 use Prim.Native.Nat.{ℕ, zero, suc, _+_, _-_, _≤_, _<_, min}
@@ -30,9 +31,9 @@ module _ (ring line : List ℕ) (k : ℕ) where
   abbrev Rest : ℕ → List Reading → Type 0
   Rest i ws = findingsBelow ring line k (min i (length line)) ++ reported ring line k (candidatesOf ring k ws) ≡ findings ring line k
 
-  over : (i : ℕ) → length line < i + length ring → Rest i []
+  rest-end : (i : ℕ) → length line < i + length ring → Rest i []
   unfolding candidatesOf reported
-  over i h =
+  rest-end i h =
       let d : ℕ = length line - min i (length line) in
       let all : min i (length line) + d ≡ length line = omega arith in
       append-nil _
@@ -40,10 +41,10 @@ module _ (ring line : List ℕ) (k : ℕ) where
       ∙ ap (findingsBelow ring line k) all
 
   module _ (pos : 0 < length ring) where
-    step : (i : ℕ) (ws : List Reading) → i + length ring ≤ length line → Rest (nextStart ring (readWindow ring line k i)) ws
+    rest-step : (i : ℕ) (ws : List Reading) → i + length ring ≤ length line → Rest (nextStart ring (readWindow ring line k i)) ws
         → Rest i (readWindow ring line k i ∷ ws)
     unfolding candidatesOf reported findingsBelow
-    step i ws in-line h =
+    rest-step i ws in-line h =
         let w : Reading = readWindow ring line k i in
         let was = window-read ring line k i in
         let here : min i (length line) ≡ i = omega arith in
@@ -65,4 +66,4 @@ module _ (ring line : List ℕ) (k : ℕ) where
     unfolding findingsBelow
     quick-finds-all =
         let none : min 0 (length line) ≡ 0 = omega arith in
-        rw windows-start (rw none at (windows-induct ring line k Rest over (λ i. step i _) 0))
+        rw windows-start (rw none at (windows-induct ring line k Rest rest-end (λ i. rest-step i _) 0))

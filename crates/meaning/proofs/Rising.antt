@@ -18,13 +18,13 @@ abbrev pub Rising : ℕ → ℕ → List Finding → Type 0
 Rising lo hi [] = lo ≤ hi
 Rising lo hi (f ∷ fs) = (lo ≤ f .start) × Rising (suc (f .start)) hi fs
 
-lower : (lo lo′ hi : ℕ) (l : List Finding) → lo ≤ lo′ → Rising lo′ hi l → Rising lo hi l
-lower lo lo′ hi [] h r = omega arith
-lower lo lo′ hi (f ∷ fs) h r = (omega arith, r .1)
+rising-lower : (lo lo′ hi : ℕ) (l : List Finding) → lo ≤ lo′ → Rising lo′ hi l → Rising lo hi l
+rising-lower lo lo′ hi [] h r = omega arith
+rising-lower lo lo′ hi (f ∷ fs) h r = (omega arith, r .1)
 
-join : (lo mid hi : ℕ) (a b : List Finding) → Rising lo mid a → Rising mid hi b → Rising lo hi (a ++ b)
-join lo mid hi [] b ra rb = lower lo mid hi b ra rb
-join lo mid hi (f ∷ a) b ra rb = (ra .0, join (suc (f .start)) mid hi a b (ra .1) rb)
+rising-join : (lo mid hi : ℕ) (a b : List Finding) → Rising lo mid a → Rising mid hi b → Rising lo hi (a ++ b)
+rising-join lo mid hi [] b ra rb = rising-lower lo mid hi b ra rb
+rising-join lo mid hi (f ∷ a) b ra rb = (ra .0, rising-join (suc (f .start)) mid hi a b (ra .1) rb)
 
 module _ (ring line : List ℕ) (k : ℕ) where
   at-rising : (i : ℕ) → Rising i (suc i) (foundAt ring line k i)
@@ -35,7 +35,7 @@ module _ (ring line : List ℕ) (k : ℕ) where
   below-rising : (i : ℕ) → Rising 0 i (findingsBelow ring line k i)
   unfolding findingsBelow
   below-rising zero = omega arith
-  below-rising (suc i) = join 0 i (suc i) (findingsBelow ring line k i) (foundAt ring line k i) (below-rising i) (at-rising i)
+  below-rising (suc i) = rising-join 0 i (suc i) (findingsBelow ring line k i) (foundAt ring line k i) (below-rising i) (at-rising i)
 
   -- The findings' starts rise strictly.
   pub findings-rising : Rising 0 (length line) (findings ring line k)
@@ -65,3 +65,8 @@ rising-unique lo hi (x ∷ l) r f g hf hg e =
     (λ mg. rising-unique (suc (x .start)) hi l (r .1) f g mf mg e)
     (List·Memᴰ·cases-cons hg))
     (List·Memᴰ·cases-cons hf)
+
+-- Each start has at most one finding.
+pub findings-unique : (ring line : List ℕ) (k : ℕ) (f g : Finding) → List·Memᴰ f (findings ring line k) → List·Memᴰ g (findings ring line k)
+    → f .start ≡ g .start → f ≡ g
+findings-unique ring line k f g hf hg e = rising-unique 0 (length line) (findings ring line k) (findings-rising ring line k) f g hf hg e

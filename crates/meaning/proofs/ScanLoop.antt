@@ -51,11 +51,11 @@ module _ (ring line : List ℕ) (k : ℕ) where
       w = readWindow ring line k i
 
       -- The next window, m − j + 1 further on.
-      abbrev pub next : ℕ
-      next = i + (m - w .read + 1)
+      abbrev pub nextPlace : ℕ
+      nextPlace = i + (m - w .read + 1)
 
       -- A candidate is verified: its finding, if it is one, comes behind, and its start is the last verified one.
-      pub scan-verified : w .breaks ≤ k → ScanLoop next (some i) (found ++ foundAt ring line k i) (looks + w .read + tallyLooks m last i)
+      pub scan-verified : w .breaks ≤ k → ScanLoop nextPlace (some i) (found ++ foundAt ring line k i) (looks + w .read + tallyLooks m last i)
       unfolding candidatesOf reported readLooks verifyLooks
       scan-verified few =
           let was = window-read ring line k i in
@@ -67,7 +67,7 @@ module _ (ring line : List ℕ) (k : ℕ) where
           }
 
       -- A window left at break k + 1 finds nothing.
-      pub scan-left : k < w .breaks → ScanLoop next last found (looks + w .read)
+      pub scan-left : k < w .breaks → ScanLoop nextPlace last found (looks + w .read)
       unfolding candidatesOf reported readLooks
       scan-left many =
           let was = window-read ring line k i in

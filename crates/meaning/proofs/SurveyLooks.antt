@@ -32,12 +32,12 @@ module _ (ring line : List ℕ) where
   pub surveyLooks-step : (i : ℕ) → suc i + m ≤ length line → surveyLooksBelow ring line (suc (suc i)) ≡ surveyLooksBelow ring line (suc i) + stepLooks m
   surveyLooks-step i h = one-place (suc i) ∙ rw (le-leb (suc i + m) (length line) h, ne-eqb (suc i) 0 (λ z. omega arith))
 
-  -- A place that is no start adds nothing.
-  past : (i d : ℕ) → length line < i + m → surveyLooksBelow ring line (i + d) ≡ surveyLooksBelow ring line i
-  past i zero h = rw add-zero
-  past i (suc d) h =
+  -- Places past the last start add nothing.
+  below-past : (i d : ℕ) → length line < i + m → surveyLooksBelow ring line (i + d) ≡ surveyLooksBelow ring line i
+  below-past i zero h = rw add-zero
+  below-past i (suc d) h =
       ap (surveyLooksBelow ring line) (add-suc i d) ∙ one-place (i + d)
-      ∙ rw (lt-leb (i + d + m) (length line) (omega arith)) (add-zero _) ∙ past i d h
+      ∙ rw (lt-leb (i + d + m) (length line) (omega arith)) (add-zero _) ∙ below-past i d h
 
   -- What the starts below s + 1 cost.
   pub surveyLooks-below : (s : ℕ) → s + m ≤ length line → surveyLooksBelow ring line (suc s) ≡ afreshLooks m + s * stepLooks m
@@ -51,11 +51,11 @@ module _ (ring line : List ℕ) where
       let n : length line ≡ m + s = omega arith in
       let all : suc s + (length line - suc s) ≡ length line = omega arith in
       sym (ap (surveyLooksBelow ring line) all)
-      ∙ past (suc s) (length line - suc s) (omega arith)
+      ∙ below-past (suc s) (length line - suc s) (omega arith)
       ∙ surveyLooks-below s (omega arith)
       ∙ omega (arith, ap (λ (x : ℕ). m * x) n)
 
   -- "else 0".
   pub surveyLooks-short : length line < m → surveyLooks ring line ≡ 0
   unfolding surveyLooksBelow
-  surveyLooks-short h = sym (ap (surveyLooksBelow ring line) (zero-add (length line))) ∙ past 0 (length line) (omega arith)
+  surveyLooks-short h = sym (ap (surveyLooksBelow ring line) (zero-add (length line))) ∙ below-past 0 (length line) (omega arith)

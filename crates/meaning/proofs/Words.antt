@@ -45,20 +45,20 @@ below-length-le ring line k (suc i) =
     )
 
 module _ (ring line : List ℕ) (k : ℕ) where
-  -- The findings are those below the first place that is no start.
+  -- The findings are those below any place from which on none is a start.
   pub findings-below : (s : ℕ) → s ≤ length line → length line < s + length ring → findings ring line k ≡ findingsBelow ring line k s
   findings-below s in-line past =
       let all : s + (length line - s) ≡ length line = omega arith in
       sym (ap (findingsBelow ring line k) all)
       ∙ below-same ring line k s (length line - s) (λ j lo hi. found-no-start ring line k j (omega arith))
 
-  -- There are at most n − m + 1 findings: 3·(n − m + 1) words are room for all.
+  -- There are at most n − m + 1 findings. (So 3·(n − m + 1) words are room for all, by `words-length`.)
   pub findings-length-le : 0 < length ring → length ring ≤ length line → length (findings ring line k) ≤ length line - length ring + 1
   findings-length-le pos h =
       let s : ℕ = length line - length ring + 1 in
       rw (findings-below s (omega arith) (omega arith)) (below-length-le ring line k s)
 
-  -- A line shorter than the ring has no finding.
+  -- "A line shorter than the ring is accepted: no start, no look, zero findings."
   pub findings-short : length line < length ring → findings ring line k ≡ []
   unfolding findingsBelow
   findings-short h = findings-below 0 (omega arith) (omega arith)

@@ -1,5 +1,5 @@
 -- Document 01, "Meanings", the finding; and of "What each call returns" the words of findings and what an area holds after them.
--- `IsFinding` is the sentence to believe; `findings` is the list that a call writes, and `findings-iff` of proofs/ joins them.
+-- `IsFinding` is the sentence to believe; `findings` is the list that survey and scan write, and `findings-iff` of proofs/ joins them.
 -- Assumes nothing.
 use Prim.Native.Nat.{ℕ, zero, suc, _≤_, _<_}
 use mathlib.Core.Path.{_≡_}
@@ -40,11 +40,12 @@ unfoldable pub findingsBelow : List ℕ → List ℕ → ℕ → ℕ → List Fi
 findingsBelow ring line k zero = []
 findingsBelow ring line k (suc i) = findingsBelow ring line k i ++ foundAt ring line k i
 
--- The findings of a ring, a line and an allowance: those at the line's places.
+-- The findings of a ring, a line and an allowance: those at the line's places. The plain survey "gives the same findings" as the quick scan.
 abbrev pub findings : List ℕ → List ℕ → ℕ → List Finding
 findings ring line k = findingsBelow ring line k (length line)
 
--- "Findings go as three 32-bit words each (start, rotation, distance) into the lent words."
+-- "Findings go as three 32-bit words each (start, rotation, distance) into the lent words, by rising start". (That each is below 2^32 follows
+-- from the limits of ring and line.)
 abbrev pub wordsEach : ℕ
 wordsEach = 3
 
@@ -57,6 +58,7 @@ unfoldable pub wordsOf : List Finding → List ℕ
 wordsOf [] = []
 wordsOf (f ∷ fs) = findingWords f ++ wordsOf fs
 
--- What a lent area holds after words are written at its beginning. "Words after the last one written keep their values."
+-- What a lent area with room for them holds after words are written at its beginning. "Words after the last one written keep their values."
+-- (Refusal 4 is given where there might not be room.)
 unfoldable pub written : List ℕ → List ℕ → List ℕ
 written words area = words ++ drop (length words) area

@@ -1,6 +1,7 @@
 -- The meanings and rules of document 01, in its order and its words. Nothing here is code: a ring, a line and a stretch are lists of edge
--- codes, and places, starts, rotations, distances and looks are numbers. "Every byte value 0 to 255 is an edge code like any other": no
--- definition asks what an edge code is, only whether two are equal.
+-- codes, and places, starts, rotations, distances and looks are numbers. "Here every byte value 0 to 255 is an edge code like any other, and
+-- a cell is one unbroken line of them": no definition asks what an edge code is, only whether two are equal. Ring places and line places,
+-- which "are never added or compared directly", and the refusals are of crates/answers, the silence book of crates/book.
 --
 -- | the document's word       | here                                    | module   |
 -- |---------------------------|-----------------------------------------|----------|
@@ -21,7 +22,8 @@
 -- | samples P1 to P12         | `samples`, `samples-right`              | Samples  |
 -- | readings that look right  | each refuted                            | Misread  |
 --
--- A word in lower case computes; beside it stands, in upper case, the same as a fact. The laws that join the two are in proofs/.
+-- Where a word has two forms, the one in lower case computes, and the one in upper case says the same as a fact: start, finding, fit. The laws
+-- that join the two are in proofs/.
 pub mod Numbers
 pub mod Meanings
 pub mod Findings

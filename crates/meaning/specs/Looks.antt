@@ -1,4 +1,5 @@
--- Document 01: looks. "Looks are the sum over rules 1 and 5"; and the looks of the plain survey.
+-- Document 01: looks. "Looks are the sum over rules 1 and 5"; and the looks of the plain survey. Rule 5, "Verifying works on a tally: the tally of
+-- one count per rotation is kept and moved along the line", is stated here by what it costs; what the counts hold is `Tallied` of crates/outlines.
 -- Assumes nothing.
 use Prim.Native.Nat.{ℕ, zero, suc, _+_, _-_, _*_}
 use mathlib.Core.Bool.{Bool, cond}
@@ -14,7 +15,7 @@ unfoldable pub readLooks : List Reading → ℕ
 readLooks [] = 0
 readLooks (w ∷ ws) = w .read + readLooks ws
 
--- Rule 5. "It is counted afresh: m·m looks."
+-- Rule 5. "it is counted afresh: m·m looks."
 abbrev pub afreshLooks : ℕ → ℕ
 afreshLooks m = m * m
 
@@ -22,8 +23,8 @@ afreshLooks m = m * m
 abbrev pub stepLooks : ℕ → ℕ
 stepLooks m = 2 * m
 
--- Rule 5. "With no earlier tally, or if the new start is s beyond the last verified one and 2·s > m, it is counted afresh. Otherwise it
--- moves s steps." What verifying start i costs, after the last verified start, if there is one.
+-- Rule 5. "With no earlier tally, or if the new start is s beyond the last verified one and 2·s > m, it is counted afresh: m·m looks. Otherwise
+-- it moves s steps, each 2·m looks". What verifying start i costs, after the last verified start, if there is one.
 unfoldable pub tallyLooks : ℕ → Option ℕ → ℕ → ℕ
 tallyLooks m none i = afreshLooks m
 tallyLooks m (some last) i = cond (ltb m (2 * (i - last))) (afreshLooks m) ((i - last) * stepLooks m)

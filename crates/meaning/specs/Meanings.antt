@@ -1,5 +1,7 @@
 -- Document 01, "Meanings", up to the distance: rotation, start, window, distance, the least distance and the lowest rotation that reaches it.
--- The document's limits (m 1 to 256, n at most 65,536, k below m) are refusals of the calls and stand with them; here every list is taken.
+-- The document's limits (m 1 to 256, n at most 65,536, k below m) are refusals of the calls and stand with them. Here every list has a value;
+-- of an empty ring it means nothing, and the laws ask 0 < m. `getD` gives 0 past a list's end: at a start no definition looks there, neither in
+-- the line, by i + m ≤ n, nor in the ring, by mod m.
 -- Assumes nothing.
 use Prim.Native.Nat.{ℕ, _+_, _%_, _≤_}
 use mathlib.Core.Bool.{Bool, not}
@@ -8,7 +10,7 @@ use lib.Dec.{leb, eqb}
 use lib.ListN.{length, getD, take, drop}
 use Rattle.meaning.specs.Numbers.{count, lowest}
 
--- "Rotation r of the ring, 0 ≤ r < m, has at its place q the ring's edge (r + q) mod m."
+-- "Rotation r of the ring, 0 ≤ r < m, has at its place q the ring's edge (r + q) mod m (source document 000)."
 abbrev pub rotationEdge : List ℕ → ℕ → ℕ → ℕ
 rotationEdge ring r q = getD ring ((r + q) % length ring) 0
 
@@ -20,7 +22,7 @@ fitsInLine ring line i = leb (i + length ring) (length line)
 pub record IsStart (ring line : List ℕ) (i : ℕ) : Type 0 where
   pub in-line : i + length ring ≤ length line
 
--- The same as a test. This is the one place that says which places are starts.
+-- The same as a test, which the findings ask. (Rule 1's windows ask `fitsInLine`.)
 abbrev pub isStart : List ℕ → List ℕ → ℕ → Bool
 isStart ring line i = fitsInLine ring line i
 
@@ -44,7 +46,7 @@ differs ring line i r q = unequal (windowEdge line i q) (rotationEdge ring r q)
 unfoldable pub distance : List ℕ → List ℕ → ℕ → ℕ → ℕ
 distance ring line i r = count (differs ring line i r) 0 (length ring)
 
--- "The lowest r that reaches" the least distance over all r.
+-- "the lowest r that reaches" the least distance over all r.
 unfoldable pub lowestRotation : List ℕ → List ℕ → ℕ → ℕ
 lowestRotation ring line i = lowest (distance ring line i) (length ring)
 

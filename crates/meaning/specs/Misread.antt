@@ -8,12 +8,12 @@ use mathlib.Core.List.{List, [], _∷_, _++_, map}
 use lib.Dec.{leb, eqb}
 use lib.ListN.{length, getD, take}
 use Rattle.meaning.specs.Numbers.{count, lowest, someBelow}
-use Rattle.meaning.specs.Meanings.{fitsInLine, differs, distance, lowestRotation}
+use Rattle.meaning.specs.Meanings.{fitsInLine, differs, distance, lowestRotation, leastDistance}
 use Rattle.meaning.specs.Findings.{Finding, foundAt, findingsBelow, findings}
 use Rattle.meaning.specs.Stretch.{begins, fits}
 use Rattle.meaning.specs.Rules.{Reading, readEdge, readLeft, readWindow, windowsFrom, windows, candidatesOf, candidates, reported}
 use Rattle.meaning.specs.Looks.{readLooks}
-use Rattle.meaning.specs.Samples.{ascii, at}
+use Rattle.meaning.specs.Samples.{ascii, finding}
 
 -- ---- "Cutting the doubled ring into 2k+4 near-equal fragments, as source document 000 does."
 
@@ -37,18 +37,19 @@ cut (suc fragments) place edges =
 abbrev fragmentsOf : List ℕ → ℕ → List Fragment
 fragmentsOf ring k = cut (2 * k + 4) 0 (length (doubled ring))
 
--- How many of the fragments lie whole in the doubled ring's m edges from r on, that is in rotation r.
+-- How many of the fragments lie whole in the doubled ring's m edges from r on, that is in rotation r: counted at their own places, as the
+-- lemma's proof counts them. (As words more of them may occur there.)
 unfoldable wholeIn : ℕ → ℕ → List Fragment → ℕ
 wholeIn m r [] = 0
 wholeIn m r (f ∷ fs) = cond (leb r (f .place) && leb (f .place + f .size) (r + m)) 1 0 + wholeIn m r fs
 
--- The fragment's edges are the line's from place p on.
+-- A hit of the fragment at its own place in the doubled ring: its edges are the line's from place p on.
 unfoldable hits : List ℕ → List ℕ → ℕ → ℕ → ℕ → Bool
 hits ring line place p zero = true
 hits ring line place p (suc size) =
     eqb (getD (doubled ring) place 0) (getD line p 0) && (leb (suc p) (length line) && hits ring line (suc place) (suc p) size)
 
--- A hit at line place p, extended to both sides as far as line and doubled ring reach, whatever differs there, has m edges.
+-- A hit at line place p, extended to both sides as far as line and doubled ring reach, whatever differs there, has at least m edges.
 abbrev extends : List ℕ → List ℕ → Fragment → ℕ → Bool
 extends ring line f p =
     leb (length ring) (min (f .place) p + min (length (doubled ring) - f .place) (length line - p))
@@ -64,15 +65,19 @@ someExtends ring line (f ∷ fs) =
 fragments-lose-P3 :
     (wholeIn 8 1 (fragmentsOf (ascii "ABCDEFGH") 3) ≡ 3)
     × (someExtends (ascii "ABCDEFGH") (ascii "BCzEzGzA") (fragmentsOf (ascii "ABCDEFGH") 3) ≡ false)
-    × (findings (ascii "ABCDEFGH") (ascii "BCzEzGzA") 3 ≡ at 0 1 3 ∷ [])
+    × (findings (ascii "ABCDEFGH") (ascii "BCzEzGzA") 3 ≡ finding 0 1 3 ∷ [])
 unfolding ascii cut wholeIn hits someExtends someBelow count lowest differs distance lowestRotation foundAt findingsBelow
 fragments-lose-P3 = (refl, refl, refl)
 
 -- ---- "Taking Example 3 of 000 as a full answer."
 
+-- The starts that Example 3 gives.
+abbrev example3 : List ℕ
+example3 = 10 ∷ 11 ∷ []
+
 -- "It follows one fragment and gives starts 10 and 11; start 9 is found too."
 example-3-lacks-9 :
-    map (λ (f : Finding). f .start) (findings (ascii "GGGTCTA") (ascii "GATACGATACCTAGGGTGATAGAATAG") 1) ≡ 9 ∷ 10 ∷ 11 ∷ []
+    map (λ (f : Finding). f .start) (findings (ascii "GGGTCTA") (ascii "GATACGATACCTAGGGTGATAGAATAG") 1) ≡ 9 ∷ example3
 unfolding ascii count lowest differs distance lowestRotation foundAt findingsBelow
 example-3-lacks-9 = refl
 
@@ -82,7 +87,7 @@ example-3-lacks-9 = refl
 stopping-at-k-loses-P2 :
     reported (ascii "GGGTCTA") (ascii "GATACGATACCTAGGGTGATAGAATAG") 1
     (candidatesOf (ascii "GGGTCTA") 1 (windows (ascii "GGGTCTA") (ascii "GATACGATACCTAGGGTGATAGAATAG") 0))
-    ≡ at 10 4 0 ∷ []
+    ≡ finding 10 4 0 ∷ []
 unfolding ascii count lowest someBelow differs distance lowestRotation foundAt begins fits readEdge readLeft readWindow windowsFrom candidatesOf reported
 stopping-at-k-loses-P2 = refl
 
@@ -107,13 +112,13 @@ onto-the-break-costs-P7 = (refl, refl)
 candidate-P11-is-no-finding :
     (candidates (ascii "abcdef") (ascii "bcdfab") 1 ≡ 0 ∷ [])
     × (findings (ascii "abcdef") (ascii "bcdfab") 1 ≡ [])
-    × (distance (ascii "abcdef") (ascii "bcdfab") 0 (lowestRotation (ascii "abcdef") (ascii "bcdfab") 0) ≡ 3)
+    × (leastDistance (ascii "abcdef") (ascii "bcdfab") 0 ≡ 3)
 unfolding ascii count lowest someBelow differs distance lowestRotation foundAt findingsBelow begins fits readEdge readLeft readWindow windowsFrom candidatesOf
 candidate-P11-is-no-finding = (refl, refl, refl)
 
 -- ---- "Using a linear stretch test, which cuts a good match at the ring's seam."
 
--- A linear test takes the stretch only where it ends before the ring does.
+-- A linear test takes the stretch only where it ends with the ring's last edge at the latest.
 unfoldable linearFits : List ℕ → List ℕ → Bool
 linearFits ring stretch =
     someBelow (λ r. leb (r + length stretch) (length ring) && begins ring r stretch) (length ring)

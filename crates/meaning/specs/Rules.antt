@@ -1,6 +1,8 @@
--- Document 01, "Rules of the quick scan", rules 1 to 4. (Rule 5 decides no finding, only looks: it stands in Looks.)
+-- Document 01, "Rules of the quick scan", rules 1 to 4. (Rule 5 decides no finding: what verifying costs stands in Looks, and what a tally holds
+-- with the counts themselves, in crates/outlines.) The stretch and the count of breaks begin anew at each window.
 -- The recursion `windowsFrom` carries a number that only bounds how many windows there can be. Read in its place the two equations of
--- proofs/WindowSteps: `windows-step`, that a window in the line is read and followed by those from the next one on, and `windows-end`.
+-- proofs/WindowSteps over `windowsAt`, the windows from a place on (`windows-start`): `windows-step`, that a window in the line is read and
+-- followed by those from the next one on, and `windows-end`.
 -- Assumes nothing.
 use Prim.Native.Nat.{ℕ, zero, suc, _+_, _-_}
 use mathlib.Core.Bool.{Bool, cond, _&&_}
@@ -31,7 +33,7 @@ readEdge ring x w =
     let broken : Reading = record { start = w .start; read = suc (w .read); breaks = suc (w .breaks); held = [] } in
     cond (fits ring grown) kept broken
 
--- Rules 1 and 3. "Read its edges from the last towards the first"; "stop at break k+1, or when all m edges are read." The third number is
+-- Rules 1 and 3. "read its edges from the last towards the first"; "Stop at break k+1, or when all m edges are read." The third number is
 -- how many edges of the window at i are left.
 unfoldable pub readLeft : List ℕ → List ℕ → ℕ → ℕ → ℕ → Reading → Reading
 readLeft ring line k i zero w = w
@@ -47,8 +49,8 @@ readWindow ring line k i = readLeft ring line k i (length ring) (unread i)
 abbrev pub nextStart : List ℕ → Reading → ℕ
 nextStart ring w = w .start + (length ring - w .read + 1)
 
--- Rule 1. The windows read from place i on, "while a window fits in the line". Each starts after the one before, so more than n there
--- cannot be; the number before the last is how many may still come.
+-- Rule 1. The windows read from place i on, "while a window fits in the line". Each starts after the one before, at 0 to n at most, so more
+-- than n + 1 there cannot be; the number before the last is how many may still come.
 unfoldable pub windowsFrom : List ℕ → List ℕ → ℕ → ℕ → ℕ → List Reading
 windowsFrom ring line k zero i = []
 windowsFrom ring line k (suc more) i =

@@ -16,14 +16,14 @@ use Rattle.meaning.specs.Stretch.{begins, fits}
 use Rattle.meaning.specs.Rules.{readEdge, readLeft, readWindow, windowsFrom, candidatesOf, candidates, reported, quickFindings}
 use Rattle.meaning.specs.Looks.{readLooks, tallyLooks, verifyLooks, quickLooks, surveyLooksBelow, surveyLooks}
 
--- "Letters stand for their ASCII codes."
+-- "Letters stand for their ASCII codes".
 unfoldable pub ascii : String → List ℕ
 ascii []ˢ = []
 ascii (c ∷ˢ s) = code c ∷ ascii s
 
--- "Findings as (start, rotation, distance)."
-abbrev pub at : ℕ → ℕ → ℕ → Finding
-at i r d = record { start = i; rotation = r; distance = d }
+-- "findings as (start, rotation, distance)".
+abbrev pub finding : ℕ → ℕ → ℕ → Finding
+finding i r d = record { start = i; rotation = r; distance = d }
 
 -- A row: its name; ring, line and k; the findings, and what the rules report; quick looks, how many candidates and the plain survey's
 -- looks, each where it is given.
@@ -73,21 +73,21 @@ answered s =
       survey-looks = given (s .survey-looks) (surveyLooks (s .ring) (s .line));
     }
 
--- The document's table. "P11: none, one candidate."
+-- The document's table; of P11 it gives the findings as "none, one candidate".
 unfoldable pub samples : List Sample
 samples =
-    row "P1" (ascii "GGGTCTA") (ascii "GATACGATACCTAGGGTGATAGAATAG") 0 (at 10 4 0 ∷ []) none none none
-    ∷ row "P2" (ascii "GGGTCTA") (ascii "GATACGATACCTAGGGTGATAGAATAG") 1 (at 9 3 1 ∷ at 10 4 0 ∷ at 11 5 1 ∷ []) none none none
-    ∷ row "P3" (ascii "ABCDEFGH") (ascii "BCzEzGzA") 3 (at 0 1 3 ∷ []) none none none
+    row "P1" (ascii "GGGTCTA") (ascii "GATACGATACCTAGGGTGATAGAATAG") 0 (finding 10 4 0 ∷ []) none none none
+    ∷ row "P2" (ascii "GGGTCTA") (ascii "GATACGATACCTAGGGTGATAGAATAG") 1 (finding 9 3 1 ∷ finding 10 4 0 ∷ finding 11 5 1 ∷ []) none none none
+    ∷ row "P3" (ascii "ABCDEFGH") (ascii "BCzEzGzA") 3 (finding 0 1 3 ∷ []) none none none
     ∷ row "P4" (ascii "ABCDEFGH") (ascii "BCzEzGzA") 2 [] none none none
-    ∷ row "P5" (ascii "a") (ascii "ba") 0 (at 1 0 0 ∷ []) (some 3) none none
-    ∷ row "P6" (ascii "aa") (ascii "aaa") 0 (at 0 0 0 ∷ at 1 0 0 ∷ []) (some 12) none none
+    ∷ row "P5" (ascii "a") (ascii "ba") 0 (finding 1 0 0 ∷ []) (some 3) none none
+    ∷ row "P6" (ascii "aa") (ascii "aaa") 0 (finding 0 0 0 ∷ finding 1 0 0 ∷ []) (some 12) none none
     ∷ row "P7" (ascii "abcd") (ascii "zzzzzzzzzz") 1 [] (some 6) none none
     ∷ row "P8" (ascii "abc") (ascii "ab") 0 [] (some 0) none none
-    ∷ row "P9" (ascii "abc") (ascii "cab") 0 (at 0 2 0 ∷ []) (some 12) none none
-    ∷ row "P10" (ascii "ab") (ascii "zbz") 1 (at 0 0 1 ∷ at 1 1 1 ∷ []) none none none
+    ∷ row "P9" (ascii "abc") (ascii "cab") 0 (finding 0 2 0 ∷ []) (some 12) none none
+    ∷ row "P10" (ascii "ab") (ascii "zbz") 1 (finding 0 0 1 ∷ finding 1 1 1 ∷ []) none none none
     ∷ row "P11" (ascii "abcdef") (ascii "bcdfab") 1 [] (some 42) (some 1) none
-    ∷ row "P12" (ascii "abcdef") (ascii "bcdfab") 3 (at 0 1 3 ∷ []) (some 42) none none
+    ∷ row "P12" (ascii "abcdef") (ascii "bcdfab") 3 (finding 0 1 3 ∷ []) (some 42) none none
     ∷ []
 
 -- The meanings and rules give what the document's table gives, row for row.
@@ -96,14 +96,19 @@ unfolding samples ascii count lowest someBelow differs distance lowestRotation f
 samples-right = refl
 
 -- Rows of our own. Of the first three the last candidate is s beyond the one before it: m = 3, s = 2, afresh by 2·s > m; m = 3, s = 1, one
--- step; m = 5, s = 2, two steps although 3·s > m. Then m = 1, where the scan counts afresh and the survey steps; and the codes 0 and 255.
+-- step; m = 5, s = 2, two steps although 3·s > m. Then m = 1, where the scan counts afresh and the survey steps; a break edge that fits by
+-- itself and yet begins no stretch; a candidate that is no finding and yet the last verified one; steps over a window that was left; and
+-- the codes 0 and 255.
 unfoldable pub own-samples : List Sample
 own-samples =
-    row "afresh where 2·s > m" (ascii "aab") (ascii "baaab") 0 (at 0 2 0 ∷ at 2 0 0 ∷ []) (some 27) (some 2) (some 21)
-    ∷ row "one step" (ascii "aaa") (ascii "aaaa") 0 (at 0 0 0 ∷ at 1 0 0 ∷ []) (some 21) (some 2) (some 15)
-    ∷ row "two steps over a start that is no candidate" (ascii "aaaab") (ascii "baaaaab") 0 (at 0 4 0 ∷ at 2 0 0 ∷ []) (some 60) (some 2) (some 45)
-    ∷ row "one edge" (ascii "a") (ascii "aaa") 0 (at 0 0 0 ∷ at 1 0 0 ∷ at 2 0 0 ∷ []) (some 6) (some 3) (some 5)
-    ∷ row "codes 0 and 255" (0 ∷ 255 ∷ []) (255 ∷ 0 ∷ 255 ∷ 255 ∷ []) 0 (at 0 1 0 ∷ at 1 0 0 ∷ []) (some 14) (some 2) (some 12)
+    row "afresh where 2·s > m" (ascii "aab") (ascii "baaab") 0 (finding 0 2 0 ∷ finding 2 0 0 ∷ []) (some 27) (some 2) (some 21)
+    ∷ row "one step" (ascii "aaa") (ascii "aaaa") 0 (finding 0 0 0 ∷ finding 1 0 0 ∷ []) (some 21) (some 2) (some 15)
+    ∷ row "two steps over a start that is no candidate" (ascii "aaaab") (ascii "baaaaab") 0 (finding 0 4 0 ∷ finding 2 0 0 ∷ []) (some 60) (some 2) (some 45)
+    ∷ row "one edge" (ascii "a") (ascii "aaa") 0 (finding 0 0 0 ∷ finding 1 0 0 ∷ finding 2 0 0 ∷ []) (some 6) (some 3) (some 5)
+    ∷ row "the break edge is in no stretch" (ascii "abc") (ascii "aac") 1 (finding 0 0 1 ∷ []) (some 12) (some 1) (some 9)
+    ∷ row "a candidate is the last verified one, finding or not" (ascii "abc") (ascii "aaaa") 1 [] (some 21) (some 2) (some 15)
+    ∷ row "the tally is kept over a jump" (ascii "aaaaaab") (ascii "aabaaaabaa") 0 (finding 0 4 0 ∷ finding 3 2 0 ∷ []) (some 111) (some 2) (some 91)
+    ∷ row "codes 0 and 255" (0 ∷ 255 ∷ []) (255 ∷ 0 ∷ 255 ∷ 255 ∷ []) 0 (finding 0 1 0 ∷ finding 1 0 0 ∷ []) (some 14) (some 2) (some 12)
     ∷ []
 
 -- The meanings and rules give these rows too.
