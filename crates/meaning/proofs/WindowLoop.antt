@@ -22,15 +22,15 @@ use Rattle.meaning.proofs.FitDecided.{begins-mod}
 
 module _ (ring : List ℕ) where
   -- Bit r says that the stretch is the beginning of rotation r.
-  pub Bits : (ℕ → Bool) → List ℕ → Type 0
+  unfoldable pub Bits : (ℕ → Bool) → List ℕ → Type 0
   Bits bits s = (r : ℕ) → r < length ring → bits r ≡ begins ring r s
 
   -- Every bit is set.
-  pub AllSet : (ℕ → Bool) → Type 0
+  unfoldable pub AllSet : (ℕ → Bool) → Type 0
   AllSet bits = (r : ℕ) → r < length ring → bits r ≡ true
 
   -- The bits rotated by one place, and kept where the edge x occurs.
-  pub GrownBy : ℕ → (ℕ → Bool) → (ℕ → Bool) → Type 0
+  unfoldable pub GrownBy : ℕ → (ℕ → Bool) → (ℕ → Bool) → Type 0
   GrownBy x bits bits′ = (r : ℕ) → r < length ring → bits′ r ≡ (bits ((r + 1) % length ring) && eqb (getD ring r 0) x)
 
   bits-grown : (x : ℕ) (bits bits′ : ℕ → Bool) (s : List ℕ) → Bits bits s → GrownBy x bits bits′ → Bits bits′ (x ∷ s)
