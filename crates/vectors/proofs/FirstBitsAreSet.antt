@@ -1,5 +1,5 @@
 -- The vector of the first m bits. Word w has as many low bits set as are left of m from the word's first place on, at most a word: so bit j of it is set
--- exactly when 64 · w + j is below m. What code computes for word w is 0, `(1 << s) - 1` or all ones, by how many bits are left.
+-- exactly when 64 · w + j is below m. Code makes such a word as `(1 << s) - 1` or as all ones, by how many bits are left.
 -- Assumes nothing.
 use mathlib.Core.Path.{_≡_, refl, sym, _∙_}
 use mathlib.Core.List.{List}
@@ -13,7 +13,7 @@ use lib.Pow.{shl-exact, pow-mono, ones-lt}
 use Rattle.vectors.specs.Bits.{wordBits, Vector, bit, firstWord, firstBits, FirstBits}
 use Rattle.vectors.specs.Rotating.{Within}
 use Rattle.vectors.proofs.WordBits.{bit-ones, bit-ones-past}
-use Rattle.vectors.proofs.WordByWord.{vectorOf-length, vectorOf-word, vectorOf-past, vectorOf-isSet, vectorOf-isSet-past}
+use Rattle.vectors.proofs.WordByWord.{vectorOf-length, vectorOf-word, vectorOf-vector, vectorOf-isSet, vectorOf-isSet-past}
 
 -- In word w the bits whose place in the vector is below m are set.
 pub first-word-low : (m w j : ℕ) → j < wordBits → wordBits * w + j < m → bit (firstWord m w) j ≡ 1
@@ -44,12 +44,8 @@ first-bits-length m count = vectorOf-length count (firstWord m)
 -- Its words are machine words.
 pub first-bits-vector : (m count : ℕ) → Vector (firstBits m count)
 unfolding firstBits firstWord
-first-bits-vector m count = record {
-  word-lt = λ w. dite (decLt w count)
-      (λ h. rw (vectorOf-word count (firstWord m) w h)
-      (lt-of-lt-of-le (ones-lt (min wordBits (m - wordBits * w))) (pow-mono {i = min wordBits (m - wordBits * w)} {j = wordBits} (omega arith))))
-      (λ past. omega (arith, vectorOf-past count (firstWord m) w (omega (arith, past))));
-}
+first-bits-vector m count = vectorOf-vector count (firstWord m) (λ w h. lt-of-lt-of-le
+    (ones-lt (min wordBits (m - wordBits * w))) (pow-mono {i = min wordBits (m - wordBits * w)} {j = wordBits} (omega arith)))
 
 -- Word w of the vector, as a loop stores it.
 pub first-bits-word : (m count w : ℕ) → w < count → firstWord m w ≡ getD (firstBits m count) w 0
@@ -60,21 +56,19 @@ first-bits-word m count w h = sym (vectorOf-word count (firstWord m) w h)
 pub first-bits-within : (m : ℕ) (ws : List ℕ) → FirstBits m ws → Within m ws
 first-bits-within m ws first = record { rest = first .rest }
 
--- Word w is 0 where m is not above the word's first place.
-pub first-word-none : (m w : ℕ) → m ≤ wordBits * w → 0 ≡ firstWord m w
+-- Word w has as many low bits set as are left of m.
+pub first-word-left : (m w left : ℕ) → left ≡ m - wordBits * w → 2 ^ min wordBits left - 1 ≡ firstWord m w
 unfolding firstWord
-first-word-none m w h = let e : min wordBits (m - wordBits * w) ≡ 0 = omega arith in sym (rw e refl)
+first-word-left m w left is = rw is refl
 
 -- `1 << s` within a word loses nothing.
 pub shl-one : (s : ℕ) → s < wordBits → 1 * 2 ^ s % 2 ^ wordBits ≡ 2 ^ s
 shl-one s h = shl-exact {a = 1} 1 s wordBits (omega arith) (omega arith) ∙ one-mul (2 ^ s)
 
--- Word w is `(1 << s) - 1` where s bits are left, less than a word.
-pub first-word-some : (m w s : ℕ) → wordBits * w + s ≡ m → s < wordBits → 1 * 2 ^ s % 2 ^ wordBits - 1 ≡ firstWord m w
-unfolding firstWord
-first-word-some m w s is h = let e : min wordBits (m - wordBits * w) ≡ s = omega arith in sym (rw (e, shl-one s h) refl)
+-- Less than a word of low bits is `(1 << count) - 1`.
+pub low-bits-some : (count : ℕ) → count < wordBits → 1 * 2 ^ count % 2 ^ wordBits - 1 ≡ 2 ^ min wordBits count - 1
+low-bits-some count h = let e : min wordBits count ≡ count = omega arith in rw (e, shl-one count h) refl
 
--- Word w has every bit set where a word or more is left.
-pub first-word-full : (m w : ℕ) → wordBits * w + wordBits ≤ m → 2 ^ wordBits - 1 ≡ firstWord m w
-unfolding firstWord
-first-word-full m w h = let e : min wordBits (m - wordBits * w) ≡ wordBits = omega arith in sym (rw e refl)
+-- A word or more is every bit of a word.
+pub low-bits-full : (count : ℕ) → wordBits ≤ count → 2 ^ wordBits - 1 ≡ 2 ^ min wordBits count - 1
+low-bits-full count h = let e : min wordBits count ≡ wordBits = omega arith in sym (rw e refl)

@@ -2,18 +2,16 @@
 -- one is and the edge occurs there, and from m on the rotated vector has none. Which machine word gives each word is said at the end.
 -- Assumes nothing.
 use mathlib.Core.Path.{_≡_, refl, _∙_}
-use mathlib.Core.Bool.{_&&_}
 use mathlib.Core.List.{List}
 use mathlib.Core.Logic.{dite}
 use Prim.Native.Nat.{ℕ, _+_, _-_, _*_, _/_, _%_, _≤_, _<_}
 use native.Mathlib.Decide.{decLt}
 use native.Mathlib.Omega.{arith}
-use lib.ListN.{length, getD, List·getD-eq-default}
-use lib.Bits.{bitAnd, and-le-r}
-use lib.Dec.{eqb}
-use Rattle.vectors.specs.Bits.{wordBits, Vector, bit, isSet, putWord}
+use lib.ListN.{length, getD}
+use lib.Bits.{bitAnd}
+use Rattle.vectors.specs.Bits.{wordBits, Vector, bit, putWord}
 use Rattle.vectors.specs.Rotating.{shiftedWord, Within, rotated, Rotated}
-use Rattle.vectors.specs.Holding.{both, Both, grown, Grown, Occurs}
+use Rattle.vectors.specs.Holding.{both, Both, grown, Grown}
 use Rattle.vectors.proofs.VectorBits.{isSet-word, isSet-past, test-and}
 use Rattle.vectors.proofs.WordByWord.{vectorOf-length, vectorOf-word, vectorOf-isSet, vectorOf-isSet-past}
 use Rattle.vectors.proofs.WrapToLastBit.{rotated-is, rotated-length, rotated-word-inner, rotated-word-last}
@@ -28,14 +26,6 @@ module _ (xs ys : List ℕ) where
   pub both-word : (w : ℕ) → w < length xs → getD (both xs ys) w 0 ≡ bitAnd (getD xs w 0) (getD ys w 0)
   unfolding both
   both-word w h = vectorOf-word (length xs) (λ w. bitAnd (getD xs w 0) (getD ys w 0)) w h
-
-  -- They are machine words where the second vector's are.
-  pub both-vector : Vector ys → Vector (both xs ys)
-  both-vector vector = record {
-    word-lt = λ w. dite (decLt w (length xs))
-        (λ h. omega (arith, both-word w h, and-le-r (getD xs w 0) (getD ys w 0), vector .word-lt w))
-        (λ past. omega (arith, List·getD-eq-default (both xs ys) 0 {n = w} (omega (arith, past, both-length))));
-  }
 
   -- In it a bit is set exactly when it is set in both.
   pub both-is : Both xs ys (both xs ys)
@@ -67,11 +57,6 @@ module _ (m : ℕ) (occurs held : List ℕ) where
   pub grown-within : (new : List ℕ) → Grown m occurs held new → Within m new
   grown-within new g = record { rest = g .rest }
 
-  -- Its words are machine words where the occurrence vector's are.
-  pub grown-vector : Vector occurs → Vector (grown m occurs held)
-  unfolding grown
-  grown-vector vector = both-vector (rotated m held) occurs vector
-
   -- The grown vector has as many words.
   pub grown-length : length (grown m occurs held) ≡ length held
   unfolding grown
@@ -91,8 +76,3 @@ module _ (m : ℕ) (occurs held : List ℕ) where
   unfolding grown
   grown-word-last w h last =
       both-word (rotated m held) occurs w (omega (arith, rotated-length m held)) ∙ rw (rotated-word-last m w held h last) refl
-
--- Grown by an edge code's occurrence vector: bit r is set exactly when bit (r + 1) mod m was and the ring has the code at r.
-pub grown-occurs : (ring : List ℕ) (code : ℕ) (occurs old new : List ℕ) → Occurs ring code occurs → Grown (length ring) occurs old new
-    → (r : ℕ) → r < length ring → isSet new r ≡ (isSet old ((r + 1) % length ring) && eqb (getD ring r 0) code)
-grown-occurs ring code occurs old new o g r h = g .each r h ∙ rw (o .each r h) refl

@@ -7,7 +7,11 @@ pub mod NoBitIsSet
 pub mod CarryBetweenWords
 pub mod WrapToLastBit
 pub mod HeldVectorGrows
+pub mod GrownWords
 pub mod GrowingLoop
+pub mod GrownInFewestWords
 pub mod PartOfTable
 pub mod OccurrenceLoop
 pub mod OccurrenceTableLoop
+pub mod OccurrencesLoop
+pub mod HeldVectors

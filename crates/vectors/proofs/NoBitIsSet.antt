@@ -1,19 +1,19 @@
 -- No bit is set exactly when every word is 0, exactly when all words joined by `|` are 0. A word is 0 when none of its bits is set, and `a | b` is
--- 0 only where a and b are (their sum is `a | b` + `a & b`). Code may compare each word (`noBit-yes`, `noBit-no`) or join the first
--- `count` of them (`Joining`), where those behind are 0.
+-- 0 only where a and b are (their sum is `a | b` + `a & b`). In a vector of m bits the words of m bits tell it (`noBit-iff`).
+-- A loop joins them one by one (`Joining`).
 -- Assumes nothing.
 use mathlib.Core.Path.{_≡_, refl, sym, _∙_}
-use mathlib.Core.Bool.{true, false}
+use mathlib.Core.Bool.{Bool, true, false, true≢false}
 use mathlib.Core.List.{List}
-use mathlib.Core.Logic.{dite, _↔_}
-use Prim.Native.Nat.{ℕ, zero, suc, _+_, _*_, _/_, _≤_, _<_}
+use mathlib.Core.Logic.{dite, _↔_, _⊎_, inl, inr, ⊎-elim}
+use Prim.Native.Nat.{ℕ, zero, suc, _+_, _*_, _/_, _≤_, _<_, min}
 use native.Mathlib.Decide.{decLt, ℕ-discrete}
 use native.Mathlib.Numerals.{add-one}
 use native.Mathlib.Omega.{arith}
 use lib.ListN.{length, getD, List·getD-eq-default}
-use lib.Bits.{bitOr, or-add-and, and-le-l, and-le-r}
+use lib.Bits.{bitOr, or-add-and, and-le-l, and-le-r, or-zero-r}
 use lib.Dec.{eqb}
-use borrow.Author.Tests.{eqb-true, eq-eqb, ne-eqb}
+use borrow.Author.Tests.{eqb-true, eq-eqb}
 use Rattle.vectors.specs.Bits.{wordBits, wordCount, Vector, isSet, NoBit, orBelow, noBit}
 use Rattle.vectors.specs.Rotating.{Within}
 use Rattle.vectors.proofs.WordBits.{bit-zero, bit-high, bits-none}
@@ -59,31 +59,42 @@ unfolding orBelow
 or-below-zero ws zero zeros = refl
 or-below-zero ws (suc count) zeros = rw (or-below-zero ws count (λ w h. zeros w (omega arith)), zeros count (omega arith)) refl
 
--- The test says yes exactly when no bit is set.
-pub noBit-iff : (ws : List ℕ) → Vector ws → (noBit ws ≡ true) ↔ NoBit ws
+-- In a vector of m bits the words of m bits are 0 exactly when none of the first m bits is set.
+pub noBit-iff : (m : ℕ) (ws : List ℕ) → Vector ws → Within m ws → (noBit ws (wordCount m) ≡ true) ↔ ((r : ℕ) → r < m → isSet ws r ≡ false)
 unfolding noBit
-noBit-iff ws vector = (
-  λ e. no-bit-of-words ws (λ w. dite (decLt w (length ws)) (or-below-words ws (length ws) (eqb-true (orBelow ws (length ws)) 0 e) w)
-      (λ past. List·getD-eq-default ws 0 {n = w} (omega (arith, past)))),
-  λ no-bit. eq-eqb (orBelow ws (length ws)) 0 (or-below-zero ws (length ws) (λ w h. no-bit-words ws vector no-bit w)),
+noBit-iff m ws vector within = (
+  λ e r h. isSet-zero ws r (or-below-words ws (wordCount m) (eqb-true (orBelow ws (wordCount m)) 0 e) (r / wordBits) (omega arith)),
+  λ below. eq-eqb (orBelow ws (wordCount m)) 0
+      (or-below-zero ws (wordCount m) (λ w h. no-bit-words ws vector (no-bit-below m ws within below) w)),
 )
 
--- In a vector of m bits the test says yes exactly when none of the first m is set.
-pub noBit-within-iff : (m : ℕ) (ws : List ℕ) → Vector ws → Within m ws → (noBit ws ≡ true) ↔ ((r : ℕ) → r < m → isSet ws r ≡ false)
-noBit-within-iff m ws vector within =
-    (λ e r h. noBit-iff ws vector .0 e .none r, λ below. noBit-iff ws vector .1 (no-bit-below m ws within below))
+-- None of the first m bits is set, or here is one.
+first-set : (ws : List ℕ) (m : ℕ) → ((r : ℕ) → r < m → isSet ws r ≡ false) ⊎ ((r : ℕ) × (r < m) × (isSet ws r ≡ true))
+first-set ws zero = inl (λ r h. absurd (omega arith))
+first-set ws (suc m) = go (isSet ws m) refl (first-set ws m)
+  where
+    go : (b : Bool) → isSet ws m ≡ b → ((r : ℕ) → r < m → isSet ws r ≡ false) ⊎ ((r : ℕ) × (r < m) × (isSet ws r ≡ true))
+        → ((r : ℕ) → r < suc m → isSet ws r ≡ false) ⊎ ((r : ℕ) × (r < suc m) × (isSet ws r ≡ true))
+    go b e (inr (r, h, is)) = inr (r, omega arith, is)
+    go true e (inl none) = inr (m, omega arith, e)
+    go false e (inl none) = inl (λ r h. dite (ℕ-discrete r m) (λ same. rw same e) (λ other. none r (omega (arith, other))))
 
--- The test says yes where every word is 0.
-pub noBit-yes : (ws : List ℕ) → ((w : ℕ) → w < length ws → getD ws w 0 ≡ 0) → noBit ws ≡ true
-unfolding noBit
-noBit-yes ws zeros = eq-eqb (orBelow ws (length ws)) 0 (or-below-zero ws (length ws) zeros)
+-- Where the test says no, one of the first m bits is set.
+pub noBit-no : (m : ℕ) (ws : List ℕ) → Vector ws → Within m ws → noBit ws (wordCount m) ≡ false → (r : ℕ) × (r < m) × (isSet ws r ≡ true)
+noBit-no m ws vector within e = ⊎-elim (λ none. absurd (true≢false (sym (noBit-iff m ws vector within .1 none) ∙ e))) (λ one. one) (first-set ws m)
 
--- The test says no where a word is not 0.
-pub noBit-no : (ws : List ℕ) (w : ℕ) → w < length ws → (getD ws w 0 ≡ 0 → ⊥) → noBit ws ≡ false
-unfolding noBit
-noBit-no ws w h other = ne-eqb (orBelow ws (length ws)) 0 (λ e. other (or-below-words ws (length ws) e w h))
+-- A word that is 0 joins nothing.
+or-below-more : (ws : List ℕ) (count : ℕ) → getD ws count 0 ≡ 0 → orBelow ws (suc count) ≡ orBelow ws count
+unfolding orBelow
+or-below-more ws count e = rw (e, or-zero-r (orBelow ws count)) refl
 
--- Before turn w of a loop that joins the first `count` words.
+-- Nor do the words past the last.
+or-below-past : (ws : List ℕ) (count : ℕ) → length ws ≤ count → orBelow ws count ≡ orBelow ws (length ws)
+or-below-past ws zero h = let e : length ws ≡ 0 = omega arith in rw e refl
+or-below-past ws (suc count) h = dite (ℕ-discrete (length ws) (suc count)) (λ e. rw e refl)
+    (λ longer. or-below-more ws count (List·getD-eq-default ws 0 {n = count} (omega (arith, longer))) ∙ or-below-past ws count (omega (arith, longer)))
+
+-- Before turn w of a loop that joins the first words, `count` of them.
 pub record Joining (ws : List ℕ) (count joined w : ℕ) : Type 0 where
   pub turn-le : w ≤ count
   pub join-is : joined ≡ orBelow ws w
@@ -99,15 +110,13 @@ module _ (ws : List ℕ) (count : ℕ) where
   unfolding orBelow
   joining-turn joined w j h = record { turn-le = omega arith; join-is = rw (add-one w, j .join-is) refl }
 
-  -- At the end the join compared with 0 is the test, if the words from `count` on are 0.
-  pub joining-end : (joined w : ℕ) → Joining ws count joined w → count ≤ w → count ≤ length ws → ((v : ℕ) → count ≤ v → getD ws v 0 ≡ 0)
-      → eqb joined 0 ≡ noBit ws
+  -- At the end the join compared with 0 is the test of the first `asked` words, of which the vector has `count`.
+  pub joining-end : (asked joined w : ℕ) → Joining ws count joined w → count ≤ w → count ≡ min asked (length ws) → eqb joined 0 ≡ noBit ws asked
   unfolding noBit
-  joining-end joined w j h l spare =
+  joining-end asked joined w j h is =
       let e : w ≡ count = omega (arith, j .turn-le) in
       let join : joined ≡ orBelow ws count = j .join-is ∙ rw e refl in
-      dite (ℕ-discrete joined 0)
-      (λ zero-join. eq-eqb joined 0 zero-join ∙ sym (noBit-yes ws (λ v within. dite (decLt v count) (or-below-words ws count (sym join ∙ zero-join) v)
-      (λ past. spare v (omega (arith, past))))))
-      (λ other. ne-eqb joined 0 other ∙ sym (ne-eqb (orBelow ws (length ws)) 0
-      (λ all-zero. other (join ∙ or-below-zero ws count (λ v below. or-below-words ws (length ws) all-zero v (omega arith))))))
+      let all : orBelow ws count ≡ orBelow ws asked = dite (decLt asked (length ws))
+      (λ less. let same : count ≡ asked = omega arith in rw same refl)
+      (λ more. let same : count ≡ length ws = omega (arith, more) in rw same (sym (or-below-past ws asked (omega (arith, more))))) in
+      rw (join, all) refl

@@ -3,29 +3,35 @@
 -- Assumes nothing.
 use mathlib.Core.Path.{_≡_, refl, sym, _∙_}
 use mathlib.Core.Bool.{false}
-use mathlib.Core.List.{List}
+use mathlib.Core.List.{List, [], _∷_}
 use mathlib.Core.Logic.{dite}
 use Prim.Native.Nat.{ℕ, _+_, _*_, _/_, _%_, _≤_, _<_}
+use native.Mathlib.Nat.{add-zero}
 use native.Mathlib.Decide.{decLt}
 use native.Mathlib.Omega.{arith}
-use lib.ListN.{length, getD, set, take, length-take, length-drop}
-use lib.Seq.{getD-take, getD-drop}
-use Rattle.vectors.specs.Bits.{wordBits, isSet, putWord, putBit, Put, NoBit}
+use lib.ListN.{length, getD, set}
+use Rattle.vectors.specs.Bits.{wordBits, Vector, isSet, vectorOf, putWord, putBit, Put, NoBit}
 use Rattle.vectors.specs.Holding.{vectorAt}
+use Rattle.vectors.specs.ByValue.{vectorWords}
 use Rattle.vectors.proofs.VectorBits.{isSet-word, isSet-past}
+use Rattle.vectors.proofs.WordByWord.{vectorOf-length, vectorOf-word, vectorOf-vector}
 
 module _ (table : List ℕ) (base count : ℕ) where
   -- Word w of the part is word base + w of the list.
   pub part-word : (w : ℕ) → w < count → getD (vectorAt table base count) w 0 ≡ getD table (base + w) 0
-  part-word w h = getD-drop base (take (base + count) table) w 0 ∙ getD-take (base + count) table (base + w) 0 (omega arith)
+  part-word w h = vectorOf-word count (λ w. getD table (base + w) 0) w h
 
-  -- It has at most `count` words.
-  pub part-length-le : length (vectorAt table base count) ≤ count
-  part-length-le = simp (length-drop, length-take) (omega arith)
+  -- It has `count` words.
+  pub part-length : length (vectorAt table base count) ≡ count
+  part-length = vectorOf-length count (λ w. getD table (base + w) 0)
+
+  -- They are machine words where the list's are.
+  pub part-vector : Vector table → Vector (vectorAt table base count)
+  part-vector vector = vectorOf-vector count (λ w. getD table (base + w) 0) (λ w h. vector .word-lt (base + w))
 
   -- Past its words no bit is set.
   pub part-past : (i : ℕ) → wordBits * count ≤ i → isSet (vectorAt table base count) i ≡ false
-  part-past i h = isSet-past (vectorAt table base count) i (omega (arith, part-length-le))
+  part-past i h = isSet-past (vectorAt table base count) i (omega (arith, part-length))
 
   -- Bit i of the part is bit 64 · base + i of the list.
   pub part-isSet : (i : ℕ) → i < wordBits * count → isSet (vectorAt table base count) i ≡ isSet table (wordBits * base + i)
@@ -40,6 +46,12 @@ module _ (table : List ℕ) (base count : ℕ) where
     none = λ i. dite (decLt i (wordBits * count))
         (λ h. part-isSet i h ∙ no-bit .none (wordBits * base + i)) (λ past. part-past i (omega (arith, past)));
   }
+
+-- The part of a vector's four words, written out.
+pub part-words : (table : List ℕ) (base : ℕ)
+    → getD table base 0 ∷ getD table (base + 1) 0 ∷ getD table (base + 2) 0 ∷ getD table (base + 3) 0 ∷ [] ≡ vectorAt table base vectorWords
+unfolding vectorOf
+part-words table base = rw (add-zero base) refl
 
 -- A bit put into the list at a place of the part is put into the part.
 pub part-put : (table new : List ℕ) (base count i b : ℕ) → i < wordBits * count → Put table (wordBits * base + i) b new

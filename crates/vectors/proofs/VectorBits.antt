@@ -6,12 +6,12 @@ use mathlib.Core.Path.{_≡_, refl, sym, _∙_}
 use mathlib.Core.Bool.{true, false, _&&_, _||_}
 use mathlib.Core.List.{List}
 use mathlib.Core.Logic.{dite, _↔_}
-use Prim.Native.Nat.{ℕ, _+_, _*_, _/_, _%_, _≤_, _<_, min, max}
+use Prim.Native.Nat.{ℕ, _+_, _*_, _/_, _%_, _^_, _≤_, _<_, min, max}
 use native.Mathlib.Nat.{min-eq-right, max-eq-left, zero-min, zero-max}
 use native.Mathlib.Decide.{decLt, ℕ-discrete}
 use native.Mathlib.Omega.{arith}
 use lib.ListN.{length, getD, set, List·getD-eq-default}
-use lib.Seq.{getD-set-same, getD-set-other, ext-getD}
+use lib.Seq.{getD-set-same, getD-set-other, set-out, ext-getD}
 use lib.Bits.{bitAnd, bitOr}
 use lib.Dec.{eqb}
 use borrow.Author.Tests.{eqb-true, eq-eqb}
@@ -46,6 +46,15 @@ module _ (ws : List ℕ) (w x i : ℕ) where
   pub isSet-set-other : (i / wordBits ≡ w → ⊥) → isSet (set ws w x) i ≡ isSet ws i
   unfolding isSet
   isSet-set-other other = rw (getD-set-other ws w (i / wordBits) x 0 other) refl
+
+-- After a machine word is stored the words are still machine words.
+pub vector-set : (ws : List ℕ) (w x : ℕ) → Vector ws → x < 2 ^ wordBits → Vector (set ws w x)
+vector-set ws w x vector h = record {
+  word-lt = λ v. dite (ℕ-discrete v w)
+      (λ same. dite (decLt w (length ws)) (λ within. rw (same, getD-set-same ws w x 0 within) h)
+      (λ past. rw (set-out ws w x (omega (arith, past))) (vector .word-lt v)))
+      (λ other. rw (getD-set-other ws w v x 0 other) (vector .word-lt v));
+}
 
 -- Two bits are both 1 exactly when the lesser is.
 min-test : (a b : ℕ) → a < 2 → b < 2 → eqb (min a b) 1 ≡ (eqb a 1 && eqb b 1)

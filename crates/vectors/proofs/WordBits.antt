@@ -9,7 +9,7 @@ use native.Mathlib.Nat.{mod-lt, min-le-left, max-le, div-eq-of-lt, mul-assoc, di
 use native.Mathlib.Decide.{decLt}
 use native.Mathlib.Numerals.{add-one}
 use native.Mathlib.Omega.{arith}
-use lib.Bits.{bitAnd, bitOr, and-step, or-step, and-shr, or-shr, and-mask, shifted-even}
+use lib.Bits.{bitAnd, bitOr, and-step, or-step, and-shr, or-shr, shifted-even}
 use lib.Pow.{pow-mono, pow-pos, pow-add, shr-shr, shl-shr, field, mod-mod-pow, high, ones-lt, ones-split}
 use lib.Arith.{digits-mod, bin-ind}
 use Rattle.vectors.specs.Bits.{bit}
@@ -23,10 +23,6 @@ bit-lt x j = mod-lt (x / 2 ^ j) (omega arith)
 pub bit-first : (x : ℕ) → bit x 0 ≡ x % 2
 unfolding bit
 bit-first x = rw (div-one x) refl
-
--- The lowest bit is the word AND 1.
-pub bit-first-and : (x : ℕ) → bit x 0 ≡ bitAnd x 1
-bit-first-and x = bit-first x ∙ sym (and-mask x 1)
 
 and-low : (a b : ℕ) → bitAnd a b % 2 ≡ min (a % 2) (b % 2)
 and-low a b =

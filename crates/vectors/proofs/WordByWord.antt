@@ -1,18 +1,18 @@
 -- A vector given word by word, and a loop that builds one so. `vectorOf count f` has f w at word w and nothing behind. Before turn w of the loop
--- (`Building`) the words below w are made and the others are the old ones, so a turn may still read word w and the one above it, in place too.
--- At the end it is the vector to be made, if the words that the loop leaves alone were that vector's already.
+-- (`Building`) the words below w are made and the others are the old ones. At the end it is the vector to be made, if the words that the loop
+-- leaves alone were that vector's already.
 -- Assumes nothing.
 use mathlib.Core.Path.{_≡_, refl, sym, _∙_, ap}
 use mathlib.Core.Bool.{false}
 use mathlib.Core.List.{List}
 use mathlib.Core.Logic.{dite}
-use Prim.Native.Nat.{ℕ, zero, suc, _+_, _*_, _/_, _%_, _≤_, _<_}
+use Prim.Native.Nat.{ℕ, zero, suc, _+_, _*_, _/_, _%_, _^_, _≤_, _<_}
 use native.Mathlib.Decide.{decLt, ℕ-discrete}
 use native.Mathlib.Omega.{arith}
 use lib.ListN.{length, getD, set, length-set, List·getD-eq-default}
 use lib.Seq.{getD-set-same, getD-set-other, ext-getD}
 use lib.Dec.{eqb}
-use Rattle.vectors.specs.Bits.{wordBits, bit, isSet, vectorOf}
+use Rattle.vectors.specs.Bits.{wordBits, Vector, bit, isSet, vectorOf}
 use Rattle.vectors.proofs.VectorBits.{isSet-word, isSet-past}
 
 -- It has `count` words.
@@ -42,6 +42,13 @@ vectorOf-isSet count f i h =
 pub vectorOf-isSet-past : (count : ℕ) (f : ℕ → ℕ) (i : ℕ) → wordBits * count ≤ i → isSet (vectorOf count f) i ≡ false
 vectorOf-isSet-past count f i h = isSet-past (vectorOf count f) i (omega (arith, vectorOf-length count f))
 
+-- They are machine words where each f w is one.
+pub vectorOf-vector : (count : ℕ) (f : ℕ → ℕ) → ((w : ℕ) → w < count → f w < 2 ^ wordBits) → Vector (vectorOf count f)
+vectorOf-vector count f each-lt = record {
+  word-lt = λ w. dite (decLt w count) (λ h. rw (vectorOf-word count f w h) (each-lt w h))
+      (λ past. omega (arith, vectorOf-past count f w (omega (arith, past))));
+}
+
 -- Before turn w of a loop that makes `goal` out of `old`: the words below w are the goal's, the others are still the old ones.
 pub record Building (goal old : List ℕ) (count : ℕ) (ws : List ℕ) (w : ℕ) : Type 0 where
   pub size : length ws ≡ length old
@@ -65,20 +72,6 @@ module _ (goal old : List ℕ) (count : ℕ) where
         (λ other. getD-set-other ws w v x 0 other ∙ b .made v (omega (arith, other)));
     kept = λ v l. getD-set-other ws w v x 0 (λ e. omega arith) ∙ b .kept v (omega arith);
   }
-
-  -- A turn may leave word w alone where the old word was the goal's already.
-  pub building-turn-kept : (ws : List ℕ) (w : ℕ) → Building goal old count ws w → w < count → getD old w 0 ≡ getD goal w 0
-      → Building goal old count ws (w + 1)
-  building-turn-kept ws w b h right = record {
-    size = b .size;
-    turn-le = omega arith;
-    made = λ v l. dite (ℕ-discrete v w) (λ e. rw e (b .kept w (omega arith) ∙ right)) (λ other. b .made v (omega (arith, other)));
-    kept = λ v l. b .kept v (omega arith);
-  }
-
-  -- A loop is the beginning of a longer one.
-  pub building-longer : (more : ℕ) (ws : List ℕ) (w : ℕ) → count ≤ more → Building goal old count ws w → Building goal old more ws w
-  building-longer more ws w h b = record { size = b .size; turn-le = omega (arith, b .turn-le); made = b .made; kept = b .kept }
 
   -- At the end the list is the goal, if the old words from `count` on were the goal's already.
   pub building-end : (ws : List ℕ) (w : ℕ) → Building goal old count ws w → count ≤ w → length goal ≡ length old

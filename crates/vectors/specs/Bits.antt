@@ -6,7 +6,7 @@
 -- `x / 2 ^ j`, `x * 2 ^ j % 2 ^ wordBits`, `bitOr` and `bitAnd`.
 -- Letters: ws a vector, w the number of a word, x a word, j a place in a word, i a place in a vector, m a number of bits.
 --     wordBits     the bits of a machine word           Vector     a list of machine words
---     wordCount    the words of m bits                  vectorOf    a vector given word by word
+--     wordCount    the words of m bits                  vectorOf   a vector given word by word
 --     bit          bit j of a word, 0 or 1              isSet      whether bit i of a vector is set
 --     putBit, Put              one bit put in           orBelow, noBit, NoBit    no bit set
 --     firstBits, FirstBits     the first m bits set
@@ -15,7 +15,7 @@ use mathlib.Core.Path.{_≡_}
 use mathlib.Core.Bool.{Bool, true, false, _||_}
 use mathlib.Core.List.{List, [], _∷_}
 use Prim.Native.Nat.{ℕ, zero, suc, _+_, _-_, _*_, _/_, _%_, _^_, _≤_, _<_, min}
-use lib.ListN.{length, getD, set}
+use lib.ListN.{getD, set}
 use lib.Bits.{bitOr}
 use lib.Dec.{eqb}
 
@@ -79,6 +79,6 @@ unfoldable pub orBelow : List ℕ → ℕ → ℕ
 orBelow ws zero = 0
 orBelow ws (suc count) = bitOr (orBelow ws count) (getD ws count 0)
 
--- Whether no bit is set: all words joined by `|` are 0.
-unfoldable pub noBit : List ℕ → Bool
-noBit ws = eqb (orBelow ws (length ws)) 0
+-- Whether no bit of the first `count` words is set: joined by `|` they are 0.
+unfoldable pub noBit : List ℕ → ℕ → Bool
+noBit ws count = eqb (orBelow ws count) 0

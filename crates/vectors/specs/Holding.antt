@@ -10,7 +10,6 @@ use mathlib.Core.Bool.{false, _&&_}
 use mathlib.Core.List.{List}
 use Prim.Native.Nat.{ℕ, _+_, _*_, _%_, _≤_, _<_}
 use lib.ListN.{length, getD}
-use lib.Seq.{slice}
 use lib.Bits.{bitAnd}
 use lib.Dec.{eqb}
 use Rattle.vectors.specs.Bits.{isSet, vectorOf}
@@ -21,9 +20,9 @@ pub record Occurs (ring : List ℕ) (code : ℕ) (ws : List ℕ) : Type 0 where
   pub each : (r : ℕ) → r < length ring → isSet ws r ≡ eqb (getD ring r 0) code
   pub rest : (i : ℕ) → length ring ≤ i → isSet ws i ≡ false
 
--- The vector of `count` words that begins at word `base` of a longer list: `&table[base..base + count]`.
+-- The vector of `count` words that begins at word `base` of a longer list: `table[base]`, `table[base + 1]` and so on.
 abbrev pub vectorAt : List ℕ → ℕ → ℕ → List ℕ
-vectorAt table base count = slice base (base + count) table
+vectorAt table base count = vectorOf count (λ w. getD table (base + w) 0)
 
 -- "One occurrence vector of m bits per edge code": vectors of `count` words, laid one behind the other by rising code.
 pub record OccurrenceTable (ring : List ℕ) (count : ℕ) (table : List ℕ) : Type 0 where

@@ -1,4 +1,5 @@
 pub mod Bits
 pub mod Rotating
 pub mod Holding
+pub mod ByValue
 pub mod Samples

@@ -1,4 +1,4 @@
--- Vectors of one to four words, worked out by hand: one table of named rows, and one claim that the checker computes.
+-- Vectors of one to four words, worked out by hand: one table of named rows, and one claim that the checker computes; and calls with other counts.
 -- A row gives m, the held vector and an edge's occurrence vector; then the held vector rotated and the places of its set bits, the held vector
 -- grown and whether that leaves no bit set, and the vector of the first m bits in as many words.
 -- Assumes nothing.
@@ -10,6 +10,7 @@ use lib.ListN.{length}
 use Rattle.vectors.specs.Bits.{bit, isSet, vectorOf, putBit, firstWord, firstBits, orBelow, noBit}
 use Rattle.vectors.specs.Rotating.{shifted, rotated}
 use Rattle.vectors.specs.Holding.{both, grown}
+use Rattle.vectors.specs.ByValue.{carryInto, grownWord, grownWords}
 
 -- What a row gives.
 pub record Sample : Type 0 where
@@ -36,7 +37,7 @@ computed s = record {
   rotated = rotated (s .m) (s .held);
   places = placesBelow (rotated (s .m) (s .held)) (s .m);
   grown = grown (s .m) (s .occurs) (s .held);
-  noBit = noBit (grown (s .m) (s .occurs) (s .held));
+  noBit = noBit (grown (s .m) (s .occurs) (s .held)) (length (s .held));
   firstBits = firstBits (s .m) (length (s .held));
 }
 
@@ -117,3 +118,16 @@ samples = one-bit ∷ part-of-a-word ∷ whole-word ∷ carry-between-words ∷ 
 pub all-samples-right : map computed samples ≡ samples
 unfolding computed placesBelow rotated shifted putBit vectorOf bit isSet both grown orBelow noBit firstBits firstWord
 all-samples-right = refl
+
+-- A vector with bit 0 alone, and one with every bit.
+abbrev bit-zero : List ℕ
+bit-zero = 1 ∷ 0 ∷ 0 ∷ 0 ∷ []
+
+abbrev every-bit : List ℕ
+every-bit = 0xffff_ffff_ffff_ffff ∷ 0xffff_ffff_ffff_ffff ∷ 0xffff_ffff_ffff_ffff ∷ 0xffff_ffff_ffff_ffff ∷ []
+
+-- Word counts and bit counts that no scan asks for are answered too: no word; seven words, which count as four; and no bit.
+pub other-counts-right : grownWords 5 0 every-bit bit-zero ∷ grownWords 256 7 every-bit bit-zero ∷ grownWords 0 1 every-bit bit-zero ∷ []
+    ≡ (0 ∷ 0 ∷ 0 ∷ 0 ∷ []) ∷ (0 ∷ 0 ∷ 0 ∷ 0x8000_0000_0000_0000 ∷ []) ∷ (0x8000_0000_0000_0000 ∷ 0 ∷ 0 ∷ 0 ∷ []) ∷ []
+unfolding grownWords grownWord carryInto vectorOf bit
+other-counts-right = refl

@@ -1,0 +1,24 @@
+-- Laws behind the calls, one module for each idea. The functions' proofs cite them.
+pub mod AdmitCases
+pub mod StoredBelow
+pub mod LeastSoFar
+pub mod LeastCount
+pub mod ClearLoop
+pub mod LowestLoop
+pub mod DoubledLoop
+pub mod EdgeLoop
+pub mod AfreshLoop
+pub mod NextRotation
+pub mod WindowEdges
+pub mod ChangeLoop
+pub mod RenumberLoop
+pub mod StepTallied
+pub mod MoveLoop
+pub mod VerifyCases
+pub mod ReadingLoop
+pub mod TallyFinding
+pub mod SweepCases
+pub mod WordsPut
+pub mod ScanWindows
+pub mod ScanKeeps
+pub mod ScanAnswers

@@ -1,0 +1,93 @@
+-- `outlines::steps::move_along` meets its contract: before each turn the counts are the tally of start i (`Moving`). The starts that are left fall.
+-- Assumes nothing.
+use Prim.Native.Nat.{_+_, _-_}
+use borrow.Author.Needs.{needs}
+use native.Mathlib.Omega.{arith}
+use Rattle.outlines.proofs.WindowEdges.{window-length}
+use Rattle.outlines.proofs.MoveLoop.{Moving, moving-start, moving-can-step, moving-turn, moving-end}
+use Rattle.outlines.proofs.steps.move_along.Statement.{statement}
+use Rattle.outlines.proofs.steps.move_along.Tie as tie
+
+abbrev Inv-loop : tie.InvT-loop
+Inv-loop counts₀ ring line from steps m least₀ looks₀ i₀ counts least looks i = Moving ring line from steps counts least looks i
+
+abbrev μ-loop : tie.MeasureT-loop
+μ-loop counts₀ ring line from steps m least₀ looks₀ i₀ counts least looks i = from + steps - i
+
+loop-holds : tie.Need-loop-holds Inv-loop μ-loop
+loop-holds c = moving-start _ _ _ _ _ (c .before .before .pre) _
+
+add-loop : tie.Need-add-loop Inv-loop μ-loop
+add-loop c = search needs
+
+window-requires : tie.Need-window-requires Inv-loop μ-loop
+window-requires c κs = search needs
+
+add-window : tie.Need-add-window Inv-loop μ-loop
+add-window c = search needs
+
+window-requires-2 : tie.Need-window-requires-2 Inv-loop μ-loop
+window-requires-2 c κs = search needs
+
+shared-slice-read-step : tie.Need-shared-slice-read-step Inv-loop μ-loop
+shared-slice-read-step c =
+    let here = c .before .before .before in
+    omega (arith, window-length _ _ _ _ (here .window .ensures) (omega arith))
+
+sub-step : tie.Need-sub-step Inv-loop μ-loop
+sub-step c = search needs
+
+shared-slice-read-step-2 : tie.Need-shared-slice-read-step-2 Inv-loop μ-loop
+shared-slice-read-step-2 c =
+    let next = c .before .before .before in
+    omega (arith, window-length _ _ _ _ (next .window2 .ensures) (omega arith))
+
+step-requires : tie.Need-step-requires Inv-loop μ-loop
+step-requires c κs =
+    let here = c .before .before .before .before in
+    let at-loop = here .before .before in
+    moving-can-step _ _ _ _ _ (at-loop .before .before .before .pre) _ _ _ _ (at-loop .loop .inv) _ (here .window .ensures)
+
+add-looks : tie.Need-add-looks Inv-loop μ-loop
+add-looks c =
+    let here = c .before .before .before .before .before .before in
+    omega (arith, here .before .before .loop .inv .looks-le, c .before .step .ensures .2, here .before .before .before .before .before .pre .fits .most)
+
+add-i : tie.Need-add-i Inv-loop μ-loop
+add-i c = search needs
+
+loop-less : tie.Need-loop-less Inv-loop μ-loop
+loop-less c = search needs
+
+loop-again : tie.Need-loop-again Inv-loop μ-loop
+loop-again c =
+    let next = c .before .before .before .before .before in
+    let here = next .before in
+    let at-loop = here .before .before in
+    let stepped = c .before .step .ensures in
+    moving-turn _ _ _ _ _ (at-loop .before .before .before .pre) _ _ _ _ (at-loop .loop .inv) _ (here .window .ensures) (here .before .loop-test .taken)
+    _ _ _ _ (next .window2 .ensures) (stepped .0) (stepped .1) (stepped .2)
+
+returns : tie.Need-returns Inv-loop μ-loop
+returns c = moving-end _ _ _ _ _ (c .before .before .before .before .pre) _ _ _ _ (c .before .loop .inv) (c .loop-test .left)
+
+pub move-along-spec : {M : Type 1} → statement M
+move-along-spec =
+    tie.close
+    (tie.spec
+    Inv-loop
+    μ-loop
+    loop-holds
+    add-loop
+    window-requires
+    add-window
+    window-requires-2
+    shared-slice-read-step
+    sub-step
+    shared-slice-read-step-2
+    step-requires
+    add-looks
+    add-i
+    loop-less
+    loop-again
+    returns)

@@ -1,0 +1,5 @@
+pub mod Admitting
+pub mod Tally
+pub mod Reading
+pub mod Sweep
+pub mod Scan

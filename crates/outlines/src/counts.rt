@@ -1,0 +1,64 @@
+// Counts of differing edges, one for each rotation. A count is at most 256, which eight bits do not hold.
+ghost use mathlib.Core.Path.{_≡_};
+ghost use Prim.Native.Nat.{_<_, _≤_};
+ghost use lib.ListN.{length};
+ghost use Rattle.meaning.specs.Numbers.{oneIf};
+ghost use Rattle.meaning.specs.Meanings.{unequal};
+ghost use Rattle.outlines.specs.Tally.{Cleared, IsLeast, IsLowestAt};
+
+// The least of a start's counts, and the looks that its tally took.
+pub struct Least {
+    pub least: u16,
+    pub looks: usize,
+}
+
+// One comparison: 1 where the two edges differ.
+pub fn differing(a: u8, b: u8) -> u16
+    ensures { λ r. ⌜ r ≡ oneIf (unequal a b) ⌝ }
+{
+    if a == b { 0 } else { 1 }
+}
+
+// Every count starts at 0.
+pub fn clear(counts: &mut [u16; 256], m: usize)
+    requires { ⌜ (m ≤ 256) × (length (now counts) ≡ 256) ⌝ }
+    ensures { λ _. ⌜ Cleared m (now (counts .entry)) (now (counts .exit)) ⌝ }
+{
+    let mut r = 0;
+    while r < m {
+        counts[r] = 0;
+        r += 1;
+    }
+}
+
+// The least of the first m counts.
+pub fn least_of(counts: &[u16; 256], m: usize) -> u16
+    requires { ⌜ (0 < m) × (m ≤ 256) × (length (now counts) ≡ 256) ⌝ }
+    ensures { λ z. ⌜ IsLeast m (now (counts .entry)) z ⌝ }
+{
+    let mut least = counts[0];
+    let mut r = 1;
+    while r < m {
+        let count = counts[r];
+        if count < least {
+            least = count;
+        }
+        r += 1;
+    }
+    least
+}
+
+// The lowest rotation whose count is the least. It is looked for only where a start is a finding.
+pub fn lowest_rotation(counts: &[u16; 256], m: usize, least: u16) -> usize
+    requires { ⌜ (m ≤ 256) × (length (now counts) ≡ 256) × IsLeast m (now counts) least ⌝ }
+    ensures { λ r. ⌜ IsLowestAt m (now (counts .entry)) least r ⌝ }
+{
+    let mut r = 0;
+    while r < m {
+        if counts[r] == least {
+            return r;
+        }
+        r += 1;
+    }
+    r
+}

@@ -1,0 +1,112 @@
+// The quick scan: the findings of a ring in a line, and the looks that finding them took.
+use crate::admitting::Verdict;
+use crate::admitting::WORDS_EACH;
+use crate::admitting::admit;
+use crate::afresh::double;
+use crate::sweep::Sweep;
+use crate::sweep::Swept;
+use crate::sweep::sweep_window;
+use crate::tally::LastVerified;
+use answers::Finding;
+use answers::Refusal;
+use vectors::occurrences;
+ghost use mathlib.Core.Path.{_≡_};
+ghost use lib.ListN.{length};
+ghost use Rattle.outlines.specs.Admitting.{Admitted};
+ghost use Rattle.outlines.specs.Sweep.{findingOf};
+ghost use Rattle.outlines.specs.Scan.{CanPut, wordsPut, CanScan, LineScanned, IsScanned};
+
+// What survey and scan answer: "found and looks", or a refusal.
+pub enum Scanned {
+    Counts { found: usize, looks: usize },
+    Refused(Refusal),
+}
+
+// Found and looks of an accepted call.
+pub struct Counted {
+    pub found: usize,
+    pub looks: usize,
+}
+
+// A finding's three words, behind those of the findings before it.
+pub fn put_finding(words: &mut [u32], before: usize, finding: Finding)
+    requires { ⌜ CanPut (now words) before (findingOf finding) ⌝ }
+    ensures { λ _. ⌜ now (words .exit) ≡ wordsPut before (findingOf finding) (now (words .entry)) ⌝ }
+{
+    let at = WORDS_EACH * before;
+    let start = finding.start;
+    let rotation = finding.rotation;
+    words[at] = start.0 as u32;
+    words[at + 1] = rotation.0 as u32;
+    words[at + 2] = finding.distance as u32;
+}
+
+// Window after window, while one fits in the line.
+fn scan_windows(
+    ring: &[u8],
+    doubled: &[u8],
+    table: &[u64; 1024],
+    line: &[u8],
+    k: usize,
+    counts: &mut [u16; 256],
+    words: &mut [u32],
+) -> Counted
+    requires { ⌜ CanScan (now ring) (now doubled) (now table) (now line) k (now counts) (now words) ⌝ }
+    ensures { λ z. ⌜ LineScanned (now (ring .entry)) (now (line .entry)) k (now (words .entry)) (z .found) (z .looks) (now (words .exit)) ⌝ }
+{
+    let m = ring.len();
+    let mut at = Sweep {
+        start: 0,
+        last: LastVerified::Nothing,
+        looks: 0,
+    };
+    let mut found: usize = 0;
+    while at.start + m <= line.len() {
+        match sweep_window(at, ring, doubled, table, line, k, counts) {
+            Swept::Left(next) => {
+                at = next;
+            }
+            Swept::NoFinding(next) => {
+                at = next;
+            }
+            Swept::Found(next, finding) => {
+                put_finding(words, found, finding);
+                found += 1;
+                at = next;
+            }
+        }
+    }
+    Counted {
+        found,
+        looks: at.looks,
+    }
+}
+
+// The ring's occurrence vectors, its double and the counts are made once for a call. Making them reads no line edge.
+fn scan_line(ring: &[u8], line: &[u8], k: usize, words: &mut [u32]) -> Counted
+    requires { ⌜ Admitted (length (now ring)) k (length (now line)) (length (now words)) ⌝ }
+    ensures { λ z. ⌜ LineScanned (now (ring .entry)) (now (line .entry)) k (now (words .entry)) (z .found) (z .looks) (now (words .exit)) ⌝ }
+{
+    let mut table = [0u64; 1024];
+    occurrences(ring, &mut table);
+    let mut doubled = [0u8; 512];
+    double(ring, &mut doubled);
+    let mut counts = [0u16; 256];
+    scan_windows(ring, &doubled, &table, line, k, &mut counts, words)
+}
+
+// Rules 1 to 5.
+pub fn scan(ring: &[u8], line: &[u8], k: usize, words: &mut [u32]) -> Scanned
+    ensures { λ r. ⌜ IsScanned (now (ring .entry)) (now (line .entry)) k (now (words .entry)) r (now (words .exit)) ⌝ }
+{
+    match admit(ring.len(), k, line.len(), words.len()) {
+        Verdict::Refused(refusal) => Scanned::Refused(refusal),
+        Verdict::Accepted => {
+            let counted = scan_line(ring, line, k, words);
+            Scanned::Counts {
+                found: counted.found,
+                looks: counted.looks,
+            }
+        }
+    }
+}

@@ -1,0 +1,90 @@
+// Rule 5: the tally moved along the line, each step 2·m looks. The counts stand under the rotations' own numbers
+// (specs/Tally.antt), so a step renumbers them.
+use crate::counts::Least;
+use crate::counts::differing;
+use crate::windows::window;
+ghost use mathlib.Core.Path.{_≡_};
+ghost use Prim.Native.Nat.{_+_, _*_, _<_, _≤_};
+ghost use lib.ListN.{length};
+ghost use Rattle.meaning.specs.Looks.{stepLooks};
+ghost use Rattle.outlines.specs.Tally.{Changed, Renumbered, Stepped, IsLeast, CanStep, CanMove, Verified};
+
+// The leaving and the entering edge, each against every ring edge. Rotation r at this start stands over the ring as the
+// next rotation does at the next start, so both meet the ring's edge at r.
+fn change(counts: &mut [u16; 256], ring: &[u8], leaving: u8, entering: u8) -> Least
+    requires { ⌜ CanStep (now ring) (now counts) leaving ⌝ }
+    ensures { λ z. ⌜ Changed (now (ring .entry)) (now (counts .entry)) leaving entering (now (counts .exit))
+        × IsLeast (length (now (ring .entry))) (now (counts .exit)) (z .least)
+        × (z .looks ≡ stepLooks (length (now (ring .entry)))) ⌝ }
+{
+    let mut least: u16 = 65535;
+    let mut looks: usize = 0;
+    let mut r = 0;
+    while r < ring.len() {
+        let edge = ring[r];
+        let lost = differing(leaving, edge);
+        looks += 1; // one look
+        let won = differing(entering, edge);
+        looks += 1; // one look
+        let count = counts[r] - lost + won;
+        counts[r] = count;
+        if count < least {
+            least = count;
+        }
+        r += 1;
+    }
+    Least { least, looks }
+}
+
+// Each count moves on to the next rotation's number, from the last down so that none is overwritten before it is moved.
+fn renumber(counts: &mut [u16; 256], m: usize)
+    requires { ⌜ (0 < m) × (m ≤ 256) × (length (now counts) ≡ 256) ⌝ }
+    ensures { λ _. ⌜ Renumbered m (now (counts .entry)) (now (counts .exit)) ⌝ }
+{
+    let last = counts[m - 1];
+    let mut r = m - 1;
+    while 0 < r {
+        counts[r] = counts[r - 1];
+        r -= 1;
+    }
+    counts[0] = last;
+}
+
+// One step. That the least was found before the renumbering does not matter: it moves no count's value.
+pub fn step(counts: &mut [u16; 256], ring: &[u8], leaving: u8, entering: u8) -> Least
+    requires { ⌜ CanStep (now ring) (now counts) leaving ⌝ }
+    ensures { λ z. ⌜ Stepped (now (ring .entry)) (now (counts .entry)) leaving entering (now (counts .exit))
+        × IsLeast (length (now (ring .entry))) (now (counts .exit)) (z .least)
+        × (z .looks ≡ stepLooks (length (now (ring .entry)))) ⌝ }
+{
+    let least = change(counts, ring, leaving, entering);
+    renumber(counts, ring.len());
+    least
+}
+
+// The tally moved along the line by so many steps, one at least. The leaving edge is the first of the window that is
+// left, the entering edge the last of the next one.
+pub fn move_along(
+    counts: &mut [u16; 256],
+    ring: &[u8],
+    line: &[u8],
+    from: usize,
+    steps: usize,
+) -> Least
+    requires { ⌜ CanMove (now ring) (now line) from steps (now counts) ⌝ }
+    ensures { λ z. ⌜ Verified (now (ring .entry)) (now (line .entry)) (from + steps) (steps * stepLooks (length (now (ring .entry)))) (now (counts .exit)) (z .least) (z .looks) ⌝ }
+{
+    let m = ring.len();
+    let mut least: u16 = 0;
+    let mut looks: usize = 0;
+    let mut i = from;
+    while i < from + steps {
+        let here = window(line, i, m);
+        let next = window(line, i + 1, m);
+        let stepped = step(counts, ring, here[0], next[m - 1]);
+        least = stepped.least;
+        looks += stepped.looks;
+        i += 1;
+    }
+    Least { least, looks }
+}

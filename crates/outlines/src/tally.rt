@@ -1,0 +1,49 @@
+// Rule 5: the tally is kept, and moved along the line from one verified start to the next.
+use crate::afresh::count_afresh;
+use crate::counts::Least;
+use crate::steps::move_along;
+use crate::windows::window;
+use answers::LinePlace;
+ghost use mathlib.Core.Path.{_≡_};
+ghost use lib.ListN.{length};
+ghost use Rattle.meaning.specs.Looks.{tallyLooks};
+ghost use Rattle.outlines.specs.Tally.{lastOf, CanVerify, Verified};
+
+// The last verified start, if there is one.
+pub enum LastVerified {
+    Nothing,
+    At(usize),
+}
+
+// Rule 5: "With no earlier tally, or if the new start is s beyond the last verified one and 2·s > m, it is counted
+// afresh. Otherwise it moves s steps."
+pub fn verify(
+    counts: &mut [u16; 256],
+    ring: &[u8],
+    doubled: &[u8],
+    line: &[u8],
+    i: usize,
+    last: LastVerified,
+) -> Least
+    requires { ⌜ CanVerify (now ring) (now doubled) (now line) i (now counts) (lastOf last) ⌝ }
+    ensures { λ z. ⌜ Verified (now (ring .entry)) (now (line .entry)) i (tallyLooks (length (now (ring .entry))) (lastOf last) i) (now (counts .exit)) (z .least) (z .looks) ⌝ }
+{
+    let m = ring.len();
+    match last {
+        LastVerified::Nothing => count_afresh(
+            counts,
+            ring,
+            doubled,
+            window(line, i, m),
+            LinePlace(i),
+        ),
+        LastVerified::At(from) => {
+            let s = i - from;
+            if m < 2 * s {
+                count_afresh(counts, ring, doubled, window(line, i, m), LinePlace(i))
+            } else {
+                move_along(counts, ring, line, from, s)
+            }
+        }
+    }
+}

@@ -1,0 +1,60 @@
+-- Where a vector of m bits is kept in as few words as hold them, growing word by word is growing: every word but the last is shifted with its carry; the
+-- last has no bit above it to take, so what comes into it is what was bit 0, at bit m − 1; and the words behind are 0 before and after.
+-- Assumes nothing.
+use mathlib.Core.Path.{_≡_, refl, sym, _∙_}
+use mathlib.Core.List.{List}
+use mathlib.Core.Logic.{dite}
+use Prim.Native.Nat.{ℕ, _+_, _-_, _/_, _%_, _^_, _≤_, _<_, min}
+use native.Mathlib.Decide.{decLt}
+use native.Mathlib.Omega.{arith}
+use lib.ListN.{length, getD}
+use lib.Seq.{ext-getD}
+use lib.Bits.{or-zero-r}
+use Rattle.vectors.specs.Bits.{wordBits, wordCount, Vector}
+use Rattle.vectors.specs.Rotating.{Within}
+use Rattle.vectors.specs.Holding.{grown, Grown}
+use Rattle.vectors.specs.ByValue.{vectorWords, vectorBits, lastPlace, grownWords}
+use Rattle.vectors.proofs.NoBitIsSet.{within-spare}
+use Rattle.vectors.proofs.HeldVectorGrows.{grown-length, grown-word-inner, grown-word-last, grown-is}
+use Rattle.vectors.proofs.GrownWords.{carry-next, carry-last, grown-words-word, grown-words-past, grown-words-length}
+
+module _ (m count : ℕ) (occurs held : List ℕ) (some : 0 < m) (most : m ≤ vectorBits) (few : count ≡ wordCount m) (size : length held ≡ vectorWords)
+    (vector : Vector held) (within : Within m held) where
+  -- The held vector's words from `count` on are 0.
+  held-spare : (w : ℕ) → count ≤ w → getD held w 0 ≡ 0
+  held-spare w h = within-spare m held vector within w (omega arith)
+
+  -- A word that does not hold bit m − 1, of the first `count`.
+  word-inner : (w : ℕ) → w + 1 < count → getD (grownWords m count occurs held) w 0 ≡ getD (grown m occurs held) w 0
+  word-inner w h =
+      let all : min count vectorWords ≡ count = omega arith in
+      grown-words-word m count occurs held w (omega arith)
+      ∙ rw (all, carry-next m count held w h) (sym (grown-word-inner m occurs held w (omega arith) (λ e. omega arith)))
+
+  -- The word that holds bit m − 1.
+  word-last : (w : ℕ) → w + 1 ≡ count → getD (grownWords m count occurs held) w 0 ≡ getD (grown m occurs held) w 0
+  word-last w h =
+      let all : min count vectorWords ≡ count = omega arith in
+      let place : lastPlace m ≡ (m - 1) % wordBits = omega arith in
+      grown-words-word m count occurs held w (omega arith)
+      ∙ rw (all, carry-last m count held w (omega arith), place)
+      (sym (grown-word-last m occurs held w (omega arith) (omega arith)
+      ∙ rw (held-spare (w + 1) (omega arith), or-zero-r (getD held w 0 / 2 ^ 1)) refl))
+
+  -- The words behind.
+  word-spare : (w : ℕ) → count ≤ w → w < vectorWords → getD (grownWords m count occurs held) w 0 ≡ getD (grown m occurs held) w 0
+  word-spare w h l =
+      grown-words-past m count occurs held w (omega arith)
+      ∙ sym (grown-word-inner m occurs held w (omega arith) (λ e. omega arith) ∙ rw (held-spare w h, held-spare (w + 1) (omega arith)) refl)
+
+  -- Grown word by word it is the grown vector.
+  pub grown-words-are : grownWords m count occurs held ≡ grown m occurs held
+  grown-words-are = ext-getD 0 (grownWords m count occurs held) (grown m occurs held)
+      (grown-words-length m count occurs held ∙ (sym size ∙ sym (grown-length m occurs held)))
+      (λ w h. dite (decLt (w + 1) count) (word-inner w)
+      (λ not-inner. dite (decLt w count) (λ last. word-last w (omega (arith, not-inner)))
+      (λ past. word-spare w (omega (arith, past)) (omega (arith, grown-words-length m count occurs held)))))
+
+  -- So bit r of it is set exactly when bit (r + 1) mod m was and the edge occurs at r, and no bit from m on is.
+  pub grown-words-is : Grown m occurs held (grownWords m count occurs held)
+  grown-words-is = rw grown-words-are (grown-is m occurs held vector some (omega arith) within)

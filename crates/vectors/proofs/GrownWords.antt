@@ -1,0 +1,60 @@
+-- The words of the held vector grown by one edge, as the code makes them: those below the count are shifted with what comes in, AND the occurrence
+-- vector's; the others are 0. Each case of the definition is one equation, so that no proof past this file opens it.
+-- Assumes nothing.
+use mathlib.Core.Path.{_≡_, refl, _∙_}
+use mathlib.Core.List.{List}
+use mathlib.Core.Logic.{dite}
+use Prim.Native.Nat.{ℕ, _+_, _-_, _*_, _/_, _%_, _^_, _≤_, _<_, min}
+use native.Mathlib.Decide.{decLt}
+use native.Mathlib.Omega.{arith}
+use lib.ListN.{length, getD}
+use lib.Bits.{bitAnd, bitOr, and-le-r}
+use borrow.Author.Tests.{lt-ltb, le-ltb}
+use Rattle.vectors.specs.Bits.{wordBits, Vector, bit}
+use Rattle.vectors.specs.ByValue.{vectorWords, lastPlace, carryInto, grownWord, grownWords}
+use Rattle.vectors.proofs.WordByWord.{vectorOf-length, vectorOf-word, vectorOf-past}
+
+module _ (m count : ℕ) (held : List ℕ) (w : ℕ) where
+  -- Into a word that is not the last comes the next word's lowest bit, at the top.
+  pub carry-next : w + 1 < count → carryInto m count held w ≡ getD held (w + 1) 0 * 2 ^ (wordBits - 1) % 2 ^ wordBits
+  unfolding carryInto
+  carry-next h = rw (lt-ltb (w + 1) count h) refl
+
+  -- Into the last word comes what was bit 0, at the place of bit m − 1.
+  pub carry-last : count ≤ w + 1 → carryInto m count held w ≡ bit (getD held 0 0) 0 * 2 ^ lastPlace m % 2 ^ wordBits
+  unfolding carryInto
+  carry-last h = rw (le-ltb (w + 1) count h) refl
+
+module _ (m count : ℕ) (occurs held : List ℕ) where
+  -- A word below the count is shifted with what comes in, AND the occurrence vector's.
+  pub grown-words-word : (w : ℕ) → w < min count vectorWords
+      → getD (grownWords m count occurs held) w 0
+      ≡ bitAnd (bitOr (getD held w 0 / 2 ^ 1) (carryInto m (min count vectorWords) held w)) (getD occurs w 0)
+  unfolding grownWords grownWord
+  grown-words-word w h = vectorOf-word vectorWords (grownWord m (min count vectorWords) occurs held) w (omega arith)
+      ∙ rw (lt-ltb w (min count vectorWords) h) refl
+
+  -- The others are 0.
+  pub grown-words-past : (w : ℕ) → min count vectorWords ≤ w → getD (grownWords m count occurs held) w 0 ≡ 0
+  unfolding grownWords grownWord
+  grown-words-past w h = dite (decLt w vectorWords)
+      (λ l. vectorOf-word vectorWords (grownWord m (min count vectorWords) occurs held) w l ∙ rw (le-ltb w (min count vectorWords) h) refl)
+      (λ past. vectorOf-past vectorWords (grownWord m (min count vectorWords) occurs held) w (omega (arith, past)))
+
+  -- There are as many as in every vector held by value.
+  pub grown-words-length : length (grownWords m count occurs held) ≡ vectorWords
+  unfolding grownWords
+  grown-words-length = vectorOf-length vectorWords (grownWord m (min count vectorWords) occurs held)
+
+  -- They are machine words where the occurrence vector's are.
+  pub grown-words-vector : Vector occurs → Vector (grownWords m count occurs held)
+  grown-words-vector vector = record {
+    word-lt = λ w. dite (decLt w (min count vectorWords))
+        (λ h. omega (
+          arith,
+          grown-words-word w h,
+          and-le-r (bitOr (getD held w 0 / 2 ^ 1) (carryInto m (min count vectorWords) held w)) (getD occurs w 0),
+          vector .word-lt w,
+        ))
+        (λ past. omega (arith, grown-words-past w (omega (arith, past))));
+  }

@@ -1,0 +1,85 @@
+-- What a caller of this crate's functions cites: their answers are what `Bits` and `Holding` mean, for a vector of m bits in as few words as hold
+-- them. Such a vector (`HeldVector`) is what `first_bits` hands out and what `grown` hands on, so a loop keeps it. All is proved elsewhere
+-- and gathered here: nothing past this file looks at a word.
+-- Assumes nothing.
+use mathlib.Core.Path.{_≡_, refl, _∙_}
+use mathlib.Core.Bool.{true, false, _&&_}
+use mathlib.Core.List.{List}
+use mathlib.Core.Logic.{_↔_}
+use Prim.Native.Nat.{ℕ, _+_, _*_, _%_, _≤_, _<_}
+use native.Mathlib.Omega.{arith}
+use lib.ListN.{length, getD}
+use lib.Seq.{take-all}
+use lib.Dec.{eqb}
+use Rattle.vectors.specs.Bits.{wordCount, Vector, isSet, firstBits, noBit}
+use Rattle.vectors.specs.Holding.{vectorAt, Occurs, Grown}
+use Rattle.vectors.specs.ByValue.{vectorWords, vectorBits, HeldVector, grownWords, Occurrences}
+use Rattle.vectors.proofs.FirstBitsAreSet.{first-bits-is, first-bits-length, first-bits-vector, first-bits-within}
+use Rattle.vectors.proofs.NoBitIsSet.{noBit-iff, noBit-no}
+use Rattle.vectors.proofs.HeldVectorGrows.{grown-within}
+use Rattle.vectors.proofs.GrownWords.{grown-words-length, grown-words-vector}
+use Rattle.vectors.proofs.GrownInFewestWords.{grown-words-is}
+use Rattle.vectors.proofs.PartOfTable.{part-vector}
+
+module _ (m : ℕ) (most : m ≤ vectorBits) where
+  -- What `first_bits` answers is a vector of m bits.
+  pub first-held : HeldVector m (firstBits m vectorWords)
+  first-held = record {
+    size = first-bits-length m vectorWords;
+    words = first-bits-vector m vectorWords;
+    within = first-bits-within m (firstBits m vectorWords) (first-bits-is m vectorWords most);
+  }
+
+  -- Each of them is set.
+  pub first-set : (r : ℕ) → r < m → isSet (firstBits m vectorWords) r ≡ true
+  first-set r h = first-bits-is m vectorWords most .low r h
+
+module _ (m count : ℕ) (occurs held : List ℕ) (some : 0 < m) (most : m ≤ vectorBits) (few : count ≡ wordCount m) (is : HeldVector m held) where
+  -- What `grown` answers is the held vector grown by one edge.
+  pub grown-is : Grown m occurs held (grownWords m count occurs held)
+  grown-is = grown-words-is m count occurs held some most few (is .size) (is .words) (is .within)
+
+  -- It is again a vector of m bits.
+  pub grown-held : Vector occurs → HeldVector m (grownWords m count occurs held)
+  grown-held vector = record {
+    size = grown-words-length m count occurs held;
+    words = grown-words-vector m count occurs held vector;
+    within = grown-within m occurs held (grownWords m count occurs held) grown-is;
+  }
+
+module _ (m count : ℕ) (held : List ℕ) (few : count ≡ wordCount m) (is : HeldVector m held) where
+  -- `no_bit` says yes exactly when none of the m bits is set.
+  pub no-bit-iff : (noBit held count ≡ true) ↔ ((r : ℕ) → r < m → isSet held r ≡ false)
+  no-bit-iff = rw few (noBit-iff m held (is .words) (is .within))
+
+  -- Where `no_bit` says no, here is one that is.
+  pub no-bit-no : noBit held count ≡ false → (r : ℕ) × (r < m) × (isSet held r ≡ true)
+  no-bit-no said = noBit-no m held (is .words) (is .within) (rw few at said)
+
+module _ (ring table : List ℕ) (code : ℕ) (is : Occurrences ring table) where
+  -- What `vector_of` answers, of a ring that a vector has a bit for each edge of, is the code's occurrence vector.
+  pub vector-occurs : length ring ≤ vectorBits → Occurs ring code (vectorAt table (code * vectorWords) vectorWords)
+  vector-occurs most = rw (take-all vectorBits ring most) at (is .each .each code)
+
+  -- Its words are machine words.
+  pub vector-words : Vector (vectorAt table (code * vectorWords) vectorWords)
+  vector-words = part-vector table (code * vectorWords) vectorWords (is .words)
+
+-- One turn of the loop that reads a window: the grown vector is again one of m bits, and its bit r is set exactly when bit (r + 1) mod m was and
+-- the ring has the edge that was read at place r.
+pub record GrownByEdge (m : ℕ) (ring : List ℕ) (code : ℕ) (held new : List ℕ) : Type 0 where
+  pub vector : HeldVector m new
+  pub each : (r : ℕ) → r < m → isSet new r ≡ (isSet held ((r + 1) % m) && eqb (getD ring r 0) code)
+
+-- The answers of `occurrences`, `vector_of` and `grown` together make it.
+pub grown-by-edge : (m count code : ℕ) (ring table occurs held new : List ℕ) → m ≡ length ring → 0 < m → m ≤ vectorBits → count ≡ wordCount m
+    → Occurrences ring table → HeldVector m held → occurs ≡ vectorAt table (code * vectorWords) vectorWords → new ≡ grownWords m count occurs held
+    → GrownByEdge m ring code held new
+grown-by-edge m count code ring table occurs held new whole some most few of-ring is-held is-occurs is-new =
+    let words : Vector occurs = rw is-occurs (vector-words ring table code of-ring) in
+    let edge : Occurs ring code occurs = rw is-occurs (vector-occurs ring table code of-ring (omega arith)) in
+    let turn : Grown m occurs held new = rw is-new (grown-is m count occurs held some most few is-held) in
+    record {
+      vector = rw is-new (grown-held m count occurs held some most few is-held words);
+      each = λ r h. turn .each r h ∙ rw (edge .each r (omega arith)) refl;
+    }

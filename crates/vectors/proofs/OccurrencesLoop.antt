@@ -1,0 +1,86 @@
+-- The loop over a ring's first places that makes the table of its occurrence vectors out of a table of zeros: before turn r each code's vector is right
+-- below r (`TableBelow`), and the table is still one of as many machine words. A table is known by its bits, so only one is the ring's.
+-- Assumes nothing.
+use mathlib.Core.Path.{_≡_, refl, sym, _∙_}
+use mathlib.Core.List.{List}
+use mathlib.Core.Logic.{dite}
+use Prim.Native.Nat.{ℕ, _+_, _*_, _/_, _%_, _^_, _≤_, _<_}
+use native.Mathlib.Nat.{mod-lt}
+use native.Mathlib.Decide.{decLt}
+use native.Mathlib.Omega.{arith}
+use lib.ListN.{length, getD, set, take, replicate, length-take, length-set, length-replicate, getD-replicate, List·getD-eq-default}
+use lib.Seq.{getD-take}
+use lib.Bits.{or-lt}
+use lib.Pow.{pow-pos}
+use Rattle.vectors.specs.Bits.{wordBits, Vector, isSet, putWord}
+use Rattle.vectors.specs.Holding.{vectorAt, Occurs}
+use Rattle.vectors.specs.ByValue.{vectorWords, vectorBits, edgeCodes, Occurrences}
+use Rattle.vectors.proofs.VectorBits.{vector-set, vector-unique}
+use Rattle.vectors.proofs.NoBitIsSet.{no-bit-of-words}
+use Rattle.vectors.proofs.PartOfTable.{part-isSet}
+use Rattle.vectors.proofs.OccurrenceTableLoop.{TableBelow, table-below-start, table-below-turn, table-below-end}
+
+-- Before turn r of the loop over the ring's places.
+pub record OccurrencesBelow (ring table : List ℕ) (r : ℕ) : Type 0 where
+  pub size : length table ≡ edgeCodes * vectorWords
+  pub words : Vector table
+  pub below : TableBelow (take vectorBits ring) vectorWords table r
+
+-- In a list of zeros every word is 0.
+zeros-word : (n w : ℕ) → getD (replicate {A = ℕ} n 0) w 0 ≡ 0
+zeros-word n w = dite (decLt w n) (getD-replicate {A = ℕ} n w 0 0)
+    (λ past. List·getD-eq-default {A = ℕ} (replicate n 0) 0 {n = w} (omega (arith, past, length-replicate {A = ℕ} n 0)))
+
+-- A vector has room for the places that count.
+room : (ring : List ℕ) → length (take vectorBits ring) ≤ wordBits * vectorWords
+room ring = simp length-take (omega arith)
+
+module _ (ring : List ℕ) where
+  -- Before the first turn every word is 0.
+  pub occurrences-start : OccurrencesBelow ring (replicate (edgeCodes * vectorWords) 0) 0
+  occurrences-start = record {
+    size = length-replicate {A = ℕ} (edgeCodes * vectorWords) 0;
+    words = record { word-lt = λ w. omega (arith, zeros-word (edgeCodes * vectorWords) w) };
+    below = table-below-start (take vectorBits ring) vectorWords (room ring) (replicate (edgeCodes * vectorWords) 0)
+        (no-bit-of-words (replicate (edgeCodes * vectorWords) 0) (zeros-word (edgeCodes * vectorWords)));
+  }
+
+  -- A turn stores the word that holds the place's bit, with that bit put in.
+  pub occurrences-turn : (table : List ℕ) (r code at : ℕ) → OccurrencesBelow ring table r → r < length ring → r < vectorBits → code ≡ getD ring r 0
+      → code < edgeCodes → at ≡ code * vectorWords + r / wordBits
+      → OccurrencesBelow ring (set table at (putWord (getD table at 0) (r % wordBits) 1)) (r + 1)
+  occurrences-turn table r code at known h counts is code-lt there =
+      let edge : getD (take vectorBits ring) r 0 ≡ code = getD-take vectorBits ring r 0 counts ∙ sym is in
+      record {
+        size = length-set table at (putWord (getD table at 0) (r % wordBits) 1) ∙ known .size;
+        words = vector-set table at (putWord (getD table at 0) (r % wordBits) 1) (known .words)
+            (or-lt wordBits (getD table at 0) (1 * 2 ^ (r % wordBits) % 2 ^ wordBits) (known .words .word-lt at) (mod-lt (1 * 2 ^ (r % wordBits)) (pow-pos wordBits)));
+        below = table-below-turn (take vectorBits ring) vectorWords (room ring) edgeCodes table r at (known .below)
+            (simp length-take (omega arith)) (omega arith) (omega (arith, known .size)) (there ∙ rw (sym edge) refl);
+      }
+
+  -- At the end it is the table of the ring's occurrence vectors.
+  pub occurrences-end : (table : List ℕ) (r : ℕ) → OccurrencesBelow ring table r → length (take vectorBits ring) ≤ r → Occurrences ring table
+  occurrences-end table r known h = record {
+    size = known .size;
+    words = known .words;
+    each = table-below-end (take vectorBits ring) vectorWords (room ring) table r (known .below) h;
+  }
+
+module _ (ring a b : List ℕ) (is-a : Occurrences ring a) (is-b : Occurrences ring b) where
+  -- Bit q of a code's vector is the same in two tables of one ring.
+  same-bit : (code q : ℕ) → q < vectorBits → isSet a (wordBits * (code * vectorWords) + q) ≡ isSet b (wordBits * (code * vectorWords) + q)
+  same-bit code q h =
+      let at-a : Occurs (take vectorBits ring) code (vectorAt a (code * vectorWords) vectorWords) = is-a .each .each code in
+      let at-b : Occurs (take vectorBits ring) code (vectorAt b (code * vectorWords) vectorWords) = is-b .each .each code in
+      sym (part-isSet a (code * vectorWords) vectorWords q h)
+      ∙ (dite (decLt q (length (take vectorBits ring)))
+      (λ l. at-a .each q l ∙ sym (at-b .each q l))
+      (λ past. at-a .rest q (omega (arith, past)) ∙ sym (at-b .rest q (omega (arith, past))))
+      ∙ part-isSet b (code * vectorWords) vectorWords q h)
+
+  -- A ring has one table only.
+  pub occurrences-unique : a ≡ b
+  occurrences-unique = vector-unique a b (is-a .words) (is-b .words) (is-a .size ∙ sym (is-b .size))
+      (λ i. let e : wordBits * (i / vectorBits * vectorWords) + i % vectorBits ≡ i = omega arith in
+      rw e at (same-bit (i / vectorBits) (i % vectorBits) (mod-lt i (omega arith))))

@@ -1,0 +1,66 @@
+-- What the functions of this crate answer. They take and hand out vectors by value, four machine words each: room for 256 bits, as many as the
+-- longest ring has edges ("Ring: m edges, 1 to 256"). Each takes every input. For a vector of m bits in as few words as hold them
+-- their answers are what `Bits` and `Holding` mean: the laws are in proofs/HeldVectors.
+--     vectorWords, vectorBits     a vector's words and bits            HeldVector     a vector of m bits held by value
+--     edgeCodes     "every byte value 0 to 255 is an edge code"
+--     carryInto, grownWord, grownWords     the held vector grown by one edge, word by word
+--     Occurrences     the occurrence vectors of a ring's edge codes, in one table
+-- `first_bits` answers `firstBits`, `no_bit` answers `noBit`, both of `Bits`, and `vector_of` answers `vectorAt` of `Holding`.
+-- Assumes nothing.
+use mathlib.Core.Path.{_≡_}
+use mathlib.Core.Bool.{cond}
+use mathlib.Core.List.{List}
+use Prim.Native.Nat.{ℕ, _+_, _-_, _*_, _/_, _%_, _^_, min}
+use lib.ListN.{length, getD, take}
+use lib.Bits.{bitAnd, bitOr}
+use lib.Dec.{ltb}
+use Rattle.vectors.specs.Bits.{wordBits, Vector, bit, vectorOf}
+use Rattle.vectors.specs.Rotating.{Within}
+use Rattle.vectors.specs.Holding.{OccurrenceTable}
+
+-- How many words a vector held by value has.
+abbrev pub vectorWords : ℕ
+vectorWords = 4
+
+-- How many bits it has.
+abbrev pub vectorBits : ℕ
+vectorBits = wordBits * vectorWords
+
+-- A vector of m bits held by value: as many machine words as every one has, and no bit from m on.
+pub record HeldVector (m : ℕ) (ws : List ℕ) : Type 0 where
+  pub size : length ws ≡ vectorWords
+  pub words : Vector ws
+  pub within : Within m ws
+
+-- How many edge codes there are.
+abbrev pub edgeCodes : ℕ
+edgeCodes = 256
+
+-- The place of bit m − 1 in its word; where m is 0, the top of a word.
+abbrev pub lastPlace : ℕ → ℕ
+lastPlace m = (m % wordBits + (wordBits - 1)) % wordBits
+
+-- What comes into word w of the first `count` as they are shifted down by one: the next word's lowest bit, at the top; into the last of them
+-- what was bit 0, at the place of bit m − 1.
+unfoldable pub carryInto : ℕ → ℕ → List ℕ → ℕ → ℕ
+carryInto m count held w =
+    let next : ℕ = getD held (w + 1) 0 * 2 ^ (wordBits - 1) % 2 ^ wordBits in
+    let first : ℕ = bit (getD held 0 0) 0 * 2 ^ lastPlace m % 2 ^ wordBits in
+    cond (ltb (w + 1) count) next first
+
+-- Word w of the held vector grown by one edge: `(x >> 1 | carry) & occurs`; from `count` on it is 0.
+unfoldable pub grownWord : ℕ → ℕ → List ℕ → List ℕ → ℕ → ℕ
+grownWord m count occurs held w =
+    let word : ℕ = bitAnd (bitOr (getD held w 0 / 2 ^ 1) (carryInto m count held w)) (getD occurs w 0) in
+    cond (ltb w count) word 0
+
+-- The held vector of m bits, kept in its first `count` words, grown by one edge; a count above a vector's words counts as all of them.
+unfoldable pub grownWords : ℕ → ℕ → List ℕ → List ℕ → List ℕ
+grownWords m count occurs held = vectorOf vectorWords (grownWord m (min count vectorWords) occurs held)
+
+-- The table of a ring's occurrence vectors: a vector of machine words for each edge code, by rising code. Of a ring with more edges than a vector
+-- has bits only the first count.
+pub record Occurrences (ring table : List ℕ) : Type 0 where
+  pub size : length table ≡ edgeCodes * vectorWords
+  pub words : Vector table
+  pub each : OccurrenceTable (take vectorBits ring) vectorWords table
