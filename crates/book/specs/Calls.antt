@@ -3,6 +3,7 @@
 use Prim.Native.Nat.{ℕ}
 use mathlib.Core.Path.{_≡_}
 use mathlib.Core.List.{List}
+use mathlib.Core.Option.{Option, none, some}
 use lib.ListN.{length}
 use Rattle.answers.specs.Paper.{Answer, accepted, refused, Paper, answerPaper}
 use Rattle.book.specs.declared.answering.BookAnswer.{BookAnswer}
@@ -10,6 +11,8 @@ use Rattle.book.specs.declared.answering.BookAnswer.the-variants.{Record
 use Rattle.book.specs.declared.answering.Address.{Address}
 use Rattle.book.specs.declared.answering.Sought.{Sought}
 use Rattle.book.specs.declared.answering.Sought.the-variants.{Field, Nothing}
+use Rattle.book.specs.declared.order.Last.{Last}
+use Rattle.book.specs.declared.order.Last.the-variants.{NoRecord, Record}
 use Rattle.book.specs.Silences.{Silence, silence}
 use Rattle.book.specs.Layout.{layout}
 use Rattle.book.specs.Reading.{FieldAt, whole, faulty, readBook}
@@ -51,6 +54,11 @@ pub record IsRead (book : List ℕ) (r : BookAnswer) : Type 0 where
 -- The silence that an address stands for: its cell, ring number and start.
 abbrev pub silenceOf : Address → Silence
 silenceOf a = silence (a .cell) (a .«ring_number») (a .start)
+
+-- The silence before a record that an enum's case stands for; the first record has none.
+abbrev pub lastOf : Last → Option Silence
+lastOf NoRecord = none
+lastOf (Record address) = some (silenceOf address)
 
 -- The field that an enum's case stands for.
 abbrev pub soughtOf : Sought → FieldAt

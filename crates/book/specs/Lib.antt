@@ -6,3 +6,7 @@ pub mod Packing
 pub mod Seeking
 pub mod Calls
 pub mod Samples
+pub mod Books
+pub mod Rows
+pub mod Judging
+pub mod Putting

@@ -1,8 +1,8 @@
 // The order of silences.
 use crate::answering::Address;
 ghost use mathlib.Core.Path.{_≡_};
-ghost use Rattle.book.specs.Silences.{isBelow};
-ghost use Rattle.book.specs.Calls.{silenceOf};
+ghost use Rattle.book.specs.Silences.{isBelow, isAbove};
+ghost use Rattle.book.specs.Calls.{silenceOf, lastOf};
 
 // Whether one address is below another: "by cell, then ring number, then start".
 pub fn is_below(a: Address, b: Address) -> bool
@@ -21,4 +21,20 @@ pub fn is_below(a: Address, b: Address) -> bool
         return false;
     }
     a.start < b.start
+}
+
+// The record before another, which has to be below it. The first record has none.
+pub enum Last {
+    NoRecord,
+    Record(Address),
+}
+
+// Whether a record is above the one before it.
+pub fn is_above(last: Last, address: Address) -> bool
+    ensures { λ r. ⌜ r ≡ isAbove (lastOf last) (silenceOf address) ⌝ }
+{
+    match last {
+        Last::NoRecord => true,
+        Last::Record(before) => is_below(before, address),
+    }
 }

@@ -1,0 +1,60 @@
+-- A field is put by putting its numbers one after the other: tag, length, cell, ring number, start.
+-- Assumes nothing.
+use Prim.Native.Nat.{ℕ, _+_, _≤_}
+use mathlib.Core.Path.{_≡_, refl, sym, ap, _∙_}
+use mathlib.Core.List.{List, _∷_, _++_, append-assoc}
+use native.Mathlib.Omega.{arith}
+use lib.ListN.{length, length-append}
+use Rattle.book.specs.Numbers.{bytesOf}
+use Rattle.book.specs.Silences.{Silence}
+use Rattle.book.specs.Layout.{silenceTag, valueOf, fieldOf}
+use Rattle.book.specs.Putting.{writtenAt, IsPut}
+use Rattle.book.proofs.FieldLength.{bytes-length, value-length}
+use Rattle.book.proofs.WrittenAt.{writtenAt-append}
+
+-- Bytes are put, and then more just past them: both are put.
+pub put-append : {at next last : ℕ} {a b area mid out : List ℕ} → at + length a ≤ length area → IsPut at a area next mid → IsPut next b mid last out
+    → IsPut at (a ++ b) area last out
+put-append {at} {next} {last} {a} {b} {area} {mid} {out} room first then =
+    record {
+      next-is = omega (arith, first .next-is, then .next-is, length-append a b);
+      area-is = then .area-is
+          ∙ (λ i. writtenAt (first .next-is i) b (first .area-is i))
+          ∙ writtenAt-append at a b area room;
+    }
+
+-- A number is put in its count of bytes.
+pub number-next : {at next : ℕ} {area out : List ℕ} (count number : ℕ) → IsPut at (bytesOf count number) area next out → next ≡ at + count
+number-next {at} count number is-put = is-put .next-is ∙ ap (λ (n : ℕ). at + n) (bytes-length count number)
+
+-- The tag and the two bytes of the length, as a field has them.
+head-is : bytesOf 1 silenceTag ++ bytesOf 2 10 ≡ silenceTag ∷ bytesOf 2 10
+unfolding bytesOf
+head-is = refl
+
+module _ (s : Silence) where
+  -- A field is its numbers, each in its bytes.
+  field-numbers : bytesOf 1 silenceTag ++ bytesOf 2 10 ++ bytesOf 4 (s .cell) ++ bytesOf 2 (s .ringNumber) ++ bytesOf 4 (s .start) ≡ fieldOf s
+  unfolding valueOf fieldOf
+  field-numbers =
+      let head : List ℕ = bytesOf 1 silenceTag ++ bytesOf 2 10 in
+      let address : List ℕ = bytesOf 4 (s .cell) ++ bytesOf 2 (s .ringNumber) in
+      ap (λ (l : List ℕ). l ++ bytesOf 4 (s .start)) (append-assoc head (bytesOf 4 (s .cell)) (bytesOf 2 (s .ringNumber)))
+      ∙ append-assoc head address (bytesOf 4 (s .start))
+      ∙ ap (λ (l : List ℕ). l ++ valueOf s) head-is
+      ∙ ap (λ (n : ℕ). silenceTag ∷ bytesOf 2 n ++ valueOf s) (sym (value-length s))
+
+  -- Its numbers put one after the other, it is put.
+  pub field-put : {at length-at value-at ring-at start-at next : ℕ} {area a b c d out : List ℕ} → at + length (fieldOf s) ≤ length area
+      → IsPut at (bytesOf 1 silenceTag) area length-at a → IsPut length-at (bytesOf 2 10) a value-at b → IsPut value-at (bytesOf 4 (s .cell)) b ring-at c
+      → IsPut ring-at (bytesOf 2 (s .ringNumber)) c start-at d → IsPut start-at (bytesOf 4 (s .start)) d next out → IsPut at (fieldOf s) area next out
+  field-put {at} {area = area} {out = out} room tag long cell ring start =
+      let head : List ℕ = bytesOf 1 silenceTag ++ bytesOf 2 10 in
+      let to-cell : List ℕ = head ++ bytesOf 4 (s .cell) in
+      let to-ring : List ℕ = to-cell ++ bytesOf 2 (s .ringNumber) in
+      let all : at + length (to-ring ++ bytesOf 4 (s .start)) ≤ length area = omega (arith, room, ap length field-numbers) in
+      let ring-room : at + length to-ring ≤ length area = omega (arith, length-append to-ring (bytesOf 4 (s .start))) in
+      let cell-room : at + length to-cell ≤ length area = omega (arith, length-append to-cell (bytesOf 2 (s .ringNumber))) in
+      let head-room : at + length head ≤ length area = omega (arith, length-append head (bytesOf 4 (s .cell))) in
+      let tag-room : at + length (bytesOf 1 silenceTag) ≤ length area = omega (arith, length-append (bytesOf 1 silenceTag) (bytesOf 2 10)) in
+      rw field-numbers at (put-append ring-room (put-append cell-room (put-append head-room (put-append tag-room tag long) cell) ring) start)

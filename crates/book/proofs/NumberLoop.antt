@@ -1,0 +1,46 @@
+-- Reading a number byte by byte, high byte first. After so many bytes the number is theirs, and below 256 to the power of their count: so with at most
+-- four bytes no turn overflows 32 bits.
+-- Assumes nothing.
+use Prim.Native.Nat.{ℕ, _+_, _*_, _^_, _≤_, _<_}
+use mathlib.Core.Path.{_≡_, refl}
+use mathlib.Core.List.{List}
+use native.Mathlib.Nat.{pow-suc, pow-le-pow-right}
+use native.Mathlib.Numerals.{add-one}
+use native.Mathlib.Omega.{arith}
+use lib.ListN.{getD}
+use Rattle.book.specs.Numbers.{numberAt}
+
+-- The number of the first bytes that are done, of `count` bytes.
+pub record Numbered (bytes : List ℕ) (at count number done : ℕ) : Type 0 where
+  pub turn-le : done ≤ count
+  pub is : number ≡ numberAt done bytes at
+  pub lt : number < 256 ^ done
+
+-- The number of one byte more.
+pub numberAt-step : (done : ℕ) (bytes : List ℕ) (at : ℕ) → numberAt (done + 1) bytes at ≡ numberAt done bytes at * 256 + getD bytes (at + done) 0
+unfolding numberAt
+numberAt-step done bytes at = rw (add-one done)
+
+module _ (bytes : List ℕ) (at count : ℕ) where
+  -- No byte gives 0.
+  pub number-start : Numbered bytes at count 0 0
+  unfolding numberAt
+  number-start = record { turn-le = omega arith; is = refl; lt = omega arith }
+
+  module _ (number done : ℕ) (inv : Numbered bytes at count number done) where
+    -- One byte more.
+    pub number-turn : (byte : ℕ) → done < count → byte ≡ getD bytes (at + done) 0 → byte < 256 → Numbered bytes at count (number * 256 + byte) (done + 1)
+    number-turn byte left is-byte small =
+        record {
+          turn-le = omega arith;
+          is = omega (arith, numberAt-step done bytes at, inv .is);
+          lt = rw (add-one done) (omega (arith, pow-suc 256 done, inv .lt));
+        }
+
+    -- With fewer than four bytes read, one more fits 32 bits.
+    pub number-lt : done < 4 → number < 2 ^ 24
+    number-lt few = omega (arith, inv .lt, pow-le-pow-right {n = 256} (omega arith) {i = done} {j = 3} (omega arith))
+
+    -- After the last byte it is the number of them all.
+    pub number-end : count ≤ done → (number ≡ numberAt count bytes at) × (number < 256 ^ count)
+    number-end last = let all : done ≡ count = omega arith in (rw all at (inv .is), rw all at (inv .lt))

@@ -1,0 +1,113 @@
+-- Seeking an address in an accepted book answers exactly whether the book names it, from any field boundary before which every silence is below the
+-- address. Field by field: one that is below the address is not it; the first that is not below decides, for all after it are above.
+-- Assumes nothing.
+use Prim.Native.Nat.{ℕ, _+_, _≤_}
+use mathlib.Core.Logic.{_↔_}
+use mathlib.Core.Path.{_≡_, refl, sym, ap, subst, _∙_}
+use mathlib.Core.Bool.{Bool, true, false, cond, _||_}
+use mathlib.Core.List.{List, [], _∷_, _++_}
+use mathlib.Core.Option.{Option, none, some}
+use native.Mathlib.Nat.{zero-add}
+use native.Mathlib.Omega.{arith}
+use lib.ListN.{length, length-append}
+use Rattle.answers.specs.Paper.{accepted}
+use Rattle.book.specs.Silences.{Silence, silence, isBelow, Below, isSame, names, Names}
+use Rattle.book.specs.Layout.{fieldOf, layout}
+use Rattle.book.specs.Reading.{FieldAt, whole, faulty, fieldAt, readBook}
+use Rattle.book.specs.Seeking.{seekField, seekFrom, isFor}
+use Rattle.book.proofs.SilenceOrder.{isBelow-yes}
+use Rattle.book.proofs.StrictOrder.{below-trans, above-of-not, below-not-same}
+use Rattle.book.proofs.NamesIff.{names-iff}
+use Rattle.book.proofs.SeekFrom.{seekFrom-step}
+use Rattle.book.proofs.FieldTest.{field-faulty-iff}
+use Rattle.book.proofs.FieldBytes.{field-next-is}
+use Rattle.book.proofs.AscendingAfter.{AscendingAfter, lastAfter}
+use Rattle.book.proofs.FieldsRead.{FieldsRead, none-read, one-read}
+use Rattle.book.proofs.LayoutRead.{read-ascends}
+use Rattle.book.proofs.AcceptedIsLayout.{IsReadWhole, accepted-whole-iff}
+
+-- Whether a list of silences names an address.
+abbrev pub namesAddress : List Silence → Silence → Bool
+namesAddress ss address = names ss (address .cell) (address .ringNumber) (address .start)
+
+-- Each of these silences is below the address.
+abbrev pub AllPassed : Silence → List Silence → Type 0
+AllPassed address [] = Unit {0}
+AllPassed address (s ∷ ss) = Below s address × AllPassed address ss
+
+-- Past the book's end no field stands.
+pub field-past : (book : List ℕ) (at : ℕ) → length book ≤ at → fieldAt book at ≡ faulty
+field-past book at h = field-faulty-iff book at .1 (λ f. omega (arith, f .not-cut))
+
+module _ (address : Silence) where
+  -- The silences that are below an address do not name it.
+  pub names-passed : (ss ts : List Silence) → AllPassed address ss → namesAddress (ss ++ ts) address ≡ namesAddress ts address
+  unfolding names
+  names-passed [] ts p = refl
+  names-passed (s ∷ ss) ts p = ap (λ (t : Bool). t || namesAddress (ss ++ ts) address) (below-not-same s address (p .0) .0) ∙ names-passed ss ts (p .1)
+
+  -- Silences after one that is above the address do not name it.
+  names-above : (s : Silence) (ss : List Silence) → AscendingAfter (some s) ss → Below address s → namesAddress ss address ≡ false
+  unfolding names
+  names-above s [] a h = refl
+  names-above s (t ∷ ss) a h =
+      let above : Below address t = below-trans address s t h (isBelow-yes s t (a .0)) in
+      ap (λ (b : Bool). b || namesAddress ss address) (below-not-same address t above .1) ∙ names-above t ss (a .1) above
+
+  -- The first silence that is not below the address decides.
+  names-first : (s : Silence) (ss : List Silence) → AscendingAfter (some s) ss → isBelow s address ≡ false → isSame s address ≡ namesAddress (s ∷ ss) address
+  unfolding names
+  names-first s ss a h = go (isSame s address) refl
+    where
+      go : (t : Bool) → isSame s address ≡ t → t ≡ (t || namesAddress ss address)
+      go true e = refl
+      go false e = sym (names-above s ss a (above-of-not s address h e))
+
+  module _ (book : List ℕ) where
+    -- Seeking at a field goes by what that field is.
+    pub seek-at : (at : ℕ) (f : FieldAt) → fieldAt book at ≡ f → seekFrom book address at ≡ seekField address f (seekFrom book address)
+    seek-at at f e = seekFrom-step book address at ∙ ap (λ (g : FieldAt). seekField address g (seekFrom book address)) e
+
+    -- Where the book's fields are read to its end, seeking answers whether they name the address.
+    seek-read : {last : Option Silence} {at : ℕ} {ss : List Silence} {stop : ℕ} → FieldsRead book last at ss stop → length book ≤ stop
+        → isFor address (seekFrom book address at) ≡ namesAddress ss address
+    unfolding names
+    seek-read (none-read {at = at}) h = ap (isFor address) (seek-at at faulty (field-past book at h))
+    seek-read (one-read {at = at} {s = s} {next = next} {ss = ss} e above more) h =
+        ap (isFor address) (seek-at at (whole s next) e) ∙ by-order (isBelow s address) refl (seek-read more h)
+      where
+        by-order : (t : Bool) → isBelow s address ≡ t → isFor address (seekFrom book address next) ≡ namesAddress ss address
+            → isFor address (cond t (seekFrom book address next) (whole s next)) ≡ namesAddress (s ∷ ss) address
+        by-order true b on = on ∙ sym (names-passed (s ∷ []) ss (isBelow-yes s address b, tt))
+        by-order false b on = names-first s ss (read-ascends more) b
+
+-- The fields after some that were read, from where those end.
+read-after : {book : List ℕ} {stop : ℕ} (ss ts : List Silence) (last : Option Silence) (at : ℕ) → FieldsRead book last at (ss ++ ts) stop
+    → FieldsRead book (lastAfter last ss) (at + length (layout ss)) ts stop
+unfolding layout
+read-after {book} {stop} [] ts last at f = let stays : at ≡ at + 0 = omega arith in subst (λ (n : ℕ). FieldsRead book last n ts stop) stays f
+read-after {book} {stop} (s ∷ ss) ts last at (one-read {next = next} e above more) =
+    let from : next + length (layout ss) ≡ at + length (fieldOf s ++ layout ss) =
+    omega (arith, field-next-is book at s next e, length-append (fieldOf s) (layout ss)) in
+    subst (λ (n : ℕ). FieldsRead book (lastAfter (some s) ss) n ts stop) from (read-after ss ts (some s) next more)
+
+-- From any field boundary of an accepted book before which every silence is below the address, seeking answers whether the book names it.
+pub seek-names : (book : List ℕ) (passed ahead : List Silence) (address : Silence) → readBook book ≡ accepted (passed ++ ahead) → AllPassed address passed
+    → isFor address (seekFrom book address (length (layout passed))) ≡ namesAddress (passed ++ ahead) address
+seek-names book passed ahead address e p =
+    let w : IsReadWhole (passed ++ ahead) book = accepted-whole-iff book (passed ++ ahead) .0 e in
+    ap (λ (n : ℕ). isFor address (seekFrom book address n)) (sym (zero-add (length (layout passed))))
+    ∙ seek-read address book (read-after passed ahead none 0 (w .fields)) (w .stop-ge)
+    ∙ sym (names-passed address passed ahead p)
+
+-- From the first byte on too.
+pub seek-all-names : (book : List ℕ) (ss : List Silence) (address : Silence) → readBook book ≡ accepted ss
+    → isFor address (seekFrom book address 0) ≡ namesAddress ss address
+seek-all-names book ss address e =
+    let w : IsReadWhole ss book = accepted-whole-iff book ss .0 e in
+    seek-read address book (w .fields) (w .stop-ge)
+
+-- What was sought is for the address exactly when one of the book's silences is that cell, ring number and start.
+pub seek-iff : (book : List ℕ) (ss : List Silence) (cell ringNumber start : ℕ) → readBook book ≡ accepted ss
+    → (isFor (silence cell ringNumber start) (seekFrom book (silence cell ringNumber start) 0) ≡ true) ↔ Names ss cell ringNumber start
+seek-iff book ss cell ringNumber start e = rw (seek-all-names book ss (silence cell ringNumber start) e) (names-iff cell ringNumber start ss)

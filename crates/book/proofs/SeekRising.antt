@@ -1,0 +1,109 @@
+-- Asking with rising addresses: what is held from the last address asked answers the next one, if it is not below the last, as seeking anew from the
+-- first byte would, on any bytes (`seek-again`). A field that was passed for the last address is below the next one too. So a caller holds one field
+-- (`Seeking`), seeks on from just past it where it is below the next address, and reads no field twice.
+-- Assumes nothing.
+use Prim.Native.Nat.{ℕ, _≤_, _<_}
+use mathlib.Core.Path.{_≡_, refl, sym, ap, subst, _∙_}
+use mathlib.Core.Bool.{Bool, true, false, cond}
+use mathlib.Core.List.{List}
+use native.Mathlib.Omega.{arith}
+use lib.ListN.{length}
+use Rattle.answers.specs.Paper.{accepted}
+use Rattle.book.specs.Silences.{Silence, isBelow, Below}
+use Rattle.book.specs.Reading.{FieldAt, whole, faulty, fieldAt, readBook}
+use Rattle.book.specs.Seeking.{seekField, seekFrom, isFor}
+use Rattle.book.proofs.SilenceOrder.{isBelow-yes, below-isBelow}
+use Rattle.book.proofs.StrictOrder.{below-not-below}
+use Rattle.book.proofs.FieldEnds.{field-ends}
+use Rattle.book.proofs.FieldTest.{next-same, never-whole}
+use Rattle.book.proofs.FieldInduction.{field-induction}
+use Rattle.book.proofs.SeekNames.{namesAddress, seek-at, seek-all-names}
+
+module _ (book : List ℕ) where
+  -- a field that is below the address is passed
+  seek-passed : (address : Silence) (at : ℕ) {s : Silence} {next : ℕ} → fieldAt book at ≡ whole s next → isBelow s address ≡ true
+      → seekFrom book address at ≡ seekFrom book address next
+  seek-passed address at {s} {next} e b = seek-at address book at (whole s next) e ∙ ap (λ (t : Bool). cond t (seekFrom book address next) (whole s next)) b
+
+  -- one that is not is the one sought
+  seek-found : (address : Silence) (at : ℕ) {s : Silence} {next : ℕ} → fieldAt book at ≡ whole s next → isBelow s address ≡ false
+      → seekFrom book address at ≡ whole s next
+  seek-found address at {s} {next} e b = seek-at address book at (whole s next) e ∙ ap (λ (t : Bool). cond t (seekFrom book address next) (whole s next)) b
+
+  -- The field that is sought lies past the offset asked from, and ends within the book.
+  pub seek-ends : (address : Silence) (at : ℕ) (s : Silence) (next : ℕ) → seekFrom book address at ≡ whole s next → (at < next) × (next ≤ length book)
+  seek-ends address = field-induction book Ends turn
+    where
+      Ends : ℕ → Type 0
+      Ends at = (s : Silence) (next : ℕ) → seekFrom book address at ≡ whole s next → (at < next) × (next ≤ length book)
+
+      turn : (at : ℕ) → ((t : Silence) (past : ℕ) → fieldAt book at ≡ whole t past → Ends past) → Ends at
+      turn at on s next e = by-field (fieldAt book at) refl
+        where
+          by-order : (t : Silence) (past : ℕ) → fieldAt book at ≡ whole t past → (below : Bool) → isBelow t address ≡ below
+              → (at < next) × (next ≤ length book)
+          by-order t past f true b =
+              let later : (past < next) × (next ≤ length book) = on t past f s next (sym (seek-passed address at f b) ∙ e) in
+              let ends : (at < past) × (past ≤ length book) = field-ends book at t past f in
+              (omega arith, omega arith)
+          by-order t past f false b =
+              let same : past ≡ next = next-same (sym (seek-found address at f b) ∙ e) in
+              let ends : (at < past) × (past ≤ length book) = field-ends book at t past f in
+              (omega arith, omega arith)
+
+          by-field : (f : FieldAt) → fieldAt book at ≡ f → (at < next) × (next ≤ length book)
+          by-field faulty f = absurd (never-whole s next (sym (seek-at address book at faulty f) ∙ e))
+          by-field (whole t past) f = by-order t past f (isBelow t address) refl
+
+  -- What is held for one address, asked for another that is not below it, is what seeking that other gives.
+  pub seek-again : (a b : Silence) → (Below b a → ⊥) → (at : ℕ) → seekField b (seekFrom book a at) (seekFrom book b) ≡ seekFrom book b at
+  seek-again a b not-below = field-induction book (λ (at : ℕ). seekField b (seekFrom book a at) (seekFrom book b) ≡ seekFrom book b at) turn
+    where
+      held : FieldAt → FieldAt
+      held f = seekField b f (seekFrom book b)
+
+      turn : (at : ℕ) → ((s : Silence) (next : ℕ) → fieldAt book at ≡ whole s next → held (seekFrom book a next) ≡ seekFrom book b next)
+          → held (seekFrom book a at) ≡ seekFrom book b at
+      turn at on = by-field (fieldAt book at) refl
+        where
+          -- passed for a: it is below b too, and is passed; not passed: it is held, and asked for b as any field
+          by-order : (s : Silence) (next : ℕ) → fieldAt book at ≡ whole s next → (t : Bool) → isBelow s a ≡ t → held (seekFrom book a at) ≡ seekFrom book b at
+          by-order s next e true p =
+              let below : isBelow s b ≡ true = below-isBelow s b (below-not-below s a b (isBelow-yes s a p) not-below) in
+              ap held (seek-passed a at e p) ∙ on s next e ∙ sym (seek-passed b at e below)
+          by-order s next e false p = ap held (seek-found a at e p) ∙ sym (seek-at b book at (whole s next) e)
+
+          by-field : (f : FieldAt) → fieldAt book at ≡ f → held (seekFrom book a at) ≡ seekFrom book b at
+          by-field faulty e = ap held (seek-at a book at faulty e) ∙ sym (seek-at b book at faulty e)
+          by-field (whole s next) e = by-order s next e (isBelow s a) refl
+
+-- What a caller holds that asks with rising addresses: the field sought for the last address asked, as if it were sought from the first byte on.
+pub record Seeking (book : List ℕ) (asked : Silence) (held : FieldAt) : Type 0 where
+  pub held-is : held ≡ seekFrom book asked 0
+
+module _ (book : List ℕ) where
+  -- The first address is sought from the first byte on.
+  pub seeking-start : (a : Silence) → Seeking book a (seekFrom book a 0)
+  seeking-start a = record { held-is = refl }
+
+  module _ (a b : Silence) (not-below : Below b a → ⊥) where
+    -- the next address: the held field is asked for it
+    seeking-turn : (held : FieldAt) → Seeking book a held → Seeking book b (seekField b held (seekFrom book b))
+    seeking-turn held was = record { held-is = ap (λ (f : FieldAt). seekField b f (seekFrom book b)) (was .held-is) ∙ seek-again book a b not-below 0 }
+
+    -- With nothing left there is nothing for it.
+    pub seeking-turn-none : Seeking book a faulty → Seeking book b faulty
+    seeking-turn-none was = seeking-turn faulty was
+
+    -- A held field that is not below it is kept.
+    pub seeking-turn-kept : (s : Silence) (next : ℕ) → isBelow s b ≡ false → Seeking book a (whole s next) → Seeking book b (whole s next)
+    seeking-turn-kept s next e was = subst (λ (t : Bool). Seeking book b (cond t (seekFrom book b next) (whole s next))) e (seeking-turn (whole s next) was)
+
+    -- One that is below it is passed: the address is sought from just past it.
+    pub seeking-turn-on : (s : Silence) (next : ℕ) → isBelow s b ≡ true → Seeking book a (whole s next) → Seeking book b (seekFrom book b next)
+    seeking-turn-on s next e was = subst (λ (t : Bool). Seeking book b (cond t (seekFrom book b next) (whole s next))) e (seeking-turn (whole s next) was)
+
+  -- In an accepted book the held field is for the address exactly when the book names it.
+  pub seeking-names : (ss : List Silence) (a : Silence) (held : FieldAt) → readBook book ≡ accepted ss → Seeking book a held
+      → isFor a held ≡ namesAddress ss a
+  seeking-names ss a held e now-held = ap (isFor a) (now-held .held-is) ∙ seek-all-names book ss a e

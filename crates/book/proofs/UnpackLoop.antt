@@ -1,0 +1,118 @@
+-- Writing the records of an accepted book. Before the field at `at` the words of the records that are done stand in the area, and the others are what
+-- the fields from there on give. While one is left the next field is whole, and there is room for its words; with none left all words stand.
+-- Assumes nothing.
+use Prim.Native.Nat.{ℕ, _+_, _*_, _≤_, _<_}
+use mathlib.Core.Path.{_≡_, refl, sym, ap, ap₂, _∙_}
+use mathlib.Core.List.{List, [], _∷_, _++_, append-nil, append-assoc}
+use mathlib.Core.Logic.{⊎-elim}
+use mathlib.Core.Option.{Option, none, some}
+use native.Mathlib.Omega.{arith}
+use lib.ListN.{length, length-append}
+use lib.Seq.{sets}
+use Rattle.meaning.specs.Findings.{written}
+use Rattle.meaning.proofs.Cases.{le-or-lt}
+use Rattle.meaning.proofs.Words.{written-length}
+use Rattle.answers.specs.Paper.{Answer, accepted}
+use Rattle.book.specs.Silences.{Silence}
+use Rattle.book.specs.Reading.{whole, faulty, fieldAt, readFrom, readBook}
+use Rattle.book.specs.Packing.{silenceWords, wordsOfSilences, recordWords, areaAtExit}
+use Rattle.book.specs.Calls.{recordsOf}
+use Rattle.book.proofs.AcceptedFields.{FirstField, accepted-first, accepted-end}
+use Rattle.book.proofs.RecordWords.{wordsOfSilences-length, wordsOfSilences-snoc, written-more}
+use Rattle.book.proofs.AcceptedBook.{HasRecords, has-records, readBook-accepted}
+
+-- A list of no length is empty.
+length-none : (ss : List Silence) → length ss ≡ 0 → ss ≡ []
+length-none [] e = refl
+length-none (s ∷ ss) e = absurd (omega arith)
+
+-- Before the field at `at`, with the words of so many records done.
+pub record PutOn (book area : List ℕ) (records : ℕ) (words : List ℕ) (at done : ℕ) : Type 0 where
+  pub last : Option Silence
+  pub put : List Silence
+  pub others : List Silence
+  pub others-is : readFrom book last at ≡ accepted others
+  pub all-is : readBook book ≡ accepted (put ++ others)
+  pub done-is : done ≡ length put
+  pub records-is : records ≡ length put + length others
+  pub room : recordWords * records ≤ length area
+  pub words-is : words ≡ written (wordsOfSilences put) area
+
+module _ (book area : List ℕ) (records : ℕ) where
+  -- Before the first field.
+  pub put-start : recordsOf (readBook book) ≡ accepted records → recordWords * records ≤ length area → PutOn book area records area 0 0
+  unfolding written wordsOfSilences
+  put-start e room =
+      let all : HasRecords (readBook book) records = has-records (readBook book) records e in
+      record {
+        last = none;
+        put = [];
+        others = all .silences;
+        others-is = readBook-accepted book (all .silences) (all .is) .1;
+        all-is = all .is;
+        done-is = refl;
+        records-is = omega arith;
+        room = room;
+        words-is = refl;
+      }
+
+  module _ (words : List ℕ) (at done : ℕ) (inv : PutOn book area records words at done) where
+    -- The area keeps its length.
+    pub put-length-is : length words ≡ length area
+    put-length-is =
+        ap length (inv .words-is)
+        ∙ written-length (wordsOfSilences (inv .put)) area (omega (arith, wordsOfSilences-length (inv .put), inv .records-is, inv .room))
+
+    -- With no record left the words of all stand.
+    pub put-end : records ≤ done → words ≡ areaAtExit wordsOfSilences (readBook book) area
+    put-end all-done =
+        let none-left : inv .others ≡ [] = length-none (inv .others) (omega (arith, inv .done-is, inv .records-is)) in
+        inv .words-is
+        ∙ sym (ap (λ (a : Answer (List Silence)). areaAtExit wordsOfSilences a area)
+        (inv .all-is ∙ ap (λ (l : List Silence). accepted (inv .put ++ l)) none-left ∙ ap accepted (append-nil (inv .put))))
+
+    module _ (left : done < records) where
+      -- the next field
+      next-field : FirstField book at (inv .others)
+      next-field =
+          ⊎-elim
+          (λ (past : length book ≤ at). absurd (omega (arith, ap length (accepted-end book (inv .last) at (inv .others) past (inv .others-is)), inv .done-is, inv .records-is)))
+          (λ (within : at < length book). accepted-first book (inv .last) at (inv .others) within (inv .others-is))
+          (le-or-lt (length book) at)
+
+      -- While one is left the next field is whole.
+      pub put-faulty-no : faulty ≡ fieldAt book at → ⊥
+      put-faulty-no is =
+          let f : FirstField book at (inv .others) = next-field in
+          let same : faulty ≡ whole (f .first) (f .next) = is ∙ f .field-is in
+          let z : _≡_ {A = ℕ} 0 1 = cc in
+          omega arith
+
+      -- There is room for its words.
+      pub put-room-le : recordWords * done + recordWords ≤ length words
+      put-room-le = omega (arith, put-length-is, inv .room)
+
+      -- Its words are written behind the others.
+      pub put-turn : (s : Silence) (next : ℕ) → whole s next ≡ fieldAt book at
+          → PutOn book area records (sets words (recordWords * done) (silenceWords s)) next (done + 1)
+      put-turn s next is =
+          let f : FirstField book at (inv .others) = next-field in
+          let same : whole s next ≡ whole (f .first) (f .next) = is ∙ f .field-is in
+          let first-is : f .first ≡ s = cc in
+          let next-is : f .next ≡ next = cc in
+          let to-is : recordWords * done ≡ length (wordsOfSilences (inv .put)) = omega (arith, wordsOfSilences-length (inv .put), inv .done-is) in
+          let others-are : inv .others ≡ s ∷ f .others = cc (f .all-is) in
+          record {
+            last = some s;
+            put = inv .put ++ s ∷ [];
+            others = f .others;
+            others-is = cc (f .others-is);
+            all-is = inv .all-is ∙ ap (λ (l : List Silence). accepted (inv .put ++ l)) others-are ∙ ap accepted (sym (append-assoc (inv .put) (s ∷ []) (f .others)));
+            done-is = omega (arith, length-append (inv .put) (s ∷ []), inv .done-is);
+            records-is = omega (arith, length-append (inv .put) (s ∷ []), inv .records-is, ap length others-are);
+            room = inv .room;
+            words-is =
+                ap₂ (λ (l : List ℕ) (i : ℕ). sets l i (silenceWords s)) (inv .words-is) to-is
+                ∙ written-more (wordsOfSilences (inv .put)) (silenceWords s) area (omega (arith, put-room-le, put-length-is))
+                ∙ ap (λ (l : List ℕ). written l area) (sym (wordsOfSilences-snoc (inv .put) s));
+          }

@@ -1,0 +1,52 @@
+-- Words and silences undo each other: three words are one silence, and a list of words that is a multiple of 3 is the words of its silences. Where the
+-- words are 32-bit words and no ring number is above 65,535, the silences are in range.
+-- Assumes nothing.
+use Prim.Native.Nat.{ℕ, suc, _*_, _%_}
+use mathlib.Core.Path.{_≡_, refl, sym, ap, _∙_}
+use mathlib.Core.List.{List, [], _∷_}
+use native.Mathlib.Omega.{arith}
+use lib.ListN.{length}
+use Rattle.book.specs.Silences.{Silence, AllInRange}
+use Rattle.book.specs.Packing.{wordsOfSilences, silencesOf}
+use Rattle.book.specs.Books.{IsWords}
+use Rattle.book.specs.Rows.{AllRingNumbers}
+
+-- Three words for each silence.
+pub words-length : (ss : List Silence) → length (wordsOfSilences ss) ≡ 3 * length ss
+unfolding wordsOfSilences
+words-length [] = refl
+words-length (s ∷ ss) = omega (arith, words-length ss)
+
+-- The silences of the words of silences are those silences.
+pub silences-of-words : (ss : List Silence) → silencesOf (wordsOfSilences ss) ≡ ss
+unfolding wordsOfSilences silencesOf
+silences-of-words [] = refl
+silences-of-words (s ∷ ss) = ap (λ (l : List Silence). s ∷ l) (silences-of-words ss)
+
+-- The words of the silences of words are those words, if they are a multiple of 3.
+pub words-of-silences : (words : List ℕ) → length words % 3 ≡ 0 → wordsOfSilences (silencesOf words) ≡ words
+unfolding wordsOfSilences silencesOf
+words-of-silences [] h = refl
+words-of-silences (cell ∷ []) h = absurd (omega arith)
+words-of-silences (cell ∷ ringNumber ∷ []) h = absurd (omega arith)
+words-of-silences (cell ∷ ringNumber ∷ start ∷ words) h = ap (λ (l : List ℕ). cell ∷ ringNumber ∷ start ∷ l) (words-of-silences words (omega arith))
+
+-- There are a third as many silences.
+pub silences-length : (words : List ℕ) → length words % 3 ≡ 0 → 3 * length (silencesOf words) ≡ length words
+silences-length words h = sym (words-length (silencesOf words)) ∙ ap length (words-of-silences words h)
+
+-- Silences of 32-bit words are in range, if no ring number is above 65,535.
+pub silences-in-range : (words : List ℕ) → IsWords words → AllRingNumbers (silencesOf words) → AllInRange (silencesOf words)
+unfolding silencesOf
+silences-in-range [] w rings = tt
+silences-in-range (cell ∷ []) w rings = tt
+silences-in-range (cell ∷ ringNumber ∷ []) w rings = tt
+silences-in-range (cell ∷ ringNumber ∷ start ∷ words) w rings = (
+  record { cell-lt = w .each-lt 0; ring-number-lt = omega (arith, rings .0); start-lt = w .each-lt 2 },
+  silences-in-range words (record { each-lt = λ i. w .each-lt (suc (suc (suc i))) }) (rings .1),
+)
+
+-- Silences in range have no ring number above 65,535.
+pub in-range-rings : (ss : List Silence) → AllInRange ss → AllRingNumbers ss
+in-range-rings [] h = tt
+in-range-rings (s ∷ ss) h = (omega (arith, h .0 .ring-number-lt), in-range-rings ss (h .1))

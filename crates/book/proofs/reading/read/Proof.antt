@@ -1,0 +1,23 @@
+-- `book::reading::read` meets its contract: row 5, or what `read_fields` gives.
+-- Assumes nothing.
+use mathlib.Core.Path.{sym, ap, _∙_}
+use native.Mathlib.Omega.{arith}
+use Rattle.answers.specs.Paper.{answerPaper}
+use Rattle.book.specs.Calls.{recordsOf, recordsPaper}
+use Rattle.book.proofs.BookLengths.{readBook-long, readBook-fields}
+use Rattle.book.proofs.reading.read.Statement.{statement}
+use Rattle.book.proofs.reading.read.Tie as tie
+
+-- row 5
+returns : tie.Need-returns
+returns c = record { paper = sym (ap recordsPaper (readBook-long _ (omega arith))) }
+
+read-fields-requires : tie.Need-read-fields-requires
+read-fields-requires c κs = tt
+
+-- what the fields give
+returns-2 : tie.Need-returns-2
+returns-2 c = record { paper = ap (answerPaper 0) (c .read-fields .ensures ∙ sym (ap recordsOf (readBook-fields _ (omega arith)))) }
+
+pub read-spec : {M : Type 1} → statement M
+read-spec = tie.close (tie.spec returns read-fields-requires returns-2)

@@ -1,0 +1,86 @@
+-- `book::reading::read_fields` meets its contract. Before the field at `at` the records counted and those read from there on make up the answer
+-- (`ReadOn`); each return is one case of that field, or the book's end. The bytes left fall.
+-- Assumes nothing.
+use Prim.Native.Nat.{_-_}
+use mathlib.Core.Path.{sym, _∙_}
+use native.Mathlib.Omega.{arith}
+use borrow.Author.Needs.{needs}
+use borrow.Author.Tests.{not-true, not-false}
+use lib.ListN.{length}
+use Rattle.book.specs.Calls.{lastOf}
+use Rattle.book.proofs.ReadLoop.{ReadOn, read-start, read-end, read-faulty, read-not-above, read-turn, read-lt}
+use Rattle.book.proofs.reading.read_fields.Statement.{statement}
+use Rattle.book.proofs.reading.read_fields.Tie as tie
+
+abbrev Inv-loop : tie.InvT-loop
+Inv-loop book at₀ records₀ last₀ at records last = ReadOn book at records (lastOf last)
+
+abbrev μ-loop : tie.MeasureT-loop
+μ-loop book at₀ records₀ last₀ at records last = length book - at
+
+loop-holds : tie.Need-loop-holds Inv-loop μ-loop
+loop-holds c = read-start _
+
+field-at-requires : tie.Need-field-at-requires Inv-loop μ-loop
+field-at-requires c κs = tt
+
+enum-told : tie.Need-enum-told Inv-loop μ-loop
+enum-told c = search needs
+
+-- no whole field: row 6
+returns : tie.Need-returns Inv-loop μ-loop
+returns c =
+    let at-field = c .before .before in
+    read-faulty _ _ _ _ (at-field .before .before .loop .inv) (rw (c .enum-told .given .1) at (at-field .field-at .ensures)) (omega arith)
+
+enum-known-field : tie.Need-enum-known-field Inv-loop μ-loop
+enum-known-field c = search needs
+
+is-above-requires : tie.Need-is-above-requires Inv-loop μ-loop
+is-above-requires c κs = tt
+
+-- a record that is not above the last: row 7
+returns-2 : tie.Need-returns-2 Inv-loop μ-loop
+returns-2 c =
+    let at-whole = c .before .before .before in
+    let at-field = at-whole .before .before in
+    read-not-above _ _ _ _ (at-field .before .before .loop .inv) _ _ (rw (at-whole .field .given .1) at (at-field .field-at .ensures)) (omega arith)
+    (sym (c .before .is-above .ensures) ∙ not-true _ (c .if1 .taken))
+
+add-records : tie.Need-add-records Inv-loop μ-loop
+add-records c = omega arith
+
+loop-less : tie.Need-loop-less Inv-loop μ-loop
+loop-less c =
+    let at-whole = c .before .before .before in
+    let at-field = at-whole .before .before in
+    read-lt _ _ _ _ (at-field .before .before .loop .inv) _ _ (rw (at-whole .field .given .1) at (at-field .field-at .ensures)) (omega arith)
+
+loop-again : tie.Need-loop-again Inv-loop μ-loop
+loop-again c =
+    let at-whole = c .before .before .before in
+    let at-field = at-whole .before .before in
+    read-turn _ _ _ _ (at-field .before .before .loop .inv) _ _ (rw (at-whole .field .given .1) at (at-field .field-at .ensures)) (omega arith)
+    (sym (c .before .is-above .ensures) ∙ not-false _ (c .if1 .left))
+
+-- the book's end
+returns-3 : tie.Need-returns-3 Inv-loop μ-loop
+returns-3 c = read-end _ _ _ _ (c .before .loop .inv) (omega arith)
+
+pub read-fields-spec : {M : Type 1} → statement M
+read-fields-spec =
+    tie.close
+    (tie.spec
+    Inv-loop
+    μ-loop
+    loop-holds
+    field-at-requires
+    enum-told
+    returns
+    enum-known-field
+    is-above-requires
+    returns-2
+    add-records
+    loop-less
+    loop-again
+    returns-3)

@@ -1,0 +1,79 @@
+-- `book::seeking::seek` meets its contract. Before the field at `at` what is sought from `from` on is what is sought from `at` on (`SeekOn`); each
+-- return is one case of that field. The bytes left fall.
+-- Assumes nothing.
+use Prim.Native.Nat.{_-_}
+use mathlib.Core.Path.{sym, _∙_}
+use borrow.Author.Needs.{needs}
+use borrow.Author.Tests.{not-true, not-false}
+use lib.ListN.{length}
+use Rattle.book.specs.Calls.{silenceOf}
+use Rattle.book.proofs.SeekLoop.{SeekOn, seek-start, seek-nothing, seek-end, seek-turn, seek-lt}
+use Rattle.book.proofs.seeking.seek.Statement.{statement}
+use Rattle.book.proofs.seeking.seek.Tie as tie
+
+abbrev Inv-loop : tie.InvT-loop
+Inv-loop book from address at₀ at = SeekOn book from (silenceOf address) at
+
+abbrev μ-loop : tie.MeasureT-loop
+μ-loop book from address at₀ at = length book - at
+
+loop-holds : tie.Need-loop-holds Inv-loop μ-loop
+loop-holds c = seek-start _ _ _
+
+field-at-requires : tie.Need-field-at-requires Inv-loop μ-loop
+field-at-requires c κs = tt
+
+enum-told : tie.Need-enum-told Inv-loop μ-loop
+enum-told c = search needs
+
+-- no whole field
+returns : tie.Need-returns Inv-loop μ-loop
+returns c =
+    let at-field = c .before .before in
+    record { is = seek-nothing _ _ _ _ (at-field .before .loop .inv) (rw (c .enum-told .given .1) at (at-field .field-at .ensures)) }
+
+enum-known-field : tie.Need-enum-known-field Inv-loop μ-loop
+enum-known-field c = search needs
+
+is-below-requires : tie.Need-is-below-requires Inv-loop μ-loop
+is-below-requires c κs = tt
+
+-- a field that is not below the address
+returns-2 : tie.Need-returns-2 Inv-loop μ-loop
+returns-2 c =
+    let at-whole = c .before .before .before in
+    let at-field = at-whole .before .before in
+    record {
+      is =
+          seek-end _ _ _ _ (at-field .before .loop .inv) _ _ (rw (at-whole .field .given .1) at (at-field .field-at .ensures))
+          (sym (c .before .is-below .ensures) ∙ not-true _ (c .if1 .taken));
+    }
+
+loop-less : tie.Need-loop-less Inv-loop μ-loop
+loop-less c =
+    let at-whole = c .before .before .before in
+    let at-field = at-whole .before .before in
+    seek-lt _ _ _ _ (at-field .before .loop .inv) _ _ (rw (at-whole .field .given .1) at (at-field .field-at .ensures))
+
+loop-again : tie.Need-loop-again Inv-loop μ-loop
+loop-again c =
+    let at-whole = c .before .before .before in
+    let at-field = at-whole .before .before in
+    seek-turn _ _ _ _ (at-field .before .loop .inv) _ _ (rw (at-whole .field .given .1) at (at-field .field-at .ensures))
+    (sym (c .before .is-below .ensures) ∙ not-false _ (c .if1 .left))
+
+pub seek-spec : {M : Type 1} → statement M
+seek-spec =
+    tie.close
+    (tie.spec
+    Inv-loop
+    μ-loop
+    loop-holds
+    field-at-requires
+    enum-told
+    returns
+    enum-known-field
+    is-below-requires
+    returns-2
+    loop-less
+    loop-again)

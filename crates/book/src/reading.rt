@@ -1,0 +1,50 @@
+// Reading a book: how many records it has, or what is wrong with it.
+use crate::answering::BookAnswer;
+use crate::answering::Sought;
+use crate::fields::field_at;
+use crate::order::Last;
+use crate::order::is_above;
+use answers::Refusal;
+ghost use mathlib.Core.Path.{_≡_};
+ghost use mathlib.Core.Option.{none};
+ghost use Rattle.book.specs.Reading.{readFrom};
+ghost use Rattle.book.specs.Calls.{answerOf, recordsOf, IsRead};
+
+// "book longer than 13,000 bytes": the most bytes that a book has.
+const BOOK_LENGTH_MOST: usize = 13000;
+
+// The fields of a book one after the other. "Within a book the first faulty field decides, 6 before 7."
+fn read_fields(book: &[u8]) -> BookAnswer
+    ensures { λ r. ⌜ answerOf r ≡ recordsOf (readFrom (now (book .entry)) none 0) ⌝ }
+{
+    let mut at: usize = 0;
+    let mut records: usize = 0;
+    let mut last = Last::NoRecord;
+    while at < book.len() {
+        let field = field_at(book, at);
+        match field {
+            Sought::Nothing => {
+                return BookAnswer::Refused(Refusal::Field(at));
+            }
+            Sought::Field { address, next } => {
+                if !is_above(last, address) {
+                    return BookAnswer::Refused(Refusal::NotAbove(at));
+                }
+                last = Last::Record(address);
+                records += 1;
+                at = next;
+            }
+        }
+    }
+    BookAnswer::Records(records)
+}
+
+// How many records a book has, or refusal 5, 6 or 7.
+pub fn read(book: &[u8]) -> BookAnswer
+    ensures { λ r. ⌜ IsRead (now (book .entry)) r ⌝ }
+{
+    if BOOK_LENGTH_MOST < book.len() {
+        return BookAnswer::Refused(Refusal::BookLength);
+    }
+    read_fields(book)
+}

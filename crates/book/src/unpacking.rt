@@ -1,0 +1,63 @@
+// Unpacking a book into words: three for each record, cell, ring number and start.
+use crate::answering::Address;
+use crate::answering::BookAnswer;
+use crate::answering::Sought;
+use crate::fields::field_at;
+use crate::reading::read;
+use answers::Refusal;
+ghost use mathlib.Core.Path.{_≡_};
+ghost use Prim.Native.Nat.{_+_, _*_, _≤_};
+ghost use lib.ListN.{length};
+ghost use lib.Seq.{sets};
+ghost use Rattle.answers.specs.Paper.{accepted};
+ghost use Rattle.book.specs.Reading.{readBook};
+ghost use Rattle.book.specs.Packing.{silenceWords, wordsOfSilences, recordWords, areaAtExit};
+ghost use Rattle.book.specs.Calls.{silenceOf, recordsOf, IsUnpacked};
+
+// The words of a record: cell, ring number, start.
+const RECORD_WORDS: usize = 3;
+
+// The words of one record, from place `to` on.
+fn put_record(words: &mut [u32], to: usize, address: Address)
+    requires { ⌜ to + recordWords ≤ length (now words) ⌝ }
+    ensures { λ _. ⌜ now (words .exit) ≡ sets (now (words .entry)) to (silenceWords (silenceOf address)) ⌝ }
+{
+    words[to] = address.cell;
+    words[to + 1] = address.ring_number as u32;
+    words[to + 2] = address.start;
+}
+
+// The words of all records of a book that is accepted and has room: nothing is refused here, so nothing is written
+// that a refusal would have to take back.
+fn put_records(book: &[u8], records: usize, words: &mut [u32])
+    requires { ⌜ (recordsOf (readBook (now book)) ≡ accepted records) × (recordWords * records ≤ length (now words)) ⌝ }
+    ensures { λ _. ⌜ now (words .exit) ≡ areaAtExit wordsOfSilences (readBook (now (book .entry))) (now (words .entry)) ⌝ }
+{
+    let mut at: usize = 0;
+    let mut done: usize = 0;
+    while done < records {
+        let field = field_at(book, at);
+        let Sought::Field { address, next } = field else {
+            // An accepted book has a whole field for each of its records.
+            return;
+        };
+        put_record(words, RECORD_WORDS * done, address);
+        done += 1;
+        at = next;
+    }
+}
+
+// The words of a book's silences and how many records it has, or refusal 5, 6, 7 or 10, in this order.
+pub fn unpack(book: &[u8], words: &mut [u32]) -> BookAnswer
+    ensures { λ r. ⌜ IsUnpacked (now (book .entry)) (now (words .entry)) r (now (words .exit)) ⌝ }
+{
+    let answer = read(book);
+    let BookAnswer::Records(records) = answer else {
+        return answer;
+    };
+    if words.len() < RECORD_WORDS * records {
+        return BookAnswer::Refused(Refusal::OutputRoom);
+    }
+    put_records(book, records, words);
+    BookAnswer::Records(records)
+}
