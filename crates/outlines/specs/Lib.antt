@@ -3,3 +3,4 @@ pub mod Tally
 pub mod Reading
 pub mod Sweep
 pub mod Scan
+pub mod Report

@@ -7,6 +7,7 @@ mod afresh;
 mod counts;
 mod quick;
 mod reading;
+mod reporting;
 mod steps;
 mod sweep;
 mod tally;
@@ -14,3 +15,4 @@ mod windows;
 
 pub use quick::Scanned;
 pub use quick::scan;
+pub use reporting::Reported;
