@@ -42,7 +42,7 @@ returns : tie.Need-returns
 returns c =
     let read = c .before .before .before .before .before in
     swept-left _ _ _ _ _ _ _ (read .before .before .before .before .before .pre) _ (read .before .window .ensures) _ _ _ (read .read-window .ensures) _
-    (c .if1 .taken) refl refl refl
+    (omega arith) (omega arith) refl (omega arith)
 
 verify-requires : tie.Need-verify-requires
 verify-requires c κs = search needs
@@ -68,7 +68,7 @@ returns-2 c =
     let few = verified .before .before in
     let read = few .before .before .before .before .before in
     swept-none _ _ _ _ _ _ _ (read .before .before .before .before .before .pre) _ (read .before .window .ensures) _ _ _ (read .read-window .ensures)
-    (few .if1 .left) _ _ _ (verified .verify .ensures) _ (omega arith) refl refl refl
+    (few .if1 .left) _ _ _ (verified .verify .ensures) _ (omega arith) (omega arith) refl (omega arith)
 
 lowest-rotation-requires : tie.Need-lowest-rotation-requires
 lowest-rotation-requires c κs =
@@ -83,7 +83,7 @@ returns-3 c =
     let few = verified .before .before in
     let read = few .before .before .before .before .before in
     swept-found _ _ _ _ _ _ _ (read .before .before .before .before .before .pre) _ (read .before .window .ensures) _ _ _ (read .read-window .ensures)
-    (few .if1 .left) _ _ _ (verified .verify .ensures) _ _ _ (omega arith) (c .lowest-rotation .ensures) refl refl (c .before .before .before .wide .ensures) refl refl refl
+    (few .if1 .left) _ _ _ (verified .verify .ensures) _ _ _ (omega arith) (c .lowest-rotation .ensures) refl refl (c .before .before .before .wide .ensures) (omega arith) refl (omega arith)
 
 pub sweep-window-spec : {M : Type 1} → statement M
 sweep-window-spec =
