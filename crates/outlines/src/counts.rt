@@ -53,12 +53,12 @@ pub fn lowest_rotation(counts: &[u16; 256], m: usize, least: u16) -> usize
     requires { ⌜ (m ≤ 256) × (length (now counts) ≡ 256) × IsLeast m (now counts) least ⌝ }
     ensures { λ r. ⌜ IsLowestAt m (now (counts .entry)) least r ⌝ }
 {
-    let mut r = 0;
-    while r < m {
-        if counts[r] == least {
-            return r;
+    let mut rotation = 0;
+    while rotation < m {
+        if counts[rotation] == least {
+            return rotation;
         }
-        r += 1;
+        rotation += 1;
     }
-    r
+    rotation
 }

@@ -24,8 +24,8 @@ element-copy-out-if1 c = search needs
 returns : tie.Need-returns Inv-loop μ-loop
 returns c = seeking-lowest-found _ _ _ _ (c .before .before .before .loop .inv) (c .before .before .loop-test .taken) (c .if1 .taken)
 
-add-r : tie.Need-add-r Inv-loop μ-loop
-add-r c = search needs
+add-rotation : tie.Need-add-rotation Inv-loop μ-loop
+add-rotation c = search needs
 
 loop-less : tie.Need-loop-less Inv-loop μ-loop
 loop-less c = search needs
@@ -46,7 +46,7 @@ lowest-rotation-spec =
     mul-if1
     element-copy-out-if1
     returns
-    add-r
+    add-rotation
     loop-less
     loop-again
     returns-2)
