@@ -5,7 +5,7 @@ use Prim.Native.Nat.{ℕ, zero, suc, _+_, _-_, _*_, _≤_, _<_}
 use mathlib.Core.Path.{_≡_, refl, sym, ap, _∙_}
 use mathlib.Core.Bool.{cond}
 use mathlib.Core.List.{List}
-use native.Mathlib.Nat.{add-zero, zero-add, add-suc}
+use native.Mathlib.Nat.{add-zero, add-suc}
 use native.Mathlib.Omega.{arith}
 use lib.Dec.{eqb}
 use lib.ListN.{length}
@@ -44,18 +44,20 @@ module _ (ring line : List ℕ) where
   surveyLooks-below zero h = surveyLooks-first (omega arith) ∙ omega arith
   surveyLooks-below (suc s) h = surveyLooks-step s h ∙ omega (arith, surveyLooks-below s (omega arith))
 
+  -- All looks are those of the places below any from which on none is a start.
+  pub surveyLooks-end : (i : ℕ) → i ≤ length line → length line < i + m → surveyLooks ring line ≡ surveyLooksBelow ring line i
+  surveyLooks-end i in-line past =
+      let all : i + (length line - i) ≡ length line = omega arith in
+      sym (ap (surveyLooksBelow ring line) all) ∙ below-past i (length line - i) past
+
   -- "2·m·n − m·m looks for n ≥ m".
   pub surveyLooks-is : 0 < m → m ≤ length line → surveyLooks ring line ≡ 2 * m * length line - m * m
   surveyLooks-is pos h =
       let s : ℕ = length line - m in
       let n : length line ≡ m + s = omega arith in
-      let all : suc s + (length line - suc s) ≡ length line = omega arith in
-      sym (ap (surveyLooksBelow ring line) all)
-      ∙ below-past (suc s) (length line - suc s) (omega arith)
-      ∙ surveyLooks-below s (omega arith)
-      ∙ omega (arith, ap (λ (x : ℕ). m * x) n)
+      surveyLooks-end (suc s) (omega arith) (omega arith) ∙ surveyLooks-below s (omega arith) ∙ omega (arith, ap (λ (x : ℕ). m * x) n)
 
   -- "else 0".
   pub surveyLooks-short : length line < m → surveyLooks ring line ≡ 0
   unfolding surveyLooksBelow
-  surveyLooks-short h = sym (ap (surveyLooksBelow ring line) (zero-add (length line))) ∙ below-past 0 (length line) (omega arith)
+  surveyLooks-short h = surveyLooks-end 0 (omega arith) (omega arith)

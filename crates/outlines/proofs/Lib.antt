@@ -21,4 +21,12 @@ pub mod SweepCases
 pub mod WordsPut
 pub mod ScanWindows
 pub mod ScanKeeps
+pub mod SearchAnswers
 pub mod ScanAnswers
+pub mod NextCases
+pub mod SurveyLoop
+pub mod SurveyAnswers
+pub mod RowsOfSearching
+pub mod OneSearchAnswer
+pub mod SameFindings
+pub mod SearchLooks

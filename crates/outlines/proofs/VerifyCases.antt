@@ -27,7 +27,7 @@ module _ (ring line : List ℕ) (i : ℕ) where
       (can .fits, can .twice, window-length m line edges i is (can .in-line), omega (arith, can .in-line, can .most-line))
 
   -- A window verified alone is verified in the line.
-  alone-verified : (edges counts : List ℕ) (looks least looked : ℕ) → edges ≡ window m line i → Verified ring edges 0 looks counts least looked
+  pub alone-verified : (edges counts : List ℕ) (looks least looked : ℕ) → edges ≡ window m line i → Verified ring edges 0 looks counts least looked
       → Verified ring line i looks counts least looked
   alone-verified edges counts looks least looked is verified = record {
     tallied = record {
@@ -39,7 +39,7 @@ module _ (ring line : List ℕ) (i : ℕ) where
   }
 
   -- Looks that are equal count the same.
-  looks-same : (counts : List ℕ) (looks looks′ least looked : ℕ) → looks ≡ looks′ → Verified ring line i looks counts least looked
+  pub looks-same : (counts : List ℕ) (looks looks′ least looked : ℕ) → looks ≡ looks′ → Verified ring line i looks counts least looked
       → Verified ring line i looks′ counts least looked
   looks-same counts looks looks′ least looked same verified = record {
     tallied = verified .tallied;

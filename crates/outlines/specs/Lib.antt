@@ -4,3 +4,5 @@ pub mod Reading
 pub mod Sweep
 pub mod Scan
 pub mod Report
+pub mod Survey
+pub mod SearchRows

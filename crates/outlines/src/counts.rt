@@ -19,6 +19,13 @@ pub fn differing(a: u8, b: u8) -> u16
     if a == b { 0 } else { 1 }
 }
 
+// A count as a distance: it is compared with the allowance, and goes out in a finding.
+pub fn wide(count: u16) -> usize
+    ensures { λ r. ⌜ r ≡ count ⌝ }
+{
+    count as usize
+}
+
 // Every count starts at 0.
 pub fn clear(counts: &mut [u16; 256], m: usize)
     requires { ⌜ (m ≤ 256) × (length (now counts) ≡ 256) ⌝ }

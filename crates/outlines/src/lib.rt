@@ -1,10 +1,12 @@
 // Outlines stored twice: a ring's rotated copies in a line of edges, with at most k differing edges.
 //
 // `scan` is the quick scan of document 01: rules 1 to 5, each look counted where the edge is read or compared. What it finds,
-// what it refuses and what it writes stand in specs/Scan.antt. No public function has a `requires`: each takes every input.
+// what it refuses and what it writes stand in specs/Scan.antt. `survey` is the plain survey, which verifies every start and gives
+// the same findings; it stands in specs/Survey.antt. No public function has a `requires`: each takes every input.
 mod admitting;
 mod afresh;
 mod counts;
+mod plain;
 mod quick;
 mod reading;
 mod reporting;
@@ -13,6 +15,7 @@ mod sweep;
 mod tally;
 mod windows;
 
+pub use plain::survey;
 pub use quick::Scanned;
 pub use quick::scan;
 pub use reporting::Reported;

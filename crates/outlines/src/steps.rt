@@ -23,9 +23,9 @@ fn change(counts: &mut [u16; 256], ring: &[u8], leaving: u8, entering: u8) -> Le
     while r < ring.len() {
         let edge = ring[r];
         let lost = differing(leaving, edge);
-        looks += 1; // one look
+        looks += 1; // one look, at the leaving edge
         let won = differing(entering, edge);
-        looks += 1; // one look
+        looks += 1; // one look, at the entering edge
         let count = counts[r] - lost + won;
         counts[r] = count;
         if count < least {

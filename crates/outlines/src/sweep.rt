@@ -1,6 +1,7 @@
 // The sweep steps one window at a time. Its state is small and goes by value; the counts and the ring's vectors are lent
 // beside it.
 use crate::counts::lowest_rotation;
+use crate::counts::wide;
 use crate::reading::read_window;
 use crate::tally::LastVerified;
 use crate::tally::verify;
@@ -8,7 +9,6 @@ use crate::windows::window;
 use answers::Finding;
 use answers::LinePlace;
 use answers::RingPlace;
-ghost use mathlib.Core.Path.{_≡_};
 ghost use Rattle.outlines.specs.Sweep.{CanSweep, IsSwept};
 
 // Where a sweep stands: the start of the window to be read next, the last verified start, the looks so far.
@@ -23,12 +23,6 @@ pub enum Swept {
     Left(Sweep),
     NoFinding(Sweep),
     Found(Sweep, Finding),
-}
-
-fn wide(count: u16) -> usize
-    ensures { λ r. ⌜ r ≡ count ⌝ }
-{
-    count as usize
 }
 
 // One window: rules 1 to 3 read it, rule 4 verifies it if it is a candidate. The next one starts past the edge where

@@ -1,0 +1,40 @@
+-- "It gives the same findings": of one input, whatever survey answers and whatever scan answers, they give the same refusal or the same found, and leave
+-- the same words. Both go by the definitions of specs/Scan.antt; they differ in their looks alone.
+-- Assumes nothing.
+use Prim.Native.Nat.{ℕ}
+use mathlib.Core.Path.{_≡_, refl, sym, ap, _∙_}
+use mathlib.Core.List.{List}
+use mathlib.Core.Option.{Option, none, some}
+use lib.ListN.{length}
+use Rattle.meaning.specs.Findings.{findings}
+use Rattle.meaning.specs.Looks.{quickLooks, surveyLooks}
+use Rattle.answers.specs.declared.refusals.Refusal.{Refusal}
+use Rattle.answers.specs.Paper.{Paper, answerPaper}
+use Rattle.outlines.specs.declared.quick.Scanned.{Scanned}
+use Rattle.outlines.specs.Admitting.{refusalOf}
+use Rattle.outlines.specs.Scan.{Counts, noCounts, answerBy, searched, paperOf, searchPaper, IsScanned}
+use Rattle.outlines.specs.Survey.{IsSurveyed}
+
+-- Two papers that differ in their looks at most.
+pub record SameButLooks (a b : Paper Counts) : Type 0 where
+  pub number-is : a .number ≡ b .number
+  pub place-is : a .place ≡ b .place
+  pub found-is : a .counts .found ≡ b .counts .found
+
+row-same : (o : Option Refusal) (found looks looks′ : ℕ)
+    → SameButLooks (answerPaper noCounts (answerBy o (record { found = found; looks = looks }))) (answerPaper noCounts (answerBy o (record { found = found; looks = looks′ })))
+row-same none found looks looks′ = record { number-is = refl; place-is = refl; found-is = refl }
+row-same (some refusal) found looks looks′ = record { number-is = refl; place-is = refl; found-is = refl }
+
+-- A search's paper depends on its looks in that count alone.
+search-same : (ring line : List ℕ) (k room looks looks′ : ℕ) → SameButLooks (searchPaper ring line k room looks) (searchPaper ring line k room looks′)
+unfolding searched
+search-same ring line k room looks looks′ = row-same (refusalOf (length ring) k (length line) room) (length (findings ring line k)) looks looks′
+
+-- Survey and scan give the same number, place and found, and the same words, on every input.
+pub survey-scan-same : (ring line : List ℕ) (k : ℕ) (words : List ℕ) (surveyed scanned : Scanned) (out out′ : List ℕ)
+    → IsSurveyed ring line k words surveyed out → IsScanned ring line k words scanned out′ → SameButLooks (paperOf surveyed) (paperOf scanned) × (out ≡ out′)
+survey-scan-same ring line k words surveyed scanned out out′ p p′ = (
+  rw (p .paper, p′ .paper) (search-same ring line k (length words) (surveyLooks ring line) (quickLooks ring line k)),
+  p .written ∙ sym (p′ .written),
+)
