@@ -8,6 +8,7 @@ pub mod OrderCases
 pub mod NumberLoop
 pub mod FieldCases
 pub mod SeekLoop
+pub mod SoughtCases
 pub mod ReadLoop
 pub mod BookLengths
 pub mod AcceptedFields

@@ -1,8 +1,9 @@
--- Any two answers of a call that meet its contract are equal, and so are the lent areas at exit: a law for each of the four calls. The paper determines
+-- Any two answers of a call that meet its contract are equal, and so are the lent areas at exit: a law for each of the calls. The paper determines
 -- the answer (`answer-unique` of the answers) and the answer its case; what a case of `Sought` stands for is read back by `soughtBack`.
 -- Assumes nothing.
 use Prim.Native.Nat.{ℕ}
 use mathlib.Core.Path.{_≡_, refl, sym, ap, _∙_}
+use mathlib.Core.Bool.{Bool}
 use mathlib.Core.List.{List}
 use Rattle.answers.specs.Paper.{Answer, accepted, refused}
 use Rattle.answers.proofs.OneAnswer.{answer-unique}
@@ -12,7 +13,7 @@ use Rattle.book.specs.declared.answering.Address.{Address}
 use Rattle.book.specs.declared.answering.Sought.{Sought}
 use Rattle.book.specs.declared.answering.Sought.the-variants.{Field, Nothing}
 use Rattle.book.specs.Reading.{FieldAt, whole, faulty}
-use Rattle.book.specs.Calls.{answerOf, paperOf, soughtOf, IsPacked, IsUnpacked, IsRead, IsSought}
+use Rattle.book.specs.Calls.{answerOf, paperOf, soughtOf, IsPacked, IsUnpacked, IsRead, IsSought, IsSoughtOn, IsAskedFor}
 
 -- the case that an answer comes from
 abbrev answerBack : Answer ℕ → BookAnswer
@@ -57,3 +58,12 @@ read-unique book r r′ p p′ = paper-unique r r′ (p .paper ∙ sym (p′ .pa
 -- Any two answers of `seek` are equal.
 pub seek-unique : (book : List ℕ) (from : ℕ) (address : Address) (r r′ : Sought) → IsSought book from address r → IsSought book from address r′ → r ≡ r′
 seek-unique book from address r r′ p p′ = sought-unique r r′ (p .is ∙ sym (p′ .is))
+
+-- Any two answers of `seek_on` are equal.
+pub seek-on-unique : (book : List ℕ) (held : Sought) (address : Address) (r r′ : Sought) → IsSoughtOn book held address r → IsSoughtOn book held address r′
+    → r ≡ r′
+seek-on-unique book held address r r′ p p′ = sought-unique r r′ (p .is ∙ sym (p′ .is))
+
+-- Any two answers of `is_for` are equal.
+pub is-for-unique : (sought : Sought) (address : Address) (r r′ : Bool) → IsAskedFor sought address r → IsAskedFor sought address r′ → r ≡ r′
+is-for-unique sought address r r′ p p′ = p .is ∙ sym (p′ .is)

@@ -87,8 +87,8 @@ module _ (book : List ℕ) where
   seeking-start a = record { held-is = refl }
 
   module _ (a b : Silence) (not-below : Below b a → ⊥) where
-    -- the next address: the held field is asked for it
-    seeking-turn : (held : FieldAt) → Seeking book a held → Seeking book b (seekField b held (seekFrom book b))
+    -- The next address: the held field is asked for it.
+    pub seeking-turn : (held : FieldAt) → Seeking book a held → Seeking book b (seekField b held (seekFrom book b))
     seeking-turn held was = record { held-is = ap (λ (f : FieldAt). seekField b f (seekFrom book b)) (was .held-is) ∙ seek-again book a b not-below 0 }
 
     -- With nothing left there is nothing for it.

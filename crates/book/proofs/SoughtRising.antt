@@ -13,9 +13,9 @@ use Rattle.book.specs.declared.answering.Sought.the-variants.{Field, Not
 use Rattle.book.specs.Silences.{Silence, isBelow, Below, names}
 use Rattle.book.specs.Reading.{readBook}
 use Rattle.book.specs.Seeking.{isFor}
-use Rattle.book.specs.Calls.{silenceOf, soughtOf, IsSought}
+use Rattle.book.specs.Calls.{silenceOf, soughtOf, IsSought, IsSoughtOn}
 use Rattle.book.proofs.StrictOrder.{start-not-below}
-use Rattle.book.proofs.SeekRising.{Seeking, seeking-turn-none, seeking-turn-kept, seeking-turn-on, seeking-names}
+use Rattle.book.proofs.SeekRising.{Seeking, seeking-turn, seeking-turn-none, seeking-turn-kept, seeking-turn-on, seeking-names}
 
 -- The next address asked is for the same cell and ring number, and its start is not lower.
 pub record Rises (asked address : Address) : Type 0 where
@@ -33,6 +33,12 @@ module _ (book : List ℕ) where
   sought-start address r meets = record { held-is = meets .is }
 
   module _ (asked address : Address) (rises : Rises asked address) where
+    -- What `seek_on` answers is held for the next address.
+    pub sought-turn : (held r : Sought) → IsSoughtOn book held address r → Seeking book (silenceOf asked) (soughtOf held) → Seeking book (silenceOf address) (soughtOf r)
+    sought-turn held r meets was =
+        subst (Seeking book (silenceOf address)) (sym (meets .is))
+        (seeking-turn book (silenceOf asked) (silenceOf address) (rises-not-below asked address rises) (soughtOf held) was)
+
     -- With nothing left there is nothing for the next address.
     pub sought-turn-none : Seeking book (silenceOf asked) (soughtOf Nothing) → Seeking book (silenceOf address) (soughtOf Nothing)
     sought-turn-none held = seeking-turn-none book (silenceOf asked) (silenceOf address) (rises-not-below asked address rises) held

@@ -1,7 +1,8 @@
--- What the four calls on a book promise, each in one record: the answer in document 01's number, place and counts (`paper`), and the lent area at
+-- What the calls on a book promise, each in one record: the answer in document 01's number, place and counts (`paper`), and the lent area at
 -- exit (`written`), on every input, accepted or refused. "Packer and unpacker return the number of records"; so does reading.
 use Prim.Native.Nat.{ℕ}
 use mathlib.Core.Path.{_≡_}
+use mathlib.Core.Bool.{Bool}
 use mathlib.Core.List.{List}
 use mathlib.Core.Option.{Option, none, some}
 use lib.ListN.{length}
@@ -17,7 +18,7 @@ use Rattle.book.specs.Silences.{Silence, silence}
 use Rattle.book.specs.Layout.{layout}
 use Rattle.book.specs.Reading.{FieldAt, whole, faulty, readBook}
 use Rattle.book.specs.Packing.{wordsOfSilences, packed, unpacked, areaAtExit}
-use Rattle.book.specs.Seeking.{seekFrom}
+use Rattle.book.specs.Seeking.{seekField, seekFrom, isFor}
 
 -- The answer that an enum's case stands for.
 abbrev pub answerOf : BookAnswer → Answer ℕ
@@ -68,3 +69,12 @@ soughtOf Nothing = faulty
 -- What `seek` promises: of the book, the byte offset to begin at, the address (cell, ring number, start) and the answer.
 pub record IsSought (book : List ℕ) (from : ℕ) (address : Address) (r : Sought) : Type 0 where
   pub is : soughtOf r ≡ seekFrom book (silenceOf address) from
+
+-- What `seek_on` promises: of the book, the field that is held, the next address and the answer. The held field is asked for the address as any field
+-- is: kept if it is not below it, else the address is sought from just past it; where nothing is held there is nothing.
+pub record IsSoughtOn (book : List ℕ) (held : Sought) (address : Address) (r : Sought) : Type 0 where
+  pub is : soughtOf r ≡ seekField (silenceOf address) (soughtOf held) (seekFrom book (silenceOf address))
+
+-- What `is_for` promises: whether what was sought is a field, and is for the address.
+pub record IsAskedFor (sought : Sought) (address : Address) (r : Bool) : Type 0 where
+  pub is : r ≡ isFor (silenceOf address) (soughtOf sought)

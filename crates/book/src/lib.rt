@@ -15,5 +15,7 @@ pub use answering::BookAnswer;
 pub use answering::Sought;
 pub use packing::pack;
 pub use reading::read;
+pub use seeking::is_for;
 pub use seeking::seek;
+pub use seeking::seek_on;
 pub use unpacking::unpack;

@@ -1,7 +1,7 @@
 // The order of silences.
 use crate::answering::Address;
 ghost use mathlib.Core.Path.{_≡_};
-ghost use Rattle.book.specs.Silences.{isBelow, isAbove};
+ghost use Rattle.book.specs.Silences.{isBelow, isSame, isAbove};
 ghost use Rattle.book.specs.Calls.{silenceOf, lastOf};
 
 // Whether one address is below another: "by cell, then ring number, then start".
@@ -21,6 +21,19 @@ pub fn is_below(a: Address, b: Address) -> bool
         return false;
     }
     a.start < b.start
+}
+
+// Whether two addresses are the same. "Zero is an ordinary cell, ring number and start": all three are compared.
+pub fn is_same(a: Address, b: Address) -> bool
+    ensures { λ r. ⌜ r ≡ isSame (silenceOf a) (silenceOf b) ⌝ }
+{
+    if a.cell != b.cell {
+        return false;
+    }
+    if a.ring_number != b.ring_number {
+        return false;
+    }
+    a.start == b.start
 }
 
 // The record before another, which has to be below it. The first record has none.

@@ -3,7 +3,8 @@ use crate::answering::Address;
 use crate::answering::Sought;
 use crate::fields::field_at;
 use crate::order::is_below;
-ghost use Rattle.book.specs.Calls.{IsSought};
+use crate::order::is_same;
+ghost use Rattle.book.specs.Calls.{IsSought, IsSoughtOn, IsAskedFor};
 
 // The first field at or after byte offset `from` that is not below the address. Whoever asks with rising addresses goes
 // on from the byte offset of the last answer, and so reads no field twice.
@@ -27,5 +28,37 @@ pub fn seek(book: &[u8], from: usize, address: Address) -> Sought
                 at = next;
             }
         }
+    }
+}
+
+// The field for the next address of one who asks with rising addresses and holds the last answer: kept while it is not
+// below the address, and sought on from just past it where it is.
+pub fn seek_on(book: &[u8], held: Sought, address: Address) -> Sought
+    ensures { λ r. ⌜ IsSoughtOn (now (book .entry)) held address r ⌝ }
+{
+    match held {
+        Sought::Nothing => Sought::Nothing,
+        Sought::Field {
+            address: found,
+            next,
+        } => {
+            if is_below(found, address) {
+                return seek(book, next, address);
+            }
+            held
+        }
+    }
+}
+
+// Whether what was sought is for the address.
+pub fn is_for(sought: Sought, address: Address) -> bool
+    ensures { λ r. ⌜ IsAskedFor sought address r ⌝ }
+{
+    match sought {
+        Sought::Nothing => false,
+        Sought::Field {
+            address: found,
+            next: _,
+        } => is_same(found, address),
     }
 }

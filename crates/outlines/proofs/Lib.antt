@@ -1,5 +1,6 @@
 -- Laws behind the calls, one module for each idea. The functions' proofs cite them.
 pub mod AdmitCases
+pub mod AdmitRows
 pub mod StoredBelow
 pub mod LeastSoFar
 pub mod LeastCount
@@ -30,3 +31,18 @@ pub mod RowsOfSearching
 pub mod OneSearchAnswer
 pub mod SameFindings
 pub mod SearchLooks
+pub mod ScanAll
+pub mod ShownOneMore
+pub mod ShownExactly
+pub mod ShownAndHidden
+pub mod AskCases
+pub mod ReportKeeps
+pub mod ReportAnswers
+pub mod ReportOneAnswer
+pub mod SilencesAlike
+pub mod OneSilenceMore
+pub mod EmptyBookIsScan
+pub mod ReportRefusals
+pub mod ReportRows
+pub mod ReportGives
+pub mod ShownRising

@@ -1,6 +1,5 @@
--- The scan's loop over windows: what it keeps, and its turns. What is found so far stands in the words, and the counts hold the tally of the last
--- verified start; that what is found and looked at is right is `ScanLoop` of crates/meaning, whose turn is `scan-turn` here: a window left or
--- verified.
+-- The loop over windows, of a scan and of a report: what it keeps, and its turns. Of what is found so far a part stands in the words; that what is found
+-- and looked at is right is `ScanLoop` of crates/meaning, whose turn is `scan-turn` here: a window left or verified.
 -- Assumes nothing.
 use Prim.Native.Nat.{ℕ, zero, suc, _+_, _-_, _*_, _^_, _≤_, _<_}
 use mathlib.Core.Path.{_≡_, refl, sym, ap, _∙_, subst}
@@ -22,7 +21,7 @@ use Rattle.meaning.proofs.Words.{findings-length-le}
 use Rattle.meaning.proofs.ScanLoop.{ScanLoop, scan-start, scan-looks-le, scan-found-le, scan-end, scan-verified, scan-left}
 use Rattle.outlines.specs.Admitting.{roomAsked}
 use Rattle.outlines.specs.Sweep.{sweptStart, sweptLast, sweptLooks, sweptFound}
-use Rattle.outlines.specs.Scan.{wordsPut, LineScanned}
+use Rattle.outlines.specs.Scan.{wordsPut}
 use Rattle.outlines.proofs.WordsPut.{put-more, put-none, put-length}
 
 -- One window: left, or verified.
@@ -38,12 +37,13 @@ scan-turn ring line k i last found looks h in-line =
     by-cases true few = scan-verified ring line k i last found looks h in-line (leb-true _ _ few)
     by-cases false many = rw (append-nil, add-zero) (scan-left ring line k i last found looks h in-line (leb-false _ _ many))
 
--- What the loop keeps: the sweep's start, last verified start and looks, how many are found, and the words.
-pub record ScanWindows (ring line : List ℕ) (k : ℕ) (area : List ℕ) (i : ℕ) (last : Option ℕ) (looks found : ℕ) (words : List ℕ) : Type 0 where
-  pub so-far : List Finding
+-- What the loop keeps: what is found so far, of that what is put into the words, the sweep's start, last verified start and looks, how many are put, and
+-- the words. A scan puts all that it finds, a report the shown ones.
+pub record ScanWindows (ring line : List ℕ) (k : ℕ) (area : List ℕ) (so-far put : List Finding) (i : ℕ) (last : Option ℕ) (looks count : ℕ) (words : List ℕ) : Type 0 where
   pub scanning : ScanLoop ring line k i last so-far looks
-  pub found-is : found ≡ length so-far
-  pub words-are : words ≡ written (wordsOf so-far) area
+  pub put-le : length put ≤ length so-far
+  pub count-is : count ≡ length put
+  pub words-are : words ≡ written (wordsOf put) area
 
 module _ (ring line : List ℕ) (k : ℕ) (area : List ℕ) (pos : 0 < length ring) where
   abbrev m : ℕ
@@ -53,77 +53,74 @@ module _ (ring line : List ℕ) (k : ℕ) (area : List ℕ) (pos : 0 < length ri
   n = length line
 
   -- Before the first window nothing is found, and the words are as they were lent.
-  pub scanning-start : ScanWindows ring line k area 0 none 0 0 area
-  scanning-start = record { so-far = []; scanning = scan-start ring line k pos; found-is = refl; words-are = put-none area }
+  pub scanning-start : ScanWindows ring line k area [] [] 0 none 0 0 area
+  scanning-start = record { scanning = scan-start ring line k pos; put-le = omega arith; count-is = refl; words-are = put-none area }
 
-  -- Past the last window all is found.
-  pub scanning-end : (i : ℕ) (last : Option ℕ) (looks found : ℕ) (words : List ℕ) → ScanWindows ring line k area i last looks found words
-      → n < i + m → LineScanned ring line k area found looks words
-  scanning-end i last looks found words h past =
-      let e = scan-end ring line k i last (h .so-far) looks (h .scanning) past in
-      record {
-        found-is = h .found-is ∙ ap (λ (l : List Finding). length l) (e .0);
-        looks-are = e .1;
-        written = h .words-are ∙ ap (λ (l : List Finding). written (wordsOf l) area) (e .0);
-      }
+  module _ (so-far put : List Finding) (i : ℕ) (last : Option ℕ) (looks count : ℕ) (words : List ℕ)
+      (h : ScanWindows ring line k area so-far put i last looks count words) where
+    -- Past the last window all is found, and all is looked at.
+    pub scanning-end : n < i + m → (so-far ≡ findings ring line k) × (looks ≡ quickLooks ring line k)
+    scanning-end past = scan-end ring line k i last so-far looks (h .scanning) past
 
-  module _ (i : ℕ) (last : Option ℕ) (looks found : ℕ) (words : List ℕ) (h : ScanWindows ring line k area i last looks found words) (in-line : i + m ≤ n) where
-    turned : ScanLoop ring line k (sweptStart ring line k i) (sweptLast ring line k i last) (h .so-far ++ sweptFound ring line k i) (sweptLooks ring line k i last looks)
-    turned = scan-turn ring line k i last (h .so-far) looks (h .scanning) in-line
+    module _ (in-line : i + m ≤ n) where
+      turned : ScanLoop ring line k (sweptStart ring line k i) (sweptLast ring line k i last) (so-far ++ sweptFound ring line k i) (sweptLooks ring line k i last looks)
+      turned = scan-turn ring line k i last so-far looks (h .scanning) in-line
 
-    -- What the window costs does not go beyond all looks.
-    pub scanning-looks-le : sweptLooks ring line k i last looks ≤ quickLooks ring line k
-    scanning-looks-le = scan-looks-le ring line k _ _ _ _ turned
+      -- What the window costs does not go beyond all looks.
+      pub scanning-looks-le : sweptLooks ring line k i last looks ≤ quickLooks ring line k
+      scanning-looks-le = scan-looks-le ring line k _ _ _ _ turned
 
-    -- There is room for the words of one finding more.
-    pub scanning-room : (f : Finding) → sweptFound ring line k i ≡ f ∷ [] → roomAsked m n ≤ length area → wordsEach * found + wordsEach ≤ length area
-    scanning-room f e room =
-        omega (
-          arith,
-          h .found-is,
-          scan-found-le ring line k _ _ _ _ turned,
-          length-append (h .so-far) (sweptFound ring line k i),
-          ap (λ (l : List Finding). length l) e,
-          findings-length-le ring line k pos (omega arith),
-        )
+      -- There is room for the words of one finding more.
+      pub scanning-room : (f : Finding) → sweptFound ring line k i ≡ f ∷ [] → roomAsked m n ≤ length area → wordsEach * count + wordsEach ≤ length area
+      scanning-room f e room =
+          omega (
+            arith,
+            h .count-is,
+            h .put-le,
+            scan-found-le ring line k _ _ _ _ turned,
+            length-append so-far (sweptFound ring line k i),
+            ap (λ (l : List Finding). length l) e,
+            findings-length-le ring line k pos (omega arith),
+          )
 
-    -- Fewer findings than line places.
-    pub scanning-found-le : found ≤ n
-    scanning-found-le =
-        omega (arith, h .found-is, scan-found-le ring line k _ _ _ _ (h .scanning), findings-length-le ring line k pos (omega arith))
+      -- Fewer findings than line places.
+      pub scanning-found-le : length so-far ≤ n
+      scanning-found-le = omega (arith, scan-found-le ring line k _ _ _ _ (h .scanning), findings-length-le ring line k pos (omega arith))
 
-    -- The words keep their length.
-    pub scanning-length : roomAsked m n ≤ length area → length words ≡ length area
-    scanning-length room =
-        ap (λ (w : List ℕ). length w) (h .words-are)
-        ∙ put-length (h .so-far) found area (h .found-is)
-        (omega (arith, h .found-is, scan-found-le ring line k _ _ _ _ (h .scanning), findings-length-le ring line k pos (omega arith)))
+      -- The words keep their length.
+      pub scanning-length : roomAsked m n ≤ length area → length words ≡ length area
+      scanning-length room =
+          ap (λ (w : List ℕ). length w) (h .words-are)
+          ∙ put-length put count area (h .count-is)
+          (omega (arith, h .count-is, h .put-le, scan-found-le ring line k _ _ _ _ (h .scanning), findings-length-le ring line k pos (omega arith)))
 
-    module _ (i′ : ℕ) (last′ : Option ℕ) (looks′ : ℕ) (start-is : i′ ≡ sweptStart ring line k i) (last-is : last′ ≡ sweptLast ring line k i last)
-        (looks-are : looks′ ≡ sweptLooks ring line k i last looks) where
-      turned′ : {fs : List Finding} → sweptFound ring line k i ≡ fs → ScanLoop ring line k i′ last′ (h .so-far ++ fs) looks′
-      turned′ e = rw (start-is, last-is, looks-are, ← e) turned
+      module _ (i′ : ℕ) (last′ : Option ℕ) (looks′ : ℕ) (start-is : i′ ≡ sweptStart ring line k i) (last-is : last′ ≡ sweptLast ring line k i last)
+          (looks-are : looks′ ≡ sweptLooks ring line k i last looks) where
+        turned′ : {fs : List Finding} → sweptFound ring line k i ≡ fs → ScanLoop ring line k i′ last′ (so-far ++ fs) looks′
+        turned′ e = rw (start-is, last-is, looks-are, ← e) turned
 
-      -- A window that reports nothing.
-      pub scanning-none : sweptFound ring line k i ≡ [] → ScanWindows ring line k area i′ last′ looks′ found words
-      scanning-none e = record {
-        so-far = h .so-far;
-        scanning = rw append-nil at (turned′ e);
-        found-is = h .found-is;
-        words-are = h .words-are;
-      }
+        -- A window that reports nothing.
+        pub scanning-none : sweptFound ring line k i ≡ [] → ScanWindows ring line k area so-far put i′ last′ looks′ count words
+        scanning-none e = record { scanning = rw append-nil at (turned′ e); put-le = h .put-le; count-is = h .count-is; words-are = h .words-are }
 
-      -- A window that reports a finding, whose words are put behind the others.
-      pub scanning-found : (f : Finding) → sweptFound ring line k i ≡ f ∷ [] → roomAsked m n ≤ length area
-          → ScanWindows ring line k area i′ last′ looks′ (found + 1) (wordsPut found f words)
-      scanning-found f e room = record {
-        so-far = h .so-far ++ f ∷ [];
-        scanning = turned′ e;
-        found-is = omega (arith, h .found-is, length-append (h .so-far) (f ∷ []));
-        words-are =
-            ap (wordsPut found f) (h .words-are)
-            ∙ put-more (h .so-far) f found area (h .found-is) (scanning-room f e room);
-      }
+        module _ (f : Finding) (e : sweptFound ring line k i ≡ f ∷ []) where
+          -- A window that reports a finding, whose words are put behind the others.
+          pub scanning-put : roomAsked m n ≤ length area → ScanWindows ring line k area (so-far ++ f ∷ []) (put ++ f ∷ []) i′ last′ looks′ (count + 1) (wordsPut count f words)
+          scanning-put room = record {
+            scanning = turned′ e;
+            put-le = omega (arith, h .put-le, length-append so-far (f ∷ []), length-append put (f ∷ []));
+            count-is = omega (arith, h .count-is, length-append put (f ∷ []));
+            words-are = ap (wordsPut count f) (h .words-are) ∙ put-more put f count area (h .count-is) (scanning-room f e room);
+          }
+
+          -- A window that reports a finding, whose words are not put.
+          pub scanning-passed : ScanWindows ring line k area (so-far ++ f ∷ []) put i′ last′ looks′ count words
+          scanning-passed = record {
+            scanning = turned′ e;
+            put-le = omega (arith, h .put-le, length-append so-far (f ∷ []));
+            count-is = h .count-is;
+            words-are = h .words-are;
+          }
 
 -- What a window reports starts where the window does, has a rotation of the ring, and a distance of at most k.
 pub swept-finding : (ring line : List ℕ) (k i : ℕ) (f : Finding) → 0 < length ring → sweptFound ring line k i ≡ f ∷ []

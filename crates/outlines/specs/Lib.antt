@@ -6,3 +6,5 @@ pub mod Scan
 pub mod Report
 pub mod Survey
 pub mod SearchRows
+pub mod Asking
+pub mod ReportSamples

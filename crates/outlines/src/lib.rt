@@ -19,3 +19,4 @@ pub use plain::survey;
 pub use quick::Scanned;
 pub use quick::scan;
 pub use reporting::Reported;
+pub use reporting::report;

@@ -1,5 +1,29 @@
 // The report: the quick scan, and of its findings only those that the silence book does not name.
+use crate::admitting::Verdict;
+use crate::admitting::admit;
+use crate::afresh::double;
+use crate::quick::put_finding;
+use crate::sweep::Sweep;
+use crate::sweep::Swept;
+use crate::sweep::sweep_window;
+use crate::tally::LastVerified;
+use answers::Finding;
 use answers::Refusal;
+use book::Address;
+use book::BookAnswer;
+use book::Sought;
+use book::is_for;
+use book::read;
+use book::seek;
+use book::seek_on;
+use vectors::occurrences;
+ghost use mathlib.Core.Path.{_≡_};
+ghost use Prim.Native.Nat.{_<_, _^_};
+ghost use Rattle.book.specs.Silences.{silence};
+ghost use Rattle.book.specs.Calls.{silenceOf};
+ghost use Rattle.outlines.specs.Sweep.{findingOf};
+ghost use Rattle.outlines.specs.Report.{IsReported};
+ghost use Rattle.outlines.specs.Asking.{CanAsk, IsAsked, CanReport, CanReportLine, LineReported};
 
 // What a report answers: "found (hidden ones included), hidden, looks", or a refusal.
 pub enum Reported {
@@ -9,4 +33,175 @@ pub enum Reported {
         looks: usize,
     },
     Refused(Refusal),
+}
+
+// Found, hidden and looks of an accepted call.
+pub struct ReportCounted {
+    pub found: usize,
+    pub hidden: usize,
+    pub looks: usize,
+}
+
+// What the book was asked so far: how many findings are shown and how many hidden, and the field that is held for the
+// last start asked. Starts rise, so no field of the book is read twice.
+pub struct Asked {
+    pub shown: usize,
+    pub hidden: usize,
+    pub held: Sought,
+}
+
+// The address that the book is asked for a start.
+fn address_of(cell: u32, ring_number: u16, start: usize) -> Address
+    requires { ⌜ start < 2 ^ 32 ⌝ }
+    ensures { λ r. ⌜ silenceOf r ≡ silence cell «ring_number» start ⌝ }
+{
+    Address {
+        cell,
+        ring_number,
+        start: start as u32,
+    }
+}
+
+// One finding: the book is asked before anything is written. A hidden one is counted and leaves no trace; a shown one
+// goes behind the shown ones before it.
+fn ask(
+    cell: u32,
+    ring_number: u16,
+    book: &[u8],
+    asked: Asked,
+    finding: Finding,
+    words: &mut [u32],
+) -> Asked
+    requires { ⌜ CanAsk asked (findingOf finding) (now words) ⌝ }
+    ensures { λ r. ⌜ IsAsked cell «ring_number» (now (book .entry)) asked (findingOf finding) (now (words .entry)) r (now (words .exit)) ⌝ }
+{
+    let start = finding.start;
+    let address = address_of(cell, ring_number, start.0);
+    let before = asked.held;
+    let held = seek_on(book, before, address);
+    if is_for(held, address) {
+        let hidden = asked.hidden + 1;
+        return Asked {
+            shown: asked.shown,
+            hidden,
+            held,
+        };
+    }
+    put_finding(words, asked.shown, finding);
+    let shown = asked.shown + 1;
+    Asked {
+        shown,
+        hidden: asked.hidden,
+        held,
+    }
+}
+
+// Window after window, while one fits in the line. The book is first asked for start 0, which no start is below.
+fn report_windows(
+    cell: u32,
+    ring_number: u16,
+    ring: &[u8],
+    doubled: &[u8],
+    table: &[u64; 1024],
+    line: &[u8],
+    k: usize,
+    book: &[u8],
+    counts: &mut [u16; 256],
+    words: &mut [u32],
+) -> ReportCounted
+    requires { ⌜ CanReport (now ring) (now doubled) (now table) (now line) k (now book) (now counts) (now words) ⌝ }
+    ensures { λ z. ⌜ LineReported cell «ring_number» (now (ring .entry)) (now (line .entry)) k (now (book .entry)) (now (words .entry)) (z .found) (z .hidden) (z .looks) (now (words .exit)) ⌝ }
+{
+    let m = ring.len();
+    let mut at = Sweep {
+        start: 0,
+        last: LastVerified::Nothing,
+        looks: 0,
+    };
+    let held = seek(book, 0, address_of(cell, ring_number, 0));
+    let mut asked = Asked {
+        shown: 0,
+        hidden: 0,
+        held,
+    };
+    while at.start + m <= line.len() {
+        match sweep_window(at, ring, doubled, table, line, k, counts) {
+            Swept::Left(next) => {
+                at = next;
+            }
+            Swept::NoFinding(next) => {
+                at = next;
+            }
+            Swept::Found(next, finding) => {
+                asked = ask(cell, ring_number, book, asked, finding, words);
+                at = next;
+            }
+        }
+    }
+    let found = asked.shown + asked.hidden;
+    ReportCounted {
+        found,
+        hidden: asked.hidden,
+        looks: at.looks,
+    }
+}
+
+// The ring's occurrence vectors, its double and the counts are made once for a call, as for a scan.
+fn report_line(
+    cell: u32,
+    ring_number: u16,
+    ring: &[u8],
+    line: &[u8],
+    k: usize,
+    book: &[u8],
+    words: &mut [u32],
+) -> ReportCounted
+    requires { ⌜ CanReportLine (now ring) (now line) k (now book) (now words) ⌝ }
+    ensures { λ z. ⌜ LineReported cell «ring_number» (now (ring .entry)) (now (line .entry)) k (now (book .entry)) (now (words .entry)) (z .found) (z .hidden) (z .looks) (now (words .exit)) ⌝ }
+{
+    let mut table = [0u64; 1024];
+    occurrences(ring, &mut table);
+    let mut doubled = [0u8; 512];
+    double(ring, &mut doubled);
+    let mut counts = [0u16; 256];
+    report_windows(
+        cell,
+        ring_number,
+        ring,
+        &doubled,
+        &table,
+        line,
+        k,
+        book,
+        &mut counts,
+        words,
+    )
+}
+
+// "report 1 to 7": the book is read, and refused, on every line, also on one that has no start.
+pub fn report(
+    cell: u32,
+    ring_number: u16,
+    ring: &[u8],
+    line: &[u8],
+    k: usize,
+    book: &[u8],
+    words: &mut [u32],
+) -> Reported
+    ensures { λ r. ⌜ IsReported cell «ring_number» (now (ring .entry)) (now (line .entry)) k (now (book .entry)) (now (words .entry)) r (now (words .exit)) ⌝ }
+{
+    match admit(ring.len(), k, line.len(), words.len()) {
+        Verdict::Refused(refusal) => Reported::Refused(refusal),
+        Verdict::Accepted => match read(book) {
+            BookAnswer::Refused(refusal) => Reported::Refused(refusal),
+            BookAnswer::Records(_) => {
+                let counted = report_line(cell, ring_number, ring, line, k, book, words);
+                Reported::Counts {
+                    found: counted.found,
+                    hidden: counted.hidden,
+                    looks: counted.looks,
+                }
+            }
+        },
+    }
 }

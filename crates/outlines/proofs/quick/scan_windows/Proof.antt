@@ -1,4 +1,4 @@
--- `outlines::quick::scan_windows` meets its contract. The loop keeps `ScanKeeps`; its three turns are what a window gave, and the places up to the
+-- `outlines::quick::scan_windows` meets its contract. The loop keeps `ScanAll`; its three turns are what a window gave, and the places up to the
 -- line's end fall.
 -- Assumes nothing.
 use Prim.Native.Nat.{_+_, _-_}
@@ -7,7 +7,8 @@ use native.Mathlib.Omega.{arith}
 use borrow.Author.Needs.{needs}
 use lib.ListN.{length}
 use Rattle.outlines.specs.Sweep.{stateOf, foundOf}
-use Rattle.outlines.proofs.ScanKeeps.{ScanKeeps, keeps-start, keeps-end, keeps-can-sweep, keeps-found-le, keeps-less, keeps-none, keeps-can-put, keeps-put-length, keeps-found}
+use Rattle.outlines.proofs.ScanKeeps.{keeps-can-sweep, keeps-less, keeps-none, keeps-can-put, keeps-put-length, keeps-put}
+use Rattle.outlines.proofs.ScanAll.{ScanAll, all-start, all-next, all-found-le, all-end}
 use Rattle.outlines.proofs.quick.scan_windows.Statement.{statement}
 use Rattle.outlines.proofs.quick.scan_windows.Tie as tie
 use Rattle.outlines.proofs.quick.scan_windows.Reads as reads
@@ -15,21 +16,21 @@ use Rattle.outlines.proofs.quick.scan_windows.Lts as lts
 
 abbrev Inv-loop : tie.InvT-loop
 Inv-loop ring doubled table line k counts₀ words₀ m at₀ found₀ counts words at found =
-    (m ≡ length ring) × (length words ≡ length words₀) × ScanKeeps ring line k words₀ at found counts words
+    (m ≡ length ring) × (length words ≡ length words₀) × ScanAll ring line k words₀ at found counts words
 
 abbrev μ-loop : tie.MeasureT-loop
 μ-loop ring doubled table line k counts₀ words₀ m at₀ found₀ counts words at found = length line + 1 - at .start
 
 loop-holds : tie.Need-loop-holds Inv-loop μ-loop
-loop-holds c = (refl, refl, keeps-start _ _ _ _ _ _ _ (c .before .before .before .before .pre) _ refl refl refl)
+loop-holds c = (refl, refl, all-start _ _ _ _ _ _ _ (c .before .before .before .before .pre) _ refl refl refl)
 
 add-if1 : tie.Need-add-if1 Inv-loop μ-loop
-add-if1 c = omega (arith, c .before .loop .inv .2 .start-le)
+add-if1 c = omega (arith, c .before .loop .inv .2 .keeps .start-le)
 
 sweep-window-requires : tie.Need-sweep-window-requires Inv-loop μ-loop
 sweep-window-requires c κs =
     let at = c .before .before .before in
-    keeps-can-sweep _ _ _ _ _ _ _ (at .before .before .before .before .before .pre) _ _ _ _ (at .loop .inv .2) (c .before .if1 .taken)
+    keeps-can-sweep _ _ _ _ _ _ _ (at .before .before .before .before .before .pre) _ _ _ _ _ _ (at .loop .inv .2 .keeps) (c .before .if1 .taken)
 
 enum-known-next : tie.Need-enum-known-next Inv-loop μ-loop
 enum-known-next c = search needs
@@ -38,7 +39,7 @@ loop-less : tie.Need-loop-less Inv-loop μ-loop
 loop-less c =
     let swept = c .before .before .before in
     let at = swept .before .before .before .before in
-    keeps-less _ _ _ _ _ _ _ (at .before .before .before .before .before .pre) _ _ _ _ (at .loop .inv .2) (swept .before .before .if1 .taken) _ _ _
+    keeps-less _ _ _ _ _ _ _ (at .before .before .before .before .before .pre) _ _ _ _ _ _ (at .loop .inv .2 .keeps) (swept .before .before .if1 .taken) _ _ _
     (swept .sweep-window .ensures) (ap stateOf (c .before .next .given .1))
 
 loop-again : tie.Need-loop-again Inv-loop μ-loop
@@ -48,8 +49,9 @@ loop-again c =
     let told = c .before .next .given .1 in (
       refl,
       at .loop .inv .1,
-      keeps-none _ _ _ _ _ _ _ (at .before .before .before .before .before .pre) _ _ _ _ (at .loop .inv .2) (swept .before .before .if1 .taken) _ _ _
-          (swept .sweep-window .ensures) (ap stateOf told) (ap foundOf told),
+      all-next
+          (keeps-none _ _ _ _ _ _ _ (at .before .before .before .before .before .pre) _ _ _ _ _ _ (at .loop .inv .2 .keeps) (swept .before .before .if1 .taken) _ _ _
+          (swept .sweep-window .ensures) (ap stateOf told) (ap foundOf told)),
     )
 
 enum-known-next-2 : tie.Need-enum-known-next-2 Inv-loop μ-loop
@@ -59,7 +61,7 @@ loop-less-2 : tie.Need-loop-less-2 Inv-loop μ-loop
 loop-less-2 c =
     let swept = c .before .before .before in
     let at = swept .before .before .before .before in
-    keeps-less _ _ _ _ _ _ _ (at .before .before .before .before .before .pre) _ _ _ _ (at .loop .inv .2) (swept .before .before .if1 .taken) _ _ _
+    keeps-less _ _ _ _ _ _ _ (at .before .before .before .before .before .pre) _ _ _ _ _ _ (at .loop .inv .2 .keeps) (swept .before .before .if1 .taken) _ _ _
     (swept .sweep-window .ensures) (ap stateOf (c .before .next2 .given .1))
 
 loop-again-2 : tie.Need-loop-again-2 Inv-loop μ-loop
@@ -69,8 +71,9 @@ loop-again-2 c =
     let told = c .before .next2 .given .1 in (
       refl,
       at .loop .inv .1,
-      keeps-none _ _ _ _ _ _ _ (at .before .before .before .before .before .pre) _ _ _ _ (at .loop .inv .2) (swept .before .before .if1 .taken) _ _ _
-          (swept .sweep-window .ensures) (ap stateOf told) (ap foundOf told),
+      all-next
+          (keeps-none _ _ _ _ _ _ _ (at .before .before .before .before .before .pre) _ _ _ _ _ _ (at .loop .inv .2 .keeps) (swept .before .before .if1 .taken) _ _ _
+          (swept .sweep-window .ensures) (ap stateOf told) (ap foundOf told)),
     )
 
 enum-known-next-3 : tie.Need-enum-known-next-3 Inv-loop μ-loop
@@ -81,20 +84,20 @@ put-finding-requires c κs =
     let swept = c .before .before .before .before in
     let at = swept .before .before .before .before in
     let told = c .before .before .next3 .given .1 in
-    keeps-can-put _ _ _ _ _ _ _ (at .before .before .before .before .before .pre) _ _ _ _ (at .loop .inv .2) (swept .before .before .if1 .taken) _ _ _
+    keeps-can-put _ _ _ _ _ _ _ (at .before .before .before .before .before .pre) _ _ _ _ _ _ (at .loop .inv .2 .keeps) (swept .before .before .if1 .taken) _ _ _
     (swept .sweep-window .ensures) (ap stateOf told) _ (ap foundOf told)
 
 add-found : tie.Need-add-found Inv-loop μ-loop
 add-found c =
     let swept = c .before .before .before .before .before .before .before in
     let at = swept .before .before .before .before in
-    omega (arith, keeps-found-le _ _ _ _ _ _ _ (at .before .before .before .before .before .pre) _ _ _ _ (at .loop .inv .2) (swept .before .before .if1 .taken))
+    omega (arith, all-found-le _ _ _ _ _ _ _ (at .before .before .before .before .before .pre) _ _ _ _ (at .loop .inv .2) (swept .before .before .if1 .taken))
 
 loop-less-3 : tie.Need-loop-less-3 Inv-loop μ-loop
 loop-less-3 c =
     let swept = c .before .before .before .before .before .before .before in
     let at = swept .before .before .before .before in
-    keeps-less _ _ _ _ _ _ _ (at .before .before .before .before .before .pre) _ _ _ _ (at .loop .inv .2) (swept .before .before .if1 .taken) _ _ _
+    keeps-less _ _ _ _ _ _ _ (at .before .before .before .before .before .pre) _ _ _ _ _ _ (at .loop .inv .2 .keeps) (swept .before .before .if1 .taken) _ _ _
     (swept .sweep-window .ensures) (ap stateOf (c .before .before .before .before .before .next3 .given .1))
 
 loop-again-3 : tie.Need-loop-again-3 Inv-loop μ-loop
@@ -104,11 +107,12 @@ loop-again-3 c =
     let told = c .before .before .before .before .before .next3 .given .1 in
     let put = c .before .before .put-finding .ensures in (
       refl,
-      keeps-put-length _ _ _ _ _ _ _ (at .before .before .before .before .before .pre) _ _ _ _ (at .loop .inv .2) (swept .before .before .if1 .taken) _ _ _
+      keeps-put-length _ _ _ _ _ _ _ (at .before .before .before .before .before .pre) _ _ _ _ _ _ (at .loop .inv .2 .keeps) (swept .before .before .if1 .taken) _ _ _
           (swept .sweep-window .ensures) (ap stateOf told) _ (ap foundOf told) _ put,
       rw put
-          (keeps-found _ _ _ _ _ _ _ (at .before .before .before .before .before .pre) _ _ _ _ (at .loop .inv .2) (swept .before .before .if1 .taken) _ _ _
-          (swept .sweep-window .ensures) (ap stateOf told) _ (ap foundOf told)),
+          (all-next
+          (keeps-put _ _ _ _ _ _ _ (at .before .before .before .before .before .pre) _ _ _ _ _ _ (at .loop .inv .2 .keeps) (swept .before .before .if1 .taken) _ _ _
+          (swept .sweep-window .ensures) (ap stateOf told) _ (ap foundOf told))),
     )
 
 same-length : tie.Need-same-length Inv-loop μ-loop
@@ -117,7 +121,7 @@ same-length c = c .before .before .loop .inv .1
 returns : tie.Need-returns Inv-loop μ-loop
 returns c =
     let at = c .before .before in
-    keeps-end _ _ _ _ _ _ _ (at .before .before .before .before .before .pre) _ _ _ _ (at .loop .inv .2) (c .if1 .left)
+    all-end _ _ _ _ _ _ _ (at .before .before .before .before .before .pre) _ _ _ _ (at .loop .inv .2) (c .if1 .left)
 
 pub scan-windows-spec : {M : Type 1} → statement M
 scan-windows-spec =

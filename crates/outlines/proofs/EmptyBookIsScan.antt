@@ -1,0 +1,92 @@
+-- With an empty book the report is the scan: the same refusal, or the same found and looks with hidden 0, and the same words. An empty book names nothing, so
+-- all findings are shown; a scan's answer with hidden 0 meets the report's contract, and there is only one such answer.
+-- Assumes nothing.
+use Prim.Native.Nat.{ℕ}
+use mathlib.Core.Path.{_≡_, refl, sym, ap, _∙_}
+use mathlib.Core.List.{List, [], _∷_}
+use mathlib.Core.Option.{Option, none, some}
+use lib.ListN.{length}
+use Rattle.meaning.specs.Findings.{Finding, findings, wordsOf, written}
+use Rattle.meaning.specs.Looks.{quickLooks}
+use Rattle.answers.specs.declared.refusals.Refusal.{Refusal}
+use Rattle.answers.specs.Paper.{Answer, accepted, refused, answerPaper}
+use Rattle.answers.proofs.OneAnswer.{answer-unique}
+use Rattle.book.specs.Silences.{names}
+use Rattle.book.specs.Reading.{fieldsFrom, readFrom, readBook}
+use Rattle.outlines.specs.declared.quick.Scanned.{Scanned}
+use Rattle.outlines.specs.declared.quick.Scanned.the-variants.{Counts as ScanCase, Refused as ScanRefused}
+use Rattle.outlines.specs.declared.reporting.Reported.{Reported}
+use Rattle.outlines.specs.declared.reporting.Reported.the-variants.{Counts as CountsCase, Refused}
+use Rattle.outlines.specs.Admitting.{refusalOf}
+use Rattle.outlines.specs.Scan.{Counts, noCounts, answerBy, wordsBy, searched, searchedWords, answerOf as scanAnswerOf, IsScanned}
+use Rattle.outlines.specs.Report.{shown, hidden, ReportCounts, noReportCounts, silencesBy, admittedSilences, reportedBy, reportedWordsBy, answerOf, IsReported}
+use Rattle.outlines.proofs.ReportOneAnswer.{report-unique}
+
+-- A scan's answer as a report's: nothing hidden.
+abbrev pub reportOf : Scanned → Reported
+reportOf (ScanCase found looks) = CountsCase found 0 looks
+reportOf (ScanRefused refusal) = Refused refusal
+
+abbrev noneHidden : Answer Counts → Answer ReportCounts
+noneHidden (accepted c) = accepted (record { found = c .found; hidden = 0; looks = c .looks })
+noneHidden (refused refusal) = refused refusal
+
+report-of-is : (q : Scanned) → answerOf (reportOf q) ≡ noneHidden (scanAnswerOf q)
+report-of-is (ScanCase found looks) = refl
+report-of-is (ScanRefused refusal) = refl
+
+-- "An empty book is valid": it has no silence.
+pub empty-book-is : readBook [] ≡ accepted []
+unfolding readBook readFrom fieldsFrom
+empty-book-is = refl
+
+module _ (cell ringNumber : ℕ) where
+  -- With no silence all are shown.
+  pub shown-all : (fs : List Finding) → shown [] cell ringNumber fs ≡ fs
+  unfolding shown names
+  shown-all [] = refl
+  shown-all (f ∷ fs) = ap (λ (l : List Finding). f ∷ l) (shown-all fs)
+
+  -- And none is hidden.
+  pub hidden-none : (fs : List Finding) → hidden [] cell ringNumber fs ≡ []
+  unfolding hidden names
+  hidden-none [] = refl
+  hidden-none (f ∷ fs) = hidden-none fs
+
+  module _ (ring line : List ℕ) (k : ℕ) (words : List ℕ) where
+    -- what a scan gives, with nothing hidden, is what a report gives
+    given-same : (o : Option Refusal)
+        → noneHidden (answerBy o (record { found = length (findings ring line k); looks = quickLooks ring line k }))
+        ≡ reportedBy ring line k cell ringNumber (silencesBy o (readBook []))
+    given-same (some refusal) = refl
+    given-same none =
+        (λ j. accepted (record {
+          found = length (findings ring line k);
+          hidden = length (sym (hidden-none (findings ring line k)) j);
+          looks = quickLooks ring line k;
+        }))
+        ∙ ap (reportedBy ring line k cell ringNumber) (sym empty-book-is)
+
+    -- and so with the words
+    written-same : (o : Option Refusal)
+        → wordsBy o (written (wordsOf (findings ring line k)) words) words ≡ reportedWordsBy ring line k cell ringNumber words (silencesBy o (readBook []))
+    written-same (some refusal) = refl
+    written-same none =
+        ap (λ (l : List Finding). written (wordsOf l) words) (sym (shown-all (findings ring line k)))
+        ∙ ap (reportedWordsBy ring line k cell ringNumber words) (sym empty-book-is)
+
+    module _ (q : Scanned) (out : List ℕ) (scanned : IsScanned ring line k words q out) where
+      -- What a scan answers and writes is what a report with an empty book does.
+      pub scan-is-report : IsReported cell ringNumber ring line k [] words (reportOf q) out
+      unfolding searched searchedWords admittedSilences
+      scan-is-report =
+          let row : Option Refusal = refusalOf (length ring) k (length line) (length words) in
+          let gives = answer-unique noCounts (scanAnswerOf q) (searched ring line k (length words) (quickLooks ring line k)) (scanned .paper) in
+          record {
+            paper = ap (answerPaper noReportCounts) (report-of-is q ∙ ap noneHidden gives ∙ given-same row);
+            written = scanned .written ∙ written-same row;
+          }
+
+      -- With an empty book the report is the scan.
+      pub empty-book-same : (r : Reported) (out′ : List ℕ) → IsReported cell ringNumber ring line k [] words r out′ → (r ≡ reportOf q) × (out′ ≡ out)
+      empty-book-same r out′ reported = report-unique cell ringNumber ring line k [] words r (reportOf q) out′ out reported scan-is-report

@@ -1,0 +1,114 @@
+-- What one silence does: it names one address more, so it hides at most one finding of a report, since each start has at most one; one that names no finding
+-- changes nothing, and so does one of another cell or ring number.
+-- Assumes nothing.
+use Prim.Native.Nat.{ℕ, suc, _+_, _≤_, _<_}
+use mathlib.Core.Path.{_≡_, refl, sym, ap, _∙_}
+use mathlib.Core.Bool.{Bool, true, false, cond, _||_}
+use mathlib.Core.Logic.{⊎-elim}
+use mathlib.Core.List.{List, [], _∷_, _++_, List·Memᴰ, List·Memᴰ·not-nil, List·Memᴰ·cases-cons}
+use native.Mathlib.Omega.{arith}
+use lib.ListN.{length}
+use Rattle.meaning.specs.Findings.{Finding, IsFinding, findings}
+use Rattle.meaning.proofs.Rising.{Rising, findings-rising}
+use Rattle.answers.specs.Paper.{accepted}
+use Rattle.book.specs.Silences.{Silence, silence, isSame, names}
+use Rattle.book.specs.Reading.{readBook}
+use Rattle.book.proofs.SilenceOrder.{isSame-yes}
+use Rattle.outlines.specs.declared.reporting.Reported.{Reported}
+use Rattle.outlines.specs.Report.{isHidden, hidden, IsReported}
+use Rattle.outlines.proofs.SilencesAlike.{NamesAlike, hidden-same, reports-same}
+
+or-other : (a b c : Bool) → (a || (b || c)) ≡ (b || (a || c))
+or-other true true c = refl
+or-other true false c = refl
+or-other false b c = refl
+
+-- silences that differ are not found the same
+not-same : (a b : Silence) → (a ≡ b → ⊥) → isSame a b ≡ false
+not-same a b differs = go (isSame a b) refl
+  where
+    go : (t : Bool) → isSame a b ≡ t → t ≡ false
+    go true e = absurd (differs (isSame-yes a b e))
+    go false e = refl
+
+-- in a list that rises from lo on, no start is below lo
+rising-above : (lo hi : ℕ) (fs : List Finding) → Rising lo hi fs → (f : Finding) → List·Memᴰ f fs → lo ≤ f .start
+rising-above lo hi [] r f h = absurd (List·Memᴰ·not-nil h)
+rising-above lo hi (g ∷ fs) r f h =
+    ⊎-elim
+    (λ e. omega (arith, r .0, ap (λ (x : Finding). x .start) e))
+    (λ m. omega (arith, r .0, rising-above (suc (g .start)) hi fs (r .1) f m))
+    (List·Memᴰ·cases-cons h)
+
+-- one finding, hidden or not before as many others
+one-at-most : (f : Finding) (a b : Bool) (l l′ : List Finding) → length l ≡ length l′ → length (cond a (f ∷ l) l) ≤ length (cond b (f ∷ l′) l′) + 1
+one-at-most f true true l l′ e = omega arith
+one-at-most f true false l l′ e = omega arith
+one-at-most f false true l l′ e = omega arith
+one-at-most f false false l l′ e = omega arith
+
+-- one finding, hidden in both or in neither, before at most one more
+one-later : (f : Finding) (a : Bool) (l l′ : List Finding) → length l ≤ length l′ + 1 → length (cond a (f ∷ l) l) ≤ length (cond a (f ∷ l′) l′) + 1
+one-later f true l l′ e = omega arith
+one-later f false l l′ e = omega arith
+
+module _ (cell ringNumber : ℕ) (s : Silence) (xs ys : List Silence) where
+  -- A silence among others names its own address, and for the rest they name what they name without it.
+  pub names-one-more : (zs : List Silence) (start : ℕ)
+      → names (zs ++ s ∷ ys) cell ringNumber start ≡ (isSame s (silence cell ringNumber start) || names (zs ++ ys) cell ringNumber start)
+  unfolding names
+  names-one-more [] start = refl
+  names-one-more (z ∷ zs) start =
+      ap (λ (t : Bool). isSame z (silence cell ringNumber start) || t) (names-one-more zs start)
+      ∙ or-other (isSame z (silence cell ringNumber start)) (isSame s (silence cell ringNumber start)) (names (zs ++ ys) cell ringNumber start)
+
+  -- a finding that the silence is not for is named as without it
+  named-same : (f : Finding) → isSame s (silence cell ringNumber (f .start)) ≡ false → isHidden (xs ++ s ∷ ys) cell ringNumber f ≡ isHidden (xs ++ ys) cell ringNumber f
+  named-same f e = names-one-more xs (f .start) ∙ ap (λ (t : Bool). t || names (xs ++ ys) cell ringNumber (f .start)) e
+
+  -- a silence is for no start but its own
+  other-start : (i : ℕ) → (s .start ≡ i → ⊥) → isSame s (silence cell ringNumber i) ≡ false
+  other-start i differs = not-same s (silence cell ringNumber i) (λ e. differs (ap (λ (a : Silence). a .start) e))
+
+  -- of findings by rising start, one silence more hides at most one more
+  one-more : (lo hi : ℕ) (fs : List Finding) → Rising lo hi fs
+      → length (hidden (xs ++ s ∷ ys) cell ringNumber fs) ≤ length (hidden (xs ++ ys) cell ringNumber fs) + 1
+  unfolding hidden
+  one-more lo hi [] rising = omega arith
+  one-more lo hi (f ∷ fs) rising = go (isSame s (silence cell ringNumber (f .start))) refl (one-more (suc (f .start)) hi fs (rising .1))
+    where
+      go : (t : Bool) → isSame s (silence cell ringNumber (f .start)) ≡ t
+          → length (hidden (xs ++ s ∷ ys) cell ringNumber fs) ≤ length (hidden (xs ++ ys) cell ringNumber fs) + 1
+          → length (cond (isHidden (xs ++ s ∷ ys) cell ringNumber f) (f ∷ hidden (xs ++ s ∷ ys) cell ringNumber fs) (hidden (xs ++ s ∷ ys) cell ringNumber fs))
+          ≤ length (cond (isHidden (xs ++ ys) cell ringNumber f) (f ∷ hidden (xs ++ ys) cell ringNumber fs) (hidden (xs ++ ys) cell ringNumber fs)) + 1
+      go true e rest =
+          let here : s .start ≡ f .start = ap (λ (a : Silence). a .start) (isSame-yes s (silence cell ringNumber (f .start)) e) in
+          let alike : NamesAlike (xs ++ s ∷ ys) (xs ++ ys) cell ringNumber fs =
+          λ g m. named-same g (other-start (g .start) (λ q. omega (arith, rising-above (suc (f .start)) hi fs (rising .1) g m))) in
+          one-at-most f (isHidden (xs ++ s ∷ ys) cell ringNumber f) (isHidden (xs ++ ys) cell ringNumber f) _ _
+          (ap (λ (l : List Finding). length l) (hidden-same (xs ++ s ∷ ys) (xs ++ ys) cell ringNumber fs alike))
+      go false e rest = rw (named-same f e) (one-later f (isHidden (xs ++ ys) cell ringNumber f) _ _ rest)
+
+  module _ (ring line : List ℕ) (k : ℕ) where
+    -- A silence hides at most one finding of a report.
+    pub silence-hides-one-le : length (hidden (xs ++ s ∷ ys) cell ringNumber (findings ring line k)) ≤ length (hidden (xs ++ ys) cell ringNumber (findings ring line k)) + 1
+    silence-hides-one-le = one-more 0 (length line) (findings ring line k) (findings-rising ring line k)
+
+    module _ (book book′ words : List ℕ) (is : readBook book ≡ accepted (xs ++ s ∷ ys)) (is′ : readBook book′ ≡ accepted (xs ++ ys))
+        (r r′ : Reported) (out out′ : List ℕ) (p : IsReported cell ringNumber ring line k book words r out)
+        (p′ : IsReported cell ringNumber ring line k book′ words r′ out′) where
+      without : ((f : Finding) → IsFinding ring line k f → isSame s (silence cell ringNumber (f .start)) ≡ false) → (r ≡ r′) × (out ≡ out′)
+      without idle =
+          reports-same (xs ++ s ∷ ys) (xs ++ ys) cell ringNumber ring line k book book′ words is is′ (λ f h. named-same f (idle f h)) r r′ out out′ p p′
+
+      -- "A silence that names no finding hides nothing": without it the report is the same.
+      pub idle-silence-same : ((f : Finding) → IsFinding ring line k f → s ≡ silence cell ringNumber (f .start) → ⊥) → (r ≡ r′) × (out ≡ out′)
+      idle-silence-same idle = without (λ f h. not-same s (silence cell ringNumber (f .start)) (idle f h))
+
+      -- One of another cell changes nothing.
+      pub other-cell-same : (s .cell ≡ cell → ⊥) → (r ≡ r′) × (out ≡ out′)
+      other-cell-same other = idle-silence-same (λ f h e. other (ap (λ (a : Silence). a .cell) e))
+
+      -- Nor does one of another ring number.
+      pub other-ring-number-same : (s .ringNumber ≡ ringNumber → ⊥) → (r ≡ r′) × (out ≡ out′)
+      other-ring-number-same other = idle-silence-same (λ f h e. other (ap (λ (a : Silence). a .ringNumber) e))

@@ -1,0 +1,113 @@
+-- What an accepted report gives: found are all findings, hidden those that the book names, looks the steps of rules 1 to 5 and at most 3·m·n. And it is accepted
+-- exactly when no row is given, the book being that of some silences.
+-- Assumes nothing.
+use Prim.Native.Nat.{ℕ, _*_, _≤_}
+use mathlib.Core.Logic.{_↔_}
+use mathlib.Core.Path.{_≡_, refl, sym, ap, _∙_}
+use mathlib.Core.List.{List}
+use mathlib.Core.Option.{Option, none, some}
+use native.Mathlib.Omega.{arith}
+use lib.ListN.{length}
+use Rattle.meaning.specs.Findings.{findings, wordsOf, written}
+use Rattle.meaning.specs.Looks.{quickLooks}
+use Rattle.meaning.proofs.LookBound.{quickLooks-most}
+use Rattle.answers.specs.declared.refusals.Refusal.{Refusal}
+use Rattle.answers.specs.Refusals.{numberOf}
+use Rattle.answers.specs.Paper.{Answer, accepted, refused, Paper, answerPaper}
+use Rattle.answers.proofs.OneAnswer.{number-in}
+use Rattle.book.specs.Silences.{Silence}
+use Rattle.book.specs.Reading.{readBook}
+use Rattle.book.specs.Books.{IsBytes, IsBook}
+use Rattle.book.proofs.AcceptedIsLayout.{accepted-iff}
+use Rattle.outlines.specs.declared.reporting.Reported.{Reported}
+use Rattle.outlines.specs.declared.reporting.Reported.the-variants.{Counts as CountsCase, Refused}
+use Rattle.outlines.specs.Admitting.{refusalOf, Admitted}
+use Rattle.outlines.specs.Report.{shown, hidden, ReportCounts, noReportCounts, silencesBy, admittedSilences, reportedBy, reportedWordsBy, paperOf, IsReported}
+use Rattle.outlines.proofs.AdmitRows.{no-row-iff}
+
+-- An accepted report: its limits, the silences that it goes by, its counts and its words.
+pub record IsGiven (cell ringNumber : ℕ) (ring line : List ℕ) (k : ℕ) (book words : List ℕ) (found hid looks : ℕ) (out : List ℕ) : Type 0 where
+  pub silences : List Silence
+  pub book-is : readBook book ≡ accepted silences
+  pub admitted : Admitted (length ring) k (length line) (length words)
+  pub found-is : found ≡ length (findings ring line k)
+  pub hidden-is : hid ≡ length (hidden silences cell ringNumber (findings ring line k))
+  pub looks-are : looks ≡ quickLooks ring line k
+  pub words-are : out ≡ written (wordsOf (shown silences cell ringNumber (findings ring line k))) words
+
+module _ (cell ringNumber : ℕ) (ring line : List ℕ) (k : ℕ) (book words : List ℕ) where
+  abbrev goesBy : Answer (List Silence)
+  goesBy = admittedSilences ring line k book (length words)
+
+  -- A report goes by these silences exactly within all limits, the book being read as these.
+  pub goes-by-iff : (ss : List Silence) → (goesBy ≡ accepted ss) ↔ (Admitted (length ring) k (length line) (length words) × (readBook book ≡ accepted ss))
+  unfolding admittedSilences
+  goes-by-iff ss = go (refusalOf (length ring) k (length line) (length words)) refl
+    where
+      go : (o : Option Refusal) → refusalOf (length ring) k (length line) (length words) ≡ o
+          → (silencesBy o (readBook book) ≡ accepted ss) ↔ (Admitted (length ring) k (length line) (length words) × (readBook book ≡ accepted ss))
+      go (some p) e = (
+        λ h. absurd (let z : _≡_ {A = ℕ} 0 1 = cc in omega arith),
+        λ h.
+            absurd
+            (let other : none ≡ some p = sym (no-row-iff (length ring) k (length line) (length words) .1 (h .0)) ∙ e in
+            let z : _≡_ {A = ℕ} 0 1 = cc in
+            omega arith),
+      )
+      go none e = (λ h. (no-row-iff (length ring) k (length line) (length words) .0 e, h), λ h. h .1)
+
+  module _ (r : Reported) (out : List ℕ) (meets : IsReported cell ringNumber ring line k book words r out) where
+    module _ (found hid looks : ℕ) (e : r ≡ CountsCase found hid looks) where
+      -- What an accepted report gives.
+      pub report-gives : IsGiven cell ringNumber ring line k book words found hid looks out
+      report-gives = go goesBy refl (sym (ap paperOf e) ∙ meets .paper) (meets .written)
+        where
+          go : (a : Answer (List Silence)) → goesBy ≡ a
+              → paperOf (CountsCase found hid looks) ≡ answerPaper noReportCounts (reportedBy ring line k cell ringNumber a)
+              → out ≡ reportedWordsBy ring line k cell ringNumber words a → IsGiven cell ringNumber ring line k book words found hid looks out
+          go (refused p) is paper put =
+              absurd (let number-is : 0 ≡ numberOf p = ap (λ (q : Paper ReportCounts). q .number) paper in omega (arith, number-in p .0))
+          go (accepted ss) is paper put =
+              let by = goes-by-iff ss .0 is in
+              record {
+                silences = ss;
+                book-is = by .1;
+                admitted = by .0;
+                found-is = ap (λ (p : Paper ReportCounts). p .counts .found) paper;
+                hidden-is = ap (λ (p : Paper ReportCounts). p .counts .hidden) paper;
+                looks-are = ap (λ (p : Paper ReportCounts). p .counts .looks) paper;
+                words-are = put;
+              }
+
+      -- "Looks are the sum over rules 1 and 5": the definition's steps.
+      pub report-looks-are : looks ≡ quickLooks ring line k
+      report-looks-are = report-gives .looks-are
+
+      -- They are at most 3·m·n.
+      pub report-looks-le : looks ≤ 3 * length ring * length line
+      report-looks-le = omega (arith, report-looks-are, quickLooks-most ring line k (report-gives .admitted .some-edge))
+
+    -- A refusal "writes nothing to any lent area".
+    pub report-refused-same : (refusal : Refusal) → r ≡ Refused refusal → out ≡ words
+    report-refused-same refusal e = go goesBy (sym (ap paperOf e) ∙ meets .paper) (meets .written)
+      where
+        go : (a : Answer (List Silence)) → paperOf (Refused refusal) ≡ answerPaper noReportCounts (reportedBy ring line k cell ringNumber a)
+            → out ≡ reportedWordsBy ring line k cell ringNumber words a → out ≡ words
+        go (refused p) paper put = put
+        go (accepted ss) paper put =
+            absurd (let number-is : numberOf refusal ≡ 0 = ap (λ (q : Paper ReportCounts). q .number) paper in omega (arith, number-in refusal .0))
+
+    -- It is accepted exactly when no row is given and the book is that of some silences.
+    pub report-accepted-iff : IsBytes book → (paperOf r .number ≡ 0) ↔ (Admitted (length ring) k (length line) (length words) × ((ss : List Silence) × IsBook ss book))
+    report-accepted-iff bytes = (
+      λ zero. there goesBy refl (sym (ap (λ (p : Paper ReportCounts). p .number) (meets .paper)) ∙ zero),
+      λ h.
+          ap (λ (p : Paper ReportCounts). p .number) (meets .paper)
+          ∙ ap (λ (a : Answer (List Silence)). answerPaper noReportCounts (reportedBy ring line k cell ringNumber a) .number)
+          (goes-by-iff (h .1 .0) .1 (h .0, accepted-iff book (h .1 .0) bytes .1 (h .1 .1))),
+    )
+      where
+        there : (a : Answer (List Silence)) → goesBy ≡ a → answerPaper noReportCounts (reportedBy ring line k cell ringNumber a) .number ≡ 0
+            → Admitted (length ring) k (length line) (length words) × ((ss : List Silence) × IsBook ss book)
+        there (accepted ss) is zero = let by = goes-by-iff ss .0 is in (by .0, (ss, accepted-iff book ss bytes .0 (by .1)))
+        there (refused p) is zero = absurd (omega (arith, number-in p .0))

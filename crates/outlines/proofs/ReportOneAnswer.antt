@@ -1,0 +1,36 @@
+-- Any two answers of `report` that meet its contract are equal, and so are the lent words at exit: the paper determines the answer (`answer-unique` of the
+-- answers), and the answer its case.
+-- Assumes nothing.
+use Prim.Native.Nat.{ℕ}
+use mathlib.Core.Path.{_≡_, refl, sym, ap, _∙_}
+use mathlib.Core.List.{List}
+use Rattle.answers.specs.Paper.{Answer, accepted, refused}
+use Rattle.answers.proofs.OneAnswer.{answer-unique}
+use Rattle.outlines.specs.declared.reporting.Reported.{Reported}
+use Rattle.outlines.specs.declared.reporting.Reported.the-variants.{Counts as CountsCase, Refused}
+use Rattle.outlines.specs.Report.{ReportCounts, noReportCounts, answerOf, paperOf, IsReported}
+
+-- the case that an answer comes from
+abbrev answerBack : Answer ReportCounts → Reported
+answerBack (accepted c) = CountsCase (c .found) (c .hidden) (c .looks)
+answerBack (refused refusal) = Refused refusal
+
+answer-back : (r : Reported) → answerBack (answerOf r) ≡ r
+answer-back (CountsCase found hid looks) = refl
+answer-back (Refused refusal) = refl
+
+-- The answer determines its case.
+pub report-answer-unique : (r r′ : Reported) → answerOf r ≡ answerOf r′ → r ≡ r′
+report-answer-unique r r′ e = sym (answer-back r) ∙ ap answerBack e ∙ answer-back r′
+
+-- The paper determines the answer.
+pub report-paper-unique : (r r′ : Reported) → paperOf r ≡ paperOf r′ → r ≡ r′
+report-paper-unique r r′ e = report-answer-unique r r′ (answer-unique noReportCounts (answerOf r) (answerOf r′) e)
+
+-- Any two answers of `report` are equal, and any two words at exit.
+pub report-unique : (cell ringNumber : ℕ) (ring line : List ℕ) (k : ℕ) (book words : List ℕ) (r r′ : Reported) (out out′ : List ℕ)
+    → IsReported cell ringNumber ring line k book words r out → IsReported cell ringNumber ring line k book words r′ out′ → (r ≡ r′) × (out ≡ out′)
+report-unique cell ringNumber ring line k book words r r′ out out′ p p′ = (
+  report-paper-unique r r′ (p .paper ∙ sym (p′ .paper)),
+  p .written ∙ sym (p′ .written),
+)

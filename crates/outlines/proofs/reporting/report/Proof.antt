@@ -1,0 +1,82 @@
+-- `outlines::reporting::report` meets its contract: a row of 1 to 4 is given; none is, and the book is refused; or the line is reported.
+-- Assumes nothing.
+use mathlib.Core.Path.{sym, ap, _∙_}
+use borrow.Author.Needs.{needs}
+use Rattle.outlines.specs.Admitting.{verdictOf}
+use Rattle.outlines.proofs.AdmitCases.{admitted-by}
+use Rattle.outlines.proofs.ReportAnswers.{book-accepted, book-refused, report-refused-row, report-refused-book, report-accepted}
+use Rattle.outlines.proofs.reporting.report.Statement.{statement}
+use Rattle.outlines.proofs.reporting.report.Tie as tie
+use Rattle.outlines.proofs.reporting.report.Reads as reads
+use Rattle.outlines.proofs.reporting.report.Lts as lts
+use Rattle.book.proofs.read.Reads as read-reads
+use Rattle.outlines.proofs.admitting.admit.Reads as admit-reads
+use Rattle.outlines.proofs.reporting.report_line.Reads as report-line-reads
+
+admit-requires : tie.Need-admit-requires
+admit-requires c κs = search needs
+
+enum-known-refusal : tie.Need-enum-known-refusal
+enum-known-refusal c = search needs
+
+enum-told : tie.Need-enum-told
+enum-told c = search needs
+
+read-requires : tie.Need-read-requires
+read-requires c κs = search needs
+
+enum-known-refusal-2 : tie.Need-enum-known-refusal-2
+enum-known-refusal-2 c = search needs
+
+enum-told-2 : tie.Need-enum-told-2
+enum-told-2 c = search needs
+
+report-line-requires : tie.Need-report-line-requires
+report-line-requires c κs =
+    let read = c .before .before .before in
+    let told = read .before in
+    record {
+      admitted = admitted-by _ _ _ _ (sym (told .before .before .admit .ensures) ∙ ap verdictOf (told .enum-told .given .1));
+      book-read = book-accepted _ _ _ (read .read .ensures) (c .before .enum-told2 .given .1);
+    }
+
+-- A row of 1 to 4.
+returns : tie.Need-returns
+returns c =
+    let admitted = c .before .before .before in
+    report-refused-row _ _ _ _ _ _ _ _ (sym (ap verdictOf (c .before .refusal .given .1)) ∙ admitted .admit .ensures)
+
+-- A row of 5 to 7.
+returns-2 : tie.Need-returns-2
+returns-2 c =
+    let read = c .before .before .before in
+    let told = read .before in
+    report-refused-book _ _ _ _ _ _ _ (sym (ap verdictOf (told .enum-told .given .1)) ∙ told .before .before .admit .ensures) _
+    (book-refused _ _ _ (read .read .ensures) (c .before .refusal2 .given .1))
+
+same-length : tie.Need-same-length
+same-length c = search needs
+
+-- Accepted.
+returns-3 : tie.Need-returns-3
+returns-3 c =
+    let reported = c .before .before in
+    let told = reported .before .before .before .before .before in
+    report-accepted _ _ _ _ _ _ _ (sym (ap verdictOf (told .enum-told .given .1)) ∙ told .before .before .admit .ensures) _ _ _ _
+    (reported .report-line .ensures)
+
+pub report-spec : {M : Type 1} → statement M
+report-spec =
+    tie.close
+    (tie.spec
+    admit-requires
+    enum-known-refusal
+    enum-told
+    read-requires
+    enum-known-refusal-2
+    enum-told-2
+    report-line-requires
+    returns
+    returns-2
+    same-length
+    returns-3)

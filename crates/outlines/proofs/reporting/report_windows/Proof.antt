@@ -1,0 +1,165 @@
+-- `outlines::reporting::report_windows` meets its contract. The loop keeps `ReportKeeps`; its turns are what a window gave, a finding having been asked of
+-- the book, and the places up to the line's end fall.
+-- Assumes nothing.
+use Prim.Native.Nat.{_+_, _-_}
+use mathlib.Core.Path.{_≡_, refl, sym, ap, _∙_}
+use native.Mathlib.Omega.{arith}
+use borrow.Author.Needs.{needs}
+use lib.ListN.{length}
+use Rattle.outlines.specs.Sweep.{stateOf, foundOf}
+use Rattle.outlines.proofs.ScanKeeps.{keeps-can-sweep, keeps-less}
+use Rattle.outlines.proofs.ReportKeeps.{ReportKeeps, report-start, report-found-le, report-end, report-turn-none, report-can-ask, report-turn-found, report-length}
+use Rattle.outlines.proofs.reporting.report_windows.Statement.{statement}
+use Rattle.outlines.proofs.reporting.report_windows.Tie as tie
+use Rattle.outlines.proofs.reporting.report_windows.Reads as reads
+use Rattle.outlines.proofs.reporting.report_windows.Lts as lts
+use Rattle.book.proofs.seek.Reads as seek-reads
+use Rattle.outlines.proofs.reporting.ask.Reads as ask-reads
+use Rattle.outlines.proofs.sweep.sweep_window.Reads as sweep-window-reads
+
+abbrev Inv-loop : tie.InvT-loop
+Inv-loop cell ring-number ring doubled table line k book counts₀ words₀ m at₀ asked₀ counts words at asked =
+    (m ≡ length ring) × (length words ≡ length words₀) × ReportKeeps cell ring-number ring line k book words₀ at asked counts words
+
+abbrev μ-loop : tie.MeasureT-loop
+μ-loop cell ring-number ring doubled table line k book counts₀ words₀ m at₀ asked₀ counts words at asked = length line + 1 - at .start
+
+address-of-requires : tie.Need-address-of-requires Inv-loop μ-loop
+address-of-requires c κs = omega arith
+
+seek-requires : tie.Need-seek-requires Inv-loop μ-loop
+seek-requires c κs = tt
+
+loop-holds : tie.Need-loop-holds Inv-loop μ-loop
+loop-holds c =
+    let start = c .before .before .before .before .before .before .before in
+    (refl, refl, report-start _ _ _ _ _ _ _ _ _ _ (start .pre) _ _ _ refl refl refl refl refl (c .before .address-of .ensures) (c .seek .ensures))
+
+add-if1 : tie.Need-add-if1 Inv-loop μ-loop
+add-if1 c = omega (arith, c .before .loop .inv .2 .keeps .start-le)
+
+sweep-window-requires : tie.Need-sweep-window-requires Inv-loop μ-loop
+sweep-window-requires c κs =
+    let at = c .before .before .before in
+    let start = at .before .before .before .before .before .before .before .before in
+    keeps-can-sweep _ _ _ _ _ _ _ (start .pre .can-scan) _ _ _ _ _ _ (at .loop .inv .2 .keeps) (c .before .if1 .taken)
+
+enum-known-next : tie.Need-enum-known-next Inv-loop μ-loop
+enum-known-next c = search needs
+
+loop-less : tie.Need-loop-less Inv-loop μ-loop
+loop-less c =
+    let swept = c .before .before .before in
+    let at = swept .before .before .before .before in
+    let start = at .before .before .before .before .before .before .before .before in
+    keeps-less _ _ _ _ _ _ _ (start .pre .can-scan) _ _ _ _ _ _ (at .loop .inv .2 .keeps) (swept .before .before .if1 .taken) _ _ _ (swept .sweep-window .ensures)
+    (ap stateOf (c .before .next .given .1))
+
+loop-again : tie.Need-loop-again Inv-loop μ-loop
+loop-again c =
+    let swept = c .before .before .before in
+    let at = swept .before .before .before .before in
+    let start = at .before .before .before .before .before .before .before .before in
+    let told = c .before .next .given .1 in (
+      refl,
+      at .loop .inv .1,
+      report-turn-none _ _ _ _ _ _ _ _ _ _ (start .pre) _ _ _ _ (at .loop .inv .2) (swept .before .before .if1 .taken) _ _ _ (swept .sweep-window .ensures)
+          (ap stateOf told) (ap foundOf told),
+    )
+
+enum-known-next-2 : tie.Need-enum-known-next-2 Inv-loop μ-loop
+enum-known-next-2 c = search needs
+
+loop-less-2 : tie.Need-loop-less-2 Inv-loop μ-loop
+loop-less-2 c =
+    let swept = c .before .before .before in
+    let at = swept .before .before .before .before in
+    let start = at .before .before .before .before .before .before .before .before in
+    keeps-less _ _ _ _ _ _ _ (start .pre .can-scan) _ _ _ _ _ _ (at .loop .inv .2 .keeps) (swept .before .before .if1 .taken) _ _ _ (swept .sweep-window .ensures)
+    (ap stateOf (c .before .next2 .given .1))
+
+loop-again-2 : tie.Need-loop-again-2 Inv-loop μ-loop
+loop-again-2 c =
+    let swept = c .before .before .before in
+    let at = swept .before .before .before .before in
+    let start = at .before .before .before .before .before .before .before .before in
+    let told = c .before .next2 .given .1 in (
+      refl,
+      at .loop .inv .1,
+      report-turn-none _ _ _ _ _ _ _ _ _ _ (start .pre) _ _ _ _ (at .loop .inv .2) (swept .before .before .if1 .taken) _ _ _ (swept .sweep-window .ensures)
+          (ap stateOf told) (ap foundOf told),
+    )
+
+enum-known-next-3 : tie.Need-enum-known-next-3 Inv-loop μ-loop
+enum-known-next-3 c = search needs
+
+ask-requires : tie.Need-ask-requires Inv-loop μ-loop
+ask-requires c κs =
+    let swept = c .before .before .before .before in
+    let at = swept .before .before .before .before in
+    let start = at .before .before .before .before .before .before .before .before in
+    let told = c .before .before .next3 .given .1 in
+    report-can-ask _ _ _ _ _ _ _ _ _ _ (start .pre) _ _ _ _ (at .loop .inv .2) (swept .before .before .if1 .taken) _ _ _ (swept .sweep-window .ensures)
+    (ap stateOf told) _ (ap foundOf told)
+
+loop-less-3 : tie.Need-loop-less-3 Inv-loop μ-loop
+loop-less-3 c =
+    let swept = c .before .before .before .before .before .before .before in
+    let at = swept .before .before .before .before in
+    let start = at .before .before .before .before .before .before .before .before in
+    keeps-less _ _ _ _ _ _ _ (start .pre .can-scan) _ _ _ _ _ _ (at .loop .inv .2 .keeps) (swept .before .before .if1 .taken) _ _ _ (swept .sweep-window .ensures)
+    (ap stateOf (c .before .before .before .before .before .next3 .given .1))
+
+loop-again-3 : tie.Need-loop-again-3 Inv-loop μ-loop
+loop-again-3 c =
+    let swept = c .before .before .before .before .before .before .before in
+    let at = swept .before .before .before .before in
+    let start = at .before .before .before .before .before .before .before .before in
+    let told = c .before .before .before .before .before .next3 .given .1 in
+    let asks = c .before .before .ask .ensures in (
+      refl,
+      report-length _ _ _ _ _ _ _ _ _ _ (start .pre) _ _ _ _ (at .loop .inv .2) (swept .before .before .if1 .taken) _ _ _ (swept .sweep-window .ensures)
+          (ap stateOf told) _ (ap foundOf told) _ _ asks,
+      report-turn-found _ _ _ _ _ _ _ _ _ _ (start .pre) _ _ _ _ (at .loop .inv .2) (swept .before .before .if1 .taken) _ _ _ (swept .sweep-window .ensures)
+          (ap stateOf told) _ (ap foundOf told) _ _ asks,
+    )
+
+add-found : tie.Need-add-found Inv-loop μ-loop
+add-found c =
+    let at = c .before .before .before in
+    let start = at .before .before .before .before .before .before .before .before in
+    omega (arith, report-found-le _ _ _ _ _ _ _ _ _ _ (start .pre) _ _ _ _ (at .loop .inv .2))
+
+same-length : tie.Need-same-length Inv-loop μ-loop
+same-length c = c .before .before .before .loop .inv .1
+
+returns : tie.Need-returns Inv-loop μ-loop
+returns c =
+    let at = c .before .before .before in
+    let start = at .before .before .before .before .before .before .before .before in
+    report-end _ _ _ _ _ _ _ _ _ _ (start .pre) _ _ _ _ (at .loop .inv .2) (c .before .if1 .left)
+
+pub report-windows-spec : {M : Type 1} → statement M
+report-windows-spec =
+    tie.close
+    (tie.spec
+    Inv-loop
+    μ-loop
+    address-of-requires
+    seek-requires
+    loop-holds
+    add-if1
+    sweep-window-requires
+    enum-known-next
+    loop-less
+    loop-again
+    enum-known-next-2
+    loop-less-2
+    loop-again-2
+    enum-known-next-3
+    ask-requires
+    loop-less-3
+    loop-again-3
+    add-found
+    same-length
+    returns)

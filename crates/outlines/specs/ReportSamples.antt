@@ -1,0 +1,50 @@
+-- Document 01, "Sample rings": "P2 with the one silence (7, 2, 10): as cell 7, ring 2 it shows starts 9 and 11, hidden 1; as cell 8 all three." And the report
+-- program's example, with the silence (7, 2, 1). Both are computed.
+-- Assumes nothing.
+use Prim.Native.Nat.{ℕ}
+use mathlib.Core.Path.{_≡_, refl}
+use mathlib.Core.List.{List, [], _∷_}
+use lib.ListN.{length}
+use Rattle.meaning.specs.Numbers.{count, lowest, someBelow}
+use Rattle.meaning.specs.Meanings.{differs, distance, lowestRotation}
+use Rattle.meaning.specs.Findings.{foundAt, findingsBelow, findings, wordsOf, written}
+use Rattle.meaning.specs.Stretch.{begins, fits}
+use Rattle.meaning.specs.Rules.{readEdge, readLeft, readWindow, windowsFrom, candidatesOf, reported}
+use Rattle.meaning.specs.Looks.{readLooks, tallyLooks, verifyLooks}
+use Rattle.meaning.specs.Samples.{ascii, finding}
+use Rattle.answers.specs.Paper.{accepted}
+use Rattle.book.specs.Silences.{Silence, silence, isSame, names}
+use Rattle.outlines.specs.Report.{shown, hidden, reportCounts, reportedBy, reportedWordsBy}
+
+-- P2's ring.
+unfoldable ring2 : List ℕ
+ring2 = ascii "GGGTCTA"
+
+-- P2's line.
+unfoldable line2 : List ℕ
+line2 = ascii "GATACGATACCTAGGGTGATAGAATAG"
+
+-- "the one silence (7, 2, 10)"
+unfoldable silence10 : List Silence
+silence10 = silence 7 2 10 ∷ []
+
+-- "as cell 7, ring 2 it shows starts 9 and 11, hidden 1; as cell 8 all three"; so as cell 0, and as ring 3.
+sample-hidden : (shown silence10 7 2 (findings ring2 line2 1) ≡ finding 9 3 1 ∷ finding 11 5 1 ∷ [])
+    × (length (hidden silence10 7 2 (findings ring2 line2 1)) ≡ 1)
+    × (shown silence10 8 2 (findings ring2 line2 1) ≡ finding 9 3 1 ∷ finding 10 4 0 ∷ finding 11 5 1 ∷ [])
+    × (length (hidden silence10 8 2 (findings ring2 line2 1)) ≡ 0)
+    × (length (hidden silence10 0 2 (findings ring2 line2 1)) ≡ 0)
+    × (length (hidden silence10 7 3 (findings ring2 line2 1)) ≡ 0)
+unfolding ring2 line2 silence10 shown hidden isSame names ascii count lowest differs distance lowestRotation foundAt findingsBelow
+sample-hidden = (refl, refl, refl, refl, refl, refl)
+
+-- A silence for cell 0 hides in cell 0 alone: "Letting cell 0 in a silence stand for all cells" looks right and is not.
+sample-cell-0 : (length (hidden (silence 0 2 10 ∷ []) 7 2 (findings ring2 line2 1)) ≡ 0) × (length (hidden (silence 0 2 10 ∷ []) 0 2 (findings ring2 line2 1)) ≡ 1)
+unfolding ring2 line2 hidden isSame names ascii count lowest differs distance lowestRotation foundAt findingsBelow
+sample-cell-0 = (refl, refl)
+
+-- "found 2 hidden 1 looks 12", and the one line "0 0 0": of the words lent, three are written and three kept.
+sample-example : (reportedBy (ascii "aa") (ascii "aaa") 0 7 2 (accepted (silence 7 2 1 ∷ [])) ≡ accepted (record { found = 2; hidden = 1; looks = 12 }))
+    × (reportedWordsBy (ascii "aa") (ascii "aaa") 0 7 2 (1 ∷ 2 ∷ 3 ∷ 4 ∷ 5 ∷ 6 ∷ []) (accepted (silence 7 2 1 ∷ [])) ≡ 0 ∷ 0 ∷ 0 ∷ 4 ∷ 5 ∷ 6 ∷ [])
+unfolding shown hidden wordsOf written isSame names ascii count lowest someBelow differs distance lowestRotation foundAt findingsBelow begins fits readEdge readLeft readWindow windowsFrom candidatesOf reported readLooks tallyLooks verifyLooks
+sample-example = (refl, refl)
