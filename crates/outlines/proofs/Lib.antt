@@ -1,48 +1,58 @@
--- Laws behind the calls, one module for each idea. The functions' proofs cite them.
+-- Laws behind the calls, one module for each idea; the functions' proofs cite them. In the order in which they build on each other.
+-- Rows 1 to 4.
 pub mod AdmitCases
 pub mod AdmitRows
+-- A window and its reading.
+pub mod WindowEdges
+pub mod ReadingLoop
+-- Loops over counts.
 pub mod StoredBelow
 pub mod LeastSoFar
 pub mod LeastCount
 pub mod ClearLoop
 pub mod LowestLoop
+-- The tally counted afresh.
 pub mod DoubledLoop
 pub mod EdgeLoop
 pub mod AfreshLoop
+-- The tally moved a step at a time.
 pub mod NextRotation
-pub mod WindowEdges
 pub mod ChangeLoop
 pub mod RenumberLoop
 pub mod StepTallied
 pub mod MoveLoop
 pub mod VerifyCases
-pub mod ReadingLoop
+pub mod NextCases
+-- What a start's tally says of it, and a window of the sweep.
 pub mod TallyFinding
 pub mod SweepCases
+-- The quick scan.
 pub mod WordsPut
+pub mod ScanAll
 pub mod ScanWindows
 pub mod ScanKeeps
 pub mod SearchAnswers
 pub mod ScanAnswers
-pub mod NextCases
+-- The plain survey, and what holds of both searches.
 pub mod SurveyLoop
 pub mod SurveyAnswers
 pub mod RowsOfSearching
 pub mod OneSearchAnswer
-pub mod SameFindings
 pub mod SearchLooks
-pub mod ScanAll
-pub mod ShownOneMore
-pub mod ShownExactly
-pub mod ShownAndHidden
+pub mod SameFindings
+-- The report.
 pub mod AskCases
+pub mod ShownOneMore
 pub mod ReportKeeps
 pub mod ReportAnswers
-pub mod ReportOneAnswer
+-- What a report gives.
+pub mod ShownExactly
+pub mod ShownAndHidden
+pub mod ShownRising
 pub mod SilencesAlike
 pub mod OneSilenceMore
 pub mod EmptyBookIsScan
+pub mod ReportGives
 pub mod ReportRefusals
 pub mod ReportRows
-pub mod ReportGives
-pub mod ShownRising
+pub mod ReportOneAnswer
