@@ -3,38 +3,35 @@
 -- Assumes nothing.
 use Prim.Native.Nat.{ℕ, _+_, _≤_, _<_}
 use mathlib.Core.Logic.{⊎-elim, _↔_, Iff·rfl, Iff·trans, Iff·and}
-use mathlib.Core.Path.{_≡_, refl, sym, ap, subst, _∙_}
-use mathlib.Core.List.{List, [], _++_}
+use mathlib.Core.Path.{_≡_, sym, subst, _∙_}
+use mathlib.Core.List.{List}
 use mathlib.Core.Option.{none}
 use native.Mathlib.Omega.{arith}
-use lib.ListN.{length, take, drop, take-append-drop}
-use lib.Seq.{take-at}
+use lib.ListN.{length}
 use Rattle.meaning.proofs.Cases.{le-or-lt}
 use Rattle.answers.specs.declared.refusals.Refusal.{Refusal}
 use Rattle.answers.specs.declared.refusals.Refusal.the-variants.{BookLength, Field, NotAbove}
 use Rattle.answers.specs.Refusals.{numberOf}
 use Rattle.answers.specs.Paper.{refused}
-use Rattle.book.specs.Silences.{Silence}
-use Rattle.book.specs.Layout.{layout}
 use Rattle.book.specs.Reading.{headLength, silenceAt, readBook}
 use Rattle.book.specs.Books.{IsBytes}
-use Rattle.book.specs.Rows.{IsFineBefore, IsNotAbove, IsFieldFault, IsOrderFault}
+use Rattle.book.specs.Rows.{IsNotAbove, IsFieldFault, IsOrderFault}
+use Rattle.book.proofs.AnswerCases.{row-unique}
+use Rattle.book.proofs.ReadFrom.{readBook-long, readBook-fields}
 use Rattle.book.proofs.FieldTest.{field-whole-is, field-whole-iff, field-faulty-iff}
-use Rattle.book.proofs.AscendingAfter.{ascending-after-iff, not-above-iff}
-use Rattle.book.proofs.FieldsRead.{FieldsRead, ReadsAs, stopped-faulty, stopped-order, reads-as, reads-as-is}
-use Rattle.book.proofs.LayoutRead.{read-ascends, read-stop-is, read-in-range, read-bytes-are, layout-read}
-use Rattle.book.proofs.AcceptedIsLayout.{readBook-long, readBook-is}
-use Rattle.book.proofs.RowNumbers.{one-row}
+use Rattle.book.proofs.AscendingAfter.{not-above-iff}
+use Rattle.book.proofs.FieldsRead.{ReadsAs, stopped-faulty, stopped-order, reads-as, reads-as-is}
+use Rattle.book.proofs.LayoutRead.{read-fine, fine-read}
 
 module _ (book : List ℕ) where
-  -- Another row than 5 is given exactly when the book is no longer than 13,000 bytes and reading it gives that row.
+  -- another row than 5 is given exactly when the book is no longer than 13,000 bytes and reading it gives that row
   refused-reads-iff : (r : Refusal) → (numberOf r ≡ 5 → ⊥) → (readBook book ≡ refused r) ↔ ((length book ≤ 13000) × ReadsAs book none 0 (refused r))
   refused-reads-iff r other = (
     λ e. ⊎-elim
-        (λ h. (h, reads-as book none 0 (refused r) (sym (readBook-is book h) ∙ e)))
-        (λ h. absurd (other (one-row (readBook book) r BookLength e (readBook-long book h))))
+        (λ h. (h, reads-as book none 0 (refused r) (sym (readBook-fields book h) ∙ e)))
+        (λ h. absurd (other (row-unique e (readBook-long book h))))
         (le-or-lt (length book) 13000),
-    λ h. readBook-is book (h .0) ∙ reads-as-is book (h .1),
+    λ h. readBook-fields book (h .0) ∙ reads-as-is book (h .1),
   )
 
   -- past row 5, reading gives row 6 or 7
@@ -46,7 +43,7 @@ module _ (book : List ℕ) where
   pub book-row-5-iff : (readBook book ≡ refused BookLength) ↔ (13000 < length book)
   book-row-5-iff = (
     λ e. ⊎-elim
-        (λ h. absurd (omega (arith, reads-row BookLength (reads-as book none 0 (refused BookLength) (sym (readBook-is book h) ∙ e)))))
+        (λ h. absurd (omega (arith, reads-row BookLength (reads-as book none 0 (refused BookLength) (sym (readBook-fields book h) ∙ e)))))
         (λ h. h)
         (le-or-lt (length book) 13000),
     readBook-long book,
@@ -56,36 +53,21 @@ module _ (book : List ℕ) where
   pub book-rows : (r : Refusal) → readBook book ≡ refused r → (5 ≤ numberOf r) × (numberOf r ≤ 7)
   book-rows r e =
       ⊎-elim
-      (λ h. omega (arith, reads-row r (reads-as book none 0 (refused r) (sym (readBook-is book h) ∙ e))))
-      (λ h. omega (arith, one-row (readBook book) r BookLength e (readBook-long book h)))
+      (λ h. omega (arith, reads-row r (reads-as book none 0 (refused r) (sym (readBook-fields book h) ∙ e))))
+      (λ h. omega (arith, row-unique e (readBook-long book h)))
       (le-or-lt (length book) 13000)
 
 module _ (book : List ℕ) (bytes : IsBytes book) where
-  -- fields that were read are fine
-  fine-of-read : {ss : List Silence} {stop : ℕ} → FieldsRead book none 0 ss stop → IsFineBefore book stop ss
-  fine-of-read {ss} {stop} f =
-      let offset-is : stop ≡ length (layout ss) = omega (arith, read-stop-is f) in
-      record {
-        laid-out = ap (take stop) (read-bytes-are book bytes f) ∙ take-at (layout ss) (drop stop book) stop (sym offset-is);
-        offset-is = offset-is;
-        in-range = read-in-range book bytes f;
-        ascending = ascending-after-iff ss .1 (read-ascends f);
-      }
-
-  -- and fine ones are read
-  read-of-fine : (ss : List Silence) (at : ℕ) → IsFineBefore book at ss → FieldsRead book none 0 ss at
-  read-of-fine ss at f =
-      layout-read ss none [] (drop at book) book 0 at (f .in-range) (ascending-after-iff ss .0 (f .ascending))
-      (sym (take-append-drop at book) ∙ ap (λ (l : List ℕ). l ++ drop at book) (f .laid-out)) refl (omega (arith, f .offset-is))
-
+  -- where reading stops at no field, row 6's fault stands
   field-fault : (at : ℕ) → ReadsAs book none 0 (refused (Field at)) → IsFieldFault book at
-  field-fault at (stopped-faulty {ss = ss} f h n) = record { fine = ss; fine-before = fine-of-read f; more = h; no-field = field-faulty-iff book at .0 n }
+  field-fault at (stopped-faulty {ss = ss} f h n) = record { fine = ss; fine-before = read-fine book bytes f; more = h; no-field = field-faulty-iff book at .0 n }
 
+  -- and where it stops at a record not above, row 7's
   order-fault : (at : ℕ) → ReadsAs book none 0 (refused (NotAbove at)) → IsOrderFault book at
   order-fault at (stopped-order {ss = ss} {s = s} {next = next} f n o) =
       record {
         fine = ss;
-        fine-before = fine-of-read f;
+        fine-before = read-fine book bytes f;
         field = field-whole-is book at s next n .0;
         not-above = subst (IsNotAbove ss) (field-whole-is book at s next n .1) (not-above-iff ss s .0 o);
       }
@@ -96,7 +78,7 @@ module _ (book : List ℕ) (bytes : IsBytes book) where
       Iff·trans (refused-reads-iff book (Field at) (λ q. omega arith))
       (Iff·and Iff·rfl (
         field-fault at,
-        λ f. stopped-faulty (read-of-fine (f .fine) at (f .fine-before)) (f .more) (field-faulty-iff book at .1 (f .no-field)),
+        λ f. stopped-faulty (fine-read book (f .fine) at (f .fine-before)) (f .more) (field-faulty-iff book at .1 (f .no-field)),
       ))
 
   -- Row 7 is given, at a byte offset, exactly when row 5 is not and the first faulty field stands there, whole, and isn't above the one before it.
@@ -105,6 +87,6 @@ module _ (book : List ℕ) (bytes : IsBytes book) where
       Iff·trans (refused-reads-iff book (NotAbove at) (λ q. omega arith))
       (Iff·and Iff·rfl (
         order-fault at,
-        λ f. stopped-order (read-of-fine (f .fine) at (f .fine-before)) (field-whole-iff book at .1 (f .field))
+        λ f. stopped-order (fine-read book (f .fine) at (f .fine-before)) (field-whole-iff book at .1 (f .field))
             (not-above-iff (f .fine) (silenceAt book (at + headLength)) .1 (f .not-above)),
       ))

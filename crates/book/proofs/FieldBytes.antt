@@ -19,17 +19,16 @@ use Rattle.book.proofs.FieldTest.{field-whole-is, field-whole-iff}
 -- The value of a silence has 10 bytes.
 pub value-length : (s : Silence) → length (valueOf s) ≡ 10
 unfolding valueOf
-value-length s =
-    simp (length-append, bytesOf-length) (omega arith)
+value-length s = simp (length-append, bytesOf-length) (omega arith)
 
--- the field of a silence: 21 00 0A hex, and its value
-head-is : (s : Silence) → fieldOf s ≡ 0x21 ∷ 0x00 ∷ 0x0a ∷ valueOf s
+-- The field of a silence: 21 00 0A hex, and its value.
+pub fieldOf-is : (s : Silence) → fieldOf s ≡ 0x21 ∷ 0x00 ∷ 0x0a ∷ valueOf s
 unfolding fieldOf bytesOf
-head-is s = ap (λ (n : ℕ). 0x21 ∷ bytesOf 2 n ++ valueOf s) (value-length s)
+fieldOf-is s = ap (λ (n : ℕ). 0x21 ∷ bytesOf 2 n ++ valueOf s) (value-length s)
 
 -- "Each silence is one field of 13 bytes."
 pub field-length : (s : Silence) → length (fieldOf s) ≡ 13
-field-length s = ap length (head-is s) ∙ omega (arith, value-length s)
+field-length s = ap length (fieldOf-is s) ∙ omega (arith, value-length s)
 
 -- a number's bytes, wherever they stand in a book
 number-in : (count number at : ℕ) (front rest book : List ℕ) → book ≡ front ++ (bytesOf count number ++ rest) → at ≡ length front → number < 256 ^ count
@@ -61,9 +60,9 @@ pub field-of-silence : (s : Silence) → InRange s → (front rest : List ℕ)
 field-of-silence s in-range front rest =
     let book : List ℕ = front ++ (fieldOf s ++ rest) in
     let head : List ℕ = 0x21 ∷ 0x00 ∷ 0x0a ∷ [] in
-    let laid-out : book ≡ front ++ head ++ (valueOf s ++ rest) = ap (λ (l : List ℕ). front ++ (l ++ rest)) (head-is s) ∙ simp append-assoc in
+    let laid-out : book ≡ front ++ head ++ (valueOf s ++ rest) = ap (λ (l : List ℕ). front ++ (l ++ rest)) (fieldOf-is s) ∙ simp append-assoc in
     let begins : take 3 (drop (length front) book) ≡ head =
-    ap (take 3) (drop-append-seam front (fieldOf s ++ rest)) ∙ ap (λ (l : List ℕ). take 3 (l ++ rest)) (head-is s) in
+    ap (take 3) (drop-append-seam front (fieldOf s ++ rest)) ∙ ap (λ (l : List ℕ). take 3 (l ++ rest)) (fieldOf-is s) in
     let not-cut : length front + 13 ≤ length book =
     omega (arith, length-append front (fieldOf s ++ rest), length-append (fieldOf s) rest, field-length s) in
     let value-at : length (front ++ head) ≡ length front + 3 = length-append front head in
@@ -121,5 +120,5 @@ silence-of-field book bytes at s next e =
       bytes-are =
           sym (take-append-drop 3 (drop at book))
           ∙ joined (f .0 .begins) (drop-drop 3 at book ∙ value-first)
-          ∙ ap (λ (l : List ℕ). l ++ drop next book) (sym (head-is s));
+          ∙ ap (λ (l : List ℕ). l ++ drop next book) (sym (fieldOf-is s));
     }

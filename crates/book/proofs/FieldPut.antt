@@ -1,19 +1,21 @@
--- A field is put by putting its numbers one after the other: tag, length, cell, ring number, start.
+-- A field is put by putting its numbers one after the other: tag, length, cell, ring number, start. Each begins where the one before it ends, and together they are
+-- the field's bytes (`fieldOf-is`).
 -- Assumes nothing.
 use Prim.Native.Nat.{ℕ, _+_, _≤_}
-use mathlib.Core.Path.{_≡_, refl, sym, ap, _∙_}
-use mathlib.Core.List.{List, _∷_, _++_, append-assoc}
+use mathlib.Core.Path.{_≡_, sym, ap, _∙_}
+use mathlib.Core.List.{List, _++_, append-assoc}
 use native.Mathlib.Omega.{arith}
 use lib.ListN.{length, length-append}
 use Rattle.book.specs.Numbers.{bytesOf}
 use Rattle.book.specs.Silences.{Silence}
 use Rattle.book.specs.Layout.{silenceTag, valueOf, fieldOf}
 use Rattle.book.specs.Putting.{writtenAt, IsPut}
-use Rattle.book.proofs.FieldLength.{bytes-length, value-length}
+use Rattle.book.proofs.NumberBytes.{bytesOf-length}
+use Rattle.book.proofs.FieldBytes.{fieldOf-is}
 use Rattle.book.proofs.WrittenAt.{writtenAt-append}
 
--- Bytes are put, and then more just past them: both are put.
-pub put-append : {at next last : ℕ} {a b area mid out : List ℕ} → at + length a ≤ length area → IsPut at a area next mid → IsPut next b mid last out
+-- bytes are put, and then more just past them: both are put
+put-append : {at next last : ℕ} {a b area mid out : List ℕ} → at + length a ≤ length area → IsPut at a area next mid → IsPut next b mid last out
     → IsPut at (a ++ b) area last out
 put-append {at} {next} {last} {a} {b} {area} {mid} {out} room first then =
     record {
@@ -25,24 +27,18 @@ put-append {at} {next} {last} {a} {b} {area} {mid} {out} room first then =
 
 -- A number is put in its count of bytes.
 pub number-next : {at next : ℕ} {area out : List ℕ} (count number : ℕ) → IsPut at (bytesOf count number) area next out → next ≡ at + count
-number-next {at} count number is-put = is-put .next-is ∙ ap (λ (n : ℕ). at + n) (bytes-length count number)
-
--- The tag and the two bytes of the length, as a field has them.
-head-is : bytesOf 1 silenceTag ++ bytesOf 2 10 ≡ silenceTag ∷ bytesOf 2 10
-unfolding bytesOf
-head-is = refl
+number-next {at} count number is-put = is-put .next-is ∙ ap (λ (n : ℕ). at + n) (bytesOf-length count number)
 
 module _ (s : Silence) where
-  -- A field is its numbers, each in its bytes.
+  -- a field is its numbers, each in its bytes
   field-numbers : bytesOf 1 silenceTag ++ bytesOf 2 10 ++ bytesOf 4 (s .cell) ++ bytesOf 2 (s .ringNumber) ++ bytesOf 4 (s .start) ≡ fieldOf s
-  unfolding valueOf fieldOf
+  unfolding bytesOf valueOf
   field-numbers =
       let head : List ℕ = bytesOf 1 silenceTag ++ bytesOf 2 10 in
       let address : List ℕ = bytesOf 4 (s .cell) ++ bytesOf 2 (s .ringNumber) in
       ap (λ (l : List ℕ). l ++ bytesOf 4 (s .start)) (append-assoc head (bytesOf 4 (s .cell)) (bytesOf 2 (s .ringNumber)))
       ∙ append-assoc head address (bytesOf 4 (s .start))
-      ∙ ap (λ (l : List ℕ). l ++ valueOf s) head-is
-      ∙ ap (λ (n : ℕ). silenceTag ∷ bytesOf 2 n ++ valueOf s) (sym (value-length s))
+      ∙ sym (fieldOf-is s)
 
   -- Its numbers put one after the other, it is put.
   pub field-put : {at length-at value-at ring-at start-at next : ℕ} {area a b c d out : List ℕ} → at + length (fieldOf s) ≤ length area

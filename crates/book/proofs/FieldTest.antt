@@ -1,5 +1,5 @@
 -- `fieldAt` tests what row 6 says: a field stands exactly where 13 bytes begin 21 00 0A hex and are not cut off (`IsField`). By its three tests: the
--- tag, the two length bytes, which make 10 only as 00 0A, and the field's end.
+-- tag, the two length bytes, which make 10 only as 00 0A, and the field's end. Then the same by each test, as code goes by them.
 -- Assumes nothing.
 use Prim.Native.Nat.{ℕ, suc, _+_, _*_, _≤_, _<_}
 use mathlib.Core.Logic.{_⊎_, inl, inr, ⊎-elim, _↔_}
@@ -12,22 +12,11 @@ use lib.ListN.{length, getD, take, drop}
 use lib.Seq.{drop-cons, getD-drop, getD-take}
 use borrow.Author.Tests.{eqb-true, eqb-false, leb-true, leb-false}
 use Rattle.book.specs.Numbers.{numberAt}
-use Rattle.book.specs.Silences.{Silence}
+use Rattle.book.specs.Silences.{Silence, silence}
 use Rattle.book.specs.Layout.{silenceTag}
 use Rattle.book.specs.Reading.{headLength, lengthByTag, silenceAt, whole, faulty, isWhole, fieldBy, fieldAt}
 use Rattle.book.specs.Books.{IsField}
-
--- A whole field determines its silence.
-pub silence-same : {s t : Silence} {i j : ℕ} → whole s i ≡ whole t j → s ≡ t
-silence-same e = cc
-
--- And its end.
-pub next-same : {s t : Silence} {i j : ℕ} → whole s i ≡ whole t j → i ≡ j
-next-same e = cc
-
--- A faulty field is not whole.
-pub never-whole : (s : Silence) (next : ℕ) → faulty ≡ whole s next → ⊥
-never-whole s next e = let z : _≡_ {A = ℕ} 0 1 = cc in omega arith
+use Rattle.book.proofs.FieldEnds.{faulty-not-whole, whole-silence-unique, whole-next-unique}
 
 module _ (book : List ℕ) (at : ℕ) where
   -- the bytes at the beginning of a field, one by one
@@ -68,8 +57,8 @@ module _ (book : List ℕ) (at : ℕ) where
   tests-field tag long end =
       record { begins = begins-from (omega arith) tag (omega (arith, length-is)) (omega (arith, length-is)); not-cut = omega arith }
 
-  -- Where a field stands, it is whole; where none stands, it is faulty.
-  pub field-cases : (IsField book at × (fieldAt book at ≡ whole (silenceAt book (at + headLength)) (at + 13))) ⊎ ((IsField book at → ⊥) × (fieldAt book at ≡ faulty))
+  -- where a field stands, it is whole; where none stands, it is faulty
+  field-cases : (IsField book at × (fieldAt book at ≡ whole (silenceAt book (at + headLength)) (at + 13))) ⊎ ((IsField book at → ⊥) × (fieldAt book at ≡ faulty))
   unfolding fieldAt fieldBy lengthByTag isWhole
   field-cases = go (eqb (getD book at 0) silenceTag) (eqb (numberAt 2 book (at + 1)) 10) (leb (at + headLength + 10) (length book)) refl refl refl
     where
@@ -90,8 +79,8 @@ module _ (book : List ℕ) (at : ℕ) where
   pub field-whole-is : (s : Silence) (next : ℕ) → fieldAt book at ≡ whole s next → IsField book at × (s ≡ silenceAt book (at + headLength)) × (next ≡ at + 13)
   field-whole-is s next e =
       ⊎-elim
-      (λ y. (y .0, silence-same (sym e ∙ y .1), next-same (sym e ∙ y .1)))
-      (λ n. absurd (never-whole s next (sym (n .1) ∙ e)))
+      (λ y. (y .0, whole-silence-unique (sym e ∙ y .1), whole-next-unique (sym e ∙ y .1)))
+      (λ n. absurd (faulty-not-whole (sym (n .1) ∙ e)))
       field-cases
 
   -- A field is whole.
@@ -102,4 +91,28 @@ module _ (book : List ℕ) (at : ℕ) where
   -- Row 6 of one field: it is faulty exactly where "13 bytes beginning 21 00 0A hex" do not stand, whole.
   pub field-faulty-iff : (fieldAt book at ≡ faulty) ↔ (IsField book at → ⊥)
   field-faulty-iff =
-      (λ e f. never-whole (silenceAt book (at + headLength)) (at + 13) (sym e ∙ field-whole-iff .1 f), λ h. ⊎-elim (λ y. absurd (h (y .0))) (λ n. n .1) field-cases)
+      (λ e f. faulty-not-whole (sym e ∙ field-whole-iff .1 f), λ h. ⊎-elim (λ y. absurd (h (y .0))) (λ n. n .1) field-cases)
+
+  -- Another tag than a silence's: no whole field stands.
+  pub field-tag-no : (getD book at 0 ≡ silenceTag → ⊥) → fieldAt book at ≡ faulty
+  field-tag-no other = field-faulty-iff .1 (λ f. other (field-tests f .0))
+
+  -- Another length than a silence's.
+  pub field-length-no : (numberAt 2 book (at + 1) ≡ 10 → ⊥) → fieldAt book at ≡ faulty
+  field-length-no other = field-faulty-iff .1 (λ f. other (field-tests f .1))
+
+  -- Fewer bytes than a silence's field has; so past the book's end.
+  pub field-cut-off : length book < at + 13 → fieldAt book at ≡ faulty
+  field-cut-off cut = field-faulty-iff .1 (λ f. omega (arith, f .not-cut))
+
+  -- A silence's tag and length, and bytes enough: the field is whole, and ends where its length says.
+  pub field-is-whole : {s : Silence} {next : ℕ} → s ≡ silenceAt book (at + headLength) → next ≡ at + 13
+      → getD book at 0 ≡ silenceTag → numberAt 2 book (at + 1) ≡ 10 → at + 13 ≤ length book → fieldAt book at ≡ whole s next
+  field-is-whole is-silence is-next tag long fits =
+      field-whole-iff .1 (tests-field tag long (omega arith)) ∙ ap₂ whole (sym is-silence) (sym is-next)
+
+-- The silence of the three numbers that are read.
+pub silence-read : (book : List ℕ) (at cell ringNumber start : ℕ) → cell ≡ numberAt 4 book at → ringNumber ≡ numberAt 2 book (at + 4)
+    → start ≡ numberAt 4 book (at + 6) → silence cell ringNumber start ≡ silenceAt book at
+unfolding silenceAt
+silence-read book at cell ringNumber start c r s = simp (c, r, s)

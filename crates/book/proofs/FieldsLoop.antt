@@ -14,7 +14,7 @@ use Rattle.book.specs.Silences.{Silence}
 use Rattle.book.specs.Layout.{fieldOf, layout}
 use Rattle.book.specs.Packing.{silencesOf, recordWords}
 use Rattle.book.specs.Putting.{writtenAt, IsPut}
-use Rattle.book.proofs.SilenceWords.{silenceOfWords, silencesOf-step, silencesOf-end}
+use Rattle.book.proofs.WordsOfSilences.{silenceOfWords, silencesOf-step, silencesOf-end}
 use Rattle.book.proofs.WrittenAt.{writtenAt-zero, writtenAt-none, writtenAt-append}
 
 -- The layout of the silences of the words from `at` on.

@@ -1,18 +1,20 @@
--- The fields that are read are the layout of their silences, and a layout is read: field by field, by the two laws of FieldBytes. The first way the
--- book's elements have to be bytes, the second way the silences have to be in range.
+-- The fields that are read are the layout of their silences, which ascend and are in range (`read-fine`), and such a layout is read (`fine-read`): field by field,
+-- by the two laws of FieldBytes. The first way the book's elements have to be bytes, the second way the silences have to be in range.
 -- Assumes nothing.
 use Prim.Native.Nat.{ℕ, _+_, _*_}
 use mathlib.Core.Path.{_≡_, refl, sym, ap, subst, _∙_}
 use mathlib.Core.List.{List, [], _∷_, _++_, append-assoc}
-use mathlib.Core.Option.{Option, some}
+use mathlib.Core.Option.{Option, none, some}
 use native.Mathlib.Omega.{arith}
-use lib.ListN.{length, drop, length-append}
+use lib.ListN.{length, take, drop, length-append, take-append-drop}
+use lib.Seq.{take-at}
 use Rattle.book.specs.Silences.{Silence, AllInRange}
 use Rattle.book.specs.Layout.{fieldOf, layout}
 use Rattle.book.specs.Books.{IsBytes}
+use Rattle.book.specs.Rows.{IsFineBefore}
 use Rattle.book.specs.Reading.{whole, fieldAt}
 use Rattle.book.proofs.FieldBytes.{field-length, field-of-silence, field-next-is, silence-of-field}
-use Rattle.book.proofs.AscendingAfter.{AscendingAfter}
+use Rattle.book.proofs.AscendingAfter.{AscendingAfter, ascending-after-iff}
 use Rattle.book.proofs.FieldsRead.{FieldsRead, none-read, one-read}
 
 -- A book of fields of 13 bytes.
@@ -32,8 +34,8 @@ pub read-ascends : {book : List ℕ} {last : Option Silence} {at : ℕ} {ss : Li
 read-ascends none-read = tt
 read-ascends (one-read e above more) = (above, read-ascends more)
 
--- Reading stops where their layout ends.
-pub read-stop-is : {book : List ℕ} {last : Option Silence} {at : ℕ} {ss : List Silence} {stop : ℕ} → FieldsRead book last at ss stop
+-- reading stops where their layout ends
+read-stop-is : {book : List ℕ} {last : Option Silence} {at : ℕ} {ss : List Silence} {stop : ℕ} → FieldsRead book last at ss stop
     → stop ≡ at + length (layout ss)
 unfolding layout
 read-stop-is none-read = omega arith
@@ -41,13 +43,13 @@ read-stop-is {book} (one-read {at = at} {s = s} {next = next} {ss = ss} e above 
     omega (arith, field-next-is book at s next e, read-stop-is more, length-append (fieldOf s) (layout ss))
 
 module _ (book : List ℕ) (bytes : IsBytes book) where
-  -- They are in range.
-  pub read-in-range : {last : Option Silence} {at : ℕ} {ss : List Silence} {stop : ℕ} → FieldsRead book last at ss stop → AllInRange ss
+  -- they are in range
+  read-in-range : {last : Option Silence} {at : ℕ} {ss : List Silence} {stop : ℕ} → FieldsRead book last at ss stop → AllInRange ss
   read-in-range none-read = tt
   read-in-range (one-read {at = at} {s = s} {next = next} e above more) = (silence-of-field book bytes at s next e .in-range, read-in-range more)
 
-  -- Their bytes are their layout.
-  pub read-bytes-are : {last : Option Silence} {at : ℕ} {ss : List Silence} {stop : ℕ} → FieldsRead book last at ss stop
+  -- their bytes are their layout
+  read-bytes-are : {last : Option Silence} {at : ℕ} {ss : List Silence} {stop : ℕ} → FieldsRead book last at ss stop
       → drop at book ≡ layout ss ++ drop stop book
   unfolding layout
   read-bytes-are none-read = refl
@@ -56,8 +58,19 @@ module _ (book : List ℕ) (bytes : IsBytes book) where
       ∙ ap (λ (l : List ℕ). fieldOf s ++ l) (read-bytes-are more)
       ∙ sym (append-assoc (fieldOf s) (layout ss) (drop stop book))
 
--- A layout is read, wherever it stands.
-pub layout-read : (ss : List Silence) (last : Option Silence) (front rest book : List ℕ) (at stop : ℕ) → AllInRange ss → AscendingAfter last ss
+  -- Fields that are read from the book's first byte are fine.
+  pub read-fine : {ss : List Silence} {stop : ℕ} → FieldsRead book none 0 ss stop → IsFineBefore book stop ss
+  read-fine {ss} {stop} f =
+      let offset-is : stop ≡ length (layout ss) = omega (arith, read-stop-is f) in
+      record {
+        laid-out = ap (take stop) (read-bytes-are f) ∙ take-at (layout ss) (drop stop book) stop (sym offset-is);
+        offset-is = offset-is;
+        in-range = read-in-range f;
+        ascending = ascending-after-iff ss .1 (read-ascends f);
+      }
+
+-- a layout is read, wherever it stands
+layout-read : (ss : List Silence) (last : Option Silence) (front rest book : List ℕ) (at stop : ℕ) → AllInRange ss → AscendingAfter last ss
     → book ≡ front ++ (layout ss ++ rest) → at ≡ length front → stop ≡ at + length (layout ss) → FieldsRead book last at ss stop
 unfolding layout
 layout-read [] last front rest book at stop in-range ascends e i j =
@@ -71,3 +84,9 @@ layout-read (s ∷ ss) last front rest book at stop in-range ascends e i j =
     one-read here (ascends .0)
     (layout-read ss (some s) (front ++ fieldOf s) rest book next stop (in-range .1) (ascends .1) (e ∙ simp append-assoc) (omega (arith, length-append front (fieldOf s)))
     (omega (arith, length-append (fieldOf s) (layout ss))))
+
+-- Fine ones are read, from the book's first byte.
+pub fine-read : (book : List ℕ) (ss : List Silence) (at : ℕ) → IsFineBefore book at ss → FieldsRead book none 0 ss at
+fine-read book ss at f =
+    layout-read ss none [] (drop at book) book 0 at (f .in-range) (ascending-after-iff ss .0 (f .ascending))
+    (sym (take-append-drop at book) ∙ ap (λ (l : List ℕ). l ++ drop at book) (f .laid-out)) refl (omega (arith, f .offset-is))

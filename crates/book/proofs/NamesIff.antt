@@ -4,12 +4,13 @@
 use Prim.Native.Nat.{ℕ}
 use mathlib.Core.Logic.{_↔_}
 use mathlib.Core.Path.{_≡_, refl, sym, ap, _∙_}
-use mathlib.Core.Bool.{Bool, true, false, _||_}
+use mathlib.Core.Bool.{Bool, true, false, _||_, or-true, false≢true}
 use mathlib.Core.List.{List, [], _∷_, List·Memᴰ, List·Memᴰ·head, List·Memᴰ·tail}
 use Rattle.book.specs.Silences.{Silence, silence, isSame, names, Names}
-use Rattle.book.proofs.SilenceOrder.{false-not-true, isSame-yes, isSame-refl}
+use Rattle.book.proofs.SilenceOrder.{isSame-iff}
 
 module _ (cell ringNumber start : ℕ) where
+  -- the address asked for
   address : Silence
   address = silence cell ringNumber start
 
@@ -18,6 +19,7 @@ module _ (cell ringNumber start : ℕ) where
   names-tail s ss n =
       record { named = n .named; among = List·Memᴰ·tail (n .among); cell-is = n .cell-is; ring-number-is = n .ring-number-is; start-is = n .start-is }
 
+  -- the first silence is the address
   names-head : (s : Silence) (ss : List Silence) → s ≡ address → Names (s ∷ ss) cell ringNumber start
   unfolding address
   names-head s ss e =
@@ -30,27 +32,23 @@ module _ (cell ringNumber start : ℕ) where
       }
 
   -- what the test finds named is named
-  pub names-yes : (ss : List Silence) → names ss cell ringNumber start ≡ true → Names ss cell ringNumber start
+  names-yes : (ss : List Silence) → names ss cell ringNumber start ≡ true → Names ss cell ringNumber start
   unfolding names address
-  names-yes [] e = absurd (false-not-true e)
+  names-yes [] e = absurd (false≢true e)
   names-yes (s ∷ ss) e = go (isSame s address) refl (names-yes ss) e
     where
       go : (t : Bool) → isSame s address ≡ t → (names ss cell ringNumber start ≡ true → Names ss cell ringNumber start)
           → (t || names ss cell ringNumber start) ≡ true → Names (s ∷ ss) cell ringNumber start
-      go true h more e′ = names-head s ss (isSame-yes s address h)
+      go true h more e′ = names-head s ss (isSame-iff s address .0 h)
       go false h more e′ = names-tail s ss (more e′)
-
-  or-right : (a b : Bool) → b ≡ true → (a || b) ≡ true
-  or-right true b e = refl
-  or-right false b e = e
 
   -- a silence that stands in the list, and is the address, is found
   names-of : {s : Silence} {ss : List Silence} → List·Memᴰ s ss → s ≡ address → names ss cell ringNumber start ≡ true
   unfolding names address
-  names-of (List·Memᴰ·head {x = x} {xs = xs} e) is = ap (λ (t : Bool). t || names xs cell ringNumber start) (ap (λ (t : Silence). isSame t address) (sym e ∙ is) ∙ isSame-refl address)
-  names-of (List·Memᴰ·tail {x = x} {xs = xs} m) is = or-right (isSame x address) (names xs cell ringNumber start) (names-of m is)
+  names-of (List·Memᴰ·head {x = x} {xs = xs} e) is = ap (λ (t : Bool). t || names xs cell ringNumber start) (ap (λ (t : Silence). isSame t address) (sym e ∙ is) ∙ isSame-iff address address .1 refl)
+  names-of (List·Memᴰ·tail {x = x} {xs = xs} m) is = ap (λ (t : Bool). isSame x address || t) (names-of m is) ∙ or-true (isSame x address)
 
-  -- the test is the proposition
+  -- The test is the proposition.
   pub names-iff : (ss : List Silence) → (names ss cell ringNumber start ≡ true) ↔ Names ss cell ringNumber start
   unfolding address
   names-iff ss = (names-yes ss, λ n. names-of (n .among) (λ i. record { cell = n .cell-is i; ringNumber = n .ring-number-is i; start = n .start-is i }))

@@ -16,8 +16,8 @@ pub record Numbered (bytes : List ℕ) (at count number done : ℕ) : Type 0 whe
   pub is : number ≡ numberAt done bytes at
   pub lt : number < 256 ^ done
 
--- The number of one byte more.
-pub numberAt-step : (done : ℕ) (bytes : List ℕ) (at : ℕ) → numberAt (done + 1) bytes at ≡ numberAt done bytes at * 256 + getD bytes (at + done) 0
+-- the number of one byte more
+numberAt-step : (done : ℕ) (bytes : List ℕ) (at : ℕ) → numberAt (done + 1) bytes at ≡ numberAt done bytes at * 256 + getD bytes (at + done) 0
 unfolding numberAt
 numberAt-step done bytes at = rw (add-one done)
 

@@ -11,7 +11,7 @@ use native.Mathlib.Omega.{arith}
 use lib.ListN.{length, set, length-set}
 use Rattle.book.specs.Numbers.{bytesOf}
 use Rattle.book.specs.Putting.{writtenAt, IsPut}
-use Rattle.book.proofs.FieldLength.{bytes-length}
+use Rattle.book.proofs.NumberBytes.{bytesOf-length}
 use Rattle.book.proofs.WrittenAt.{writtenAt-none, writtenAt-last}
 
 -- What the loop keeps.
@@ -22,8 +22,8 @@ pub record PutNumber (at count number : ℕ) (area : List ℕ) (rest left : ℕ)
 
 module _ (at count number : ℕ) (area : List ℕ) where
   -- At the start all bytes are left.
-  pub number-start : PutNumber at count number area number count area
-  number-start = record { left-le = omega arith; length-is = refl; whole-is = refl }
+  pub put-number-start : PutNumber at count number area number count area
+  put-number-start = record { left-le = omega arith; length-is = refl; whole-is = refl }
 
   -- the last of the bytes left is stored
   store-last : (rest before : ℕ) (out : List ℕ) → at + before < length out
@@ -31,14 +31,14 @@ module _ (at count number : ℕ) (area : List ℕ) where
   unfolding bytesOf
   store-last rest before out h =
       let others : List ℕ = bytesOf before (rest / 256) in
-      let long : length others ≡ before = bytes-length before (rest / 256) in
+      let long : length others ≡ before = bytesOf-length before (rest / 256) in
       ap (λ (n : ℕ). writtenAt at others (set out (at + n) (rest % 256))) (sym long)
       ∙ writtenAt-last at others (rest % 256) out (omega arith)
 
   -- A turn stores the last of the bytes left, and the number left is what stands before it.
-  pub number-turn : {rest left : ℕ} {out : List ℕ} → at + count ≤ length area → 0 < left → PutNumber at count number area rest left out
+  pub put-number-turn : {rest left : ℕ} {out : List ℕ} → at + count ≤ length area → 0 < left → PutNumber at count number area rest left out
       → PutNumber at count number area (rest / 256) (left - 1) (set out (at + (left - 1)) (rest % 256))
-  number-turn {rest} {left} {out} room more now =
+  put-number-turn {rest} {left} {out} room more now =
       let one : suc (left - 1) ≡ left = omega arith in
       record {
         left-le = omega (arith, now .left-le);
@@ -49,11 +49,11 @@ module _ (at count number : ℕ) (area : List ℕ) where
       }
 
   -- At the end no byte is left: the number is written.
-  pub number-end : {rest left : ℕ} {out : List ℕ} → left ≤ 0 → PutNumber at count number area rest left out → IsPut at (bytesOf count number) area (at + count) out
+  pub put-number-end : {rest left : ℕ} {out : List ℕ} → left ≤ 0 → PutNumber at count number area rest left out → IsPut at (bytesOf count number) area (at + count) out
   unfolding bytesOf
-  number-end {rest} {left} {out} none-left now =
+  put-number-end {rest} {left} {out} none-left now =
       let none : 0 ≡ left = omega arith in
       record {
-        next-is = ap (λ (n : ℕ). at + n) (sym (bytes-length count number));
+        next-is = ap (λ (n : ℕ). at + n) (sym (bytesOf-length count number));
         area-is = sym (writtenAt-none at out) ∙ ap (λ (n : ℕ). writtenAt at (bytesOf n rest) out) none ∙ now .whole-is;
       }

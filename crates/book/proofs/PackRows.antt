@@ -18,12 +18,12 @@ use Rattle.book.specs.Silences.{Silence, Ascending}
 use Rattle.book.specs.Layout.{layout}
 use Rattle.book.specs.Packing.{mostWords, recordWords, silencesOf, isWordCount, packed, inRoom}
 use Rattle.book.specs.Rows.{HasWordCount, AllRingNumbers, IsRingFault, IsRecordFault, IsPackable}
-use Rattle.book.proofs.RowNumbers.{one-row, never-both}
+use Rattle.book.proofs.AnswerCases.{accepted-not-refused, row-unique}
 use Rattle.book.proofs.RoomRows.{in-room-accepted-iff, in-room-row-iff, in-room-10-iff}
 use Rattle.book.proofs.RecordRows.{packedRecords, records-rows, records-accepted-iff, records-9-iff, records-7-iff}
 
--- The words have a right number, or "aren't a multiple of 3, or exceed 3,000"; and so says the test.
-pub word-count-cases : (words : List ℕ)
+-- the words have a right number, or "aren't a multiple of 3, or exceed 3,000"; and so says the test
+word-count-cases : (words : List ℕ)
     → ((isWordCount words ≡ true) × HasWordCount words) ⊎ ((isWordCount words ≡ false) × ((length words % 3 ≡ 0 → ⊥) ⊎ (3000 < length words)))
 unfolding isWordCount
 word-count-cases words = go (eqb (length words % recordWords) 0) (leb (length words) mostWords) refl refl
@@ -34,13 +34,23 @@ word-count-cases words = go (eqb (length words % recordWords) 0) (leb (length wo
     go true false e f = inr (simp (e, f), inr (leb-false (length words) mostWords f))
     go false l e f = inr (simp e, inl (eqb-false (length words % recordWords) 0 e))
 
--- A wrong number is not a right one.
+-- a wrong number is not a right one
 not-both-counts : (words : List ℕ) → HasWordCount words → ((length words % 3 ≡ 0 → ⊥) ⊎ (3000 < length words)) → ⊥
 not-both-counts words h n = ⊎-elim (λ m. m (h .multiple)) (λ l. omega (arith, h .words-le)) n
 
+-- What is accepted of the records of a right number of words is all their silences, and they can be packed.
+pub packable : (words : List ℕ) → HasWordCount words → (ss : List Silence) → packedRecords words ≡ accepted ss → IsPackable words × (ss ≡ silencesOf words)
+packable words h ss e =
+    let fine : (ss ≡ silencesOf words) × AllRingNumbers (silencesOf words) × Ascending (silencesOf words) = records-accepted-iff words ss .0 e in
+    (record { word-count = h; ring-numbers = fine .1; ascending = fine .2 }, fine .0)
+
+-- and back
+packable-records : (words : List ℕ) → IsPackable words → packedRecords words ≡ accepted (silencesOf words)
+packable-records words p = records-accepted-iff words (silencesOf words) .1 (refl, p .ring-numbers, p .ascending)
+
 module _ (words : List ℕ) (room : ℕ) where
-  -- with a right number of words the records decide
-  packed-counted : HasWordCount words → packed words room ≡ inRoom layout room (packedRecords words)
+  -- With a right number of words the records decide.
+  pub packed-counted : HasWordCount words → packed words room ≡ inRoom layout room (packedRecords words)
   unfolding packed
   packed-counted h =
       ⊎-elim
@@ -75,7 +85,7 @@ module _ (words : List ℕ) (room : ℕ) where
   counted-row-iff q other = (
     λ e. ⊎-elim
         (λ c. (c .1, sym (packed-counted (c .1)) ∙ e))
-        (λ n. absurd (other (one-row (packed words room) q WordCount e (packed-uncounted (n .1)))))
+        (λ n. absurd (other (row-unique e (packed-uncounted (n .1)))))
         (word-count-cases words),
     λ h. packed-counted (h .0) ∙ h .1,
   )
@@ -93,23 +103,14 @@ module _ (words : List ℕ) (room : ℕ) where
   pub packed-7-iff : (j : ℕ) → (packed words room ≡ refused (NotAbove j)) ↔ (HasWordCount words × IsRecordFault words j)
   packed-7-iff j = Iff·trans (records-row-iff (NotAbove j) (λ q. omega arith) (λ q. omega arith)) (Iff·and Iff·rfl (records-7-iff words j))
 
-  -- what can be packed, from its parts and back
-  packable : HasWordCount words → (ss : List Silence) → packedRecords words ≡ accepted ss → IsPackable words × (ss ≡ silencesOf words)
-  packable h ss e =
-      let fine : (ss ≡ silencesOf words) × AllRingNumbers (silencesOf words) × Ascending (silencesOf words) = records-accepted-iff words ss .0 e in
-      (record { word-count = h; ring-numbers = fine .1; ascending = fine .2 }, fine .0)
-
-  packable-records : IsPackable words → packedRecords words ≡ accepted (silencesOf words)
-  packable-records p = records-accepted-iff words (silencesOf words) .1 (refl, p .ring-numbers, p .ascending)
-
   -- Row 10, exactly when the words can be packed and there is less room than for their book.
   pub packed-10-iff : (packed words room ≡ refused OutputRoom) ↔ (IsPackable words × (room < length (layout (silencesOf words))))
   packed-10-iff = (
     λ e. let h : HasWordCount words × (inRoom layout room (packedRecords words) ≡ refused OutputRoom) = counted-row-iff OutputRoom (λ q. omega arith) .0 e in
         let t : (ss : List Silence) × (packedRecords words ≡ accepted ss) × (room < length (layout ss)) = ten .0 (h .1) in
-        let p : IsPackable words × (t .0 ≡ silencesOf words) = packable (h .0) (t .0) (t .1) in
+        let p : IsPackable words × (t .0 ≡ silencesOf words) = packable words (h .0) (t .0) (t .1) in
         (p .0, omega (arith, ap (λ (l : List Silence). length (layout l)) (p .1))),
-    λ h. counted-row-iff OutputRoom (λ q. omega arith) .1 (h .0 .word-count, ten .1 (silencesOf words, packable-records (h .0), h .1)),
+    λ h. counted-row-iff OutputRoom (λ q. omega arith) .1 (h .0 .word-count, ten .1 (silencesOf words, packable-records words (h .0), h .1)),
   )
     where
       ten : (inRoom layout room (packedRecords words) ≡ refused OutputRoom) ↔ ((ss : List Silence) × (packedRecords words ≡ accepted ss) × (room < length (layout ss)))
@@ -122,9 +123,9 @@ module _ (words : List ℕ) (room : ℕ) where
     λ e. ⊎-elim
         (λ c. let a : (packedRecords words ≡ accepted ss) × (length (layout ss) ≤ room) =
         in-room-accepted-iff layout room (packedRecords words) ss .0 (sym (packed-counted (c .1)) ∙ e) in
-        let p : IsPackable words × (ss ≡ silencesOf words) = packable (c .1) ss (a .0) in
+        let p : IsPackable words × (ss ≡ silencesOf words) = packable words (c .1) ss (a .0) in
         (p .0, p .1, a .1))
-        (λ n. absurd (never-both (packed words room) ss WordCount e (packed-uncounted (n .1))))
+        (λ n. absurd (accepted-not-refused e (packed-uncounted (n .1))))
         (word-count-cases words),
-    λ h. packed-counted (h .0 .word-count) ∙ in-room-accepted-iff layout room (packedRecords words) ss .1 (packable-records (h .0) ∙ ap accepted (sym (h .1)), h .2),
+    λ h. packed-counted (h .0 .word-count) ∙ in-room-accepted-iff layout room (packedRecords words) ss .1 (packable-records words (h .0) ∙ ap accepted (sym (h .1)), h .2),
   )

@@ -1,78 +1,69 @@
--- Reading field by field. Before the field at `at`, the records counted and those that are read from there on make up the whole answer; where a
--- field is refused, that refusal is the whole answer. Each whole field gets on (`field-ends`), so there are no more records than bytes.
+-- Reading field by field. Before the field at `at` the fields before it have been read (`FieldsRead`), and so many are counted; where reading stops, there or at the
+-- book's end, the walk so far is the whole one (`reads-as-is`). Each whole field gets on (`field-ends`), so there are no more records than bytes.
 -- Assumes nothing.
 use Prim.Native.Nat.{ℕ, _+_, _-_, _≤_, _<_}
-use mathlib.Core.Path.{_≡_, refl, sym, ap, _∙_}
-use mathlib.Core.Bool.{true, false}
-use mathlib.Core.List.{List}
+use mathlib.Core.Path.{_≡_, refl, sym, ap, subst, _∙_}
+use mathlib.Core.Bool.{Bool, true, false}
+use mathlib.Core.List.{List, [], _∷_, _++_}
 use mathlib.Core.Option.{Option, none, some}
 use native.Mathlib.Omega.{arith}
-use lib.ListN.{length}
+use lib.ListN.{length, length-append}
 use Rattle.answers.specs.declared.refusals.Refusal.the-variants.{Field, NotAbove}
 use Rattle.answers.specs.Paper.{Answer, accepted, refused}
 use Rattle.book.specs.Silences.{Silence, isAbove}
-use Rattle.book.specs.Reading.{FieldAt, whole, faulty, fieldAt, before, readField, readFrom}
+use Rattle.book.specs.Reading.{whole, faulty, fieldAt, readFrom}
 use Rattle.book.specs.Calls.{recordsOf}
 use Rattle.book.proofs.FieldEnds.{field-ends}
-use Rattle.book.proofs.ReadFrom.{readFrom-end, readFrom-step}
-
--- So many records more, where the others are accepted.
-abbrev recordsMore : ℕ → Answer ℕ → Answer ℕ
-recordsMore records (accepted others) = accepted (records + others)
-recordsMore records (refused r) = refused r
-
--- none more is the same
-records-more-none : (a : Answer ℕ) → a ≡ recordsMore 0 a
-records-more-none (accepted others) = ap accepted (omega arith)
-records-more-none (refused r) = refl
-
--- one silence before the others is one record more
-records-more-before : (records : ℕ) (s : Silence) (a : Answer (List Silence)) → recordsMore records (recordsOf (before s a)) ≡ recordsMore (records + 1) (recordsOf a)
-records-more-before records s (accepted ss) = ap accepted (omega arith)
-records-more-before records s (refused r) = refl
+use Rattle.book.proofs.AscendingAfter.{lastAfter, lastAfter-end}
+use Rattle.book.proofs.FieldsRead.{FieldsRead, none-read, ReadsAs, read-all, stopped-faulty, stopped-order, read-more, reads-as-is}
 
 -- Before the field at `at`, after so many records, the last of them `last`.
 pub record ReadOn (book : List ℕ) (at records : ℕ) (last : Option Silence) : Type 0 where
   pub at-le : at ≤ length book
   pub records-le : records ≤ at
-  pub answer-is : recordsOf (readFrom book none 0) ≡ recordsMore records (recordsOf (readFrom book last at))
+  pub silences : List Silence
+  pub fields : FieldsRead book none 0 silences at
+  pub records-is : records ≡ length silences
+  pub last-is : last ≡ lastAfter none silences
 
 module _ (book : List ℕ) where
   -- Before the first field.
   pub read-start : ReadOn book 0 0 none
-  read-start = record { at-le = omega arith; records-le = omega arith; answer-is = records-more-none (recordsOf (readFrom book none 0)) }
+  read-start = record { at-le = omega arith; records-le = omega arith; silences = []; fields = none-read; records-is = refl; last-is = refl }
+
+  -- where the walk stops, its answer is the whole one
+  stops-so : {a : Answer (List Silence)} → ReadsAs book none 0 a → recordsOf a ≡ recordsOf (readFrom book none 0)
+  stops-so w = ap recordsOf (sym (reads-as-is book w))
 
   module _ (at records : ℕ) (last : Option Silence) (inv : ReadOn book at records last) where
     -- At the book's end the records counted are the answer.
     pub read-end : length book ≤ at → accepted records ≡ recordsOf (readFrom book none 0)
-    read-end done = sym (inv .answer-is ∙ ap (λ (a : Answer (List Silence)). recordsMore records (recordsOf a)) (readFrom-end book last at done) ∙ ap accepted (omega arith))
-
-    module _ (f : FieldAt) (is : f ≡ fieldAt book at) (within : at < length book) where
-      -- the answer is decided at this field
-      decided-here : recordsOf (readFrom book none 0) ≡ recordsMore records (recordsOf (readField last at f (readFrom book)))
-      decided-here =
-          inv .answer-is
-          ∙ ap (λ (a : Answer (List Silence)). recordsMore records (recordsOf a))
-          (readFrom-step book last at within ∙ ap (λ (g : FieldAt). readField last at g (readFrom book)) (sym is))
+    read-end done = ap accepted (inv .records-is) ∙ stops-so (read-all (inv .fields) done)
 
     -- Where no whole field stands, row 6 at its byte offset is the answer.
     pub read-faulty : faulty ≡ fieldAt book at → at < length book → refused (Field at) ≡ recordsOf (readFrom book none 0)
-    read-faulty is within = sym (decided-here faulty is within)
+    read-faulty is within = stops-so (stopped-faulty (inv .fields) within (sym is))
 
-    module _ (s : Silence) (next : ℕ) (is : whole s next ≡ fieldAt book at) (within : at < length book) where
+    module _ (s : Silence) (next : ℕ) (is : whole s next ≡ fieldAt book at) where
+      -- the last record is that of the walk
+      same-order : {t : Bool} → isAbove last s ≡ t → isAbove (lastAfter none (inv .silences)) s ≡ t
+      same-order {t} e = subst (λ (l : Option Silence). isAbove l s ≡ t) (inv .last-is) e
+
       -- Where its record is not above the last, row 7 at its byte offset is.
       pub read-not-above : isAbove last s ≡ false → refused (NotAbove at) ≡ recordsOf (readFrom book none 0)
-      read-not-above not-above = sym (decided-here (whole s next) is within ∙ simp not-above)
+      read-not-above not-above = stops-so (stopped-order (inv .fields) (sym is) (same-order not-above))
 
       -- Where it is, one record more is counted.
       pub read-turn : isAbove last s ≡ true → ReadOn book next (records + 1) (some s)
       read-turn above =
           let ends : (at < next) × (next ≤ length book) = field-ends book at s next (sym is) in
-          let fewer : records ≤ at = inv .records-le in
           record {
             at-le = omega arith;
-            records-le = omega arith;
-            answer-is = decided-here (whole s next) is within ∙ simp above (records-more-before records s (readFrom book (some s) next));
+            records-le = omega (arith, inv .records-le);
+            silences = inv .silences ++ s ∷ [];
+            fields = read-more (inv .fields) (sym is) (same-order above);
+            records-is = omega (arith, inv .records-is, length-append (inv .silences) (s ∷ []));
+            last-is = sym (lastAfter-end none (inv .silences) s);
           }
 
       -- Fewer bytes are left past it.

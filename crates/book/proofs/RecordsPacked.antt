@@ -1,5 +1,5 @@
 -- Packing as a walk over the records: each is fine, above the one before it and its ring number not above 65,535, as far as one that is not, where
--- packing stops with row 9, or else with row 7, and that one's number (`PacksAs`). The three ways fix what `packRecords` gives.
+-- packing stops with row 9, or else with row 7, and that one's number (`PacksAs`). The three ways fix what `packRecords` gives, by its equation for each way.
 -- Assumes nothing.
 use Prim.Native.Nat.{ℕ, suc, _+_, _≤_, _<_}
 use mathlib.Core.Path.{_≡_, refl, sym, ap, subst, _∙_}
@@ -36,21 +36,26 @@ pub data PacksAs (last : Option Silence) (i : ℕ) (ss : List Silence) : Answer 
       → isAbove (lastAfter last fine) s ≡ false
       → PacksAs last i ss (refused (NotAbove j))
 
+-- One record more after them, its ring number not above 65,535.
+pub ring-numbers-more : (ss : List Silence) (s : Silence) → AllRingNumbers ss → s .ringNumber ≤ 65535 → AllRingNumbers (ss ++ s ∷ [])
+ring-numbers-more [] s rings h = (h, tt)
+ring-numbers-more (t ∷ ss) s rings h = (rings .0, ring-numbers-more ss s (rings .1) h)
+
 module _ (last : Option Silence) (i : ℕ) (s : Silence) (ss : List Silence) where
-  -- a record with a ring number above 65,535
-  step-ring : 65535 < s .ringNumber → packRecords last i (s ∷ ss) ≡ refused (RingNumber i)
+  -- row 9: a ring number above 65,535
+  packRecords-ring-number : 65535 < s .ringNumber → packRecords last i (s ∷ ss) ≡ refused (RingNumber i)
   unfolding packRecords
-  step-ring h = rw (lt-ltb mostRingNumber (s .ringNumber) h)
+  packRecords-ring-number h = rw (lt-ltb mostRingNumber (s .ringNumber) h)
 
-  -- one that is not above the one before it
-  step-order : s .ringNumber ≤ 65535 → isAbove last s ≡ false → packRecords last i (s ∷ ss) ≡ refused (NotAbove i)
+  -- row 7: a record that is not above the one before it
+  packRecords-not-above : s .ringNumber ≤ 65535 → isAbove last s ≡ false → packRecords last i (s ∷ ss) ≡ refused (NotAbove i)
   unfolding packRecords
-  step-order h above = rw (le-ltb mostRingNumber (s .ringNumber) h, above)
+  packRecords-not-above h above = rw (le-ltb mostRingNumber (s .ringNumber) h, above)
 
-  -- one that is fine
-  step-fine : s .ringNumber ≤ 65535 → isAbove last s ≡ true → packRecords last i (s ∷ ss) ≡ before s (packRecords (some s) (suc i) ss)
+  -- one that is fine is taken, and then the records after it
+  packRecords-step : s .ringNumber ≤ 65535 → isAbove last s ≡ true → packRecords last i (s ∷ ss) ≡ before s (packRecords (some s) (suc i) ss)
   unfolding packRecords
-  step-fine h above = rw (le-ltb mostRingNumber (s .ringNumber) h, above)
+  packRecords-step h above = rw (le-ltb mostRingNumber (s .ringNumber) h, above)
 
   -- the walk after a record that is fine
   stands-before : {fine : List Silence} {j : ℕ} {t : Silence} → s .ringNumber ≤ 65535 → isAbove last s ≡ true → RecordStands (some s) (suc i) ss fine j t
@@ -64,6 +69,7 @@ module _ (last : Option Silence) (i : ℕ) (s : Silence) (ss : List Silence) whe
         ascends = (above, r .ascends);
       }
 
+  -- and what it gives
   packs-before : {a : Answer (List Silence)} → s .ringNumber ≤ 65535 → isAbove last s ≡ true → PacksAs (some s) (suc i) ss a
       → PacksAs last i (s ∷ ss) (before s a)
   packs-before h above (packed-all rings ascends) = packed-all (h, rings) (above, ascends)
@@ -79,13 +85,13 @@ module _ (last : Option Silence) (i : ℕ) (s : Silence) (ss : List Silence) whe
   walk-record more = by-ring (ltb 65535 (s .ringNumber)) refl
     where
       by-order : s .ringNumber ≤ 65535 → (t : Bool) → isAbove last s ≡ t → PacksAs last i (s ∷ ss) (packRecords last i (s ∷ ss))
-      by-order h true above = subst (PacksAs last i (s ∷ ss)) (sym (step-fine h above)) (packs-before h above more)
-      by-order h false above = subst (PacksAs last i (s ∷ ss)) (sym (step-order h above)) (stopped-order stands-first h above)
+      by-order h true above = subst (PacksAs last i (s ∷ ss)) (sym (packRecords-step h above)) (packs-before h above more)
+      by-order h false above = subst (PacksAs last i (s ∷ ss)) (sym (packRecords-not-above h above)) (stopped-order stands-first h above)
 
       by-ring : (t : Bool) → ltb 65535 (s .ringNumber) ≡ t → PacksAs last i (s ∷ ss) (packRecords last i (s ∷ ss))
       by-ring true g =
           let above : 65535 < s .ringNumber = ltb-true 65535 (s .ringNumber) g in
-          subst (PacksAs last i (s ∷ ss)) (sym (step-ring above)) (stopped-ring stands-first above)
+          subst (PacksAs last i (s ∷ ss)) (sym (packRecords-ring-number above)) (stopped-ring stands-first above)
       by-ring false g = by-order (ltb-false 65535 (s .ringNumber) g) (isAbove last s) refl
 
 -- the walk over all records
@@ -103,7 +109,7 @@ pack-on : (fine rest : List Silence) (last : Option Silence) (i j : ℕ) → All
     → packRecords last i (fine ++ rest) ≡ beforeAll fine (packRecords (lastAfter last fine) j rest)
 pack-on [] rest last i j rings ascends e = let same : i ≡ j = omega arith in ap (λ (n : ℕ). packRecords last n rest) same
 pack-on (s ∷ fine) rest last i j rings ascends e =
-    step-fine last i s (fine ++ rest) (rings .0) (ascends .0) ∙ ap (before s) (pack-on fine rest (some s) (suc i) j (rings .1) (ascends .1) (omega arith))
+    packRecords-step last i s (fine ++ rest) (rings .0) (ascends .0) ∙ ap (before s) (pack-on fine rest (some s) (suc i) j (rings .1) (ascends .1) (omega arith))
 
 -- And what the walk gives is what `packRecords` gives.
 pub packs-as-is : {last : Option Silence} {i : ℕ} {ss : List Silence} {a : Answer (List Silence)} → PacksAs last i ss a → packRecords last i ss ≡ a
@@ -113,10 +119,10 @@ packs-as-is {last} {i} {ss} (packed-all rings ascends) =
 packs-as-is {last} {i} (stopped-ring {fine = fine} {j = j} {s = s} r g) =
     ap (packRecords last i) (r .records-are)
     ∙ pack-on fine (s ∷ r .later) last i j (r .ring-numbers) (r .ascends) (r .number-is)
-    ∙ ap (beforeAll fine) (step-ring (lastAfter last fine) j s (r .later) g)
+    ∙ ap (beforeAll fine) (packRecords-ring-number (lastAfter last fine) j s (r .later) g)
     ∙ beforeAll-refused fine (RingNumber j)
 packs-as-is {last} {i} (stopped-order {fine = fine} {j = j} {s = s} r g o) =
     ap (packRecords last i) (r .records-are)
     ∙ pack-on fine (s ∷ r .later) last i j (r .ring-numbers) (r .ascends) (r .number-is)
-    ∙ ap (beforeAll fine) (step-order (lastAfter last fine) j s (r .later) g o)
+    ∙ ap (beforeAll fine) (packRecords-not-above (lastAfter last fine) j s (r .later) g o)
     ∙ beforeAll-refused fine (NotAbove j)

@@ -3,28 +3,29 @@
 -- Assumes nothing.
 use Prim.Native.Nat.{ℕ, _≤_, _<_}
 use mathlib.Core.Logic.{_↔_}
-use mathlib.Core.Path.{_≡_, refl, sym, ap, _∙_}
-use mathlib.Core.Bool.{Bool, true, false, cond}
+use mathlib.Core.Path.{_≡_, refl, ap, _∙_}
+use mathlib.Core.Bool.{Bool, cond}
 use mathlib.Core.List.{List}
 use native.Mathlib.Omega.{arith}
 use lib.Dec.{leb}
 use lib.ListN.{length}
 use borrow.Author.Tests.{leb-true, leb-false, le-leb, lt-leb}
+use Rattle.meaning.proofs.Cases.{by-test}
 use Rattle.answers.specs.declared.refusals.Refusal.{Refusal}
 use Rattle.answers.specs.declared.refusals.Refusal.the-variants.{OutputRoom}
 use Rattle.answers.specs.Refusals.{numberOf}
 use Rattle.answers.specs.Paper.{Answer, accepted, refused}
 use Rattle.book.specs.Silences.{Silence}
 use Rattle.book.specs.Packing.{inRoom}
-use Rattle.book.proofs.RowNumbers.{one-row, never-both, one-list}
+use Rattle.book.proofs.AnswerCases.{accepted-not-refused, accepted-unique, row-unique}
 
 module _ (output : List Silence → List ℕ) (room : ℕ) where
-  -- with room for the output, it is accepted
-  in-room : (ss : List Silence) → length (output ss) ≤ room → inRoom output room (accepted ss) ≡ accepted ss
+  -- With room for the output, it is accepted.
+  pub in-room : (ss : List Silence) → length (output ss) ≤ room → inRoom output room (accepted ss) ≡ accepted ss
   in-room ss h = ap (λ (t : Bool). cond t (accepted ss) (refused OutputRoom)) (le-leb (length (output ss)) room h)
 
-  -- with less, it is row 10
-  in-less-room : (ss : List Silence) → room < length (output ss) → inRoom output room (accepted ss) ≡ refused OutputRoom
+  -- With less, it is row 10.
+  pub in-less-room : (ss : List Silence) → room < length (output ss) → inRoom output room (accepted ss) ≡ refused OutputRoom
   in-less-room ss h = ap (λ (t : Bool). cond t (accepted ss) (refused OutputRoom)) (lt-leb (length (output ss)) room h)
 
   -- It is accepted exactly when it was accepted before and there is room for its output.
@@ -33,26 +34,22 @@ module _ (output : List Silence → List ℕ) (room : ℕ) where
   in-room-accepted-iff a ss = (yes-of a, λ h. ap (inRoom output room) (h .0) ∙ in-room ss (h .1))
     where
       yes-of : (b : Answer (List Silence)) → inRoom output room b ≡ accepted ss → (b ≡ accepted ss) × (length (output ss) ≤ room)
-      yes-of (refused r) e = absurd (never-both (refused r) ss r e refl)
-      yes-of (accepted ts) e = by-room (leb (length (output ts)) room) refl
-        where
-          by-room : (t : Bool) → leb (length (output ts)) room ≡ t → (accepted ts ≡ accepted ss) × (length (output ss) ≤ room)
-          by-room true h =
-              let same : ts ≡ ss = one-list (inRoom output room (accepted ts)) ts ss (in-room ts (leb-true (length (output ts)) room h)) e in
-              (ap accepted same, omega (arith, ap (λ (l : List Silence). length (output l)) same, leb-true (length (output ts)) room h))
-          by-room false h = absurd (never-both (inRoom output room (accepted ts)) ss OutputRoom e (in-less-room ts (leb-false (length (output ts)) room h)))
+      yes-of (refused r) = λ e. absurd (accepted-not-refused e refl)
+      yes-of (accepted ts) =
+          by-test (λ (c : Answer (List Silence)). c ≡ accepted ss → (accepted ts ≡ accepted ss) × (length (output ss) ≤ room)) (leb (length (output ts)) room)
+          (λ h e. (e, omega (arith, ap (λ (l : List Silence). length (output l)) (accepted-unique refl e), leb-true (length (output ts)) room h)))
+          (λ h e. absurd (accepted-not-refused e refl))
 
   -- Another row is given exactly when it was given before.
   pub in-room-row-iff : (a : Answer (List Silence)) (r : Refusal) → (numberOf r ≡ 10 → ⊥) → (inRoom output room a ≡ refused r) ↔ (a ≡ refused r)
   in-room-row-iff a r other = (row-of a, λ e. ap (inRoom output room) e)
     where
       row-of : (b : Answer (List Silence)) → inRoom output room b ≡ refused r → b ≡ refused r
-      row-of (refused q) e = e
-      row-of (accepted ts) e = by-room (leb (length (output ts)) room) refl
-        where
-          by-room : (t : Bool) → leb (length (output ts)) room ≡ t → accepted ts ≡ refused r
-          by-room true h = sym (in-room ts (leb-true (length (output ts)) room h)) ∙ e
-          by-room false h = absurd (other (one-row (inRoom output room (accepted ts)) r OutputRoom e (in-less-room ts (leb-false (length (output ts)) room h))))
+      row-of (refused q) = λ e. e
+      row-of (accepted ts) =
+          by-test (λ (c : Answer (List Silence)). c ≡ refused r → accepted ts ≡ refused r) (leb (length (output ts)) room)
+          (λ h e. e)
+          (λ h e. absurd (other (row-unique e refl)))
 
   -- Row 10 is given exactly when it was accepted before and there is less room than for its output; before, row 10 is never given.
   pub in-room-10-iff : (a : Answer (List Silence)) → (a ≡ refused OutputRoom → ⊥)
@@ -61,9 +58,10 @@ module _ (output : List Silence → List ℕ) (room : ℕ) where
     where
       ten-of : (b : Answer (List Silence)) → (b ≡ refused OutputRoom → ⊥) → inRoom output room b ≡ refused OutputRoom
           → (ss : List Silence) × (b ≡ accepted ss) × (room < length (output ss))
-      ten-of (refused q) not-yet e = absurd (not-yet e)
-      ten-of (accepted ts) not-yet e = by-room (leb (length (output ts)) room) refl
-        where
-          by-room : (t : Bool) → leb (length (output ts)) room ≡ t → (ss : List Silence) × (accepted ts ≡ accepted ss) × (room < length (output ss))
-          by-room true h = absurd (never-both (inRoom output room (accepted ts)) ts OutputRoom (in-room ts (leb-true (length (output ts)) room h)) e)
-          by-room false h = (ts, refl, leb-false (length (output ts)) room h)
+      ten-of (refused q) not-yet = λ e. absurd (not-yet e)
+      ten-of (accepted ts) not-yet =
+          by-test
+          (λ (c : Answer (List Silence)). c ≡ refused OutputRoom → (ss : List Silence) × (accepted ts ≡ accepted ss) × (room < length (output ss)))
+          (leb (length (output ts)) room)
+          (λ h e. absurd (accepted-not-refused refl e))
+          (λ h e. (ts, refl, leb-false (length (output ts)) room h))

@@ -18,18 +18,6 @@ use Rattle.book.specs.Silences.{Silence}
 use Rattle.book.specs.Calls.{paperOf, recordsPaper}
 use Rattle.book.proofs.OneAnswer.{paper-unique}
 
--- One answer is refused by one row only.
-pub one-row : (a : Answer (List Silence)) (r q : Refusal) → a ≡ refused r → a ≡ refused q → numberOf r ≡ numberOf q
-one-row a r q e f = let same : r ≡ q = cc in ap numberOf same
-
--- What is accepted is not refused.
-pub never-both : (a : Answer (List Silence)) (ss : List Silence) (r : Refusal) → a ≡ accepted ss → a ≡ refused r → ⊥
-never-both a ss r e f = let z : _≡_ {A = ℕ} 0 1 = cc in omega arith
-
--- It is accepted with one list only.
-pub one-list : (a : Answer (List Silence)) (ss ts : List Silence) → a ≡ accepted ss → a ≡ accepted ts → ss ≡ ts
-one-list a ss ts e f = cc
-
 -- The table gives a place other than 0 in rows 6, 7, 9 and 11 only.
 pub record HasNoPlace (number : ℕ) : Type 0 where
   pub not-6 : number ≡ 6 → ⊥
@@ -37,6 +25,7 @@ pub record HasNoPlace (number : ℕ) : Type 0 where
   pub not-9 : number ≡ 9 → ⊥
   pub not-11 : number ≡ 11 → ⊥
 
+-- so the place is 0 in every other
 place-zero : (r : Refusal) → HasNoPlace (numberOf r) → placeOf r ≡ 0
 place-zero Ring h = refl
 place-zero Allowance h = refl
@@ -67,9 +56,11 @@ records-back (refused q) n e = absurd (let number-is : 0 ≡ numberOf q = ap (λ
 
 -- For a call whose answer r has the paper of the answer a, as its contract says:
 module _ (a : Answer (List Silence)) (r : BookAnswer) (paper : paperOf r ≡ recordsPaper a) where
+  -- their numbers are the same
   number-is : paperOf r .number ≡ recordsPaper a .number
   number-is = ap (λ (p : Paper ℕ). p .number) paper
 
+  -- and their places
   place-is : paperOf r .place ≡ recordsPaper a .place
   place-is = ap (λ (p : Paper ℕ). p .place) paper
 

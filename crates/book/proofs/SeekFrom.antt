@@ -1,9 +1,9 @@
--- The equation of `seekFrom`: one field, and then from just past it. As in `readFrom` the count of bytes left never runs out while a whole field stands
--- (`field-ends`), so nothing after this file looks at it.
+-- The equation of `seekFrom`: one field, and then from just past it. While a whole field stands the count of bytes left never runs out (`count-step`), so nothing
+-- after this file looks at it. Then the same by what the field is: faulty, below the address, or the one sought.
 -- Assumes nothing.
-use Prim.Native.Nat.{ℕ, zero, suc, _-_, _≤_, _<_}
-use mathlib.Core.Path.{_≡_, refl, sym, ap, _∙_}
-use mathlib.Core.Bool.{cond}
+use Prim.Native.Nat.{ℕ, zero, suc, _≤_, _<_}
+use mathlib.Core.Path.{_≡_, refl, ap, _∙_}
+use mathlib.Core.Bool.{Bool, true, false, cond}
 use mathlib.Core.List.{List}
 use native.Mathlib.Omega.{arith}
 use lib.ListN.{length}
@@ -11,33 +11,50 @@ use Rattle.book.specs.Silences.{Silence, isBelow}
 use Rattle.book.specs.Reading.{FieldAt, whole, faulty, fieldAt}
 use Rattle.book.specs.Seeking.{seekField, seekFields, seekFrom}
 use Rattle.book.proofs.FieldEnds.{field-ends}
+use Rattle.book.proofs.FieldInduction.{GoesOnPast, count-step}
 
--- Seeking on is asked only past a whole field.
-seek-field-same : (address : Silence) (f : FieldAt) (rest rest′ : ℕ → FieldAt) → ((s : Silence) (next : ℕ) → f ≡ whole s next → rest next ≡ rest′ next)
-    → seekField address f rest ≡ seekField address f rest′
-seek-field-same address faulty rest rest′ h = refl
-seek-field-same address (whole s next) rest rest′ h = ap (λ (on : FieldAt). cond (isBelow s address) on (whole s next)) (h s next refl)
+-- one step of seeking
+abbrev seekStep : Silence → ℕ → FieldAt → (Silence → ℕ → FieldAt) → FieldAt
+seekStep address at f rest = seekField address f (rest address)
 
-module _ (book : List ℕ) (address : Silence) where
-  -- With no byte left no whole field stands, and there is none.
-  seek-none : (at : ℕ) (f : FieldAt) → fieldAt book at ≡ f → length book ≤ at → (rest : ℕ → FieldAt) → seekField address f rest ≡ faulty
-  seek-none at faulty e h rest = refl
-  seek-none at (whole s next) e h rest = absurd (let ends : (at < next) × (next ≤ length book) = field-ends book at s next e in omega arith)
+-- seeking goes on only past a whole field
+seek-goes-on : GoesOnPast seekStep
+seek-goes-on address at faulty rest rest′ h = refl
+seek-goes-on address at (whole s next) rest rest′ h = ap (λ (on : FieldAt). cond (isBelow s address) on (whole s next)) (h address s next refl)
 
-  -- Two counts that are large enough give the same.
-  same-seek : (left left′ at : ℕ) → length book - at ≤ left → length book - at ≤ left′ → seekFields left book address at ≡ seekFields left′ book address at
+module _ (book : List ℕ) where
+  -- with no byte left no whole field stands, and there is none
+  seek-none : (left : ℕ) (address : Silence) (at : ℕ) → length book ≤ at → seekFields left book address at ≡ faulty
   unfolding seekFields
-  same-seek zero zero at h h′ = refl
-  same-seek zero (suc left′) at h h′ = sym (seek-none at (fieldAt book at) refl (omega arith) (seekFields left′ book address))
-  same-seek (suc left) zero at h h′ = seek-none at (fieldAt book at) refl (omega arith) (seekFields left book address)
-  same-seek (suc left) (suc left′) at h h′ =
-      seek-field-same address (fieldAt book at) (seekFields left book address) (seekFields left′ book address)
-      (λ s next f. let ends : (at < next) × (next ≤ length book) = field-ends book at s next f in same-seek left left′ next (omega arith) (omega arith))
+  seek-none zero address at h = refl
+  seek-none (suc left) address at h = by-field (fieldAt book at) refl
+    where
+      by-field : (f : FieldAt) → fieldAt book at ≡ f → seekField address f (seekFields left book address) ≡ faulty
+      by-field faulty e = refl
+      by-field (whole s next) e = absurd (let ends : (at < next) × (next ≤ length book) = field-ends book at s next e in omega arith)
 
+module _ (book : List ℕ) (address : Silence) (at : ℕ) where
   -- The field at `at` is sought, or it is passed and sought from just past it.
-  pub seekFrom-step : (at : ℕ) → seekFrom book address at ≡ seekField address (fieldAt book at) (seekFrom book address)
+  pub seekFrom-step : seekFrom book address at ≡ seekField address (fieldAt book at) (seekFrom book address)
   unfolding seekFrom seekFields
-  seekFrom-step at =
-      same-seek (length book - at) (suc (length book - at)) at (omega arith) (omega arith)
-      ∙ seek-field-same address (fieldAt book at) (seekFields (length book - at) book address) (seekFrom book address)
-      (λ s next f. let ends : (at < next) × (next ≤ length book) = field-ends book at s next f in same-seek (length book - at) (length book - next) next (omega arith) (omega arith))
+  seekFrom-step = count-step book seekStep (λ left a i. seekFields left book a i) seek-goes-on (λ left a i. refl) (seek-none book) address at
+
+  -- Where no whole field stands, there is none.
+  pub seekFrom-faulty : fieldAt book at ≡ faulty → seekFrom book address at ≡ faulty
+  seekFrom-faulty e = seekFrom-step ∙ ap (λ (f : FieldAt). seekField address f (seekFrom book address)) e
+
+  module _ {s : Silence} {next : ℕ} (e : fieldAt book at ≡ whole s next) where
+    -- a whole field, by its order
+    seek-whole : (t : Bool) → isBelow s address ≡ t → seekFrom book address at ≡ cond t (seekFrom book address next) (whole s next)
+    seek-whole t b =
+        seekFrom-step
+        ∙ ap (λ (f : FieldAt). seekField address f (seekFrom book address)) e
+        ∙ ap (λ (u : Bool). cond u (seekFrom book address next) (whole s next)) b
+
+    -- A field that is below the address is passed.
+    pub seekFrom-below : isBelow s address ≡ true → seekFrom book address at ≡ seekFrom book address next
+    seekFrom-below b = seek-whole true b
+
+    -- One that is not is the one sought.
+    pub seekFrom-found : isBelow s address ≡ false → seekFrom book address at ≡ whole s next
+    seekFrom-found b = seek-whole false b

@@ -2,16 +2,16 @@
 -- address. Each whole field gets on (`field-ends`), so seeking ends.
 -- Assumes nothing.
 use Prim.Native.Nat.{ℕ, _-_, _≤_, _<_}
-use mathlib.Core.Path.{_≡_, refl, sym, ap, _∙_}
+use mathlib.Core.Path.{_≡_, refl, sym, _∙_}
 use mathlib.Core.Bool.{true, false}
 use mathlib.Core.List.{List}
 use native.Mathlib.Omega.{arith}
 use lib.ListN.{length}
 use Rattle.book.specs.Silences.{Silence, isBelow}
-use Rattle.book.specs.Reading.{FieldAt, whole, faulty, fieldAt}
-use Rattle.book.specs.Seeking.{seekField, seekFrom}
+use Rattle.book.specs.Reading.{whole, faulty, fieldAt}
+use Rattle.book.specs.Seeking.{seekFrom}
 use Rattle.book.proofs.FieldEnds.{field-ends}
-use Rattle.book.proofs.SeekFrom.{seekFrom-step}
+use Rattle.book.proofs.SeekFrom.{seekFrom-faulty, seekFrom-below, seekFrom-found}
 
 -- What is sought from `from` on is what is sought from `at` on.
 pub record SeekOn (book : List ℕ) (from : ℕ) (address : Silence) (at : ℕ) : Type 0 where
@@ -23,22 +23,18 @@ module _ (book : List ℕ) (from : ℕ) (address : Silence) where
   seek-start = record { same = refl }
 
   module _ (at : ℕ) (inv : SeekOn book from address at) where
-    -- what is sought is decided at this field
-    decided-here : (f : FieldAt) → f ≡ fieldAt book at → seekFrom book address from ≡ seekField address f (seekFrom book address)
-    decided-here f is = inv .same ∙ seekFrom-step book address at ∙ ap (λ (g : FieldAt). seekField address g (seekFrom book address)) (sym is)
-
     -- Where no whole field stands, there is none.
     pub seek-nothing : faulty ≡ fieldAt book at → faulty ≡ seekFrom book address from
-    seek-nothing is = sym (decided-here faulty is)
+    seek-nothing is = sym (inv .same ∙ seekFrom-faulty book address at (sym is))
 
     module _ (s : Silence) (next : ℕ) (is : whole s next ≡ fieldAt book at) where
       -- A field that is not below the address is the one.
       pub seek-end : isBelow s address ≡ false → whole s next ≡ seekFrom book address from
-      seek-end above = sym (decided-here (whole s next) is ∙ simp above)
+      seek-end above = sym (inv .same ∙ seekFrom-found book address at (sym is) above)
 
       -- A field below the address is passed.
       pub seek-turn : isBelow s address ≡ true → SeekOn book from address next
-      seek-turn below = record { same = decided-here (whole s next) is ∙ simp below }
+      seek-turn below = record { same = inv .same ∙ seekFrom-below book address at (sym is) below }
 
       -- Fewer bytes are left past it.
       pub seek-lt : length book - next < length book - at

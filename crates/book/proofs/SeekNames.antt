@@ -15,11 +15,11 @@ use Rattle.book.specs.Silences.{Silence, silence, isBelow, Below, isSame
 use Rattle.book.specs.Layout.{fieldOf, layout}
 use Rattle.book.specs.Reading.{FieldAt, whole, faulty, fieldAt, readBook}
 use Rattle.book.specs.Seeking.{seekField, seekFrom, isFor}
-use Rattle.book.proofs.SilenceOrder.{isBelow-yes}
+use Rattle.book.proofs.SilenceOrder.{isBelow-iff}
 use Rattle.book.proofs.StrictOrder.{below-trans, above-of-not, below-not-same}
 use Rattle.book.proofs.NamesIff.{names-iff}
-use Rattle.book.proofs.SeekFrom.{seekFrom-step}
-use Rattle.book.proofs.FieldTest.{field-faulty-iff}
+use Rattle.book.proofs.SeekFrom.{seekFrom-step, seekFrom-faulty}
+use Rattle.book.proofs.FieldTest.{field-cut-off}
 use Rattle.book.proofs.FieldBytes.{field-next-is}
 use Rattle.book.proofs.AscendingAfter.{AscendingAfter, lastAfter}
 use Rattle.book.proofs.FieldsRead.{FieldsRead, none-read, one-read}
@@ -37,7 +37,7 @@ AllPassed address (s ∷ ss) = Below s address × AllPassed address ss
 
 -- Past the book's end no field stands.
 pub field-past : (book : List ℕ) (at : ℕ) → length book ≤ at → fieldAt book at ≡ faulty
-field-past book at h = field-faulty-iff book at .1 (λ f. omega (arith, f .not-cut))
+field-past book at h = field-cut-off book at (omega arith)
 
 module _ (address : Silence) where
   -- The silences that are below an address do not name it.
@@ -46,15 +46,15 @@ module _ (address : Silence) where
   names-passed [] ts p = refl
   names-passed (s ∷ ss) ts p = ap (λ (t : Bool). t || namesAddress (ss ++ ts) address) (below-not-same s address (p .0) .0) ∙ names-passed ss ts (p .1)
 
-  -- Silences after one that is above the address do not name it.
+  -- silences after one that is above the address do not name it
   names-above : (s : Silence) (ss : List Silence) → AscendingAfter (some s) ss → Below address s → namesAddress ss address ≡ false
   unfolding names
   names-above s [] a h = refl
   names-above s (t ∷ ss) a h =
-      let above : Below address t = below-trans address s t h (isBelow-yes s t (a .0)) in
+      let above : Below address t = below-trans address s t h (isBelow-iff s t .0 (a .0)) in
       ap (λ (b : Bool). b || namesAddress ss address) (below-not-same address t above .1) ∙ names-above t ss (a .1) above
 
-  -- The first silence that is not below the address decides.
+  -- the first silence that is not below the address decides
   names-first : (s : Silence) (ss : List Silence) → AscendingAfter (some s) ss → isBelow s address ≡ false → isSame s address ≡ namesAddress (s ∷ ss) address
   unfolding names
   names-first s ss a h = go (isSame s address) refl
@@ -68,20 +68,20 @@ module _ (address : Silence) where
     pub seek-at : (at : ℕ) (f : FieldAt) → fieldAt book at ≡ f → seekFrom book address at ≡ seekField address f (seekFrom book address)
     seek-at at f e = seekFrom-step book address at ∙ ap (λ (g : FieldAt). seekField address g (seekFrom book address)) e
 
-    -- Where the book's fields are read to its end, seeking answers whether they name the address.
+    -- where the book's fields are read to its end, seeking answers whether they name the address
     seek-read : {last : Option Silence} {at : ℕ} {ss : List Silence} {stop : ℕ} → FieldsRead book last at ss stop → length book ≤ stop
         → isFor address (seekFrom book address at) ≡ namesAddress ss address
     unfolding names
-    seek-read (none-read {at = at}) h = ap (isFor address) (seek-at at faulty (field-past book at h))
+    seek-read (none-read {at = at}) h = ap (isFor address) (seekFrom-faulty book address at (field-past book at h))
     seek-read (one-read {at = at} {s = s} {next = next} {ss = ss} e above more) h =
         ap (isFor address) (seek-at at (whole s next) e) ∙ by-order (isBelow s address) refl (seek-read more h)
       where
         by-order : (t : Bool) → isBelow s address ≡ t → isFor address (seekFrom book address next) ≡ namesAddress ss address
             → isFor address (cond t (seekFrom book address next) (whole s next)) ≡ namesAddress (s ∷ ss) address
-        by-order true b on = on ∙ sym (names-passed (s ∷ []) ss (isBelow-yes s address b, tt))
+        by-order true b on = on ∙ sym (names-passed (s ∷ []) ss (isBelow-iff s address .0 b, tt))
         by-order false b on = names-first s ss (read-ascends more) b
 
--- The fields after some that were read, from where those end.
+-- the fields after some that were read, from where those end
 read-after : {book : List ℕ} {stop : ℕ} (ss ts : List Silence) (last : Option Silence) (at : ℕ) → FieldsRead book last at (ss ++ ts) stop
     → FieldsRead book (lastAfter last ss) (at + length (layout ss)) ts stop
 unfolding layout

@@ -12,24 +12,14 @@ use Rattle.answers.specs.Paper.{accepted}
 use Rattle.book.specs.Silences.{Silence, isBelow, Below}
 use Rattle.book.specs.Reading.{FieldAt, whole, faulty, fieldAt, readBook}
 use Rattle.book.specs.Seeking.{seekField, seekFrom, isFor}
-use Rattle.book.proofs.SilenceOrder.{isBelow-yes, below-isBelow}
+use Rattle.book.proofs.SilenceOrder.{isBelow-iff}
 use Rattle.book.proofs.StrictOrder.{below-not-below}
-use Rattle.book.proofs.FieldEnds.{field-ends}
-use Rattle.book.proofs.FieldTest.{next-same, never-whole}
+use Rattle.book.proofs.FieldEnds.{faulty-not-whole, whole-next-unique, field-ends}
 use Rattle.book.proofs.FieldInduction.{field-induction}
+use Rattle.book.proofs.SeekFrom.{seekFrom-faulty, seekFrom-below, seekFrom-found}
 use Rattle.book.proofs.SeekNames.{namesAddress, seek-at, seek-all-names}
 
 module _ (book : List ℕ) where
-  -- a field that is below the address is passed
-  seek-passed : (address : Silence) (at : ℕ) {s : Silence} {next : ℕ} → fieldAt book at ≡ whole s next → isBelow s address ≡ true
-      → seekFrom book address at ≡ seekFrom book address next
-  seek-passed address at {s} {next} e b = seek-at address book at (whole s next) e ∙ ap (λ (t : Bool). cond t (seekFrom book address next) (whole s next)) b
-
-  -- one that is not is the one sought
-  seek-found : (address : Silence) (at : ℕ) {s : Silence} {next : ℕ} → fieldAt book at ≡ whole s next → isBelow s address ≡ false
-      → seekFrom book address at ≡ whole s next
-  seek-found address at {s} {next} e b = seek-at address book at (whole s next) e ∙ ap (λ (t : Bool). cond t (seekFrom book address next) (whole s next)) b
-
   -- The field that is sought lies past the offset asked from, and ends within the book.
   pub seek-ends : (address : Silence) (at : ℕ) (s : Silence) (next : ℕ) → seekFrom book address at ≡ whole s next → (at < next) × (next ≤ length book)
   seek-ends address = field-induction book Ends turn
@@ -43,16 +33,16 @@ module _ (book : List ℕ) where
           by-order : (t : Silence) (past : ℕ) → fieldAt book at ≡ whole t past → (below : Bool) → isBelow t address ≡ below
               → (at < next) × (next ≤ length book)
           by-order t past f true b =
-              let later : (past < next) × (next ≤ length book) = on t past f s next (sym (seek-passed address at f b) ∙ e) in
+              let later : (past < next) × (next ≤ length book) = on t past f s next (sym (seekFrom-below book address at f b) ∙ e) in
               let ends : (at < past) × (past ≤ length book) = field-ends book at t past f in
               (omega arith, omega arith)
           by-order t past f false b =
-              let same : past ≡ next = next-same (sym (seek-found address at f b) ∙ e) in
+              let same : past ≡ next = whole-next-unique (sym (seekFrom-found book address at f b) ∙ e) in
               let ends : (at < past) × (past ≤ length book) = field-ends book at t past f in
               (omega arith, omega arith)
 
           by-field : (f : FieldAt) → fieldAt book at ≡ f → (at < next) × (next ≤ length book)
-          by-field faulty f = absurd (never-whole s next (sym (seek-at address book at faulty f) ∙ e))
+          by-field faulty f = absurd (faulty-not-whole (sym (seekFrom-faulty book address at f) ∙ e))
           by-field (whole t past) f = by-order t past f (isBelow t address) refl
 
   -- What is held for one address, asked for another that is not below it, is what seeking that other gives.
@@ -69,12 +59,12 @@ module _ (book : List ℕ) where
           -- passed for a: it is below b too, and is passed; not passed: it is held, and asked for b as any field
           by-order : (s : Silence) (next : ℕ) → fieldAt book at ≡ whole s next → (t : Bool) → isBelow s a ≡ t → held (seekFrom book a at) ≡ seekFrom book b at
           by-order s next e true p =
-              let below : isBelow s b ≡ true = below-isBelow s b (below-not-below s a b (isBelow-yes s a p) not-below) in
-              ap held (seek-passed a at e p) ∙ on s next e ∙ sym (seek-passed b at e below)
-          by-order s next e false p = ap held (seek-found a at e p) ∙ sym (seek-at b book at (whole s next) e)
+              let below : isBelow s b ≡ true = isBelow-iff s b .1 (below-not-below s a b (isBelow-iff s a .0 p) not-below) in
+              ap held (seekFrom-below book a at e p) ∙ on s next e ∙ sym (seekFrom-below book b at e below)
+          by-order s next e false p = ap held (seekFrom-found book a at e p) ∙ sym (seek-at b book at (whole s next) e)
 
           by-field : (f : FieldAt) → fieldAt book at ≡ f → held (seekFrom book a at) ≡ seekFrom book b at
-          by-field faulty e = ap held (seek-at a book at faulty e) ∙ sym (seek-at b book at faulty e)
+          by-field faulty e = ap held (seekFrom-faulty book a at e) ∙ sym (seekFrom-faulty book b at e)
           by-field (whole s next) e = by-order s next e (isBelow s a) refl
 
 -- What a caller holds that asks with rising addresses: the field sought for the last address asked, as if it were sought from the first byte on.

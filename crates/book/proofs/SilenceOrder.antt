@@ -1,21 +1,16 @@
 -- The tests on silences mean what they say: `isBelow` the order, `isSame` equality. Each goes through its tests in turn, the first number in which
 -- two silences differ deciding.
 -- Assumes nothing.
-use Prim.Native.Nat.{ℕ}
 use mathlib.Core.Logic.{_↔_}
 use mathlib.Core.Path.{_≡_, refl, sym, ap, _∙_}
-use mathlib.Core.Bool.{Bool, true, false, _&&_, _||_}
+use mathlib.Core.Bool.{Bool, true, false, _&&_, _||_, false≢true}
 use native.Mathlib.Omega.{arith}
 use lib.Dec.{ltb, eqb}
 use borrow.Author.Tests.{ltb-true, eqb-true, lt-ltb, le-ltb, eq-eqb}
 use Rattle.book.specs.Silences.{Silence, isBelow, Below, by-cell, by-ring-number, by-start, isSame}
 
--- false is not true
-pub false-not-true : false ≡ true → ⊥
-false-not-true e = let z : _≡_ {A = ℕ} 0 1 = cc in omega arith
-
 -- what the test finds below is below
-pub isBelow-yes : (a b : Silence) → isBelow a b ≡ true → Below a b
+isBelow-yes : (a b : Silence) → isBelow a b ≡ true → Below a b
 unfolding isBelow
 isBelow-yes a b =
     go (ltb (a .cell) (b .cell)) (eqb (a .cell) (b .cell)) (ltb (a .ringNumber) (b .ringNumber)) (eqb (a .ringNumber) (b .ringNumber)) (ltb (a .start) (b .start)) refl refl refl refl refl
@@ -24,19 +19,19 @@ isBelow-yes a b =
         → ltb (a .ringNumber) (b .ringNumber) ≡ ring-lt → eqb (a .ringNumber) (b .ringNumber) ≡ ring-eq → ltb (a .start) (b .start) ≡ start-lt
         → (cell-lt || (cell-eq && (ring-lt || (ring-eq && start-lt)))) ≡ true → Below a b
     go true cell-eq ring-lt ring-eq start-lt c d r q s e = by-cell (ltb-true (a .cell) (b .cell) c)
-    go false false ring-lt ring-eq start-lt c d r q s e = absurd (false-not-true e)
+    go false false ring-lt ring-eq start-lt c d r q s e = absurd (false≢true e)
     go false true true ring-eq start-lt c d r q s e = by-ring-number (eqb-true (a .cell) (b .cell) d) (ltb-true (a .ringNumber) (b .ringNumber) r)
-    go false true false false start-lt c d r q s e = absurd (false-not-true e)
-    go false true false true false c d r q s e = absurd (false-not-true e)
+    go false true false false start-lt c d r q s e = absurd (false≢true e)
+    go false true false true false c d r q s e = absurd (false≢true e)
     go false true false true true c d r q s e =
         by-start (eqb-true (a .cell) (b .cell) d) (eqb-true (a .ringNumber) (b .ringNumber) q) (ltb-true (a .start) (b .start) s)
 
 -- what is below, the test finds below
-pub below-isBelow : (a b : Silence) → Below a b → isBelow a b ≡ true
+isBelow-of : (a b : Silence) → Below a b → isBelow a b ≡ true
 unfolding isBelow
-below-isBelow a b (by-cell c) = simp (lt-ltb (a .cell) (b .cell) c)
-below-isBelow a b (by-ring-number d r) = simp (le-ltb (a .cell) (b .cell) (omega arith), eq-eqb (a .cell) (b .cell) d, lt-ltb (a .ringNumber) (b .ringNumber) r)
-below-isBelow a b (by-start d q s) =
+isBelow-of a b (by-cell c) = simp (lt-ltb (a .cell) (b .cell) c)
+isBelow-of a b (by-ring-number d r) = simp (le-ltb (a .cell) (b .cell) (omega arith), eq-eqb (a .cell) (b .cell) d, lt-ltb (a .ringNumber) (b .ringNumber) r)
+isBelow-of a b (by-start d q s) =
     simp (
       le-ltb (a .cell) (b .cell) (omega arith),
       eq-eqb (a .cell) (b .cell) d,
@@ -45,29 +40,40 @@ below-isBelow a b (by-start d q s) =
       lt-ltb (a .start) (b .start) s,
     )
 
--- the test is the order
+-- The test is the order.
 pub isBelow-iff : (a b : Silence) → (isBelow a b ≡ true) ↔ Below a b
-isBelow-iff a b = (isBelow-yes a b, below-isBelow a b)
+isBelow-iff a b = (isBelow-yes a b, isBelow-of a b)
+
+-- In one cell and for one ring number the starts decide.
+pub isBelow-start : (a b : Silence) → a .cell ≡ b .cell → a .ringNumber ≡ b .ringNumber → isBelow a b ≡ ltb (a .start) (b .start)
+unfolding isBelow
+isBelow-start a b same-cell same-ring =
+    simp (
+      le-ltb (a .cell) (b .cell) (omega arith),
+      eq-eqb (a .cell) (b .cell) same-cell,
+      le-ltb (a .ringNumber) (b .ringNumber) (omega arith),
+      eq-eqb (a .ringNumber) (b .ringNumber) same-ring,
+    )
 
 -- what the test finds the same is the same
-pub isSame-yes : (a b : Silence) → isSame a b ≡ true → a ≡ b
+isSame-yes : (a b : Silence) → isSame a b ≡ true → a ≡ b
 unfolding isSame
 isSame-yes a b =
     go (eqb (a .cell) (b .cell)) (eqb (a .ringNumber) (b .ringNumber)) (eqb (a .start) (b .start)) refl refl refl
   where
     go : (cell-eq ring-eq start-eq : Bool) → eqb (a .cell) (b .cell) ≡ cell-eq → eqb (a .ringNumber) (b .ringNumber) ≡ ring-eq → eqb (a .start) (b .start) ≡ start-eq
         → (cell-eq && (ring-eq && start-eq)) ≡ true → a ≡ b
-    go false ring-eq start-eq c r s e = absurd (false-not-true e)
-    go true false start-eq c r s e = absurd (false-not-true e)
-    go true true false c r s e = absurd (false-not-true e)
+    go false ring-eq start-eq c r s e = absurd (false≢true e)
+    go true false start-eq c r s e = absurd (false≢true e)
+    go true true false c r s e = absurd (false≢true e)
     go true true true c r s e =
         λ i. record { cell = eqb-true (a .cell) (b .cell) c i; ringNumber = eqb-true (a .ringNumber) (b .ringNumber) r i; start = eqb-true (a .start) (b .start) s i }
 
 -- a silence is the same as itself
-pub isSame-refl : (a : Silence) → isSame a a ≡ true
+isSame-refl : (a : Silence) → isSame a a ≡ true
 unfolding isSame
 isSame-refl a = simp (eq-eqb (a .cell) (a .cell) refl, eq-eqb (a .ringNumber) (a .ringNumber) refl, eq-eqb (a .start) (a .start) refl)
 
--- the test is equality
+-- The test is equality.
 pub isSame-iff : (a b : Silence) → (isSame a b ≡ true) ↔ (a ≡ b)
 isSame-iff a b = (isSame-yes a b, λ e. ap (isSame a) (sym e) ∙ isSame-refl a)

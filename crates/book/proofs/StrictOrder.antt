@@ -2,19 +2,15 @@
 -- the other. Number by number, the first in which they differ deciding; then the same of the test.
 -- Assumes nothing.
 use Prim.Native.Nat.{_≤_, _<_}
+use mathlib.Core.Logic.{_↔_}
 use mathlib.Core.Path.{_≡_, refl, sym, subst, _∙_}
-use mathlib.Core.Bool.{Bool, true, false, false≢true}
+use mathlib.Core.Bool.{Bool, true, false, false≢true, not-eq-not}
 use native.Mathlib.Omega.{arith}
 use Rattle.book.specs.Silences.{Silence, isBelow, Below, by-cell, by-ring-number, by-start, isSame}
-use Rattle.book.proofs.SilenceOrder.{isBelow-yes, below-isBelow, isSame-yes, isSame-iff}
+use Rattle.book.proofs.SilenceOrder.{isBelow-iff, isSame-iff}
 
--- A test that is not true is false.
-pub test-no : (t : Bool) → (t ≡ true → ⊥) → t ≡ false
-test-no true h = absurd (h refl)
-test-no false h = refl
-
--- Nothing is below itself.
-pub below-irreflexive : (a : Silence) → Below a a → ⊥
+-- nothing is below itself
+below-irreflexive : (a : Silence) → Below a a → ⊥
 below-irreflexive a (by-cell c) = omega arith
 below-irreflexive a (by-ring-number c r) = omega arith
 below-irreflexive a (by-start c r s) = omega arith
@@ -31,8 +27,8 @@ below-trans a b c (by-start p o n) (by-cell q) = by-cell (omega arith)
 below-trans a b c (by-start p o n) (by-ring-number q r) = by-ring-number (omega arith) (omega arith)
 below-trans a b c (by-start p o n) (by-start q r s) = by-start (omega arith) (omega arith) (omega arith)
 
--- Of two silences that differ one is below the other.
-pub below-total : (a b : Silence) → (Below a b → ⊥) → (Below b a → ⊥) → a ≡ b
+-- of two silences that differ one is below the other
+below-total : (a b : Silence) → (Below a b → ⊥) → (Below b a → ⊥) → a ≡ b
 below-total a b not-ab not-ba =
     let cell-ge : a .cell < b .cell → ⊥ = λ l. not-ab (by-cell l) in
     let cell-le : b .cell < a .cell → ⊥ = λ l. not-ba (by-cell l) in
@@ -45,27 +41,27 @@ below-total a b not-ab not-ba =
     let start-is : a .start ≡ b .start = omega arith in
     λ i. record { cell = cell-is i; ringNumber = ring-is i; start = start-is i }
 
--- What the test does not find below is not below.
-pub isBelow-no : (a b : Silence) → isBelow a b ≡ false → Below a b → ⊥
-isBelow-no a b e h = false≢true (sym e ∙ below-isBelow a b h)
+-- The test says no exactly where one is not below the other.
+pub not-below-iff : (a b : Silence) → (isBelow a b ≡ false) ↔ (Below a b → ⊥)
+not-below-iff a b = (λ e h. false≢true (sym e ∙ isBelow-iff a b .1 h), λ h. not-eq-not {b = false} .0 (λ e. h (isBelow-iff a b .0 e)))
 
--- What is not below, the test does not find below.
-pub not-below-isBelow : (a b : Silence) → (Below a b → ⊥) → isBelow a b ≡ false
-not-below-isBelow a b h = test-no (isBelow a b) (λ e. h (isBelow-yes a b e))
+-- What is above, the test does not find below.
+pub above-isBelow : (a b : Silence) → Below b a → isBelow a b ≡ false
+above-isBelow a b h = not-below-iff a b .1 (λ l. below-irreflexive a (below-trans a b a l h))
 
 -- What differs from another and is not below it is above it.
 pub above-of-not : (a b : Silence) → isBelow a b ≡ false → isSame a b ≡ false → Below b a
 above-of-not a b h d = go (isBelow b a) refl
   where
     go : (t : Bool) → isBelow b a ≡ t → Below b a
-    go true e = isBelow-yes b a e
-    go false e = absurd (false≢true (sym d ∙ isSame-iff a b .1 (below-total a b (isBelow-no a b h) (isBelow-no b a e))))
+    go true e = isBelow-iff b a .0 e
+    go false e = absurd (false≢true (sym d ∙ isSame-iff a b .1 (below-total a b (not-below-iff a b .0 h) (not-below-iff b a .0 e))))
 
 -- What is below differs, either way round.
 pub below-not-same : (a b : Silence) → Below a b → (isSame a b ≡ false) × (isSame b a ≡ false)
 below-not-same a b h = (
-  test-no (isSame a b) (λ e. below-irreflexive b (subst (λ (c : Silence). Below c b) (isSame-yes a b e) h)),
-  test-no (isSame b a) (λ e. below-irreflexive b (subst (λ (c : Silence). Below c b) (sym (isSame-yes b a e)) h)),
+  not-eq-not {b = false} .0 (λ e. below-irreflexive b (subst (λ (c : Silence). Below c b) (isSame-iff a b .0 e) h)),
+  not-eq-not {b = false} .0 (λ e. below-irreflexive b (subst (λ (c : Silence). Below c b) (sym (isSame-iff b a .0 e)) h)),
 )
 
 -- What is below one silence is below another that is not below that one: a field that was passed for an address is passed for any that is not below it.
@@ -73,8 +69,8 @@ pub below-not-below : (s a b : Silence) → Below s a → (Below b a → ⊥) �
 below-not-below s a b h not-below = go (isBelow a b) refl
   where
     go : (t : Bool) → isBelow a b ≡ t → Below s b
-    go true e = below-trans s a b h (isBelow-yes a b e)
-    go false e = subst (Below s) (below-total a b (isBelow-no a b e) not-below) h
+    go true e = below-trans s a b h (isBelow-iff a b .0 e)
+    go false e = subst (Below s) (below-total a b (not-below-iff a b .0 e) not-below) h
 
 -- In one cell and for one ring number a silence whose start is not lower is not below.
 pub start-not-below : (a b : Silence) → a .cell ≡ b .cell → a .ringNumber ≡ b .ringNumber → a .start ≤ b .start → Below b a → ⊥

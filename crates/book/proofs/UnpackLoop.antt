@@ -1,27 +1,44 @@
--- Writing the records of an accepted book. Before the field at `at` the words of the records that are done stand in the area, and the others are what
--- the fields from there on give. While one is left the next field is whole, and there is room for its words; with none left all words stand.
+-- Writing the records of an accepted book. Before the field at `at` the words of the records that are done stand in the area, and the others are read
+-- from there on (`FieldsRead`). While one is left the next field is whole, and there is room for its words; with none left all words stand.
 -- Assumes nothing.
 use Prim.Native.Nat.{ℕ, _+_, _*_, _≤_, _<_}
 use mathlib.Core.Path.{_≡_, refl, sym, ap, ap₂, _∙_}
 use mathlib.Core.List.{List, [], _∷_, _++_, append-nil, append-assoc}
-use mathlib.Core.Logic.{⊎-elim}
 use mathlib.Core.Option.{Option, none, some}
 use native.Mathlib.Omega.{arith}
 use lib.ListN.{length, length-append}
 use lib.Seq.{sets}
 use Rattle.meaning.specs.Findings.{written}
-use Rattle.meaning.proofs.Cases.{le-or-lt}
 use Rattle.meaning.proofs.Words.{written-length}
 use Rattle.answers.specs.Paper.{Answer, accepted}
 use Rattle.book.specs.Silences.{Silence}
-use Rattle.book.specs.Reading.{whole, faulty, fieldAt, readFrom, readBook}
+use Rattle.book.specs.Reading.{whole, faulty, fieldAt, readBook}
 use Rattle.book.specs.Packing.{silenceWords, wordsOfSilences, recordWords, areaAtExit}
 use Rattle.book.specs.Calls.{recordsOf}
-use Rattle.book.proofs.AcceptedFields.{FirstField, accepted-first, accepted-end}
-use Rattle.book.proofs.RecordWords.{wordsOfSilences-length, wordsOfSilences-snoc, written-more}
-use Rattle.book.proofs.AcceptedBook.{HasRecords, has-records, readBook-accepted}
+use Rattle.book.proofs.WordsOfSilences.{words-length, words-more}
+use Rattle.book.proofs.WrittenAt.{written-more}
+use Rattle.book.proofs.FieldEnds.{faulty-not-whole, whole-silence-unique, whole-next-unique}
+use Rattle.book.proofs.FieldsRead.{FieldsRead, none-read, one-read}
+use Rattle.book.proofs.AcceptedIsLayout.{IsReadWhole, accepted-whole-iff}
+use Rattle.book.proofs.AcceptedBook.{HasRecords, has-records}
 
--- A list of no length is empty.
+-- the first of the fields that are read
+record FirstField (book : List ℕ) (at : ℕ) (ss : List Silence) : Type 0 where
+  pub first : Silence
+  pub next : ℕ
+  pub others : List Silence
+  pub stop : ℕ
+  pub field-is : fieldAt book at ≡ whole first next
+  pub fields : FieldsRead book (some first) next others stop
+  pub all-is : ss ≡ first ∷ others
+
+-- while one is left to read, there is a first
+first-field : {book : List ℕ} {last : Option Silence} {at : ℕ} {ss : List Silence} {stop : ℕ} → FieldsRead book last at ss stop → 0 < length ss → FirstField book at ss
+first-field none-read h = absurd (omega arith)
+first-field (one-read {s = s} {next = next} {ss = ss} {stop = stop} e above more) h =
+    record { first = s; next = next; others = ss; stop = stop; field-is = e; fields = more; all-is = refl }
+
+-- a list of no length is empty
 length-none : (ss : List Silence) → length ss ≡ 0 → ss ≡ []
 length-none [] e = refl
 length-none (s ∷ ss) e = absurd (omega arith)
@@ -31,7 +48,8 @@ pub record PutOn (book area : List ℕ) (records : ℕ) (words : List ℕ) (at d
   pub last : Option Silence
   pub put : List Silence
   pub others : List Silence
-  pub others-is : readFrom book last at ≡ accepted others
+  pub stop : ℕ
+  pub fields : FieldsRead book last at others stop
   pub all-is : readBook book ≡ accepted (put ++ others)
   pub done-is : done ≡ length put
   pub records-is : records ≡ length put + length others
@@ -44,11 +62,13 @@ module _ (book area : List ℕ) (records : ℕ) where
   unfolding written wordsOfSilences
   put-start e room =
       let all : HasRecords (readBook book) records = has-records (readBook book) records e in
+      let read : IsReadWhole (all .silences) book = accepted-whole-iff book (all .silences) .0 (all .is) in
       record {
         last = none;
         put = [];
         others = all .silences;
-        others-is = readBook-accepted book (all .silences) (all .is) .1;
+        stop = read .stop;
+        fields = read .fields;
         all-is = all .is;
         done-is = refl;
         records-is = omega arith;
@@ -61,7 +81,7 @@ module _ (book area : List ℕ) (records : ℕ) where
     pub put-length-is : length words ≡ length area
     put-length-is =
         ap length (inv .words-is)
-        ∙ written-length (wordsOfSilences (inv .put)) area (omega (arith, wordsOfSilences-length (inv .put), inv .records-is, inv .room))
+        ∙ written-length (wordsOfSilences (inv .put)) area (omega (arith, words-length (inv .put), inv .records-is, inv .room))
 
     -- With no record left the words of all stand.
     pub put-end : records ≤ done → words ≡ areaAtExit wordsOfSilences (readBook book) area
@@ -74,19 +94,11 @@ module _ (book area : List ℕ) (records : ℕ) where
     module _ (left : done < records) where
       -- the next field
       next-field : FirstField book at (inv .others)
-      next-field =
-          ⊎-elim
-          (λ (past : length book ≤ at). absurd (omega (arith, ap length (accepted-end book (inv .last) at (inv .others) past (inv .others-is)), inv .done-is, inv .records-is)))
-          (λ (within : at < length book). accepted-first book (inv .last) at (inv .others) within (inv .others-is))
-          (le-or-lt (length book) at)
+      next-field = first-field (inv .fields) (omega (arith, inv .done-is, inv .records-is))
 
       -- While one is left the next field is whole.
       pub put-faulty-no : faulty ≡ fieldAt book at → ⊥
-      put-faulty-no is =
-          let f : FirstField book at (inv .others) = next-field in
-          let same : faulty ≡ whole (f .first) (f .next) = is ∙ f .field-is in
-          let z : _≡_ {A = ℕ} 0 1 = cc in
-          omega arith
+      put-faulty-no is = faulty-not-whole (is ∙ next-field .field-is)
 
       -- There is room for its words.
       pub put-room-le : recordWords * done + recordWords ≤ length words
@@ -98,15 +110,16 @@ module _ (book area : List ℕ) (records : ℕ) where
       put-turn s next is =
           let f : FirstField book at (inv .others) = next-field in
           let same : whole s next ≡ whole (f .first) (f .next) = is ∙ f .field-is in
-          let first-is : f .first ≡ s = cc in
-          let next-is : f .next ≡ next = cc in
-          let to-is : recordWords * done ≡ length (wordsOfSilences (inv .put)) = omega (arith, wordsOfSilences-length (inv .put), inv .done-is) in
-          let others-are : inv .others ≡ s ∷ f .others = cc (f .all-is) in
+          let first-is : f .first ≡ s = sym (whole-silence-unique same) in
+          let next-is : f .next ≡ next = sym (whole-next-unique same) in
+          let to-is : recordWords * done ≡ length (wordsOfSilences (inv .put)) = omega (arith, words-length (inv .put), inv .done-is) in
+          let others-are : inv .others ≡ s ∷ f .others = f .all-is ∙ ap (λ (t : Silence). t ∷ f .others) first-is in
           record {
             last = some s;
             put = inv .put ++ s ∷ [];
             others = f .others;
-            others-is = cc (f .others-is);
+            stop = f .stop;
+            fields = rw (first-is, next-is) at (f .fields);
             all-is = inv .all-is ∙ ap (λ (l : List Silence). accepted (inv .put ++ l)) others-are ∙ ap accepted (sym (append-assoc (inv .put) (s ∷ []) (f .others)));
             done-is = omega (arith, length-append (inv .put) (s ∷ []), inv .done-is);
             records-is = omega (arith, length-append (inv .put) (s ∷ []), inv .records-is, ap length others-are);
@@ -114,5 +127,5 @@ module _ (book area : List ℕ) (records : ℕ) where
             words-is =
                 ap₂ (λ (l : List ℕ) (i : ℕ). sets l i (silenceWords s)) (inv .words-is) to-is
                 ∙ written-more (wordsOfSilences (inv .put)) (silenceWords s) area (omega (arith, put-room-le, put-length-is))
-                ∙ ap (λ (l : List ℕ). written l area) (sym (wordsOfSilences-snoc (inv .put) s));
+                ∙ ap (λ (l : List ℕ). written l area) (sym (words-more (inv .put) s));
           }

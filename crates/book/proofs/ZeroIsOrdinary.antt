@@ -4,22 +4,18 @@
 use Prim.Native.Nat.{ℕ}
 use mathlib.Core.Logic.{_↔_}
 use mathlib.Core.Path.{_≡_, refl, sym, ap, _∙_}
-use mathlib.Core.Bool.{Bool, true, false, _||_}
+use mathlib.Core.Bool.{true, false, or-false}
 use mathlib.Core.List.{[], _∷_}
 use native.Mathlib.Omega.{arith}
 use Rattle.book.specs.Silences.{Silence, silence, isSame, names}
-use Rattle.book.specs.Reading.{FieldAt, faulty}
-use Rattle.book.specs.Seeking.{seekField, seekFrom}
+use Rattle.book.specs.Reading.{faulty}
+use Rattle.book.specs.Seeking.{seekFrom}
 use Rattle.book.proofs.SilenceOrder.{isSame-iff}
-use Rattle.book.proofs.SeekFrom.{seekFrom-step}
+use Rattle.book.proofs.SeekFrom.{seekFrom-faulty}
 use Rattle.book.proofs.SeekNames.{field-past}
 
--- nothing after a test leaves the test
-or-false : (t : Bool) → (t || false) ≡ t
-or-false true = refl
-or-false false = refl
-
 module _ (s : Silence) (cell ringNumber start : ℕ) where
+  -- the test of the one silence decides
   one-same : names (s ∷ []) cell ringNumber start ≡ isSame s (silence cell ringNumber start)
   unfolding names
   one-same = or-false (isSame s (silence cell ringNumber start))
@@ -43,4 +39,4 @@ empty-names-nothing cell ringNumber start = refl
 
 -- In the empty book nothing is sought, from any offset.
 pub empty-seek : (address : Silence) (at : ℕ) → seekFrom [] address at ≡ faulty
-empty-seek address at = seekFrom-step [] address at ∙ ap (λ (f : FieldAt). seekField address f (seekFrom [] address)) (field-past [] at (omega arith))
+empty-seek address at = seekFrom-faulty [] address at (field-past [] at (omega arith))

@@ -1,7 +1,7 @@
 -- `book::fields::address_at` meets its contract: the three numbers are those of the value; the ring number's two bytes fit sixteen bits.
 -- Assumes nothing.
 use native.Mathlib.Omega.{arith}
-use Rattle.book.proofs.FieldCases.{silence-read}
+use Rattle.book.proofs.FieldTest.{silence-read}
 use Rattle.book.proofs.fields.address_at.Statement.{statement}
 use Rattle.book.proofs.fields.address_at.Tie as tie
 

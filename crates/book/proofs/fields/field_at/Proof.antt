@@ -1,21 +1,21 @@
 -- `book::fields::field_at` meets its contract: each return is one case of what stands at a byte offset.
 -- Assumes nothing.
-use mathlib.Core.Path.{_∙_}
+use mathlib.Core.Path.{sym, _∙_}
 use native.Mathlib.Omega.{arith}
-use Rattle.book.proofs.FieldCases.{field-past-end, field-tag-no, field-cut-off, field-length-no, field-is-whole}
+use Rattle.book.proofs.FieldTest.{field-tag-no, field-length-no, field-cut-off, field-is-whole}
 use Rattle.book.proofs.fields.field_at.Statement.{statement}
 use Rattle.book.proofs.fields.field_at.Tie as tie
 
 -- past the book's end
 returns : tie.Need-returns
-returns c = field-past-end _ _ (omega arith)
+returns c = sym (field-cut-off _ _ (omega arith))
 
 shared-slice-read-if2 : tie.Need-shared-slice-read-if2
 shared-slice-read-if2 c = omega arith
 
 -- another tag
 returns-2 : tie.Need-returns-2
-returns-2 c = field-tag-no _ _ (c .if2 .taken)
+returns-2 c = sym (field-tag-no _ _ (c .if2 .taken))
 
 sub-if3 : tie.Need-sub-if3
 sub-if3 c = omega arith
@@ -25,7 +25,7 @@ add-if3 c = omega arith
 
 -- cut off
 returns-3 : tie.Need-returns-3
-returns-3 c = field-cut-off _ _ (c .before .if2 .left) (omega arith)
+returns-3 c = sym (field-cut-off _ _ (omega arith))
 
 add-number-at : tie.Need-add-number-at
 add-number-at c = omega arith
@@ -38,7 +38,7 @@ cast-long c = omega arith
 
 -- another length
 returns-4 : tie.Need-returns-4
-returns-4 c = field-length-no _ _ (c .before .before .before .if2 .left) (λ e. c .if4 .taken (c .before .number-at .ensures .0 ∙ e))
+returns-4 c = sym (field-length-no _ _ (λ e. c .if4 .taken (c .before .number-at .ensures .0 ∙ e)))
 
 add-value : tie.Need-add-value
 add-value c = omega arith
@@ -51,7 +51,7 @@ address-at-requires c κs = omega arith
 
 -- a whole field
 returns-5 : tie.Need-returns-5
-returns-5 c = field-is-whole _ _ (c .before .before .before .before .if2 .left) _ _ (c .address-at .ensures) (omega arith) (omega arith) (omega arith)
+returns-5 c = sym (field-is-whole _ _ (c .address-at .ensures) (omega arith) (c .before .before .before .before .if2 .left) (omega arith) (omega arith))
 
 pub field-at-spec : {M : Type 1} → statement M
 field-at-spec =

@@ -6,7 +6,7 @@ use native.Mathlib.Omega.{arith}
 use lib.ListN.{length}
 use borrow.Author.Tests.{not-true, not-false}
 use Rattle.book.specs.Calls.{lastOf}
-use Rattle.book.proofs.FieldLength.{field-length}
+use Rattle.book.proofs.FieldBytes.{field-length}
 use Rattle.book.proofs.JudgeLoop.{JudgedTo, judge-start, judge-ring-number, judge-not-above, judge-turn, judge-end}
 use Rattle.book.proofs.judging.judge.Statement.{statement}
 use Rattle.book.proofs.judging.judge.Tie as tie

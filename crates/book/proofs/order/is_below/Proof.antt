@@ -1,24 +1,27 @@
 -- `book::order::is_below` meets its contract: each return is one case of the order.
 -- Assumes nothing.
+use mathlib.Core.Path.{sym}
 use native.Mathlib.Omega.{arith}
-use Rattle.book.proofs.OrderCases.{below-cell-yes, below-cell-no, below-ring-yes, below-ring-no, below-start}
+use Rattle.book.specs.Silences.{by-cell, by-ring-number}
+use Rattle.book.proofs.SilenceOrder.{isBelow-iff, isBelow-start}
+use Rattle.book.proofs.StrictOrder.{above-isBelow}
 use Rattle.book.proofs.order.is_below.Statement.{statement}
 use Rattle.book.proofs.order.is_below.Tie as tie
 
 returns : tie.Need-returns
-returns c = below-cell-yes _ _ (omega arith)
+returns c = sym (isBelow-iff _ _ .1 (by-cell (omega arith)))
 
 returns-2 : tie.Need-returns-2
-returns-2 c = below-cell-no _ _ (omega arith)
+returns-2 c = sym (above-isBelow _ _ (by-cell (omega arith)))
 
 returns-3 : tie.Need-returns-3
-returns-3 c = below-ring-yes _ _ (omega arith) (omega arith)
+returns-3 c = sym (isBelow-iff _ _ .1 (by-ring-number (omega arith) (omega arith)))
 
 returns-4 : tie.Need-returns-4
-returns-4 c = below-ring-no _ _ (omega arith) (omega arith)
+returns-4 c = sym (above-isBelow _ _ (by-ring-number (omega arith) (omega arith)))
 
 returns-5 : tie.Need-returns-5
-returns-5 c = below-start _ _ (omega arith) (omega arith)
+returns-5 c = sym (isBelow-start _ _ (omega arith) (omega arith))
 
 pub is-below-spec : {M : Type 1} → statement M
 is-below-spec = tie.close (tie.spec returns returns-2 returns-3 returns-4 returns-5)

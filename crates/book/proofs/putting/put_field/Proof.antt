@@ -3,7 +3,7 @@
 use native.Mathlib.Omega.{arith}
 use borrow.Author.Needs.{needs}
 use Rattle.book.specs.Silences.{Silence, silence}
-use Rattle.book.proofs.FieldLength.{field-length}
+use Rattle.book.proofs.FieldBytes.{field-length}
 use Rattle.book.proofs.FieldPut.{number-next, field-put}
 use Rattle.book.proofs.putting.put_field.Statement.{statement}
 use Rattle.book.proofs.putting.put_field.Tie as tie

@@ -1,5 +1,5 @@
--- `book::reading::read_fields` meets its contract. Before the field at `at` the records counted and those read from there on make up the answer
--- (`ReadOn`); each return is one case of that field, or the book's end. The bytes left fall.
+-- `book::reading::read_fields` meets its contract. Before the field at `at` the fields before it have been read and counted (`ReadOn`); each return is one
+-- case of that field, or the book's end. The bytes left fall.
 -- Assumes nothing.
 use Prim.Native.Nat.{_-_}
 use mathlib.Core.Path.{sym, _∙_}
@@ -44,7 +44,7 @@ returns-2 : tie.Need-returns-2 Inv-loop μ-loop
 returns-2 c =
     let at-whole = c .before .before .before in
     let at-field = at-whole .before .before in
-    read-not-above _ _ _ _ (at-field .before .before .loop .inv) _ _ (rw (at-whole .field .given .1) at (at-field .field-at .ensures)) (omega arith)
+    read-not-above _ _ _ _ (at-field .before .before .loop .inv) _ _ (rw (at-whole .field .given .1) at (at-field .field-at .ensures))
     (sym (c .before .is-above .ensures) ∙ not-true _ (c .if1 .taken))
 
 add-records : tie.Need-add-records Inv-loop μ-loop
@@ -54,13 +54,13 @@ loop-less : tie.Need-loop-less Inv-loop μ-loop
 loop-less c =
     let at-whole = c .before .before .before in
     let at-field = at-whole .before .before in
-    read-lt _ _ _ _ (at-field .before .before .loop .inv) _ _ (rw (at-whole .field .given .1) at (at-field .field-at .ensures)) (omega arith)
+    read-lt _ _ _ _ (at-field .before .before .loop .inv) _ _ (rw (at-whole .field .given .1) at (at-field .field-at .ensures))
 
 loop-again : tie.Need-loop-again Inv-loop μ-loop
 loop-again c =
     let at-whole = c .before .before .before in
     let at-field = at-whole .before .before in
-    read-turn _ _ _ _ (at-field .before .before .loop .inv) _ _ (rw (at-whole .field .given .1) at (at-field .field-at .ensures)) (omega arith)
+    read-turn _ _ _ _ (at-field .before .before .loop .inv) _ _ (rw (at-whole .field .given .1) at (at-field .field-at .ensures))
     (sym (c .before .is-above .ensures) ∙ not-false _ (c .if1 .left))
 
 -- the book's end

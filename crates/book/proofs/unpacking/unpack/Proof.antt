@@ -3,7 +3,7 @@
 use native.Mathlib.Omega.{arith}
 use borrow.Author.Needs.{needs}
 use Rattle.book.proofs.AcceptedBook.{read-answer-is, records-le}
-use Rattle.book.proofs.UnpackCases.{unpack-refused, unpack-no-room, unpack-records}
+use Rattle.book.proofs.UnpackCases.{unpack-refused, unpack-no-room, unpack-written}
 use Rattle.book.proofs.unpacking.unpack.Statement.{statement}
 use Rattle.book.proofs.unpacking.unpack.Tie as tie
 
@@ -46,8 +46,8 @@ returns-3 : tie.Need-returns-3
 returns-3 c =
     let at-put = c .before .before in
     let at-records = at-put .before .before .before .before in
-    unpack-records _ _ _ (read-answer-is _ _ _ (at-records .before .before .read .ensures) (at-records .answer .given .1))
-    _ (omega arith) (at-put .put-records .ensures)
+    unpack-written _ _ _ (read-answer-is _ _ _ (at-records .before .before .read .ensures) (at-records .answer .given .1))
+    (omega arith) (at-put .put-records .ensures)
 
 pub unpack-spec : {M : Type 1} → statement M
 unpack-spec =
