@@ -42,7 +42,7 @@ module _ (ring line : List ℕ) (k : ℕ) where
   findings-rising = below-rising (length line)
 
 -- In a list that rises from lo on, no start is below lo.
-rising-from : (lo hi : ℕ) (l : List Finding) → Rising lo hi l → (f : Finding) → List·Memᴰ f l → lo ≤ f .start
+pub rising-from : (lo hi : ℕ) (l : List Finding) → Rising lo hi l → (f : Finding) → List·Memᴰ f l → lo ≤ f .start
 rising-from lo hi [] r f h = absurd (List·Memᴰ·not-nil h)
 rising-from lo hi (g ∷ l) r f h =
     ⊎-elim

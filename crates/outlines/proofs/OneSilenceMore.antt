@@ -4,16 +4,15 @@
 use Prim.Native.Nat.{ℕ, suc, _+_, _≤_, _<_}
 use mathlib.Core.Path.{_≡_, refl, sym, ap, _∙_}
 use mathlib.Core.Bool.{Bool, true, false, cond, _||_}
-use mathlib.Core.Logic.{⊎-elim}
-use mathlib.Core.List.{List, [], _∷_, _++_, List·Memᴰ, List·Memᴰ·not-nil, List·Memᴰ·cases-cons}
+use mathlib.Core.List.{List, [], _∷_, _++_, List·Memᴰ}
 use native.Mathlib.Omega.{arith}
 use lib.ListN.{length}
 use Rattle.meaning.specs.Findings.{Finding, IsFinding, findings}
-use Rattle.meaning.proofs.Rising.{Rising, findings-rising}
+use Rattle.meaning.proofs.Rising.{Rising, rising-from, findings-rising}
 use Rattle.answers.specs.Paper.{accepted}
 use Rattle.book.specs.Silences.{Silence, silence, isSame, names}
 use Rattle.book.specs.Reading.{readBook}
-use Rattle.book.proofs.SilenceOrder.{isSame-yes}
+use Rattle.book.proofs.SilenceOrder.{isSame-iff}
 use Rattle.outlines.specs.declared.reporting.Reported.{Reported}
 use Rattle.outlines.specs.Report.{isHidden, hidden, IsReported}
 use Rattle.outlines.proofs.SilencesAlike.{NamesAlike, hidden-same, reports-same}
@@ -28,17 +27,8 @@ not-same : (a b : Silence) → (a ≡ b → ⊥) → isSame a b ≡ false
 not-same a b differs = go (isSame a b) refl
   where
     go : (t : Bool) → isSame a b ≡ t → t ≡ false
-    go true e = absurd (differs (isSame-yes a b e))
+    go true e = absurd (differs (isSame-iff a b .0 e))
     go false e = refl
-
--- in a list that rises from lo on, no start is below lo
-rising-above : (lo hi : ℕ) (fs : List Finding) → Rising lo hi fs → (f : Finding) → List·Memᴰ f fs → lo ≤ f .start
-rising-above lo hi [] r f h = absurd (List·Memᴰ·not-nil h)
-rising-above lo hi (g ∷ fs) r f h =
-    ⊎-elim
-    (λ e. omega (arith, r .0, ap (λ (x : Finding). x .start) e))
-    (λ m. omega (arith, r .0, rising-above (suc (g .start)) hi fs (r .1) f m))
-    (List·Memᴰ·cases-cons h)
 
 -- one finding, hidden or not before as many others
 one-at-most : (f : Finding) (a b : Bool) (l l′ : List Finding) → length l ≡ length l′ → length (cond a (f ∷ l) l) ≤ length (cond b (f ∷ l′) l′) + 1
@@ -82,9 +72,9 @@ module _ (cell ringNumber : ℕ) (s : Silence) (xs ys : List Silence) where
           → length (cond (isHidden (xs ++ s ∷ ys) cell ringNumber f) (f ∷ hidden (xs ++ s ∷ ys) cell ringNumber fs) (hidden (xs ++ s ∷ ys) cell ringNumber fs))
           ≤ length (cond (isHidden (xs ++ ys) cell ringNumber f) (f ∷ hidden (xs ++ ys) cell ringNumber fs) (hidden (xs ++ ys) cell ringNumber fs)) + 1
       go true e rest =
-          let here : s .start ≡ f .start = ap (λ (a : Silence). a .start) (isSame-yes s (silence cell ringNumber (f .start)) e) in
+          let here : s .start ≡ f .start = ap (λ (a : Silence). a .start) (isSame-iff s (silence cell ringNumber (f .start)) .0 e) in
           let alike : NamesAlike (xs ++ s ∷ ys) (xs ++ ys) cell ringNumber fs =
-          λ g m. named-same g (other-start (g .start) (λ q. omega (arith, rising-above (suc (f .start)) hi fs (rising .1) g m))) in
+          λ g m. named-same g (other-start (g .start) (λ q. omega (arith, rising-from (suc (f .start)) hi fs (rising .1) g m))) in
           one-at-most f (isHidden (xs ++ s ∷ ys) cell ringNumber f) (isHidden (xs ++ ys) cell ringNumber f) _ _
           (ap (λ (l : List Finding). length l) (hidden-same (xs ++ s ∷ ys) (xs ++ ys) cell ringNumber fs alike))
       go false e rest = rw (named-same f e) (one-later f (isHidden (xs ++ ys) cell ringNumber f) _ _ rest)
