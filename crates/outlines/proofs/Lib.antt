@@ -22,7 +22,7 @@ pub mod RenumberLoop
 pub mod StepTallied
 pub mod MoveLoop
 pub mod VerifyCases
-pub mod NextCases
+pub mod SurveyCases
 -- What a start's tally says of it, and a window of the sweep.
 pub mod TallyFinding
 pub mod SweepCases

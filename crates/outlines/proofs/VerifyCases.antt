@@ -3,6 +3,7 @@
 -- Assumes nothing.
 use Prim.Native.Nat.{ℕ, _+_, _-_, _*_, _≤_, _<_}
 use mathlib.Core.Path.{_≡_, refl, ap, subst, _∙_}
+use mathlib.Core.Logic.{⊎-elim}
 use mathlib.Core.List.{List}
 use mathlib.Core.Option.{Option}
 use native.Mathlib.Omega.{arith}
@@ -10,9 +11,11 @@ use lib.ListN.{length}
 use borrow.Author.Tests.{lt-ltb, le-ltb}
 use Rattle.meaning.specs.Meanings.{window, distance}
 use Rattle.meaning.specs.Looks.{afreshLooks, stepLooks, tallyLooks}
+use Rattle.meaning.proofs.Cases.{le-or-lt}
 use Rattle.meaning.proofs.WindowAlone.{alone-distance}
-use Rattle.outlines.specs.Tally.{Tallied, RingFits, Doubled, lastOf, TalliedBefore, CanVerify, CanMove, Verified}
+use Rattle.outlines.specs.Tally.{Tallied, RingFits, Doubled, lastOf, TalliedBefore, CanVerify, CanMove, Verified, IsReached}
 use Rattle.outlines.proofs.WindowEdges.{window-length}
+use Rattle.outlines.specs.declared.steps.Reached.{Reached}
 use Rattle.outlines.specs.declared.tally.LastVerified.{LastVerified}
 use Rattle.outlines.specs.declared.tally.LastVerified.the-variants.{Nothing, At}
 
@@ -39,7 +42,7 @@ module _ (ring line : List ℕ) (i : ℕ) where
   }
 
   -- Looks that are equal count the same.
-  pub looks-same : (counts : List ℕ) (looks looks′ least looked : ℕ) → looks ≡ looks′ → Verified ring line i looks counts least looked
+  looks-same : (counts : List ℕ) (looks looks′ least looked : ℕ) → looks ≡ looks′ → Verified ring line i looks counts least looked
       → Verified ring line i looks′ counts least looked
   looks-same counts looks looks′ least looked same verified = record {
     tallied = verified .tallied;
@@ -70,15 +73,18 @@ module _ (ring line : List ℕ) (i : ℕ) where
           (rw (after, lt-ltb m (2 * (i - from)) far) refl)
           (alone-verified edges counts (afreshLooks m) least looked is verified)
 
-      -- Else the tally moves as many steps as the start is beyond it.
-      pub verify-moved : (counts : List ℕ) (least looked : ℕ) → 2 * (i - from) ≤ m → from < i
-          → Verified ring line (from + (i - from)) ((i - from) * stepLooks m) counts least looked → Verified ring line i asked counts least looked
+      -- Else the tally moves as many steps as the start is beyond it: no least count is below 0.
+      pub verify-moved : (counts : List ℕ) (r : Reached) → 2 * (i - from) ≤ m → from < i → IsReached ring line from (i - from) 0 counts r
+          → Verified ring line i asked counts (r .least) (r .looks)
       unfolding tallyLooks
-      verify-moved counts least looked near before verified =
-          let there : from + (i - from) ≡ i = omega arith in
-          looks-same counts ((i - from) * stepLooks m) asked least looked
+      verify-moved counts r near before reached =
+          let whole : from + (i - from) ≡ i = omega arith in
+          let there : r .start ≡ i =
+          ⊎-elim (λ l. omega (arith, reached .start-le)) (λ l. absurd (omega (arith, reached .stopped l))) (le-or-lt (from + (i - from)) (r .start))
+          in
+          looks-same counts ((i - from) * stepLooks m) asked (r .least) (r .looks)
           (rw (after, le-ltb m (2 * (i - from)) near) refl)
-          (rw there at verified)
+          (rw there at (reached .verified))
 
       module _ (doubled counts : List ℕ) (can : CanVerify ring doubled line i counts (lastOf last)) where
         tallied-before : (from < i) × Tallied ring line from counts

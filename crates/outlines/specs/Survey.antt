@@ -2,52 +2,58 @@
 -- 0. It gives the same findings." Refusals, counts and words are the scan's, by the same definitions (specs/Scan.antt); only the looks are its own,
 -- `surveyLooks` of crates/meaning. What a survey promises is one record, on every input, accepted or refused.
 --
---   startLooks        what verifying a start costs the survey
---   IsStartSurveyed   what one start gives
---   IsSurveyed        what `survey` promises
+--   IsVerifiedOn    starts verified, to the next finding or the last start
+--   IsSurveyedOn    what they give
+--   IsSurveyed      what `survey` promises
 use Prim.Native.Nat.{ℕ, _+_, _-_, _≤_, _<_}
 use mathlib.Core.Path.{_≡_}
-use mathlib.Core.Bool.{cond}
 use mathlib.Core.List.{List, [], _∷_}
-use lib.Dec.{eqb}
 use lib.ListN.{length}
+use Rattle.meaning.specs.Meanings.{leastDistance}
 use Rattle.meaning.specs.Findings.{Finding, foundAt, findings, wordsOf, written}
-use Rattle.meaning.specs.Looks.{afreshLooks, stepLooks, surveyLooks}
+use Rattle.meaning.specs.Looks.{surveyLooksBelow, surveyLooks}
+use Rattle.outlines.specs.declared.steps.Reached.{Reached}
 use Rattle.outlines.specs.declared.quick.Scanned.{Scanned}
 use Rattle.outlines.specs.declared.plain.Surveyed.{Surveyed}
 use Rattle.outlines.specs.declared.plain.Surveyed.the-variants.{NoFinding, Found}
 use Rattle.outlines.specs.Admitting.{mostLine, roomAsked}
-use Rattle.outlines.specs.Tally.{RingFits, Doubled, Tallied}
+use Rattle.outlines.specs.Tally.{RingFits, Doubled, Tallied, IsLeast}
 use Rattle.outlines.specs.Sweep.{findingOf}
 use Rattle.outlines.specs.Scan.{paperOf, searchPaper, searchedWords}
 
--- "The first afresh and each next by one step, at m = 1 too": the looks of start i.
-abbrev pub startLooks : ℕ → ℕ → ℕ
-startLooks m i = cond (eqb i 0) (afreshLooks m) (stepLooks m)
-
--- What verifying start i asks: a window in the line, and after the first start the tally of the start before.
-pub record CanVerifyNext (ring doubled line : List ℕ) (i : ℕ) (counts : List ℕ) : Type 0 where
+-- What verifying from start i on asks: a window in the line, and after the first start the tally of the start before.
+pub record CanVerifyOn (ring doubled line : List ℕ) (k i : ℕ) (counts : List ℕ) : Type 0 where
   pub fits : RingFits ring counts
+  pub allowed : k < length ring
   pub twice : Doubled ring doubled
   pub in-line : i + length ring ≤ length line
   pub most-line : length line ≤ mostLine
   pub before : 0 < i → Tallied ring line (i - 1) counts
 
--- The looks that a start took.
-abbrev pub takenOf : Surveyed → ℕ
-takenOf (NoFinding taken) = taken
-takenOf (Found taken f) = taken
+-- The starts from i on are verified, up to the one reached: the counts hold its tally, and those passed are no findings. The looks are the survey's for
+-- these starts, "the first afresh and each next by one step".
+pub record IsVerifiedOn (ring line : List ℕ) (k i : ℕ) (counts : List ℕ) (r : Reached) : Type 0 where
+  pub start-ge : i ≤ r .start
+  pub in-line : r .start + length ring ≤ length line
+  pub tallied : Tallied ring line (r .start) counts
+  pub least-is : IsLeast (length ring) counts (r .least)
+  pub looks-are : surveyLooksBelow ring line i + r .looks ≡ surveyLooksBelow ring line (r .start + 1)
+  pub passed : (j : ℕ) → i ≤ j → j < r .start → k < leastDistance ring line j
 
--- What a start reported.
+-- Where the survey stands.
+abbrev pub reachedOf : Surveyed → Reached
+reachedOf (NoFinding reached) = reached
+reachedOf (Found reached f) = reached
+
+-- What was reported.
 abbrev pub foundOf : Surveyed → List Finding
-foundOf (NoFinding taken) = []
-foundOf (Found taken f) = findingOf f ∷ []
+foundOf (NoFinding reached) = []
+foundOf (Found reached f) = findingOf f ∷ []
 
--- One start is verified, and reported if it is a finding; the counts hold its tally.
-pub record IsStartSurveyed (ring line : List ℕ) (k i : ℕ) (r : Surveyed) (counts : List ℕ) : Type 0 where
-  pub looks-are : takenOf r ≡ startLooks (length ring) i
-  pub found-are : foundOf r ≡ foundAt ring line k i
-  pub tallied : Tallied ring line i counts
+-- The starts from i on are verified, up to the one reached, and that is reported if it is a finding.
+pub record IsSurveyedOn (ring line : List ℕ) (k i : ℕ) (r : Surveyed) (counts : List ℕ) : Type 0 where
+  pub verified : IsVerifiedOn ring line k i counts (reachedOf r)
+  pub found-are : foundOf r ≡ foundAt ring line k (reachedOf r .start)
 
 -- What surveying a line asks: a call within the limits, the ring's double, and room for the findings.
 pub record CanSurvey (ring doubled line : List ℕ) (k : ℕ) (counts words : List ℕ) : Type 0 where

@@ -9,14 +9,16 @@
 --   Stepped       one step: changed and renumbered
 --   IsLeast       the least of the counts
 --   Verified      a start's tally, its least count and the looks that it took
+--   IsReached     where moved counts came to
 use Prim.Native.Nat.{ℕ, _+_, _-_, _*_, _%_, _≤_, _<_}
 use mathlib.Core.Path.{_≡_}
 use mathlib.Core.List.{List}
 use mathlib.Core.Option.{Option, none, some}
 use lib.ListN.{length, getD}
 use Rattle.meaning.specs.Numbers.{oneIf}
-use Rattle.meaning.specs.Meanings.{unequal, distance}
-use Rattle.meaning.specs.Looks.{tallyLooks}
+use Rattle.meaning.specs.Meanings.{unequal, distance, leastDistance}
+use Rattle.meaning.specs.Looks.{stepLooks, tallyLooks}
+use Rattle.outlines.specs.declared.steps.Reached.{Reached}
 use Rattle.outlines.specs.declared.tally.LastVerified.{LastVerified}
 use Rattle.outlines.specs.declared.tally.LastVerified.the-variants.{Nothing, At}
 
@@ -113,6 +115,14 @@ pub record Verified (ring line : List ℕ) (i looks : ℕ) (counts : List ℕ) (
   pub tallied : Tallied ring line i counts
   pub least-is : IsLeast (length ring) counts least
   pub looks-are : looked ≡ looks
+
+-- Where counts moved from start `from` came to: so many steps on, or sooner, at the first start on the way whose least count is below `below`.
+pub record IsReached (ring line : List ℕ) (from steps below : ℕ) (counts : List ℕ) (r : Reached) : Type 0 where
+  pub after : from < r .start
+  pub start-le : r .start ≤ from + steps
+  pub verified : Verified ring line (r .start) ((r .start - from) * stepLooks (length ring)) counts (r .least) (r .looks)
+  pub passed : (j : ℕ) → from < j → j < r .start → below ≤ leastDistance ring line j
+  pub stopped : r .start < from + steps → r .least < below
 
 -- The lowest rotation whose count is the least.
 pub record IsLowestAt (m : ℕ) (counts : List ℕ) (least r : ℕ) : Type 0 where

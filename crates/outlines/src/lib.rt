@@ -6,6 +6,7 @@
 mod admitting;
 mod afresh;
 mod counts;
+mod moving;
 mod plain;
 mod quick;
 mod reading;

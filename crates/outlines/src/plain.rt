@@ -3,48 +3,56 @@ use crate::admitting::Verdict;
 use crate::admitting::admit;
 use crate::afresh::count_afresh;
 use crate::afresh::double;
-use crate::counts::Least;
 use crate::counts::lowest_rotation;
 use crate::counts::wide;
+use crate::moving::move_counts;
 use crate::quick::Counted;
 use crate::quick::Scanned;
 use crate::quick::put_finding;
-use crate::steps::move_along;
+use crate::steps::Reached;
 use crate::windows::window;
 use answers::Finding;
 use answers::LinePlace;
 use answers::RingPlace;
 ghost use lib.ListN.{length};
 ghost use Rattle.outlines.specs.Admitting.{Admitted};
-ghost use Rattle.outlines.specs.Tally.{Verified};
-ghost use Rattle.outlines.specs.Survey.{CanVerifyNext, startLooks, IsStartSurveyed, CanSurvey, LineSurveyed, IsSurveyed};
+ghost use Rattle.outlines.specs.Survey.{CanVerifyOn, IsVerifiedOn, IsSurveyedOn, CanSurvey, LineSurveyed, IsSurveyed};
 
-// What a start gave, with the looks that its tally took: verified and no finding; a finding.
+// What the starts up to the one reached gave: it is verified and no finding, and the last; or it is a finding.
 pub enum Surveyed {
-    NoFinding(usize),
-    Found(usize, Finding),
+    NoFinding(Reached),
+    Found(Reached, Finding),
 }
 
-// "The first afresh and each next by one step, at m = 1 too": rule 5's 2·s > m is not asked here.
-fn verify_next(counts: &mut [u16; 256], ring: &[u8], doubled: &[u8], line: &[u8], i: usize) -> Least
-    requires { ⌜ CanVerifyNext (now ring) (now doubled) (now line) i (now counts) ⌝ }
-    ensures { λ z. ⌜ Verified (now (ring .entry)) (now (line .entry)) i (startLooks (length (now (ring .entry))) i) (now (counts .exit)) (z .least) (z .looks) ⌝ }
+// "The first afresh and each next by one step, at m = 1 too": rule 5's 2·s > m is not asked here. The tally is moved on
+// to the next finding, or to the last start, so that it is handed over once for a finding and not for each start.
+fn verify_on(
+    counts: &mut [u16; 256],
+    ring: &[u8],
+    doubled: &[u8],
+    line: &[u8],
+    k: usize,
+    i: usize,
+) -> Reached
+    requires { ⌜ CanVerifyOn (now ring) (now doubled) (now line) k i (now counts) ⌝ }
+    ensures { λ z. ⌜ IsVerifiedOn (now (ring .entry)) (now (line .entry)) k i (now (counts .exit)) z ⌝ }
 {
+    let m = ring.len();
     if i == 0 {
-        count_afresh(
-            counts,
-            ring,
-            doubled,
-            window(line, i, ring.len()),
-            LinePlace(i),
-        )
+        let first = count_afresh(counts, ring, doubled, window(line, i, m), LinePlace(i));
+        Reached {
+            start: i,
+            least: first.least,
+            looks: first.looks,
+        }
     } else {
-        move_along(counts, ring, line, i - 1, 1)
+        let from = i - 1;
+        move_counts(counts, ring, line, from, line.len() - m - from, k + 1)
     }
 }
 
-// One start, verified.
-fn survey_start(
+// The starts from i on, to the next finding or to the last.
+fn survey_on(
     counts: &mut [u16; 256],
     ring: &[u8],
     doubled: &[u8],
@@ -52,27 +60,27 @@ fn survey_start(
     k: usize,
     i: usize,
 ) -> Surveyed
-    requires { ⌜ CanVerifyNext (now ring) (now doubled) (now line) i (now counts) ⌝ }
-    ensures { λ r. ⌜ IsStartSurveyed (now (ring .entry)) (now (line .entry)) k i r (now (counts .exit)) ⌝ }
+    requires { ⌜ CanVerifyOn (now ring) (now doubled) (now line) k i (now counts) ⌝ }
+    ensures { λ r. ⌜ IsSurveyedOn (now (ring .entry)) (now (line .entry)) k i r (now (counts .exit)) ⌝ }
 {
-    let verified = verify_next(counts, ring, doubled, line, i);
-    let least = verified.least;
+    let reached = verify_on(counts, ring, doubled, line, k, i);
+    let least = reached.least;
     let distance = wide(least);
     if k < distance {
-        return Surveyed::NoFinding(verified.looks);
+        return Surveyed::NoFinding(reached);
     }
     let rotation = lowest_rotation(counts, ring.len(), least);
     Surveyed::Found(
-        verified.looks,
+        reached,
         Finding {
-            start: LinePlace(i),
+            start: LinePlace(reached.start),
             rotation: RingPlace(rotation),
             distance,
         },
     )
 }
 
-// Start after start, while its window fits in the line.
+// Finding after finding, while a start is left: its window fits in the line.
 fn survey_starts(
     ring: &[u8],
     doubled: &[u8],
@@ -89,17 +97,18 @@ fn survey_starts(
     let mut looks: usize = 0;
     let mut i = 0;
     while i + m <= line.len() {
-        match survey_start(counts, ring, doubled, line, k, i) {
-            Surveyed::NoFinding(taken) => {
-                looks += taken;
+        match survey_on(counts, ring, doubled, line, k, i) {
+            Surveyed::NoFinding(reached) => {
+                looks += reached.looks;
+                i = reached.start + 1;
             }
-            Surveyed::Found(taken, finding) => {
+            Surveyed::Found(reached, finding) => {
                 put_finding(words, found, finding);
                 found += 1;
-                looks += taken;
+                looks += reached.looks;
+                i = reached.start + 1;
             }
         }
-        i += 1;
     }
     Counted { found, looks }
 }

@@ -2,12 +2,13 @@
 // (specs/Tally.antt), so a step renumbers them.
 use crate::counts::Least;
 use crate::counts::differing;
+use crate::counts::wide;
 use crate::windows::window;
 ghost use mathlib.Core.Path.{_≡_};
-ghost use Prim.Native.Nat.{_+_, _*_, _<_, _≤_};
+ghost use Prim.Native.Nat.{_<_, _≤_};
 ghost use lib.ListN.{length};
 ghost use Rattle.meaning.specs.Looks.{stepLooks};
-ghost use Rattle.outlines.specs.Tally.{Changed, Renumbered, Stepped, IsLeast, CanStep, CanMove, Verified};
+ghost use Rattle.outlines.specs.Tally.{Changed, Renumbered, Stepped, IsLeast, CanStep, CanMove, IsReached};
 
 // The leaving and the entering edge, each against every ring edge. Rotation r at this start stands over the ring as the
 // next rotation does at the next start, so both meet the ring's edge at r.
@@ -62,17 +63,25 @@ pub fn step(counts: &mut [u16; 256], ring: &[u8], leaving: u8, entering: u8) -> 
     least
 }
 
-// The tally moved along the line by so many steps, one at least. The leaving edge is the first of the window that is
-// left, the entering edge the last of the next one.
+// Where moved counts came to: the start, the least of its counts, and the looks of the steps.
+pub struct Reached {
+    pub start: usize,
+    pub least: u16,
+    pub looks: usize,
+}
+
+// The counts moved along the line: so many steps, one at least, or to the first start on the way whose least count is
+// below `below`. The leaving edge is the first of the window that is left, the entering edge the last of the next one.
 pub fn move_along(
     counts: &mut [u16; 256],
     ring: &[u8],
     line: &[u8],
     from: usize,
     steps: usize,
-) -> Least
+    below: usize,
+) -> Reached
     requires { ⌜ CanMove (now ring) (now line) from steps (now counts) ⌝ }
-    ensures { λ z. ⌜ Verified (now (ring .entry)) (now (line .entry)) (from + steps) (steps * stepLooks (length (now (ring .entry)))) (now (counts .exit)) (z .least) (z .looks) ⌝ }
+    ensures { λ z. ⌜ IsReached (now (ring .entry)) (now (line .entry)) from steps below (now (counts .exit)) z ⌝ }
 {
     let m = ring.len();
     let mut least: u16 = 0;
@@ -85,6 +94,17 @@ pub fn move_along(
         least = stepped.least;
         looks += stepped.looks;
         i += 1;
+        if wide(least) < below {
+            return Reached {
+                start: i,
+                least,
+                looks,
+            };
+        }
     }
-    Least { least, looks }
+    Reached {
+        start: i,
+        least,
+        looks,
+    }
 }

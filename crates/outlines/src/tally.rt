@@ -1,7 +1,7 @@
 // Rule 5: the tally is kept, and moved along the line from one verified start to the next.
 use crate::afresh::count_afresh;
 use crate::counts::Least;
-use crate::steps::move_along;
+use crate::moving::move_counts;
 use crate::windows::window;
 use answers::LinePlace;
 ghost use mathlib.Core.Path.{_≡_};
@@ -42,7 +42,12 @@ pub fn verify(
             if m < 2 * s {
                 count_afresh(counts, ring, doubled, window(line, i, m), LinePlace(i))
             } else {
-                move_along(counts, ring, line, from, s)
+                // No least count is below 0: it moves all the s steps.
+                let reached = move_counts(counts, ring, line, from, s, 0);
+                Least {
+                    least: reached.least,
+                    looks: reached.looks,
+                }
             }
         }
     }

@@ -1,14 +1,13 @@
--- `outlines::plain::survey_starts` meets its contract. The loop keeps `SurveyKeeps`; its turn is a start that is a finding or not, and the places up to
--- the line's end fall.
+-- `outlines::plain::survey_starts` meets its contract. The loop keeps `SurveyKeeps`; its two turns are that the start reached is a finding or not, and the
+-- places up to the line's end fall.
 -- Assumes nothing.
 use Prim.Native.Nat.{_+_, _-_}
 use mathlib.Core.Path.{_≡_, refl, ap}
-use mathlib.Core.Logic.{⊎-elim}
 use native.Mathlib.Omega.{arith}
 use borrow.Author.Needs.{needs}
 use lib.ListN.{length}
-use Rattle.outlines.specs.Survey.{takenOf, foundOf}
-use Rattle.outlines.proofs.SurveyLoop.{SurveyKeeps, survey-start, survey-end, survey-can-verify, survey-found-le, survey-looks-le, survey-none, survey-can-put, survey-put-length, survey-found}
+use Rattle.outlines.specs.Survey.{reachedOf, foundOf}
+use Rattle.outlines.proofs.SurveyLoop.{SurveyKeeps, survey-start, survey-end, survey-can-verify, survey-found-le, survey-looks-le, survey-start-le, survey-less, survey-none, survey-can-put, survey-put-length, survey-found}
 use Rattle.outlines.proofs.plain.survey_starts.Statement.{statement}
 use Rattle.outlines.proofs.plain.survey_starts.Tie as tie
 
@@ -25,85 +24,111 @@ loop-holds c = (refl, refl, survey-start _ _ _ _ _ _ (c .before .before .before 
 add-loop : tie.Need-add-loop Inv-loop μ-loop
 add-loop c = omega (arith, c .loop .inv .2 .start-le)
 
-survey-start-requires : tie.Need-survey-start-requires Inv-loop μ-loop
-survey-start-requires c κs =
+survey-on-requires : tie.Need-survey-on-requires Inv-loop μ-loop
+survey-on-requires c κs =
     let at = c .before .before in
-    survey-can-verify _ _ _ _ _ _ (at .before .before .before .before .before .pre) _ (c .before .loop-test .taken) _ _ _ _ (at .loop .inv .2)
+    survey-can-verify _ _ _ _ _ _ (at .before .before .before .before .before .pre) _ _ _ _ _ (at .loop .inv .2) (c .before .loop-test .taken)
 
-enum-known-taken : tie.Need-enum-known-taken Inv-loop μ-loop
-enum-known-taken c = search needs
+enum-known-reached : tie.Need-enum-known-reached Inv-loop μ-loop
+enum-known-reached c = search needs
 
 add-looks : tie.Need-add-looks Inv-loop μ-loop
 add-looks c =
-    let surveyed = c .before .before .before in
+    let surveyed = c .before .before .before .before in
     let at = surveyed .before .before .before in
     omega (
       arith,
-      survey-looks-le _ _ _ _ _ _ (at .before .before .before .before .before .pre) _ (surveyed .before .before .loop-test .taken) _ _ _ _ (at .loop .inv .2) _ _
-          (surveyed .survey-start .ensures) _ (ap takenOf (c .before .taken .given .1)),
+      survey-looks-le _ _ _ _ _ _ (at .before .before .before .before .before .pre) _ _ _ _ _ (at .loop .inv .2) (surveyed .before .before .loop-test .taken) _ _
+          (surveyed .survey-on .ensures) _ (ap reachedOf (c .before .before .reached .given .1)),
     )
 
-enum-known-taken-2 : tie.Need-enum-known-taken-2 Inv-loop μ-loop
-enum-known-taken-2 c = search needs
+add-i : tie.Need-add-i Inv-loop μ-loop
+add-i c =
+    let surveyed = c .before .before .before .before .before in
+    let at = surveyed .before .before .before in
+    omega (
+      arith,
+      survey-start-le _ _ _ _ _ _ (at .before .before .before .before .before .pre) _ _ _ _ _ (at .loop .inv .2) (surveyed .before .before .loop-test .taken) _ _
+          (surveyed .survey-on .ensures) _ (ap reachedOf (c .before .before .before .reached .given .1)),
+    )
+
+loop-less : tie.Need-loop-less Inv-loop μ-loop
+loop-less c =
+    let surveyed = c .before .before .before .before .before in
+    let at = surveyed .before .before .before in
+    survey-less _ _ _ _ _ _ (at .before .before .before .before .before .pre) _ _ _ _ _ (at .loop .inv .2) (surveyed .before .before .loop-test .taken) _ _
+    (surveyed .survey-on .ensures) _ (ap reachedOf (c .before .before .before .reached .given .1))
+
+-- No finding.
+loop-again : tie.Need-loop-again Inv-loop μ-loop
+loop-again c =
+    let surveyed = c .before .before .before .before .before in
+    let at = surveyed .before .before .before in
+    let told = c .before .before .before .reached .given .1 in (
+      refl,
+      at .loop .inv .1,
+      survey-none _ _ _ _ _ _ (at .before .before .before .before .before .pre) _ _ _ _ _ (at .loop .inv .2) (surveyed .before .before .loop-test .taken) _ _
+          (surveyed .survey-on .ensures) _ (ap reachedOf told) (ap foundOf told),
+    )
+
+enum-known-reached-2 : tie.Need-enum-known-reached-2 Inv-loop μ-loop
+enum-known-reached-2 c = search needs
 
 put-finding-requires : tie.Need-put-finding-requires Inv-loop μ-loop
 put-finding-requires c κs =
     let surveyed = c .before .before .before .before in
     let at = surveyed .before .before .before in
-    let told = c .before .before .taken2 .given .1 in
-    survey-can-put _ _ _ _ _ _ (at .before .before .before .before .before .pre) _ (surveyed .before .before .loop-test .taken) _ _ _ _ (at .loop .inv .2) _ _
-    (surveyed .survey-start .ensures) _ (ap takenOf told) _ (ap foundOf told)
+    let told = c .before .before .reached2 .given .1 in
+    survey-can-put _ _ _ _ _ _ (at .before .before .before .before .before .pre) _ _ _ _ _ (at .loop .inv .2) (surveyed .before .before .loop-test .taken) _ _
+    (surveyed .survey-on .ensures) _ (ap reachedOf told) _ (ap foundOf told)
 
 add-found : tie.Need-add-found Inv-loop μ-loop
 add-found c =
     let surveyed = c .before .before .before .before .before .before .before in
     let at = surveyed .before .before .before in
-    omega (
-      arith,
-      survey-found-le _ _ _ _ _ _ (at .before .before .before .before .before .pre) _ (surveyed .before .before .loop-test .taken) _ _ _ _ (at .loop .inv .2),
-    )
+    omega (arith, survey-found-le _ _ _ _ _ _ (at .before .before .before .before .before .pre) _ _ _ _ _ (at .loop .inv .2) (surveyed .before .before .loop-test .taken))
 
 add-looks-2 : tie.Need-add-looks-2 Inv-loop μ-loop
 add-looks-2 c =
-    let surveyed = c .before .before .before .before .before .before .before in
+    let surveyed = c .before .before .before .before .before .before .before .before in
     let at = surveyed .before .before .before in
     omega (
       arith,
-      survey-looks-le _ _ _ _ _ _ (at .before .before .before .before .before .pre) _ (surveyed .before .before .loop-test .taken) _ _ _ _ (at .loop .inv .2) _ _
-          (surveyed .survey-start .ensures) _ (ap takenOf (c .before .before .before .before .before .taken2 .given .1)),
+      survey-looks-le _ _ _ _ _ _ (at .before .before .before .before .before .pre) _ _ _ _ _ (at .loop .inv .2) (surveyed .before .before .loop-test .taken) _ _
+          (surveyed .survey-on .ensures) _ (ap reachedOf (c .before .before .before .before .before .before .reached2 .given .1)),
     )
 
-add-i : tie.Need-add-i Inv-loop μ-loop
-add-i c = omega arith
-
-loop-less : tie.Need-loop-less Inv-loop μ-loop
-loop-less c = omega arith
-
--- No finding, or a finding.
-loop-again : tie.Need-loop-again Inv-loop μ-loop
-loop-again c =
-    let surveyed = c .before in
+add-i-2 : tie.Need-add-i-2 Inv-loop μ-loop
+add-i-2 c =
+    let surveyed = c .before .before .before .before .before .before .before .before .before in
     let at = surveyed .before .before .before in
-    ⊎-elim
-    (λ none.
-    let told = none .1 .given .1 in
-    rw (none .3, none .4, none .5) (
+    omega (
+      arith,
+      survey-start-le _ _ _ _ _ _ (at .before .before .before .before .before .pre) _ _ _ _ _ (at .loop .inv .2) (surveyed .before .before .loop-test .taken) _ _
+          (surveyed .survey-on .ensures) _ (ap reachedOf (c .before .before .before .before .before .before .before .reached2 .given .1)),
+    )
+
+loop-less-2 : tie.Need-loop-less-2 Inv-loop μ-loop
+loop-less-2 c =
+    let surveyed = c .before .before .before .before .before .before .before .before .before in
+    let at = surveyed .before .before .before in
+    survey-less _ _ _ _ _ _ (at .before .before .before .before .before .pre) _ _ _ _ _ (at .loop .inv .2) (surveyed .before .before .loop-test .taken) _ _
+    (surveyed .survey-on .ensures) _ (ap reachedOf (c .before .before .before .before .before .before .before .reached2 .given .1))
+
+-- A finding.
+loop-again-2 : tie.Need-loop-again-2 Inv-loop μ-loop
+loop-again-2 c =
+    let surveyed = c .before .before .before .before .before .before .before .before .before in
+    let at = surveyed .before .before .before in
+    let told = c .before .before .before .before .before .before .before .reached2 .given .1 in
+    let put = c .before .before .before .before .put-finding .ensures in (
       refl,
-      at .loop .inv .1,
-      survey-none _ _ _ _ _ _ (at .before .before .before .before .before .pre) _ (surveyed .before .before .loop-test .taken) _ _ _ _ (at .loop .inv .2) _ _
-          (surveyed .survey-start .ensures) _ (ap takenOf told) (ap foundOf told),
-    ))
-    (λ one.
-    let told = one .1 .given .1 in
-    let put = one .4 .ensures in
-    rw (one .7, put, one .8, one .9) (
-      refl,
-      survey-put-length _ _ _ _ _ _ (at .before .before .before .before .before .pre) _ (surveyed .before .before .loop-test .taken) _ _ _ _ (at .loop .inv .2) _ _
-          (surveyed .survey-start .ensures) _ (ap takenOf told) _ (ap foundOf told),
-      survey-found _ _ _ _ _ _ (at .before .before .before .before .before .pre) _ (surveyed .before .before .loop-test .taken) _ _ _ _ (at .loop .inv .2) _ _
-          (surveyed .survey-start .ensures) _ (ap takenOf told) _ (ap foundOf told),
-    ))
-    (c .match .came)
+      survey-put-length _ _ _ _ _ _ (at .before .before .before .before .before .pre) _ _ _ _ _ (at .loop .inv .2) (surveyed .before .before .loop-test .taken) _ _
+          (surveyed .survey-on .ensures) _ (ap reachedOf told) _ (ap foundOf told) _ put,
+      rw put
+          (survey-found _ _ _ _ _ _ (at .before .before .before .before .before .pre) _ _ _ _ _ (at .loop .inv .2) (surveyed .before .before .loop-test .taken) _ _
+          (surveyed .survey-on .ensures) _ (ap reachedOf told) _ (ap foundOf told)),
+    )
 
 same-length : tie.Need-same-length Inv-loop μ-loop
 same-length c = c .before .loop .inv .1
@@ -121,15 +146,18 @@ survey-starts-spec =
     μ-loop
     loop-holds
     add-loop
-    survey-start-requires
-    enum-known-taken
+    survey-on-requires
+    enum-known-reached
     add-looks
-    enum-known-taken-2
-    put-finding-requires
-    add-found
-    add-looks-2
     add-i
     loop-less
     loop-again
+    enum-known-reached-2
+    put-finding-requires
+    add-found
+    add-looks-2
+    add-i-2
+    loop-less-2
+    loop-again-2
     same-length
     returns)

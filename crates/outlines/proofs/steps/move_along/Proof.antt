@@ -1,21 +1,22 @@
--- `outlines::steps::move_along` meets its contract: before each turn the counts are the tally of start i (`Moving`). The starts that are left fall.
+-- `outlines::steps::move_along` meets its contract: before each turn the counts are the tally of start i (`Moving`), and a turn goes on or ends the way.
+-- The starts that are left fall.
 -- Assumes nothing.
 use Prim.Native.Nat.{_+_, _-_}
 use borrow.Author.Needs.{needs}
 use native.Mathlib.Omega.{arith}
 use Rattle.outlines.proofs.WindowEdges.{window-length}
-use Rattle.outlines.proofs.MoveLoop.{Moving, moving-start, moving-can-step, moving-turn, moving-end}
+use Rattle.outlines.proofs.MoveLoop.{Moving, moving-start, moving-can-step, moving-turn, moving-stops, moving-end}
 use Rattle.outlines.proofs.steps.move_along.Statement.{statement}
 use Rattle.outlines.proofs.steps.move_along.Tie as tie
 
 abbrev Inv-loop : tie.InvT-loop
-Inv-loop counts₀ ring line from steps m least₀ looks₀ i₀ counts least looks i = Moving ring line from steps counts least looks i
+Inv-loop counts₀ ring line from steps below m least₀ looks₀ i₀ counts least looks i = Moving ring line from steps below counts least looks i
 
 abbrev μ-loop : tie.MeasureT-loop
-μ-loop counts₀ ring line from steps m least₀ looks₀ i₀ counts least looks i = from + steps - i
+μ-loop counts₀ ring line from steps below m least₀ looks₀ i₀ counts least looks i = from + steps - i
 
 loop-holds : tie.Need-loop-holds Inv-loop μ-loop
-loop-holds c = moving-start _ _ _ _ _ (c .before .before .pre) _
+loop-holds c = moving-start _ _ _ _ _ _ (c .before .before .pre) _
 
 add-loop : tie.Need-add-loop Inv-loop μ-loop
 add-loop c = search needs
@@ -46,7 +47,7 @@ step-requires : tie.Need-step-requires Inv-loop μ-loop
 step-requires c κs =
     let here = c .before .before .before .before in
     let at-loop = here .before .before in
-    moving-can-step _ _ _ _ _ (at-loop .before .before .before .pre) _ _ _ _ (at-loop .loop .inv) _ (here .window .ensures)
+    moving-can-step _ _ _ _ _ _ (at-loop .before .before .before .pre) _ _ _ _ (at-loop .loop .inv) _ (here .window .ensures)
 
 add-looks : tie.Need-add-looks Inv-loop μ-loop
 add-looks c =
@@ -56,20 +57,36 @@ add-looks c =
 add-i : tie.Need-add-i Inv-loop μ-loop
 add-i c = search needs
 
+wide-requires : tie.Need-wide-requires Inv-loop μ-loop
+wide-requires c κs = search needs
+
+-- The way ends here.
+returns : tie.Need-returns Inv-loop μ-loop
+returns c =
+    let stepped = c .before .before .before in
+    let next = stepped .before .before .before .before in
+    let here = next .before in
+    let at-loop = here .before .before in
+    moving-stops _ _ _ _ _ _ (at-loop .before .before .before .pre) _ _ _ _ (at-loop .loop .inv) _ (here .window .ensures) (here .before .loop-test .taken)
+    _ _ _ _ (next .window2 .ensures) (stepped .step .ensures .0) (stepped .step .ensures .1) (stepped .step .ensures .2)
+    (omega (arith, c .before .wide .ensures, c .if1 .taken))
+
 loop-less : tie.Need-loop-less Inv-loop μ-loop
 loop-less c = search needs
 
 loop-again : tie.Need-loop-again Inv-loop μ-loop
 loop-again c =
-    let next = c .before .before .before .before .before in
+    let stepped = c .before .before .before in
+    let next = stepped .before .before .before .before in
     let here = next .before in
     let at-loop = here .before .before in
-    let stepped = c .before .step .ensures in
-    moving-turn _ _ _ _ _ (at-loop .before .before .before .pre) _ _ _ _ (at-loop .loop .inv) _ (here .window .ensures) (here .before .loop-test .taken)
-    _ _ _ _ (next .window2 .ensures) (stepped .0) (stepped .1) (stepped .2)
+    moving-turn _ _ _ _ _ _ (at-loop .before .before .before .pre) _ _ _ _ (at-loop .loop .inv) _ (here .window .ensures) (here .before .loop-test .taken)
+    _ _ _ _ (next .window2 .ensures) (stepped .step .ensures .0) (stepped .step .ensures .1) (stepped .step .ensures .2)
+    (omega (arith, c .before .wide .ensures, c .if1 .left))
 
-returns : tie.Need-returns Inv-loop μ-loop
-returns c = moving-end _ _ _ _ _ (c .before .before .before .before .pre) _ _ _ _ (c .before .loop .inv) (c .loop-test .left)
+-- All steps are made.
+returns-2 : tie.Need-returns-2 Inv-loop μ-loop
+returns-2 c = moving-end _ _ _ _ _ _ (c .before .before .before .before .pre) _ _ _ _ (c .before .loop .inv) (c .loop-test .left)
 
 pub move-along-spec : {M : Type 1} → statement M
 move-along-spec =
@@ -88,6 +105,8 @@ move-along-spec =
     step-requires
     add-looks
     add-i
+    wide-requires
+    returns
     loop-less
     loop-again
-    returns)
+    returns-2)

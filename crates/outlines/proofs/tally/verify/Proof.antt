@@ -36,8 +36,8 @@ count-afresh-requires-2 c κs =
     let start = c .before .before .before .before .before .before .before .before .before in
     verify-can-count _ _ _ _ _ _ _ (start .pre) (c .window2 .ensures)
 
-move-along-requires : tie.Need-move-along-requires
-move-along-requires c κs =
+move-counts-requires : tie.Need-move-counts-requires
+move-counts-requires c κs =
     let from = c .before .before .before in
     let start = from .before .before .before .before .before in
     verify-can-move _ _ _ _ _ (from .last .given .1) _ _ (start .pre)
@@ -61,8 +61,8 @@ returns-3 c =
     let near = c .before .before in
     let from = near .before .before in
     let start = from .before .before .before .before .before in
-    verify-moved _ _ _ _ _ (from .last .given .1) _ _ _ (near .if1 .left)
-    (verify-from-lt _ _ _ _ _ (from .last .given .1) _ _ (start .pre)) (c .move-along .ensures)
+    verify-moved _ _ _ _ _ (from .last .given .1) _ _ (near .if1 .left)
+    (verify-from-lt _ _ _ _ _ (from .last .given .1) _ _ (start .pre)) (c .move-counts .ensures)
 
 pub verify-spec : {M : Type 1} → statement M
 verify-spec =
@@ -76,7 +76,7 @@ verify-spec =
     mul-if1
     window-requires-2
     count-afresh-requires-2
-    move-along-requires
+    move-counts-requires
     returns
     returns-2
     returns-3)

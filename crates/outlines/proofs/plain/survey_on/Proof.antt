@@ -1,0 +1,37 @@
+-- `outlines::plain::survey_on` meets its contract: its two returns are the two cases of the start reached (`SurveyCases`).
+-- Assumes nothing.
+use mathlib.Core.Path.{refl}
+use native.Mathlib.Omega.{arith}
+use borrow.Author.Needs.{needs}
+use Rattle.outlines.proofs.SurveyCases.{on-none, on-found}
+use Rattle.outlines.proofs.plain.survey_on.Statement.{statement}
+use Rattle.outlines.proofs.plain.survey_on.Tie as tie
+
+verify-on-requires : tie.Need-verify-on-requires
+verify-on-requires c κs = search needs
+
+wide-requires : tie.Need-wide-requires
+wide-requires c κs = search needs
+
+-- Verified, and no finding.
+returns : tie.Need-returns
+returns c =
+    let verified = c .before .before in
+    let start = verified .before .before .before .before .before in
+    on-none _ _ _ _ _ _ (start .pre) _ _ (verified .verify-on .ensures) (omega arith)
+
+lowest-rotation-requires : tie.Need-lowest-rotation-requires
+lowest-rotation-requires c κs = search needs
+
+-- A finding.
+returns-2 : tie.Need-returns-2
+returns-2 c =
+    let widened = c .before .before .before in
+    let verified = widened .before in
+    let start = verified .before .before .before .before .before in
+    on-found _ _ _ _ _ _ (start .pre) _ _ (verified .verify-on .ensures) _ _ (omega arith) (c .lowest-rotation .ensures) refl refl (widened .wide .ensures)
+
+pub survey-on-spec : {M : Type 1} → statement M
+survey-on-spec =
+    tie.close
+    (tie.spec verify-on-requires wide-requires returns lowest-rotation-requires returns-2)
