@@ -43,7 +43,9 @@ pub mod SameFindings
 -- The report.
 pub mod AskCases
 pub mod ShownOneMore
+pub mod HeldFrom
 pub mod ReportKeeps
+pub mod ReportTurns
 pub mod ReportAnswers
 -- What a report gives.
 pub mod ShownExactly

@@ -1,8 +1,8 @@
 -- The loop over windows, of a scan and of a report: what it keeps, and its turns. Of what is found so far a part stands in the words; that what is found
 -- and looked at is right is `ScanLoop` of crates/meaning, whose turn is `scan-turn` here: a window left or verified.
 -- Assumes nothing.
-use Prim.Native.Nat.{ℕ, zero, suc, _+_, _-_, _*_, _^_, _≤_, _<_}
-use mathlib.Core.Path.{_≡_, refl, sym, ap, _∙_, subst}
+use Prim.Native.Nat.{ℕ, _+_, _-_, _*_, _≤_, _<_}
+use mathlib.Core.Path.{_≡_, refl, ap, _∙_}
 use mathlib.Core.Bool.{Bool, true, false, cond}
 use mathlib.Core.List.{List, [], _∷_, _++_, append-nil, List·Memᴰ·head}
 use mathlib.Core.Option.{Option, none, some}
@@ -15,7 +15,6 @@ use Rattle.meaning.specs.Meanings.{lowestRotation, leastDistance}
 use Rattle.meaning.specs.Findings.{Finding, foundAt, findings, wordsEach, wordsOf, written}
 use Rattle.meaning.specs.Rules.{readWindow}
 use Rattle.meaning.specs.Looks.{tallyLooks, quickLooks}
-use Rattle.meaning.proofs.Cases.{by-test}
 use Rattle.meaning.proofs.Places.{lowestRotation-is, found-mem}
 use Rattle.meaning.proofs.Words.{findings-length-le}
 use Rattle.meaning.proofs.ScanLoop.{ScanLoop, scan-start, scan-looks-le, scan-found-le, scan-end, scan-verified, scan-left}

@@ -9,7 +9,7 @@ use lib.ListN.{length}
 use Rattle.meaning.specs.Findings.{Finding, IsFinding, findings}
 use Rattle.meaning.proofs.FoundExactly.{findings-iff}
 use Rattle.answers.specs.declared.refusals.Refusal.{Refusal}
-use Rattle.answers.specs.Paper.{Answer, accepted, refused, answerPaper}
+use Rattle.answers.specs.Paper.{Answer, accepted, answerPaper}
 use Rattle.book.specs.Silences.{Silence}
 use Rattle.book.specs.Reading.{readBook}
 use Rattle.outlines.specs.declared.reporting.Reported.{Reported}

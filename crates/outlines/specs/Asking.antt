@@ -3,6 +3,7 @@
 --
 --   addressOf       the address that the book is asked for a finding
 --   CanAsk, IsAsked the book asked for one finding: what it asks, and what it gives
+--   shownPut        the words after that finding
 --   IsAccepted      a book that reading accepts, with its silences
 --   CanReport       what reporting a line asks, window by window
 --   LineReported    what it gives
@@ -10,6 +11,7 @@ use Prim.Native.Nat.{ℕ, _+_, _≤_, _<_, _^_}
 use mathlib.Core.Path.{_≡_}
 use mathlib.Core.Bool.{Bool, cond}
 use mathlib.Core.List.{List}
+use lib.Dec.{ltb}
 use lib.ListN.{length}
 use Rattle.meaning.specs.Findings.{Finding}
 use Rattle.answers.specs.Paper.{accepted}
@@ -19,8 +21,8 @@ use Rattle.book.specs.Seeking.{seekField, seekFrom, isFor}
 use Rattle.book.specs.Calls.{soughtOf}
 use Rattle.outlines.specs.declared.reporting.Asked.{Asked}
 use Rattle.outlines.specs.Admitting.{mostLine, Admitted}
-use Rattle.outlines.specs.Scan.{CanPut, wordsPut, CanScan}
-use Rattle.outlines.specs.Report.{reportCounts, reportedBy, reportedWordsBy}
+use Rattle.outlines.specs.Scan.{wordsPut, CanScan}
+use Rattle.outlines.specs.Report.{reportedBy, reportedWordsBy}
 
 -- The address that the book is asked for a finding: cell, ring number and the finding's start.
 abbrev pub addressOf : ℕ → ℕ → Finding → Silence
@@ -34,18 +36,21 @@ heldFor cell ringNumber book f held = seekField (addressOf cell ringNumber f) he
 abbrev pub hides : ℕ → ℕ → List ℕ → Finding → FieldAt → Bool
 hides cell ringNumber book f held = isFor (addressOf cell ringNumber f) (heldFor cell ringNumber book f held)
 
--- What asking for a finding asks: room for its words behind those of the shown ones, and counts that are no higher than a line is long.
-pub record CanAsk (so-far : Asked) (f : Finding) (words : List ℕ) : Type 0 where
-  pub can-put : CanPut words (so-far .shown) f
+-- What asking for a finding asks: a start of 32 bits, and counts that are no higher than a line is long.
+pub record CanAsk (so-far : Asked) (f : Finding) : Type 0 where
+  pub start-lt : f .start < 2 ^ 32
   pub shown-le : so-far .shown ≤ mostLine
   pub hidden-le : so-far .hidden ≤ mostLine
 
--- What it gives: a finding that is hidden is counted, and no word changes; any other is counted and its words are put behind those of the shown ones.
-pub record IsAsked (cell ringNumber : ℕ) (book : List ℕ) (so-far : Asked) (f : Finding) (words : List ℕ) (r : Asked) (out : List ℕ) : Type 0 where
+-- What it gives: the field that is held, and one finding more that is hidden, or shown.
+pub record IsAsked (cell ringNumber : ℕ) (book : List ℕ) (so-far : Asked) (f : Finding) (r : Asked) : Type 0 where
   pub held-is : soughtOf (r .held) ≡ heldFor cell ringNumber book f (soughtOf (so-far .held))
   pub shown-is : r .shown ≡ cond (hides cell ringNumber book f (soughtOf (so-far .held))) (so-far .shown) (so-far .shown + 1)
   pub hidden-is : r .hidden ≡ cond (hides cell ringNumber book f (soughtOf (so-far .held))) (so-far .hidden + 1) (so-far .hidden)
-  pub written : out ≡ cond (hides cell ringNumber book f (soughtOf (so-far .held))) words (wordsPut (so-far .shown) f words)
+
+-- The words after a finding: where more are shown than before it, its words are put behind those; else no word changes.
+abbrev pub shownPut : ℕ → ℕ → Finding → List ℕ → List ℕ
+shownPut before now-shown f words = cond (ltb before now-shown) (wordsPut before f words) words
 
 -- A book that reading accepts, with its silences.
 pub record IsAccepted (book : List ℕ) : Type 0 where

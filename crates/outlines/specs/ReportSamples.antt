@@ -14,7 +14,7 @@ use Rattle.meaning.specs.Looks.{readLooks, tallyLooks, verifyLooks}
 use Rattle.meaning.specs.Samples.{ascii, finding}
 use Rattle.answers.specs.Paper.{accepted}
 use Rattle.book.specs.Silences.{Silence, silence, isSame, names}
-use Rattle.outlines.specs.Report.{shown, hidden, reportCounts, reportedBy, reportedWordsBy}
+use Rattle.outlines.specs.Report.{shown, hidden, reportedBy, reportedWordsBy}
 
 -- P2's ring.
 unfoldable ring2 : List ℕ
@@ -43,8 +43,9 @@ sample-cell-0 : (length (hidden (silence 0 2 10 ∷ []) 7 2 (findings ring2 line
 unfolding ring2 line2 hidden isSame names ascii count lowest differs distance lowestRotation foundAt findingsBelow
 sample-cell-0 = (refl, refl)
 
--- "found 2 hidden 1 looks 12", and the one line "0 0 0": of the words lent, three are written and three kept.
+-- "found 2 hidden 1 looks 12", and the one line "0 0 0": of the words lent, three are written and three kept. As cell 8 nothing is hidden.
 sample-example : (reportedBy (ascii "aa") (ascii "aaa") 0 7 2 (accepted (silence 7 2 1 ∷ [])) ≡ accepted (record { found = 2; hidden = 1; looks = 12 }))
+    × (reportedBy (ascii "aa") (ascii "aaa") 0 8 2 (accepted (silence 7 2 1 ∷ [])) ≡ accepted (record { found = 2; hidden = 0; looks = 12 }))
     × (reportedWordsBy (ascii "aa") (ascii "aaa") 0 7 2 (1 ∷ 2 ∷ 3 ∷ 4 ∷ 5 ∷ 6 ∷ []) (accepted (silence 7 2 1 ∷ [])) ≡ 0 ∷ 0 ∷ 0 ∷ 4 ∷ 5 ∷ 6 ∷ [])
 unfolding shown hidden wordsOf written isSame names ascii count lowest someBelow differs distance lowestRotation foundAt findingsBelow begins fits readEdge readLeft readWindow windowsFrom candidatesOf reported readLooks tallyLooks verifyLooks
-sample-example = (refl, refl)
+sample-example = (refl, refl, refl)

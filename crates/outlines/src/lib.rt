@@ -2,7 +2,8 @@
 //
 // `scan` is the quick scan of document 01: rules 1 to 5, each look counted where the edge is read or compared. What it finds,
 // what it refuses and what it writes stand in specs/Scan.antt. `survey` is the plain survey, which verifies every start and gives
-// the same findings; it stands in specs/Survey.antt. No public function has a `requires`: each takes every input.
+// the same findings: specs/Survey.antt. `report` is the scan with the silence book asked for each finding before it is
+// written: specs/Report.antt. No public function has a `requires`: each takes every input.
 mod admitting;
 mod afresh;
 mod counts;

@@ -22,8 +22,9 @@ ghost use Prim.Native.Nat.{_<_, _^_};
 ghost use Rattle.book.specs.Silences.{silence};
 ghost use Rattle.book.specs.Calls.{silenceOf};
 ghost use Rattle.outlines.specs.Sweep.{findingOf};
+ghost use Rattle.outlines.specs.Scan.{CanPut};
 ghost use Rattle.outlines.specs.Report.{IsReported};
-ghost use Rattle.outlines.specs.Asking.{CanAsk, IsAsked, CanReport, CanReportLine, LineReported};
+ghost use Rattle.outlines.specs.Asking.{CanAsk, IsAsked, shownPut, CanReport, CanReportLine, LineReported};
 
 // What a report answers: "found (hidden ones included), hidden, looks", or a refusal.
 pub enum Reported {
@@ -62,18 +63,11 @@ fn address_of(cell: u32, ring_number: u16, start: usize) -> Address
     }
 }
 
-// One finding: the book is asked before anything is written. A hidden one is counted and leaves no trace; a shown one
-// goes behind the shown ones before it.
-fn ask(
-    cell: u32,
-    ring_number: u16,
-    book: &[u8],
-    asked: Asked,
-    finding: Finding,
-    words: &mut [u32],
-) -> Asked
-    requires { ⌜ CanAsk asked (findingOf finding) (now words) ⌝ }
-    ensures { λ r. ⌜ IsAsked cell «ring_number» (now (book .entry)) asked (findingOf finding) (now (words .entry)) r (now (words .exit)) ⌝ }
+// The book asked for one finding: it counts as hidden where the field that is then held is for its address, and else as
+// shown. Nothing is written here.
+fn ask(cell: u32, ring_number: u16, book: &[u8], asked: Asked, finding: Finding) -> Asked
+    requires { ⌜ CanAsk asked (findingOf finding) ⌝ }
+    ensures { λ r. ⌜ IsAsked cell «ring_number» (now (book .entry)) asked (findingOf finding) r ⌝ }
 {
     let start = finding.start;
     let address = address_of(cell, ring_number, start.0);
@@ -87,7 +81,6 @@ fn ask(
             held,
         };
     }
-    put_finding(words, asked.shown, finding);
     let shown = asked.shown + 1;
     Asked {
         shown,
@@ -96,7 +89,18 @@ fn ask(
     }
 }
 
-// Window after window, while one fits in the line. The book is first asked for start 0, which no start is below.
+// A finding that was counted as shown goes behind the shown ones before it; a hidden one leaves no trace.
+fn put_shown(words: &mut [u32], before: usize, shown: usize, finding: Finding)
+    requires { ⌜ CanPut (now words) before (findingOf finding) ⌝ }
+    ensures { λ _. ⌜ now (words .exit) ≡ shownPut before shown (findingOf finding) (now (words .entry)) ⌝ }
+{
+    if before < shown {
+        put_finding(words, before, finding);
+    }
+}
+
+// Window after window, while one fits in the line. The book is first asked for start 0, which no start is below, and then
+// for each finding before anything of it is written.
 fn report_windows(
     cell: u32,
     ring_number: u16,
@@ -133,7 +137,9 @@ fn report_windows(
                 at = next;
             }
             Swept::Found(next, finding) => {
-                asked = ask(cell, ring_number, book, asked, finding, words);
+                let before = asked.shown;
+                asked = ask(cell, ring_number, book, asked, finding);
+                put_shown(words, before, asked.shown, finding);
                 at = next;
             }
         }

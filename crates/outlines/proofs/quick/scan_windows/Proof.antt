@@ -2,7 +2,7 @@
 -- line's end fall.
 -- Assumes nothing.
 use Prim.Native.Nat.{_+_, _-_}
-use mathlib.Core.Path.{_≡_, refl, sym, ap, _∙_}
+use mathlib.Core.Path.{_≡_, refl, ap}
 use native.Mathlib.Omega.{arith}
 use borrow.Author.Needs.{needs}
 use lib.ListN.{length}
@@ -11,8 +11,6 @@ use Rattle.outlines.proofs.ScanKeeps.{keeps-can-sweep, keeps-less, keep
 use Rattle.outlines.proofs.ScanAll.{ScanAll, all-start, all-next, all-found-le, all-end}
 use Rattle.outlines.proofs.quick.scan_windows.Statement.{statement}
 use Rattle.outlines.proofs.quick.scan_windows.Tie as tie
-use Rattle.outlines.proofs.quick.scan_windows.Reads as reads
-use Rattle.outlines.proofs.quick.scan_windows.Lts as lts
 
 abbrev Inv-loop : tie.InvT-loop
 Inv-loop ring doubled table line k counts₀ words₀ m at₀ found₀ counts words at found =

@@ -7,11 +7,6 @@ use Rattle.outlines.proofs.AdmitCases.{admitted-by}
 use Rattle.outlines.proofs.ReportAnswers.{book-accepted, book-refused, report-refused-row, report-refused-book, report-accepted}
 use Rattle.outlines.proofs.reporting.report.Statement.{statement}
 use Rattle.outlines.proofs.reporting.report.Tie as tie
-use Rattle.outlines.proofs.reporting.report.Reads as reads
-use Rattle.outlines.proofs.reporting.report.Lts as lts
-use Rattle.book.proofs.read.Reads as read-reads
-use Rattle.outlines.proofs.admitting.admit.Reads as admit-reads
-use Rattle.outlines.proofs.reporting.report_line.Reads as report-line-reads
 
 admit-requires : tie.Need-admit-requires
 admit-requires c κs = search needs

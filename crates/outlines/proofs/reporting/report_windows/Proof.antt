@@ -2,20 +2,16 @@
 -- the book, and the places up to the line's end fall.
 -- Assumes nothing.
 use Prim.Native.Nat.{_+_, _-_}
-use mathlib.Core.Path.{_≡_, refl, sym, ap, _∙_}
+use mathlib.Core.Path.{_≡_, refl, ap}
 use native.Mathlib.Omega.{arith}
 use borrow.Author.Needs.{needs}
 use lib.ListN.{length}
 use Rattle.outlines.specs.Sweep.{stateOf, foundOf}
 use Rattle.outlines.proofs.ScanKeeps.{keeps-can-sweep, keeps-less}
-use Rattle.outlines.proofs.ReportKeeps.{ReportKeeps, report-start, report-found-le, report-end, report-turn-none, report-can-ask, report-turn-found, report-length}
+use Rattle.outlines.proofs.ReportKeeps.{ReportKeeps, report-start, report-found-le, report-end}
+use Rattle.outlines.proofs.ReportTurns.{report-turn-none, report-can-put, report-can-ask, report-turn-found, report-length}
 use Rattle.outlines.proofs.reporting.report_windows.Statement.{statement}
 use Rattle.outlines.proofs.reporting.report_windows.Tie as tie
-use Rattle.outlines.proofs.reporting.report_windows.Reads as reads
-use Rattle.outlines.proofs.reporting.report_windows.Lts as lts
-use Rattle.book.proofs.seek.Reads as seek-reads
-use Rattle.outlines.proofs.reporting.ask.Reads as ask-reads
-use Rattle.outlines.proofs.sweep.sweep_window.Reads as sweep-window-reads
 
 abbrev Inv-loop : tie.InvT-loop
 Inv-loop cell ring-number ring doubled table line k book counts₀ words₀ m at₀ asked₀ counts words at asked =
@@ -95,33 +91,45 @@ enum-known-next-3 c = search needs
 
 ask-requires : tie.Need-ask-requires Inv-loop μ-loop
 ask-requires c κs =
-    let swept = c .before .before .before .before in
+    let told = c .before in
+    let swept = told .before .before in
     let at = swept .before .before .before .before in
     let start = at .before .before .before .before .before .before .before .before in
-    let told = c .before .before .next3 .given .1 in
     report-can-ask _ _ _ _ _ _ _ _ _ _ (start .pre) _ _ _ _ (at .loop .inv .2) (swept .before .before .if1 .taken) _ _ _ (swept .sweep-window .ensures)
-    (ap stateOf told) _ (ap foundOf told)
+    (ap stateOf (told .next3 .given .1)) _ (ap foundOf (told .next3 .given .1))
+
+put-shown-requires : tie.Need-put-shown-requires Inv-loop μ-loop
+put-shown-requires c κs =
+    let told = c .before .before .before in
+    let swept = told .before .before in
+    let at = swept .before .before .before .before in
+    let start = at .before .before .before .before .before .before .before .before in
+    report-can-put _ _ _ _ _ _ _ _ _ _ (start .pre) _ _ _ _ (at .loop .inv .2) (swept .before .before .if1 .taken) _ _ _ (swept .sweep-window .ensures)
+    (ap stateOf (told .next3 .given .1)) _ (ap foundOf (told .next3 .given .1))
 
 loop-less-3 : tie.Need-loop-less-3 Inv-loop μ-loop
 loop-less-3 c =
-    let swept = c .before .before .before .before .before .before .before in
+    let told = c .before .before .before .before .before .before in
+    let swept = told .before .before in
     let at = swept .before .before .before .before in
     let start = at .before .before .before .before .before .before .before .before in
-    keeps-less _ _ _ _ _ _ _ (start .pre .can-scan) _ _ _ _ _ _ (at .loop .inv .2 .keeps) (swept .before .before .if1 .taken) _ _ _ (swept .sweep-window .ensures)
-    (ap stateOf (c .before .before .before .before .before .next3 .given .1))
+    keeps-less _ _ _ _ _ _ _ (start .pre .can-scan) _ _ _ _ _ _ (at .loop .inv .2 .keeps) (swept .before .before .if1 .taken) _ _ _
+    (swept .sweep-window .ensures) (ap stateOf (told .next3 .given .1))
 
 loop-again-3 : tie.Need-loop-again-3 Inv-loop μ-loop
 loop-again-3 c =
-    let swept = c .before .before .before .before .before .before .before in
+    let put = c .before .before in
+    let asked = put .before .before in
+    let told = asked .before .before in
+    let swept = told .before .before in
     let at = swept .before .before .before .before in
     let start = at .before .before .before .before .before .before .before .before in
-    let told = c .before .before .before .before .before .next3 .given .1 in
-    let asks = c .before .before .ask .ensures in (
+    let is = told .next3 .given .1 in (
       refl,
       report-length _ _ _ _ _ _ _ _ _ _ (start .pre) _ _ _ _ (at .loop .inv .2) (swept .before .before .if1 .taken) _ _ _ (swept .sweep-window .ensures)
-          (ap stateOf told) _ (ap foundOf told) _ _ asks,
+          (ap stateOf is) _ (ap foundOf is) _ (asked .ask .ensures) _ (put .put-shown .ensures),
       report-turn-found _ _ _ _ _ _ _ _ _ _ (start .pre) _ _ _ _ (at .loop .inv .2) (swept .before .before .if1 .taken) _ _ _ (swept .sweep-window .ensures)
-          (ap stateOf told) _ (ap foundOf told) _ _ asks,
+          (ap stateOf is) _ (ap foundOf is) _ (asked .ask .ensures) _ (put .put-shown .ensures),
     )
 
 add-found : tie.Need-add-found Inv-loop μ-loop
@@ -158,6 +166,7 @@ report-windows-spec =
     loop-again-2
     enum-known-next-3
     ask-requires
+    put-shown-requires
     loop-less-3
     loop-again-3
     add-found
