@@ -14,8 +14,8 @@ use Rattle.book.proofs.NumberBytes.{bytesOf-length}
 use Rattle.book.proofs.FieldBytes.{fieldOf-is}
 use Rattle.book.proofs.WrittenAt.{writtenAt-append}
 
--- bytes are put, and then more just past them: both are put
-put-append : {at next last : ℕ} {a b area mid out : List ℕ} → at + length a ≤ length area → IsPut at a area next mid → IsPut next b mid last out
+-- Bytes are put, and then more just past them: both are put.
+pub put-append : {at next last : ℕ} {a b area mid out : List ℕ} → at + length a ≤ length area → IsPut at a area next mid → IsPut next b mid last out
     → IsPut at (a ++ b) area last out
 put-append {at} {next} {last} {a} {b} {area} {mid} {out} room first then =
     record {

@@ -1,11 +1,24 @@
--- What the rows print of an answer: document 01's number, place and number of records.
+-- What the rows print of an answer: document 01's number, place and counts.
+--
+--   IsBookPaper      of a call on a book: the number of records
+--   IsSearchPaper    of a search: found and looks
 use mathlib.Core.Path.{_≡_}
 use Rattle.book.specs.declared.answering.BookAnswer.{BookAnswer}
-use Rattle.book.specs.Calls.{paperOf}
-use Rattle.samples.specs.declared.paper.Paper.{Paper}
+use Rattle.book.specs.Calls.{paperOf as bookPaperOf}
+use Rattle.outlines.specs.declared.quick.Scanned.{Scanned}
+use Rattle.outlines.specs.Scan.{paperOf as searchPaperOf}
+use Rattle.samples.specs.declared.paper.BookPaper.{BookPaper}
+use Rattle.samples.specs.declared.paper.SearchPaper.{SearchPaper}
 
 -- The three numbers are those of the answer's paper.
-pub record IsPaper (answer : BookAnswer) (r : Paper) : Type 0 where
-  pub number-is : r .number ≡ paperOf answer .number
-  pub place-is : r .place ≡ paperOf answer .place
-  pub records-is : r .records ≡ paperOf answer .counts
+pub record IsBookPaper (answer : BookAnswer) (r : BookPaper) : Type 0 where
+  pub number-is : r .number ≡ bookPaperOf answer .number
+  pub place-is : r .place ≡ bookPaperOf answer .place
+  pub records-is : r .records ≡ bookPaperOf answer .counts
+
+-- The four numbers are those of the answer's paper.
+pub record IsSearchPaper (answer : Scanned) (r : SearchPaper) : Type 0 where
+  pub number-is : r .number ≡ searchPaperOf answer .number
+  pub place-is : r .place ≡ searchPaperOf answer .place
+  pub found-is : r .found ≡ searchPaperOf answer .counts .found
+  pub looks-are : r .looks ≡ searchPaperOf answer .counts .looks

@@ -1,22 +1,103 @@
-// A lent area with a canary in every byte, to see which bytes a call wrote.
+// A lent area with a canary in every word, to see which words a call wrote. Each row has an area of its own.
 ghost use mathlib.Core.Path.{_≡_};
+ghost use Prim.Native.Nat.{_<_};
 ghost use lib.ListN.{length};
 
-// The canary. No row writes it as its last byte.
-const CANARY: u8 = 0xA5;
+// The canary: its byte four times over, so that no row writes it as its last byte or word.
+const CANARY_BYTE: u8 = 0xA5;
 
-// How many bytes are there to lend: more than any book has.
+const CANARY: u32 = 0xA5A5A5A5;
+
+// How many bytes or words there are to lend: more than any book has, and more than the rows with short lines ask.
 pub const AMPLE: usize = 13040;
 
-// The whole area, nothing of it written.
-pub fn canaries() -> [u8; AMPLE]
+// How many words there are to lend for a long line: more than the 3·65,536 that a search asks at most.
+pub const LONG: usize = 196640;
+
+// A modulus small enough that nothing below overflows.
+const CHECKSUM_BELOW: usize = 1000003;
+
+// A whole area of bytes.
+pub fn canary_bytes() -> [u8; AMPLE]
+    ensures { λ r. ⌜ 13040 ≡ length r ⌝ }
+{
+    [CANARY_BYTE; AMPLE]
+}
+
+// A whole area of words.
+pub fn canaries() -> [u32; AMPLE]
     ensures { λ r. ⌜ 13040 ≡ length r ⌝ }
 {
     [CANARY; AMPLE]
 }
 
-// How many bytes there are up to the last one written, of the first `room` bytes: none where all are canaries.
-pub fn written(area: &[u8], room: usize) -> usize {
+// A whole area of words for a long line.
+pub fn long_canaries() -> [u32; LONG]
+    ensures { λ r. ⌜ 196640 ≡ length r ⌝ }
+{
+    [CANARY; LONG]
+}
+
+// The first `room` words, to be lent to a call. No row asks for more than there are. (There is one of these for each width, and for each way of lending.)
+pub fn lend(area: &mut [u32], room: usize) -> &mut [u32] {
+    if room <= area.len() {
+        &mut area[..room]
+    } else {
+        area
+    }
+}
+
+// The first `room` bytes, to be lent to a call.
+pub fn lend_bytes(area: &mut [u8], room: usize) -> &mut [u8] {
+    if room <= area.len() {
+        &mut area[..room]
+    } else {
+        area
+    }
+}
+
+// The first `count` words, to be read.
+pub fn first(words: &[u32], count: usize) -> &[u32] {
+    if count <= words.len() {
+        &words[..count]
+    } else {
+        words
+    }
+}
+
+// The first `count` bytes, to be read.
+pub fn first_bytes(bytes: &[u8], count: usize) -> &[u8] {
+    if count <= bytes.len() {
+        &bytes[..count]
+    } else {
+        bytes
+    }
+}
+
+// The byte at a place; behind the last one, a canary.
+pub fn byte_at(bytes: &[u8], at: usize) -> u8 {
+    if at < bytes.len() {
+        bytes[at]
+    } else {
+        CANARY_BYTE
+    }
+}
+
+fn four_times(byte: u8) -> u32 {
+    (byte as u32) * 0x01010101
+}
+
+// Each byte four times over in a word of its own, so that an area of bytes is looked at as one of words.
+pub fn spread(bytes: &[u8], area: &mut [u32]) {
+    let mut at: usize = 0;
+    while at < area.len() {
+        area[at] = four_times(byte_at(bytes, at));
+        at += 1;
+    }
+}
+
+// How many words there are up to the last one written, of the first `room` words: none where all are canaries.
+pub fn written(area: &[u32], room: usize) -> usize {
     let mut end = room;
     while 0 < end {
         if end <= area.len() {
@@ -29,8 +110,8 @@ pub fn written(area: &[u8], room: usize) -> usize {
     0
 }
 
-// Whether every byte from `room` on is a canary.
-pub fn is_kept(area: &[u8], room: usize) -> bool {
+// Whether every word from `room` on is a canary.
+pub fn is_kept(area: &[u32], room: usize) -> bool {
     let mut at = room;
     while at < area.len() {
         if area[at] != CANARY {
@@ -39,4 +120,27 @@ pub fn is_kept(area: &[u8], room: usize) -> bool {
         at += 1;
     }
     true
+}
+
+fn sum_with(sum: usize, word: u32) -> usize
+    requires { ⌜ sum < 1000003 ⌝ }
+    ensures { λ r. ⌜ r < 1000003 ⌝ }
+{
+    (sum * 31 + word as usize) % CHECKSUM_BELOW
+}
+
+// The word at a place; behind the last one, a canary.
+pub fn word_at(area: &[u32], at: usize) -> u32 {
+    if at < area.len() { area[at] } else { CANARY }
+}
+
+// A number that tells long runs of words apart: 31 times the number before, and the next word, mod 1,000,003.
+pub fn checksum(area: &[u32], count: usize) -> usize {
+    let mut sum: usize = 0;
+    let mut at: usize = 0;
+    while at < count {
+        sum = sum_with(sum, word_at(area, at));
+        at += 1;
+    }
+    sum
 }

@@ -1,30 +1,60 @@
-// Document 01's number, place and number of records of an answer, as the definitions give them.
+// Document 01's number, place and counts of an answer, as the definitions give them.
 use answers::Refusal;
 use book::BookAnswer;
+use outlines::Scanned;
 ghost use mathlib.Core.Path.{_≡_};
 ghost use Rattle.answers.specs.Refusals.{numberOf, placeOf};
-ghost use Rattle.samples.specs.Papers.{IsPaper};
+ghost use Rattle.samples.specs.Papers.{IsBookPaper, IsSearchPaper};
 
-pub struct Paper {
+// "Packer and unpacker return the number of records."
+pub struct BookPaper {
     pub number: usize,
     pub place: usize,
     pub records: usize,
 }
 
+// "Survey and scan return found and looks."
+pub struct SearchPaper {
+    pub number: usize,
+    pub place: usize,
+    pub found: usize,
+    pub looks: usize,
+}
+
 // "A refusal carries its number and place, zero in every count."
-pub fn paper_of(answer: BookAnswer) -> Paper
-    ensures { λ r. ⌜ IsPaper answer r ⌝ }
+pub fn book_paper(answer: BookAnswer) -> BookPaper
+    ensures { λ r. ⌜ IsBookPaper answer r ⌝ }
 {
     match answer {
-        BookAnswer::Records(records) => Paper {
+        BookAnswer::Records(records) => BookPaper {
             number: 0,
             place: 0,
             records: records,
         },
-        BookAnswer::Refused(refusal) => Paper {
+        BookAnswer::Refused(refusal) => BookPaper {
             number: number_of(refusal),
             place: place_of(refusal),
             records: 0,
+        },
+    }
+}
+
+// The same of a search.
+pub fn search_paper(answer: Scanned) -> SearchPaper
+    ensures { λ r. ⌜ IsSearchPaper answer r ⌝ }
+{
+    match answer {
+        Scanned::Counts { found, looks } => SearchPaper {
+            number: 0,
+            place: 0,
+            found: found,
+            looks: looks,
+        },
+        Scanned::Refused(refusal) => SearchPaper {
+            number: number_of(refusal),
+            place: place_of(refusal),
+            found: 0,
+            looks: 0,
         },
     }
 }

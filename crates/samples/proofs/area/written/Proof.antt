@@ -16,6 +16,9 @@ loop-holds c = tt
 sub-if2 : tie.Need-sub-if2 Inv-loop μ-loop
 sub-if2 c = omega arith
 
+mul-if2 : tie.Need-mul-if2 Inv-loop μ-loop
+mul-if2 c = omega arith
+
 shared-slice-read-if2 : tie.Need-shared-slice-read-if2 Inv-loop μ-loop
 shared-slice-read-if2 c = omega arith
 
@@ -42,6 +45,7 @@ written-spec =
     μ-loop
     loop-holds
     sub-if2
+    mul-if2
     shared-slice-read-if2
     returns
     sub-end

@@ -1,0 +1,78 @@
+-- An input laid down from a request is read back as that request: field after field, each beginning where the one before it ends (`laid-end`, `laid-rest`). So
+-- the definition that reads and the one that writes cannot both be wrong in the same way.
+-- Assumes nothing.
+use Prim.Native.Nat.{ℕ, _+_}
+use mathlib.Core.Path.{_≡_, refl, sym, _∙_}
+use mathlib.Core.List.{List, _++_}
+use native.Mathlib.Omega.{arith}
+use lib.ListN.{length, drop}
+use Rattle.answers.specs.Paper.{accepted}
+use Rattle.book.specs.Numbers.{bytesOf}
+use Rattle.book.specs.Layout.{field}
+use Rattle.book.specs.Reading.{fieldEnd}
+use Rattle.book.proofs.NumberBytes.{bytesOf-length}
+use Rattle.request.specs.Fields.{cellField, ringNumberField, allowanceField, ringField, lineField}
+use Rattle.request.specs.Input.{Request, requestOf, laidDown, CanLayDown}
+use Rattle.request.proofs.AskedCases.{stands-by, asked-parts}
+use Rattle.request.proofs.FieldLaid.{laid-rest, laid-between, laid-end, laid-number}
+
+module _ (q : Request) (can : CanLayDown q) where
+  abbrev whole : List ℕ
+  whole = laidDown q
+
+  -- the bytes after the ring
+  abbrev after-ring : List ℕ
+  after-ring = field (lineField .tag) (q .line) ++ q .book
+
+  -- after the allowance
+  abbrev after-allowance : List ℕ
+  after-allowance = field (ringField .tag) (q .ring) ++ after-ring
+
+  -- after the ring number
+  abbrev after-ring-number : List ℕ
+  after-ring-number = field (allowanceField .tag) (bytesOf 1 (q .allowance)) ++ after-allowance
+
+  -- after the cell
+  abbrev after-cell : List ℕ
+  after-cell = field (ringNumberField .tag) (bytesOf 2 (q .ringNumber)) ++ after-ring-number
+
+  -- What is laid down is read back.
+  pub laid-down-read : requestOf (laidDown q) ≡ accepted q
+  unfolding laidDown
+  laid-down-read =
+      let cell : List ℕ = bytesOf 4 (q .cell) in
+      let ring-number : List ℕ = bytesOf 2 (q .ringNumber) in
+      let allowance : List ℕ = bytesOf 1 (q .allowance) in
+      let cell-long : length cell ≡ 4 = bytesOf-length 4 (q .cell) in
+      let ring-number-long : length ring-number ≡ 2 = bytesOf-length 2 (q .ringNumber) in
+      let allowance-long : length allowance ≡ 1 = bytesOf-length 1 (q .allowance) in
+      let a : ℕ = fieldEnd 0 (length cell) in
+      let b : ℕ = fieldEnd a (length ring-number) in
+      let d : ℕ = fieldEnd b (length allowance) in
+      let e : ℕ = fieldEnd d (length (q .ring)) in
+      let f : ℕ = fieldEnd e (length (q .line)) in
+      let at-cell : drop 0 whole ≡ field (cellField .tag) cell ++ after-cell = refl in
+      let at-ring-number : drop a whole ≡ after-cell = laid-rest whole 0 (cellField .tag) cell after-cell at-cell in
+      let at-allowance : drop b whole ≡ after-ring-number = laid-rest whole a (ringNumberField .tag) ring-number after-ring-number at-ring-number in
+      let at-ring : drop d whole ≡ after-allowance = laid-rest whole b (allowanceField .tag) allowance after-allowance at-allowance in
+      let at-line : drop e whole ≡ after-ring = laid-rest whole d (ringField .tag) (q .ring) after-ring at-ring in
+      let asked =
+      asked-parts whole (can .whole-le)
+      a (stands-by cellField whole 0 a (laid-end whole 0 (cellField .tag) cell after-cell at-cell 4 4 (omega arith) (omega arith) (omega arith)))
+      b (stands-by ringNumberField whole a b (laid-end whole a (ringNumberField .tag) ring-number after-ring-number at-ring-number 2 2 (omega arith) (omega arith) (omega arith)))
+      d (stands-by allowanceField whole b d (laid-end whole b (allowanceField .tag) allowance after-allowance at-allowance 1 1 (omega arith) (omega arith) (omega arith)))
+      e (stands-by ringField whole d e (laid-end whole d (ringField .tag) (q .ring) after-ring at-ring 0 65535 (omega arith) (can .ring-le) (omega (arith, can .ring-le))))
+      f (q .cell) (q .ringNumber) (q .allowance)
+      (stands-by lineField whole e f (laid-end whole e (lineField .tag) (q .line) (q .book) at-line 0 4096 (omega arith) (can .line-le) (omega (arith, can .line-le))))
+      (sym (laid-number whole 0 (cellField .tag) cell after-cell at-cell 4 (q .cell) (can .cell-lt) refl))
+      (sym (laid-number whole a (ringNumberField .tag) ring-number after-ring-number at-ring-number 2 (q .ringNumber) (can .ring-number-lt) refl))
+      (sym (laid-number whole b (allowanceField .tag) allowance after-allowance at-allowance 1 (q .allowance) (can .allowance-lt) refl)) in
+      sym (asked .is)
+      ∙ (λ i. accepted (record {
+        cell = q .cell;
+        ringNumber = q .ringNumber;
+        allowance = q .allowance;
+        ring = laid-between whole d (ringField .tag) (q .ring) after-ring at-ring i;
+        line = laid-between whole e (lineField .tag) (q .line) (q .book) at-line i;
+        book = laid-rest whole e (lineField .tag) (q .line) (q .book) at-line i;
+      }))

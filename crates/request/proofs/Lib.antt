@@ -1,0 +1,24 @@
+-- Laws behind the report program's text: what its definitions come to, and what the functions' proofs cite.
+pub mod DecimalDigits
+pub mod BytePut
+pub mod DecimalPut
+pub mod FieldEnds
+pub mod AskedCases
+pub mod BytesLoop
+pub mod PutOneAfterAnother
+pub mod LinePieces
+pub mod WordsOfFindings
+pub mod LinesLoop
+pub mod LineLengths
+pub mod RoomEnough
+pub mod TextRoom
+pub mod RequestAnswered
+pub mod RequestPut
+pub mod AskedParts
+pub mod FieldLaid
+pub mod LaidDownRead
+pub mod FieldThen
+pub mod ReadIsLaidDown
+pub mod RowElevenIff
+pub mod DecimalReadBack
+pub mod OneText

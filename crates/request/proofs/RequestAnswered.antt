@@ -1,0 +1,97 @@
+-- What a report's answer comes to in the text of a request. A refusal is the text's one line. Counts are three pieces of text: the first line, the lines of the
+-- findings whose words the report wrote, and the last line; and there is room for them.
+-- Assumes nothing.
+use Prim.Native.Nat.{ℕ, _+_, _-_, _*_, _^_, _≤_, _<_}
+use mathlib.Core.Path.{_≡_, sym, ap, ap₂, _∙_}
+use mathlib.Core.List.{List, _++_}
+use native.Mathlib.Omega.{arith}
+use lib.ListN.{length, take, drop, length-append}
+use lib.Seq.{take-at}
+use Rattle.meaning.specs.Findings.{Finding, findings, wordsEach, wordsOf, written}
+use Rattle.meaning.proofs.Words.{words-length}
+use Rattle.answers.specs.declared.refusals.Refusal.{Refusal}
+use Rattle.answers.specs.Paper.{Answer}
+use Rattle.book.specs.Silences.{Silence}
+use Rattle.outlines.specs.declared.reporting.Reported.{Reported}
+use Rattle.outlines.specs.declared.reporting.Reported.the-variants.{Counts as CountsCase, Refused}
+use Rattle.outlines.specs.Report.{shown, hidden, ReportCounts, reportCounts, admittedSilences, paperOf, IsReported}
+use Rattle.outlines.proofs.ReportRefusals.{report-refusal-iff}
+use Rattle.outlines.proofs.ReportGives.{IsGiven, goes-by-iff, report-gives}
+use Rattle.outlines.proofs.ShownAndHidden.{shown-hidden-length}
+use Rattle.request.specs.Fields.{lineField}
+use Rattle.request.specs.Input.{Request}
+use Rattle.request.specs.Lines.{firstLine, findingLines, lastLine, refusalLine}
+use Rattle.request.specs.Answering.{reportLines, linesBy, requestText}
+use Rattle.request.specs.Writing.{findingsOf, countsOf, mostText, request}
+use Rattle.request.proofs.RoomEnough.{silences-same}
+use Rattle.request.proofs.WordsOfFindings.{findingsOf-words}
+use Rattle.request.proofs.TextRoom.{report-lines-le}
+
+-- The words that row 4 asks of the longest line.
+abbrev pub mostWords : ℕ
+mostWords = 3 * 4096
+
+-- What counts and words come to: the pieces of the text, and room for them.
+pub record Answered (q : Request) (found hid looks : ℕ) (words : List ℕ) : Type 0 where
+  pub hidden-le : hid ≤ found
+  pub words-le : wordsEach * (found - hid) ≤ length words
+  pub pieces : firstLine (q .cell) (q .ringNumber) (length (q .ring)) (q .allowance)
+      ++ (findingLines (findingsOf (take (wordsEach * (found - hid)) words)) ++ lastLine (countsOf found hid looks))
+      ≡ requestText q
+  pub length-le : length (requestText q) ≤ mostText
+
+-- what was written stands in front
+front-of : {out : List ℕ} (front area : List ℕ) (n : ℕ) → length front ≡ n → out ≡ written front area → take n out ≡ front
+unfolding written
+front-of front area n long is = ap (take n) is ∙ take-at front (drop (length front) area) n long
+
+-- and an area has room for what was written
+front-le : (front area : List ℕ) → length front ≤ length (written front area)
+unfolding written
+front-le front area = omega (arith, length-append front (drop (length front) area))
+
+-- the text of a request by what the report goes by, with the words that the program lends
+text-by : (q : Request) (room : ℕ) {a : Answer (List Silence)} → length (q .line) ≤ lineField .most → mostWords ≤ room
+    → admittedSilences (q .ring) (q .line) (q .allowance) (q .book) room ≡ a → requestText q ≡ linesBy q a
+unfolding requestText
+text-by q room line-le enough e =
+    ap (linesBy q) (sym (silences-same (q .ring) (q .line) (q .allowance) (q .book) room (λ some-edge fits. omega arith)) ∙ e)
+
+module _ {cell ringNumber k : ℕ} {ring line book words out : List ℕ} {r : Reported} (meets : IsReported cell ringNumber ring line k book words r out)
+    (line-le : length line ≤ lineField .most) (enough : mostWords ≤ length words) where
+  -- A refusal is the text's one line.
+  pub refused-text : (refusal : Refusal) → r ≡ Refused refusal → refusalLine refusal ≡ requestText (request cell ringNumber k ring line book)
+  refused-text refusal e =
+      sym
+      (text-by (request cell ringNumber k ring line book) (length words) line-le enough
+      (report-refusal-iff cell ringNumber ring line k book words r out meets refusal .0
+      (ap (λ (x : Reported). paperOf x .number) e, ap (λ (x : Reported). paperOf x .place) e)))
+
+  -- Counts are three pieces of text.
+  pub counted-text : {found hid looks : ℕ} → cell < 2 ^ 32 → ringNumber < 2 ^ 16 → r ≡ CountsCase found hid looks
+      → Answered (request cell ringNumber k ring line book) found hid looks out
+  unfolding reportLines
+  counted-text {found} {hid} {looks} cell-lt ring-number-lt e =
+      let q : Request = request cell ringNumber k ring line book in
+      let given : IsGiven cell ringNumber ring line k book words found hid looks out =
+      report-gives cell ringNumber ring line k book words r out meets found hid looks e in
+      let all : List Finding = findings ring line k in
+      let seen : List Finding = shown (given .silences) cell ringNumber all in
+      let lengths : length seen + length (hidden (given .silences) cell ringNumber all) ≡ length all = shown-hidden-length (given .silences) cell ringNumber all in
+      let found-is : found ≡ length all = given .found-is in
+      let hidden-is : hid ≡ length (hidden (given .silences) cell ringNumber all) = given .hidden-is in
+      let words-are : length (wordsOf seen) ≡ wordsEach * (found - hid) = omega (arith, words-length seen) in
+      let front : take (wordsEach * (found - hid)) out ≡ wordsOf seen = front-of (wordsOf seen) words (wordsEach * (found - hid)) words-are (given .words-are) in
+      let text : requestText q ≡ reportLines q (given .silences) =
+      text-by q (length words) line-le enough (goes-by-iff cell ringNumber ring line k book words (given .silences) .1 (given .admitted, given .book-is)) in
+      let counts : countsOf found hid looks ≡ reportCounts ring line k cell ringNumber (given .silences) =
+      λ j. countsOf (found-is j) (hidden-is j) (given .looks-are j) in
+      record {
+        hidden-le = omega arith;
+        words-le = omega (arith, ap length (given .words-are), front-le (wordsOf seen) words);
+        pieces =
+            ap₂ (λ (fs : List Finding) (c : ReportCounts). firstLine cell ringNumber (length ring) k ++ (findingLines fs ++ lastLine c))
+            (ap findingsOf front ∙ findingsOf-words seen) counts
+            ∙ sym text;
+        length-le = rw text (report-lines-le q (length words) (given .admitted) line-le (given .silences) cell-lt ring-number-lt);
+      }

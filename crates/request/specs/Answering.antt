@@ -1,0 +1,51 @@
+-- Document 01, "The report program": the program's whole output for an input's bytes, on every input, and what `answer` promises.
+--
+--   requestText    the output for a request: the report's lines, or its refusal
+--   answerText     the output for an input's bytes: "Refusal 11 comes before all others"
+--   IsAnswered     what `answer` promises
+--
+-- The report's refusals and counts are those of `reported` in outlines' specs/Report.antt. "Book places count from the book's first byte": the book is
+-- a request's own, so they are the report's own places. The program lends the report as many words as row 4 asks, so row 4 is never given; nor is
+-- row 3, a line being at most 4,096 edges (`rows-3-4-never` of proofs/).
+use Prim.Native.Nat.{ℕ}
+use mathlib.Core.Path.{_≡_}
+use mathlib.Core.List.{List, _++_}
+use lib.ListN.{length}
+use Rattle.meaning.specs.Findings.{findings, written}
+use Rattle.answers.specs.Paper.{Answer, accepted, refused}
+use Rattle.book.specs.Silences.{Silence}
+use Rattle.outlines.specs.Admitting.{roomAsked}
+use Rattle.outlines.specs.Report.{shown, admittedSilences, reportCounts}
+use Rattle.request.specs.Input.{Request, requestOf}
+use Rattle.request.specs.Lines.{firstLine, findingLines, lastLine, refusalLine}
+
+-- The lines of a report that goes by these silences: the first line, a line for each shown finding, the last line.
+unfoldable pub reportLines : Request → List Silence → List ℕ
+reportLines q silences =
+    firstLine (q .cell) (q .ringNumber) (length (q .ring)) (q .allowance)
+    ++ (findingLines (shown silences (q .cell) (q .ringNumber) (findings (q .ring) (q .line) (q .allowance)))
+    ++ lastLine (reportCounts (q .ring) (q .line) (q .allowance) (q .cell) (q .ringNumber) silences))
+
+-- The output by the silences that the report goes by, or by its refusal.
+abbrev pub linesBy : Request → Answer (List Silence) → List ℕ
+linesBy q (accepted silences) = reportLines q silences
+linesBy q (refused refusal) = refusalLine refusal
+
+-- The output for a request.
+unfoldable pub requestText : Request → List ℕ
+requestText q = linesBy q (admittedSilences (q .ring) (q .line) (q .allowance) (q .book) (roomAsked (length (q .ring)) (length (q .line))))
+
+-- The output by the request of an input, or by refusal 11.
+abbrev pub textBy : Answer Request → List ℕ
+textBy (accepted q) = requestText q
+textBy (refused refusal) = refusalLine refusal
+
+-- The program's whole output for an input's bytes.
+unfoldable pub answerText : List ℕ → List ℕ
+answerText input = textBy (requestOf input)
+
+-- What `answer` promises: of the input, the area lent for the text, how long the text is, and the area at exit. It begins with the text, and the
+-- bytes after the text keep their values.
+pub record IsAnswered (input area : List ℕ) (long : ℕ) (out : List ℕ) : Type 0 where
+  pub long-is : long ≡ length (answerText input)
+  pub written : out ≡ written (answerText input) area

@@ -1,0 +1,65 @@
+-- Document 01, "The report program": one field of the program's input, "one-byte tag, two-byte length, value; numbers high byte first".
+--
+--   FieldKind     the tag of a field, and how long its value may be
+--   isField       a field of a kind stands at a byte offset
+--   fieldEndAt    the byte offset just past it, if it stands
+--   between       the bytes from one byte offset up to another
+--
+-- A field that is missing, cut, wrongly tagged or wrongly long is not a field of its kind: what that comes to is said in Input.antt.
+use Prim.Native.Nat.{ℕ, _+_, _-_}
+use mathlib.Core.Bool.{Bool, cond, _&&_}
+use mathlib.Core.List.{List}
+use mathlib.Core.Option.{Option, none, some}
+use lib.Dec.{leb, eqb}
+use lib.ListN.{length, getD, take, drop}
+use Rattle.book.specs.Numbers.{numberAt}
+use Rattle.book.specs.Reading.{fieldEnd}
+
+-- A kind of field: its tag, and the least and the most bytes that its value has.
+pub record FieldKind : Type 0 where
+  pub tag : ℕ
+  pub least : ℕ
+  pub most : ℕ
+
+-- "34 cell (4 bytes)"
+abbrev pub cellField : FieldKind
+cellField = record { tag = 0x34; least = 4; most = 4 }
+
+-- "35 ring number (2)"
+abbrev pub ringNumberField : FieldKind
+ringNumberField = record { tag = 0x35; least = 2; most = 2 }
+
+-- "33 allowance (1)"
+abbrev pub allowanceField : FieldKind
+allowanceField = record { tag = 0x33; least = 1; most = 1 }
+
+-- "31 ring (any length)": any that a two-byte length says.
+abbrev pub ringField : FieldKind
+ringField = record { tag = 0x31; least = 0; most = 65535 }
+
+-- "32 line (at most 4,096)"
+abbrev pub lineField : FieldKind
+lineField = record { tag = 0x32; least = 0; most = 4096 }
+
+-- The "two-byte length" of the field at a byte offset.
+abbrev pub longAt : List ℕ → ℕ → ℕ
+longAt input at = numberAt 2 input (at + 1)
+
+-- The byte offset just past the field at a byte offset.
+abbrev pub nextAt : List ℕ → ℕ → ℕ
+nextAt input at = fieldEnd at (longAt input at)
+
+-- A field of this kind stands at a byte offset: it is not wrongly tagged, not wrongly long and not cut. (Past the input's end a byte reads as 0, which
+-- is no kind's tag.)
+unfoldable pub isField : FieldKind → List ℕ → ℕ → Bool
+isField kind input at =
+    eqb (getD input at 0) (kind .tag)
+    && (leb (kind .least) (longAt input at) && (leb (longAt input at) (kind .most) && leb (nextAt input at) (length input)))
+
+-- The byte offset just past the field of this kind at a byte offset, if such a field stands there.
+unfoldable pub fieldEndAt : FieldKind → List ℕ → ℕ → Option ℕ
+fieldEndAt kind input at = cond (isField kind input at) (some (nextAt input at)) none
+
+-- The bytes of the input from one byte offset up to another.
+abbrev pub between : List ℕ → ℕ → ℕ → List ℕ
+between input from to = take (to - from) (drop from input)

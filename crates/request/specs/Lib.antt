@@ -1,0 +1,9 @@
+pub mod Fields
+pub mod Input
+pub mod RowEleven
+pub mod Decimal
+pub mod Lines
+pub mod Answering
+pub mod Parsing
+pub mod Writing
+pub mod Samples

@@ -1,0 +1,51 @@
+-- `samples::run` is safe and ends: the rows left fall.
+-- Assumes nothing.
+use Prim.Native.Nat.{_-_}
+use native.Mathlib.Omega.{arith}
+use Rattle.samples.proofs.run.Statement.{statement}
+use Rattle.samples.proofs.run.Tie as tie
+
+abbrev Inv-loop : tie.InvT-loop
+Inv-loop call section rows index₀ index = Unit
+
+abbrev μ-loop : tie.MeasureT-loop
+μ-loop call section rows index₀ index = rows - index
+
+marks-requires : tie.Need-marks-requires Inv-loop μ-loop
+marks-requires c κs = tt
+
+loop-holds : tie.Need-loop-holds Inv-loop μ-loop
+loop-holds c = tt
+
+part-requires : tie.Need-part-requires Inv-loop μ-loop
+part-requires c κs = tt
+
+run-row-requires : tie.Need-run-row-requires Inv-loop μ-loop
+run-row-requires c κs = tt
+
+add-index : tie.Need-add-index Inv-loop μ-loop
+add-index c = omega arith
+
+loop-less : tie.Need-loop-less Inv-loop μ-loop
+loop-less c = omega arith
+
+loop-again : tie.Need-loop-again Inv-loop μ-loop
+loop-again c = tt
+
+returns : tie.Need-returns Inv-loop μ-loop
+returns c = tt
+
+pub run-spec : {M : Type 1} → statement M
+run-spec =
+    tie.close
+    (tie.spec
+    Inv-loop
+    μ-loop
+    marks-requires
+    loop-holds
+    part-requires
+    run-row-requires
+    add-index
+    loop-less
+    loop-again
+    returns)
