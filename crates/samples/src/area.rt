@@ -1,12 +1,10 @@
 // A lent area with a canary in every word, to see which words a call wrote. Each row has an area of its own.
-ghost use mathlib.Core.Path.{_≡_};
 ghost use Prim.Native.Nat.{_<_};
-ghost use lib.ListN.{length};
 
 // The canary: its byte four times over, so that no row writes it as its last byte or word.
-const CANARY_BYTE: u8 = 0xA5;
+pub const CANARY_BYTE: u8 = 0xA5;
 
-const CANARY: u32 = 0xA5A5A5A5;
+pub const CANARY: u32 = 0xA5A5A5A5;
 
 // How many bytes or words there are to lend: more than any book has, and more than the rows with short lines ask.
 pub const AMPLE: usize = 13040;
@@ -16,27 +14,6 @@ pub const LONG: usize = 196640;
 
 // A modulus small enough that nothing below overflows.
 const CHECKSUM_BELOW: usize = 1000003;
-
-// A whole area of bytes.
-pub fn canary_bytes() -> [u8; AMPLE]
-    ensures { λ r. ⌜ 13040 ≡ length r ⌝ }
-{
-    [CANARY_BYTE; AMPLE]
-}
-
-// A whole area of words.
-pub fn canaries() -> [u32; AMPLE]
-    ensures { λ r. ⌜ 13040 ≡ length r ⌝ }
-{
-    [CANARY; AMPLE]
-}
-
-// A whole area of words for a long line.
-pub fn long_canaries() -> [u32; LONG]
-    ensures { λ r. ⌜ 196640 ≡ length r ⌝ }
-{
-    [CANARY; LONG]
-}
 
 // The first `room` words, to be lent to a call. No row asks for more than there are. (There is one of these for each width, and for each way of lending.)
 pub fn lend(area: &mut [u32], room: usize) -> &mut [u32] {

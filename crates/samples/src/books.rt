@@ -19,7 +19,7 @@ pub fn word(number: usize) -> u32 {
 
 // The word at a place of those that a field gives: its numbers, or for `*` 1,001 records of cell 7, ring number 2 and every start from 0 on.
 fn word_of(field: &[u8], at: usize) -> u32 {
-    if table::is_made(field) {
+    if table::begins(field, b'*') {
         match at % 3 {
             0 => 7,
             1 => 2,
@@ -32,10 +32,10 @@ fn word_of(field: &[u8], at: usize) -> u32 {
 
 // How many words a field gives.
 pub fn count(field: &[u8]) -> usize {
-    if table::is_made(field) {
+    if table::begins(field, b'*') {
         MOST_WORDS
     } else {
-        table::numbers(field)
+        table::parts(field, table::NUMBER)
     }
 }
 
@@ -96,7 +96,7 @@ pub fn lay_row(row: &[u8], book: &mut [u8]) {
     lay_out(&words, book);
     put(
         book,
-        table::number_or(table::field(row, 3), MOST_BYTES),
-        made::code(table::number(table::field(row, 4), 0)),
+        table::number_or(row, 3, MOST_BYTES),
+        made::code(table::number_or(row, 4, 0)),
     );
 }

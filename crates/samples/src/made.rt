@@ -42,18 +42,18 @@ fn spell(edges: &mut [u8], field: &[u8]) {
 
 // How many edges a field gives.
 pub fn count(field: &[u8]) -> usize {
-    if table::is_made(field) {
+    if table::begins(field, b'*') {
         return table::number(field, 2);
     }
     if table::begins(field, b'#') {
-        return table::numbers(field);
+        return table::parts(field, table::NUMBER);
     }
     field.len()
 }
 
 // Fills in the edges that a field gives, as many as there are lent.
 pub fn make(field: &[u8], edges: &mut [u8]) {
-    if table::is_made(field) {
+    if table::begins(field, b'*') {
         rise(
             edges,
             code(table::number(field, 0)),

@@ -11,6 +11,9 @@ mod search_rows;
 mod seek_rows;
 mod table;
 
+// The most bytes of the rows.
+const MOST_INPUT: usize = 32768;
+
 // Which call the rows of a section go through.
 enum Call {
     Pack,
@@ -30,27 +33,24 @@ fn run_row(call: Call, row: &[u8]) {
     }
 }
 
-// Every row of a section. Its first line is a heading.
+// Every row of a section. Its first line is a heading, and nothing follows its last one.
 fn run(call: Call, section: &[u8]) {
-    let rows = table::marks(section, table::ROW);
-    let mut index: usize = 1;
+    let rows = table::parts(section, table::ROW);
+    let mut index: usize = 2;
     while index < rows {
-        run_row(call, table::part(section, table::ROW, index));
+        run_row(call, table::part(section, table::ROW, index - 1));
         index += 1;
     }
 }
 
-fn run_all(table: &[u8]) {
-    run(Call::Pack, table::part(table, table::SECTION, 1));
-    run(Call::Read, table::part(table, table::SECTION, 2));
-    run(Call::Unpack, table::part(table, table::SECTION, 2));
-    run(Call::Unpack, table::part(table, table::SECTION, 3));
-    run(Call::Seek, table::part(table, table::SECTION, 4));
-    run(Call::Scan, table::part(table, table::SECTION, 5));
-}
-
 fn main() {
-    let mut input = [0u8; 32768];
+    let mut input = [0u8; MOST_INPUT];
     let n = io::read_full(0, &mut input);
-    run_all(&input[..n]);
+    let text = &input[..n];
+    run(Call::Pack, table::part(text, table::SECTION, 1));
+    run(Call::Read, table::part(text, table::SECTION, 2));
+    run(Call::Unpack, table::part(text, table::SECTION, 2));
+    run(Call::Unpack, table::part(text, table::SECTION, 3));
+    run(Call::Seek, table::part(text, table::SECTION, 4));
+    run(Call::Scan, table::part(text, table::SECTION, 5));
 }

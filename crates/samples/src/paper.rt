@@ -1,4 +1,5 @@
 // Document 01's number, place and counts of an answer, as the definitions give them.
+use crate::printing;
 use answers::Refusal;
 use book::BookAnswer;
 use outlines::Scanned;
@@ -22,7 +23,7 @@ pub struct SearchPaper {
 }
 
 // "A refusal carries its number and place, zero in every count."
-pub fn book_paper(answer: BookAnswer) -> BookPaper
+fn book_paper(answer: BookAnswer) -> BookPaper
     ensures { λ r. ⌜ IsBookPaper answer r ⌝ }
 {
     match answer {
@@ -40,7 +41,7 @@ pub fn book_paper(answer: BookAnswer) -> BookPaper
 }
 
 // The same of a search.
-pub fn search_paper(answer: Scanned) -> SearchPaper
+fn search_paper(answer: Scanned) -> SearchPaper
     ensures { λ r. ⌜ IsSearchPaper answer r ⌝ }
 {
     match answer {
@@ -57,6 +58,23 @@ pub fn search_paper(answer: Scanned) -> SearchPaper
             looks: 0,
         },
     }
+}
+
+// Writes the paper of a call on a book.
+pub fn print_book(answer: BookAnswer) {
+    let paper = book_paper(answer);
+    printing::number(b"number", paper.number);
+    printing::number(b"place", paper.place);
+    printing::number(b"records", paper.records);
+}
+
+// Writes the paper of a search.
+pub fn print_search(answer: Scanned) {
+    let paper = search_paper(answer);
+    printing::number(b"number", paper.number);
+    printing::number(b"place", paper.place);
+    printing::number(b"found", paper.found);
+    printing::number(b"looks", paper.looks);
 }
 
 fn number_of(refusal: Refusal) -> usize

@@ -1,10 +1,14 @@
-// A row is a named line: the call and the row's name, then numbers with their names, then its end.
+// A row is a named line: the call and the row's name, then numbers with their names, then what the call wrote.
 use crate::area;
 
-// The most words that a row shows one by one, and the most bytes. Of more it shows a checksum.
-const MOST_WORDS: usize = 12;
+// How what a call wrote is shown: bytes in hex, words in threes as document 01 writes a finding.
+pub enum Shown {
+    Bytes,
+    Words,
+}
 
-const MOST_BYTES: usize = 26;
+// The most bytes or words that a row shows one by one. Of more it shows a checksum.
+const MOST: usize = 26;
 
 // Writes the call and the row's name.
 pub fn begin(call: &[u8], name: &[u8]) {
@@ -22,76 +26,44 @@ pub fn number(name: &[u8], value: usize) {
     io::print_decimal(1, value as u64);
 }
 
-// Writes how many bytes a call wrote, and the bytes in hex. The area has each byte four times over in a word.
-pub fn bytes(area: &[u32], count: usize) {
-    number(b"written", count);
-    if MOST_BYTES < count {
-        number(b"checksum", area::checksum(area, count));
-    } else {
-        hex(area, count);
+// Writes one byte, which a word has four times over, or one word.
+fn value(shown: Shown, at: usize, word: u32) {
+    match shown {
+        Shown::Bytes => {
+            io::write_all(1, b" ");
+            io::print_hex(1, (word % 256) as u64, 2);
+        }
+        Shown::Words => {
+            if at % 3 == 0 {
+                io::write_all(1, b" ");
+            } else {
+                io::write_all(1, b",");
+            }
+            io::print_decimal(1, word as u64);
+        }
     }
 }
 
-fn hex(area: &[u32], count: usize) {
+fn values(shown: Shown, area: &[u32], count: usize) {
     let mut at: usize = 0;
     while at < count {
-        byte(area::word_at(area, at) % 256);
+        value(shown, at, area::word_at(area, at));
         at += 1;
     }
 }
 
-fn byte(value: u32) {
-    io::write_all(1, b" ");
-    io::print_hex(1, value as u64, 2);
-}
-
-// Writes how many words a call wrote, and the words in threes, as document 01 writes a finding.
-pub fn words(area: &[u32], count: usize) {
+// Ends the row: what was written of the first `room` words of the area, and whether all words behind them are kept.
+pub fn end(shown: Shown, area: &[u32], room: usize) {
+    let count = area::written(area, room);
     number(b"written", count);
-    if MOST_WORDS < count {
+    if MOST < count {
         number(b"checksum", area::checksum(area, count));
     } else {
-        threes(area, count);
+        values(shown, area, count);
     }
-}
-
-fn threes(area: &[u32], count: usize) {
-    let mut at: usize = 0;
-    while at < count {
-        word(at, area::word_at(area, at));
-        at += 1;
-    }
-}
-
-fn word(at: usize, value: u32) {
-    if at % 3 == 0 {
-        io::write_all(1, b" (");
+    if area::is_kept(area, room) {
+        io::write_all(1, b" behind kept\n");
     } else {
-        io::write_all(1, b",");
+        io::write_all(1, b" behind touched\n");
     }
-    io::print_decimal(1, value as u64);
-    if at % 3 == 2 {
-        io::write_all(1, b")");
-    }
-}
-
-// Writes words that stand for themselves.
-pub fn text(words: &[u8]) {
-    io::write_all(1, b" ");
-    io::write_all(1, words);
-}
-
-// Whether the area behind what was lent is kept; it ends the row.
-pub fn behind(kept: bool) {
-    if kept {
-        text(b"behind kept");
-    } else {
-        text(b"behind touched");
-    }
-    end();
-}
-
-// Ends the row's line.
-pub fn end() {
-    io::write_all(1, b"\n");
 }

@@ -1,12 +1,14 @@
 // Searching a line for a ring. A row gives its name, ring, line, allowance and room, and goes through the call that is asked for. It says what the
 // call answers, the words written, and whether all words behind the room that was lent are kept.
 use crate::area;
+use crate::area::CANARY;
 use crate::area::LONG;
 use crate::made;
 use crate::paper;
-use crate::paper::SearchPaper;
 use crate::printing;
+use crate::printing::Shown;
 use crate::table;
+use outlines::Scanned;
 
 // The most edges of a row: one more than a ring or a line may have.
 const MOST_RING: usize = 257;
@@ -18,30 +20,20 @@ pub enum SearchCall {
     Scan,
 }
 
-fn begin(call: SearchCall, name: &[u8]) {
+fn answer(
+    call: SearchCall,
+    name: &[u8],
+    ring: &[u8],
+    line: &[u8],
+    k: usize,
+    lent: &mut [u32],
+) -> Scanned {
     match call {
-        SearchCall::Scan => printing::begin(b"scan", name),
+        SearchCall::Scan => {
+            printing::begin(b"scan", name);
+            outlines::scan(ring, line, k, lent)
+        }
     }
-}
-
-fn answer(call: SearchCall, ring: &[u8], line: &[u8], k: usize, lent: &mut [u32]) -> SearchPaper {
-    match call {
-        SearchCall::Scan => paper::search_paper(outlines::scan(ring, line, k, lent)),
-    }
-}
-
-// Runs the call with the row's room of the area, and prints the row.
-fn search(call: SearchCall, row: &[u8], ring: &[u8], line: &[u8], space: &mut [u32]) {
-    let k = table::number(table::field(row, 3), 0);
-    let room = table::number_or(table::field(row, 4), LONG);
-    let paper = answer(call, ring, line, k, area::lend(space, room));
-    begin(call, table::field(row, 0));
-    printing::number(b"number", paper.number);
-    printing::number(b"place", paper.place);
-    printing::number(b"found", paper.found);
-    printing::number(b"looks", paper.looks);
-    printing::words(space, area::written(space, room));
-    printing::behind(area::is_kept(space, room));
 }
 
 pub fn search_row(call: SearchCall, row: &[u8]) {
@@ -53,12 +45,18 @@ pub fn search_row(call: SearchCall, row: &[u8]) {
     let mut line = [0u8; MOST_LINE];
     made::make(ring_field, area::lend_bytes(&mut ring, m));
     made::make(line_field, area::lend_bytes(&mut line, n));
-    let mut words = area::long_canaries();
-    search(
+    let k = table::number_or(row, 3, 0);
+    let room = table::number_or(row, 4, LONG);
+    let mut words = [CANARY; LONG];
+    let space: &mut [u32] = &mut words;
+    let answer = answer(
         call,
-        row,
+        table::field(row, 0),
         area::first_bytes(&ring, m),
         area::first_bytes(&line, n),
-        &mut words,
+        k,
+        area::lend(space, room),
     );
+    paper::print_search(answer);
+    printing::end(Shown::Words, space, room);
 }

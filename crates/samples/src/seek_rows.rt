@@ -31,17 +31,19 @@ fn print_sought(sought: Sought) {
             printing::number(b"start", address.start as usize);
             printing::number(b"next", next);
         }
-        Sought::Nothing => printing::text(b"nothing"),
+        Sought::Nothing => {
+            io::write_all(1, b" nothing");
+        }
     }
 }
 
 pub fn seek_row(row: &[u8]) {
     let mut bytes = [0u8; MOST_BYTES];
     books::lay_row(row, &mut bytes);
-    let book = area::first_bytes(&bytes, table::number(table::field(row, 2), 0));
-    let from = table::number(table::field(row, 5), 0);
+    let book = area::first_bytes(&bytes, table::number_or(row, 2, 0));
+    let from = table::number_or(row, 5, 0);
     printing::begin(b"seek", table::field(row, 0));
     printing::number(b"from", from);
     print_sought(book::seek(book, from, address(table::field(row, 6))));
-    printing::end();
+    io::write_all(1, b"\n");
 }

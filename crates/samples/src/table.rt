@@ -1,6 +1,5 @@
 // The rows are a text on standard input. Sections, rows, fields and numbers are its parts, each kind with a mark of its own between them.
 ghost use Prim.Native.Nat.{_≤_};
-ghost use lib.ListN.{length};
 
 // Between sections, rows, the fields of a row, and the numbers of a field.
 pub const SECTION: u8 = b'=';
@@ -9,7 +8,7 @@ pub const ROW: u8 = b'\n';
 
 const FIELD: u8 = b'|';
 
-const NUMBER: u8 = b' ';
+pub const NUMBER: u8 = b' ';
 
 // The largest number that a usize holds.
 const LARGEST: usize = 18446744073709551615;
@@ -58,12 +57,13 @@ pub fn part(text: &[u8], mark: u8, index: usize) -> &[u8] {
     between(text, begin, find(text, mark, begin))
 }
 
-// How often a mark stands in the text.
-pub fn marks(text: &[u8], mark: u8) -> usize
-    ensures { λ r. ⌜ r ≤ length (now (text .entry)) ⌝ }
-{
-    let mut count: usize = 0;
-    let mut at: usize = 0;
+// How many parts a text has: none where it is empty. No text here begins with a mark.
+pub fn parts(text: &[u8], mark: u8) -> usize {
+    if text.len() == 0 {
+        return 0;
+    }
+    let mut count: usize = 1;
+    let mut at: usize = 1;
     while at < text.len() {
         count += is_mark(text[at], mark);
         at += 1;
@@ -81,26 +81,12 @@ pub fn field(row: &[u8], index: usize) -> &[u8] {
     part(row, FIELD, index)
 }
 
-// Whether a field begins with `*`: what it gives is made by a rule.
-pub fn is_made(field: &[u8]) -> bool {
-    begins(field, b'*')
-}
-
 // Whether a field begins with this byte.
 pub fn begins(field: &[u8], byte: u8) -> bool {
     if 0 < field.len() {
         field[0] == byte
     } else {
         false
-    }
-}
-
-// How many numbers a field gives.
-pub fn numbers(field: &[u8]) -> usize {
-    if field.len() == 0 {
-        0
-    } else {
-        marks(field, NUMBER) + 1
     }
 }
 
@@ -136,11 +122,12 @@ pub fn number(field: &[u8], index: usize) -> usize {
     decimal(part(field, NUMBER, index))
 }
 
-// A field's number, or another one where the row gives none.
-pub fn number_or(field: &[u8], other: usize) -> usize {
-    if field.len() == 0 {
+// The number of a row's field, or another one where the row gives none.
+pub fn number_or(row: &[u8], index: usize, other: usize) -> usize {
+    let text = field(row, index);
+    if text.len() == 0 {
         other
     } else {
-        decimal(field)
+        decimal(text)
     }
 }

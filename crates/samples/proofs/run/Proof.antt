@@ -1,21 +1,24 @@
 -- `samples::run` is safe and ends: the rows left fall.
 -- Assumes nothing.
-use Prim.Native.Nat.{_-_}
+use Prim.Native.Nat.{_-_, _<_}
 use native.Mathlib.Omega.{arith}
 use Rattle.samples.proofs.run.Statement.{statement}
 use Rattle.samples.proofs.run.Tie as tie
 
 abbrev Inv-loop : tie.InvT-loop
-Inv-loop call section rows index₀ index = Unit
+Inv-loop call section rows index₀ index = 0 < index
 
 abbrev μ-loop : tie.MeasureT-loop
 μ-loop call section rows index₀ index = rows - index
 
-marks-requires : tie.Need-marks-requires Inv-loop μ-loop
-marks-requires c κs = tt
+parts-requires : tie.Need-parts-requires Inv-loop μ-loop
+parts-requires c κs = tt
 
 loop-holds : tie.Need-loop-holds Inv-loop μ-loop
-loop-holds c = tt
+loop-holds c = omega arith
+
+sub-part : tie.Need-sub-part Inv-loop μ-loop
+sub-part c = omega arith
 
 part-requires : tie.Need-part-requires Inv-loop μ-loop
 part-requires c κs = tt
@@ -30,7 +33,7 @@ loop-less : tie.Need-loop-less Inv-loop μ-loop
 loop-less c = omega arith
 
 loop-again : tie.Need-loop-again Inv-loop μ-loop
-loop-again c = tt
+loop-again c = omega arith
 
 returns : tie.Need-returns Inv-loop μ-loop
 returns c = tt
@@ -41,8 +44,9 @@ run-spec =
     (tie.spec
     Inv-loop
     μ-loop
-    marks-requires
+    parts-requires
     loop-holds
+    sub-part
     part-requires
     run-row-requires
     add-index

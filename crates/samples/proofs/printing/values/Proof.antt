@@ -1,15 +1,15 @@
--- `samples::printing::threes` is safe and ends: the words left to print fall.
+-- `samples::printing::values` is safe and ends: the values left to print fall.
 -- Assumes nothing.
 use Prim.Native.Nat.{_-_, _≤_}
 use native.Mathlib.Omega.{arith}
-use Rattle.samples.proofs.printing.threes.Statement.{statement}
-use Rattle.samples.proofs.printing.threes.Tie as tie
+use Rattle.samples.proofs.printing.values.Statement.{statement}
+use Rattle.samples.proofs.printing.values.Tie as tie
 
 abbrev Inv-loop : tie.InvT-loop
-Inv-loop area count at₀ at = at ≤ count
+Inv-loop shown area count at₀ at = at ≤ count
 
 abbrev μ-loop : tie.MeasureT-loop
-μ-loop area count at₀ at = count - at
+μ-loop shown area count at₀ at = count - at
 
 loop-holds : tie.Need-loop-holds Inv-loop μ-loop
 loop-holds c = omega arith
@@ -17,8 +17,8 @@ loop-holds c = omega arith
 word-at-requires : tie.Need-word-at-requires Inv-loop μ-loop
 word-at-requires c κs = tt
 
-word-requires : tie.Need-word-requires Inv-loop μ-loop
-word-requires c κs = tt
+value-requires : tie.Need-value-requires Inv-loop μ-loop
+value-requires c κs = tt
 
 add-at : tie.Need-add-at Inv-loop μ-loop
 add-at c = omega arith
@@ -32,15 +32,15 @@ loop-again c = omega arith
 returns : tie.Need-returns Inv-loop μ-loop
 returns c = tt
 
-pub threes-spec : {M : Type 1} → statement M
-threes-spec =
+pub values-spec : {M : Type 1} → statement M
+values-spec =
     tie.close
     (tie.spec
     Inv-loop
     μ-loop
     loop-holds
     word-at-requires
-    word-requires
+    value-requires
     add-at
     loop-less
     loop-again

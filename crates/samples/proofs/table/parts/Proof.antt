@@ -1,17 +1,20 @@
--- `samples::table::marks` is safe and ends: what is left of the text falls, and there are no more marks than bytes.
+-- `samples::table::parts` is safe and ends: what is left of the text falls, and there are no more parts than bytes.
 -- Assumes nothing.
 use Prim.Native.Nat.{_-_, _≤_}
 use native.Mathlib.Omega.{arith}
 use lib.ListN.{length}
 use borrow.Author.Needs.{needs}
-use Rattle.samples.proofs.table.marks.Statement.{statement}
-use Rattle.samples.proofs.table.marks.Tie as tie
+use Rattle.samples.proofs.table.parts.Statement.{statement}
+use Rattle.samples.proofs.table.parts.Tie as tie
 
 abbrev Inv-loop : tie.InvT-loop
 Inv-loop text mark count₀ at₀ count at = (count ≤ at) × (at ≤ length text)
 
 abbrev μ-loop : tie.MeasureT-loop
 μ-loop text mark count₀ at₀ count at = length text - at
+
+returns : tie.Need-returns Inv-loop μ-loop
+returns c = tt
 
 loop-holds : tie.Need-loop-holds Inv-loop μ-loop
 loop-holds c = search needs
@@ -34,15 +37,16 @@ loop-less c = omega arith
 loop-again : tie.Need-loop-again Inv-loop μ-loop
 loop-again c = search needs
 
-returns : tie.Need-returns Inv-loop μ-loop
-returns c = omega arith
+returns-2 : tie.Need-returns-2 Inv-loop μ-loop
+returns-2 c = tt
 
-pub marks-spec : {M : Type 1} → statement M
-marks-spec =
+pub parts-spec : {M : Type 1} → statement M
+parts-spec =
     tie.close
     (tie.spec
     Inv-loop
     μ-loop
+    returns
     loop-holds
     shared-slice-read-is-mark
     is-mark-requires
@@ -50,4 +54,4 @@ marks-spec =
     add-at
     loop-less
     loop-again
-    returns)
+    returns-2)
