@@ -112,36 +112,44 @@ module _ (input : List ℕ) where
               within = tt;
             }
 
-            -- All five stand.
-            pub asked-parts : (f c r k : ℕ) → Stands lineField input e f → c ≡ numberAt 4 input headLength → r ≡ numberAt 2 input (a + headLength)
-                → k ≡ numberAt 1 input (b + headLength)
-                → IsAsked input (PartsCase (record {
-                  cell = c;
-                  «ring_number» = r;
-                  allowance = k;
-                  «ring_from» = d + headLength;
-                  «ring_to» = e;
-                  «line_from» = e + headLength;
-                  «line_to» = f;
-                }))
-            unfolding requestOf fieldsOf
-            asked-parts f c r k line cell-is ring-number-is allowance-is = record {
-              is = simp (
-                le-ltb mostInput (length input) short,
-                cell .end-is,
-                ring-number .end-is,
-                allowance .end-is,
-                ring .end-is,
-                line .end-is,
-                cell-is,
-                ring-number-is,
-                allowance-is,
-              );
-              within = record {
-                ring-le = omega (arith, ring .least-le);
-                line-le = omega (arith, line .least-le);
-                ring-within = ring .next-le;
-                line-within = line .next-le;
-                line-most = omega (arith, line .most-le);
-              };
-            }
+-- All five fields stand, each where the one before it ends.
+pub record FiveStand (input : List ℕ) (a b d e f : ℕ) : Type 0 where
+  pub cell : Stands cellField input 0 a
+  pub ring-number : Stands ringNumberField input a b
+  pub allowance : Stands allowanceField input b d
+  pub ring : Stands ringField input d e
+  pub line : Stands lineField input e f
+
+-- Then their numbers and their offsets are the request.
+pub asked-parts : {input : List ℕ} {a b d e f c r k : ℕ} → length input ≤ mostInput → FiveStand input a b d e f → c ≡ numberAt 4 input headLength
+    → r ≡ numberAt 2 input (a + headLength) → k ≡ numberAt 1 input (b + headLength)
+    → IsAsked input (PartsCase (record {
+      cell = c;
+      «ring_number» = r;
+      allowance = k;
+      «ring_from» = d + headLength;
+      «ring_to» = e;
+      «line_from» = e + headLength;
+      «line_to» = f;
+    }))
+unfolding requestOf fieldsOf
+asked-parts {input} short five cell-is ring-number-is allowance-is = record {
+  is = simp (
+    le-ltb mostInput (length input) short,
+    five .cell .end-is,
+    five .ring-number .end-is,
+    five .allowance .end-is,
+    five .ring .end-is,
+    five .line .end-is,
+    cell-is,
+    ring-number-is,
+    allowance-is,
+  );
+  within = record {
+    ring-le = omega (arith, five .ring .least-le);
+    line-le = omega (arith, five .line .least-le);
+    ring-within = five .ring .next-le;
+    line-within = five .line .next-le;
+    line-most = omega (arith, five .line .most-le);
+  };
+}

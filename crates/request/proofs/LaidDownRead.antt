@@ -13,7 +13,7 @@ use Rattle.book.specs.Reading.{fieldEnd}
 use Rattle.book.proofs.NumberBytes.{bytesOf-length}
 use Rattle.request.specs.Fields.{cellField, ringNumberField, allowanceField, ringField, lineField}
 use Rattle.request.specs.Input.{Request, requestOf, laidDown, CanLayDown}
-use Rattle.request.proofs.AskedCases.{stands-by, asked-parts}
+use Rattle.request.proofs.AskedCases.{FiveStand, stands-by, asked-parts}
 use Rattle.request.proofs.FieldLaid.{laid-rest, laid-between, laid-end, laid-number}
 
 module _ (q : Request) (can : CanLayDown q) where
@@ -56,14 +56,20 @@ module _ (q : Request) (can : CanLayDown q) where
       let at-allowance : drop b whole ≡ after-ring-number = laid-rest whole a (ringNumberField .tag) ring-number after-ring-number at-ring-number in
       let at-ring : drop d whole ≡ after-allowance = laid-rest whole b (allowanceField .tag) allowance after-allowance at-allowance in
       let at-line : drop e whole ≡ after-ring = laid-rest whole d (ringField .tag) (q .ring) after-ring at-ring in
+      let five : FiveStand whole a b d e f =
+      record {
+        cell = stands-by cellField whole 0 a (laid-end whole 0 (cellField .tag) cell after-cell at-cell 4 4 (omega arith) (omega arith) (omega arith));
+        ring-number = stands-by ringNumberField whole a b
+            (laid-end whole a (ringNumberField .tag) ring-number after-ring-number at-ring-number 2 2 (omega arith) (omega arith) (omega arith));
+        allowance = stands-by allowanceField whole b d
+            (laid-end whole b (allowanceField .tag) allowance after-allowance at-allowance 1 1 (omega arith) (omega arith) (omega arith));
+        ring = stands-by ringField whole d e
+            (laid-end whole d (ringField .tag) (q .ring) after-ring at-ring 0 65535 (omega arith) (can .ring-le) (omega (arith, can .ring-le)));
+        line = stands-by lineField whole e f
+            (laid-end whole e (lineField .tag) (q .line) (q .book) at-line 0 4096 (omega arith) (can .line-le) (omega (arith, can .line-le)));
+      } in
       let asked =
-      asked-parts whole (can .whole-le)
-      a (stands-by cellField whole 0 a (laid-end whole 0 (cellField .tag) cell after-cell at-cell 4 4 (omega arith) (omega arith) (omega arith)))
-      b (stands-by ringNumberField whole a b (laid-end whole a (ringNumberField .tag) ring-number after-ring-number at-ring-number 2 2 (omega arith) (omega arith) (omega arith)))
-      d (stands-by allowanceField whole b d (laid-end whole b (allowanceField .tag) allowance after-allowance at-allowance 1 1 (omega arith) (omega arith) (omega arith)))
-      e (stands-by ringField whole d e (laid-end whole d (ringField .tag) (q .ring) after-ring at-ring 0 65535 (omega arith) (can .ring-le) (omega (arith, can .ring-le))))
-      f (q .cell) (q .ringNumber) (q .allowance)
-      (stands-by lineField whole e f (laid-end whole e (lineField .tag) (q .line) (q .book) at-line 0 4096 (omega arith) (can .line-le) (omega (arith, can .line-le))))
+      asked-parts (can .whole-le) five
       (sym (laid-number whole 0 (cellField .tag) cell after-cell at-cell 4 (q .cell) (can .cell-lt) refl))
       (sym (laid-number whole a (ringNumberField .tag) ring-number after-ring-number at-ring-number 2 (q .ringNumber) (can .ring-number-lt) refl))
       (sym (laid-number whole b (allowanceField .tag) allowance after-allowance at-allowance 1 (q .allowance) (can .allowance-lt) refl)) in

@@ -22,3 +22,4 @@ pub mod ReadIsLaidDown
 pub mod RowElevenIff
 pub mod DecimalReadBack
 pub mod OneText
+pub mod TextOfInput

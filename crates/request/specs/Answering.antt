@@ -4,9 +4,9 @@
 --   answerText     the output for an input's bytes: "Refusal 11 comes before all others"
 --   IsAnswered     what `answer` promises
 --
--- The report's refusals and counts are those of `reported` in outlines' specs/Report.antt. "Book places count from the book's first byte": the book is
--- a request's own, so they are the report's own places. The program lends the report as many words as row 4 asks, so row 4 is never given; nor is
--- row 3, a line being at most 4,096 edges (`rows-3-4-never` of proofs/).
+-- What a report goes by, its refusals and its counts are outlines' own, in specs/Report.antt there. "Book places count from the book's first byte": a request
+-- has its book apart, so the report's places are the right ones. The program lends the report as many words as row 4 asks, so row 4 is never given; nor
+-- is row 3, a line being at most 4,096 edges (`rows-3-4-never` of proofs/OneText.antt).
 use Prim.Native.Nat.{ℕ}
 use mathlib.Core.Path.{_≡_}
 use mathlib.Core.List.{List, _++_}

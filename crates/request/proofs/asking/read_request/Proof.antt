@@ -3,7 +3,7 @@
 -- Assumes nothing.
 use native.Mathlib.Omega.{arith}
 use borrow.Author.Needs.{needs}
-use Rattle.request.proofs.AskedCases.{stands, stands-not, asked-longer, asked-cell-no, asked-ring-number-no, asked-allowance-no, asked-ring-no, asked-line-no, asked-parts}
+use Rattle.request.proofs.AskedCases.{FiveStand, stands, stands-not, asked-longer, asked-cell-no, asked-ring-number-no, asked-allowance-no, asked-ring-no, asked-line-no, asked-parts}
 use Rattle.request.proofs.asking.read_request.Statement.{statement}
 use Rattle.request.proofs.asking.read_request.Tie as tie
 
@@ -109,124 +109,63 @@ returns-6 c =
     let ring = stands (at-ring .before .ring-end .given .1) (at-ring .before .before .before .field-end4 .ensures) in
     asked-line-no _ (at-cell .before .before .before .before .if1 .left) _ cell _ ring-number _ allowance _ ring (stands-not (c .enum-told5 .given .1) (c .before .before .field-end5 .ensures))
 
+-- where the fields before the line were read
+abbrev at-ring : tie.After-known-told5 → tie.After-known-told4
+at-ring c = c .before .before .before .before
+
+abbrev at-allowance : tie.After-known-told5 → tie.After-known-told3
+at-allowance c = at-ring c .before .before .before .before
+
+abbrev at-ring-number : tie.After-known-told5 → tie.After-known-told2
+at-ring-number c = at-allowance c .before .before .before .before
+
+abbrev at-cell : tie.After-known-told5 → tie.After-known-told
+at-cell c = at-ring-number c .before .before .before .before
+
+-- where all five are read they stand
+five-stand : (c : tie.After-known-told5)
+    → FiveStand (at-cell c .before .before .before .before .before .before .args .input .now) (at-cell c .before .cell-end .given .0 .0) (at-ring-number c .before .ring-number-end .given .0 .0)
+    (at-allowance c .before .allowance-end .given .0 .0) (at-ring c .before .ring-end .given .0 .0) (c .before .line-end .given .0 .0)
+five-stand c = record {
+  cell = stands (at-cell c .before .cell-end .given .1) (at-cell c .before .before .before .field-end .ensures);
+  ring-number = stands (at-ring-number c .before .ring-number-end .given .1) (at-ring-number c .before .before .before .field-end2 .ensures);
+  allowance = stands (at-allowance c .before .allowance-end .given .1) (at-allowance c .before .before .before .field-end3 .ensures);
+  ring = stands (at-ring c .before .ring-end .given .1) (at-ring c .before .before .before .field-end4 .ensures);
+  line = stands (c .before .line-end .given .1) (c .before .before .before .field-end5 .ensures);
+}
+
 number-at-requires : tie.Need-number-at-requires
-number-at-requires c κs =
-    let at-line = c in
-    let at-ring = at-line .before .before .before .before in
-    let at-allowance = at-ring .before .before .before .before in
-    let at-ring-number = at-allowance .before .before .before .before in
-    let at-cell = at-ring-number .before .before .before .before in
-    let cell = stands (at-cell .before .cell-end .given .1) (at-cell .before .before .before .field-end .ensures) in
-    let ring-number = stands (at-ring-number .before .ring-number-end .given .1) (at-ring-number .before .before .before .field-end2 .ensures) in
-    let allowance = stands (at-allowance .before .allowance-end .given .1) (at-allowance .before .before .before .field-end3 .ensures) in
-    let ring = stands (at-ring .before .ring-end .given .1) (at-ring .before .before .before .field-end4 .ensures) in
-    let line = stands (at-line .before .line-end .given .1) (at-line .before .before .before .field-end5 .ensures) in
-    omega arith
+number-at-requires c κs = let five = five-stand c in omega arith
 
 add-number-at : tie.Need-add-number-at
-add-number-at c =
-    let at-line = c .before in
-    let at-ring = at-line .before .before .before .before in
-    let at-allowance = at-ring .before .before .before .before in
-    let at-ring-number = at-allowance .before .before .before .before in
-    let at-cell = at-ring-number .before .before .before .before in
-    let cell = stands (at-cell .before .cell-end .given .1) (at-cell .before .before .before .field-end .ensures) in
-    let ring-number = stands (at-ring-number .before .ring-number-end .given .1) (at-ring-number .before .before .before .field-end2 .ensures) in
-    let allowance = stands (at-allowance .before .allowance-end .given .1) (at-allowance .before .before .before .field-end3 .ensures) in
-    let ring = stands (at-ring .before .ring-end .given .1) (at-ring .before .before .before .field-end4 .ensures) in
-    let line = stands (at-line .before .line-end .given .1) (at-line .before .before .before .field-end5 .ensures) in
-    omega arith
+add-number-at c = let five = five-stand (c .before) in omega arith
 
 number-at-requires-2 : tie.Need-number-at-requires-2
-number-at-requires-2 c κs =
-    let at-line = c .before in
-    let at-ring = at-line .before .before .before .before in
-    let at-allowance = at-ring .before .before .before .before in
-    let at-ring-number = at-allowance .before .before .before .before in
-    let at-cell = at-ring-number .before .before .before .before in
-    let cell = stands (at-cell .before .cell-end .given .1) (at-cell .before .before .before .field-end .ensures) in
-    let ring-number = stands (at-ring-number .before .ring-number-end .given .1) (at-ring-number .before .before .before .field-end2 .ensures) in
-    let allowance = stands (at-allowance .before .allowance-end .given .1) (at-allowance .before .before .before .field-end3 .ensures) in
-    let ring = stands (at-ring .before .ring-end .given .1) (at-ring .before .before .before .field-end4 .ensures) in
-    let line = stands (at-line .before .line-end .given .1) (at-line .before .before .before .field-end5 .ensures) in
-    omega arith
+number-at-requires-2 c κs = let five = five-stand (c .before) in omega arith
 
 cast-t22 : tie.Need-cast-t22
 cast-t22 c = search needs
 
 add-number-at-2 : tie.Need-add-number-at-2
-add-number-at-2 c =
-    let at-line = c .before .before in
-    let at-ring = at-line .before .before .before .before in
-    let at-allowance = at-ring .before .before .before .before in
-    let at-ring-number = at-allowance .before .before .before .before in
-    let at-cell = at-ring-number .before .before .before .before in
-    let cell = stands (at-cell .before .cell-end .given .1) (at-cell .before .before .before .field-end .ensures) in
-    let ring-number = stands (at-ring-number .before .ring-number-end .given .1) (at-ring-number .before .before .before .field-end2 .ensures) in
-    let allowance = stands (at-allowance .before .allowance-end .given .1) (at-allowance .before .before .before .field-end3 .ensures) in
-    let ring = stands (at-ring .before .ring-end .given .1) (at-ring .before .before .before .field-end4 .ensures) in
-    let line = stands (at-line .before .line-end .given .1) (at-line .before .before .before .field-end5 .ensures) in
-    omega arith
+add-number-at-2 c = let five = five-stand (c .before .before) in omega arith
 
 number-at-requires-3 : tie.Need-number-at-requires-3
-number-at-requires-3 c κs =
-    let at-line = c .before .before in
-    let at-ring = at-line .before .before .before .before in
-    let at-allowance = at-ring .before .before .before .before in
-    let at-ring-number = at-allowance .before .before .before .before in
-    let at-cell = at-ring-number .before .before .before .before in
-    let cell = stands (at-cell .before .cell-end .given .1) (at-cell .before .before .before .field-end .ensures) in
-    let ring-number = stands (at-ring-number .before .ring-number-end .given .1) (at-ring-number .before .before .before .field-end2 .ensures) in
-    let allowance = stands (at-allowance .before .allowance-end .given .1) (at-allowance .before .before .before .field-end3 .ensures) in
-    let ring = stands (at-ring .before .ring-end .given .1) (at-ring .before .before .before .field-end4 .ensures) in
-    let line = stands (at-line .before .line-end .given .1) (at-line .before .before .before .field-end5 .ensures) in
-    omega arith
+number-at-requires-3 c κs = let five = five-stand (c .before .before) in omega arith
 
 cast-t25 : tie.Need-cast-t25
 cast-t25 c = search needs
 
 add-t26 : tie.Need-add-t26
-add-t26 c =
-    let at-line = c .before .before .before in
-    let at-ring = at-line .before .before .before .before in
-    let at-allowance = at-ring .before .before .before .before in
-    let at-ring-number = at-allowance .before .before .before .before in
-    let at-cell = at-ring-number .before .before .before .before in
-    let cell = stands (at-cell .before .cell-end .given .1) (at-cell .before .before .before .field-end .ensures) in
-    let ring-number = stands (at-ring-number .before .ring-number-end .given .1) (at-ring-number .before .before .before .field-end2 .ensures) in
-    let allowance = stands (at-allowance .before .allowance-end .given .1) (at-allowance .before .before .before .field-end3 .ensures) in
-    let ring = stands (at-ring .before .ring-end .given .1) (at-ring .before .before .before .field-end4 .ensures) in
-    let line = stands (at-line .before .line-end .given .1) (at-line .before .before .before .field-end5 .ensures) in
-    omega arith
+add-t26 c = let five = five-stand (c .before .before .before) in omega arith
 
 add-t27 : tie.Need-add-t27
-add-t27 c =
-    let at-line = c .before .before .before in
-    let at-ring = at-line .before .before .before .before in
-    let at-allowance = at-ring .before .before .before .before in
-    let at-ring-number = at-allowance .before .before .before .before in
-    let at-cell = at-ring-number .before .before .before .before in
-    let cell = stands (at-cell .before .cell-end .given .1) (at-cell .before .before .before .field-end .ensures) in
-    let ring-number = stands (at-ring-number .before .ring-number-end .given .1) (at-ring-number .before .before .before .field-end2 .ensures) in
-    let allowance = stands (at-allowance .before .allowance-end .given .1) (at-allowance .before .before .before .field-end3 .ensures) in
-    let ring = stands (at-ring .before .ring-end .given .1) (at-ring .before .before .before .field-end4 .ensures) in
-    let line = stands (at-line .before .line-end .given .1) (at-line .before .before .before .field-end5 .ensures) in
-    omega arith
+add-t27 c = let five = five-stand (c .before .before .before) in omega arith
 
 -- all five fields stand
 returns-7 : tie.Need-returns-7
 returns-7 c =
     let at-line = c .before .before .before in
-    let at-ring = at-line .before .before .before .before in
-    let at-allowance = at-ring .before .before .before .before in
-    let at-ring-number = at-allowance .before .before .before .before in
-    let at-cell = at-ring-number .before .before .before .before in
-    let cell = stands (at-cell .before .cell-end .given .1) (at-cell .before .before .before .field-end .ensures) in
-    let ring-number = stands (at-ring-number .before .ring-number-end .given .1) (at-ring-number .before .before .before .field-end2 .ensures) in
-    let allowance = stands (at-allowance .before .allowance-end .given .1) (at-allowance .before .before .before .field-end3 .ensures) in
-    let ring = stands (at-ring .before .ring-end .given .1) (at-ring .before .before .before .field-end4 .ensures) in
-    let line = stands (at-line .before .line-end .given .1) (at-line .before .before .before .field-end5 .ensures) in
-    asked-parts _ (at-cell .before .before .before .before .if1 .left) _ cell _ ring-number _ allowance _ ring _ _ _ _ line (c .before .before .number-at .ensures .0)
+    asked-parts (at-cell at-line .before .before .before .before .if1 .left) (five-stand at-line) (c .before .before .number-at .ensures .0)
     (c .before .number-at2 .ensures .0) (c .number-at3 .ensures .0)
 
 pub read-request-spec : {M : Type 1} → statement M
