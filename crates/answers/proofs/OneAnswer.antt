@@ -1,5 +1,5 @@
 -- Number and place determine the refusal, and the paper determines the answer, whatever its counts are. Each by a left inverse: `refusalOf` and
--- `answerOf` read the answer back. So any two answers that meet a contract on the paper are equal.
+-- `answerOf` read the answer back. So any two answers that meet a contract on the paper are equal. Last, the same of the functions of this crate.
 -- Assumes nothing.
 use Prim.Native.Nat.{ℕ, _≤_}
 use mathlib.Core.Path.{_≡_, refl, sym, ap, ap₂, _∙_}
@@ -9,7 +9,7 @@ use lib.Dec.{eqb}
 use borrow.Author.Tests.{ne-eqb}
 use Rattle.answers.specs.declared.refusals.Refusal.{Refusal}
 use Rattle.answers.specs.declared.refusals.Refusal.the-variants.{Ring, Allowance, Line, FindingsRoom, BookLength, Field, NotAbove, WordCount, RingNumber, OutputRoom, Input}
-use Rattle.answers.specs.Refusals.{numberOf, placeOf}
+use Rattle.answers.specs.Refusals.{numberOf, placeOf, IsNumber, IsPlace}
 use Rattle.answers.specs.Paper.{Answer, accepted, refused, Paper, answerPaper}
 
 -- the refusal that has this number and this place
@@ -71,3 +71,11 @@ module _ {C : Type 0} (zeros : C) where
   -- the paper determines the answer
   pub answer-unique : (a b : Answer C) → answerPaper zeros a ≡ answerPaper zeros b → a ≡ b
   answer-unique a b e = sym (answer-back a) ∙ ap answerOf e ∙ answer-back b
+
+-- Any two answers of `number_of` are equal.
+pub number-of-unique : (refusal : Refusal) (a b : ℕ) → IsNumber refusal a → IsNumber refusal b → a ≡ b
+number-of-unique refusal a b s t = s .is ∙ sym (t .is)
+
+-- Any two answers of `place_of` are equal.
+pub place-of-unique : (refusal : Refusal) (a b : ℕ) → IsPlace refusal a → IsPlace refusal b → a ≡ b
+place-of-unique refusal a b s t = s .is ∙ sym (t .is)

@@ -3,9 +3,11 @@
 --
 --   numberOf    the column "No."
 --   placeOf     the column "Place"
+--   IsNumber, IsPlace    what the functions of these names promise
 --
 -- A refusal whose place is always 0 holds none. Leaves nothing out and adds no row.
 use Prim.Native.Nat.{ℕ}
+use mathlib.Core.Path.{_≡_}
 use Rattle.answers.specs.declared.refusals.Refusal.{Refusal}
 use Rattle.answers.specs.declared.refusals.Refusal.the-variants.{Ring, Allowance, Line, FindingsRoom, BookLength, Field, NotAbove, WordCount, RingNumber, OutputRoom, Input}
 
@@ -58,3 +60,11 @@ placeOf (RingNumber place) = place
 placeOf OutputRoom = 0
 -- 11: "the offset where the first such field begins or should begin", or 0
 placeOf (Input place) = place
+
+-- What `number_of` promises of its answer.
+pub record IsNumber (refusal : Refusal) (r : ℕ) : Type 0 where
+  pub is : r ≡ numberOf refusal
+
+-- What `place_of` promises of its answer.
+pub record IsPlace (refusal : Refusal) (r : ℕ) : Type 0 where
+  pub is : r ≡ placeOf refusal

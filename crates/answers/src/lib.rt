@@ -10,3 +10,5 @@ pub use places::RingPlace;
 pub use places::to_line;
 pub use places::to_ring;
 pub use refusals::Refusal;
+pub use refusals::number_of;
+pub use refusals::place_of;

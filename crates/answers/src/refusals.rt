@@ -1,4 +1,7 @@
-// Document 01's table of refusals, a name for each row. A variant holds a place where the table gives one that is not always 0.
+// Document 01's table of refusals: a name for each row, its number and its place. A variant holds a place where the table gives one that is not
+// always 0.
+ghost use Rattle.answers.specs.Refusals.{IsNumber, IsPlace};
+
 pub enum Refusal {
     // 1: m = 0 or m > 256
     Ring,
@@ -22,4 +25,42 @@ pub enum Refusal {
     OutputRoom,
     // 11: the program's input isn't as laid down; the offset where the first such field begins or should begin
     Input(usize),
+}
+
+// The column "No.".
+pub fn number_of(refusal: Refusal) -> usize
+    ensures { λ r. ⌜ IsNumber refusal r ⌝ }
+{
+    match refusal {
+        Refusal::Ring => 1,
+        Refusal::Allowance => 2,
+        Refusal::Line => 3,
+        Refusal::FindingsRoom => 4,
+        Refusal::BookLength => 5,
+        Refusal::Field(_) => 6,
+        Refusal::NotAbove(_) => 7,
+        Refusal::WordCount => 8,
+        Refusal::RingNumber(_) => 9,
+        Refusal::OutputRoom => 10,
+        Refusal::Input(_) => 11,
+    }
+}
+
+// The column "Place".
+pub fn place_of(refusal: Refusal) -> usize
+    ensures { λ r. ⌜ IsPlace refusal r ⌝ }
+{
+    match refusal {
+        Refusal::Field(place) => place,
+        Refusal::NotAbove(place) => place,
+        Refusal::RingNumber(place) => place,
+        Refusal::Input(place) => place,
+        Refusal::Ring => 0,
+        Refusal::Allowance => 0,
+        Refusal::Line => 0,
+        Refusal::FindingsRoom => 0,
+        Refusal::BookLength => 0,
+        Refusal::WordCount => 0,
+        Refusal::OutputRoom => 0,
+    }
 }

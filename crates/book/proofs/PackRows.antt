@@ -22,8 +22,8 @@ use Rattle.book.proofs.AnswerCases.{accepted-not-refused, row-unique}
 use Rattle.book.proofs.RoomRows.{in-room-accepted-iff, in-room-row-iff, in-room-10-iff}
 use Rattle.book.proofs.RecordRows.{packedRecords, records-rows, records-accepted-iff, records-9-iff, records-7-iff}
 
--- the words have a right number, or "aren't a multiple of 3, or exceed 3,000"; and so says the test
-word-count-cases : (words : List ℕ)
+-- The words have a right number, or "aren't a multiple of 3, or exceed 3,000"; and so says the test
+pub word-count-cases : (words : List ℕ)
     → ((isWordCount words ≡ true) × HasWordCount words) ⊎ ((isWordCount words ≡ false) × ((length words % 3 ≡ 0 → ⊥) ⊎ (3000 < length words)))
 unfolding isWordCount
 word-count-cases words = go (eqb (length words % recordWords) 0) (leb (length words) mostWords) refl refl
@@ -58,8 +58,8 @@ module _ (words : List ℕ) (room : ℕ) where
       (λ n. absurd (not-both-counts words h (n .1)))
       (word-count-cases words)
 
-  -- with a wrong one it is row 8
-  packed-uncounted : ((length words % 3 ≡ 0 → ⊥) ⊎ (3000 < length words)) → packed words room ≡ refused WordCount
+  -- With a wrong one it is row 8.
+  pub packed-uncounted : ((length words % 3 ≡ 0 → ⊥) ⊎ (3000 < length words)) → packed words room ≡ refused WordCount
   unfolding packed
   packed-uncounted h =
       ⊎-elim

@@ -29,7 +29,7 @@ returns c =
     let at-line = c .before .before in
     let at-place = at-line .before .before in
     let at-number = at-place .before in
-    put-same (ap₂ refusalWords (at-number .number-of .ensures) (at-place .place-of .ensures)) (at-line .put-refusal-line .ensures)
+    put-same (ap₂ refusalWords (at-number .number-of .ensures .is) (at-place .place-of .ensures .is)) (at-line .put-refusal-line .ensures)
 
 pub put-refusal-spec : {M : Type 1} → statement M
 put-refusal-spec =

@@ -1,0 +1,29 @@
+-- `exports::answering::search_answer` meets its contract, by the answer's two cases.
+-- Assumes nothing.
+use mathlib.Core.Path.{refl, ap}
+use native.Mathlib.Omega.{arith}
+use Rattle.outlines.specs.declared.quick.Scanned.{Scanned}
+use Rattle.outlines.specs.Scan.{paperOf as searchPaperOf}
+use borrow.Author.Needs.{needs}
+use Rattle.exports.proofs.answering.search_answer.Statement.{statement}
+use Rattle.exports.proofs.answering.search_answer.Tie as tie
+
+enum-known-scanned : tie.Need-enum-known-scanned
+enum-known-scanned c = search needs
+
+enum-known-scanned-2 : tie.Need-enum-known-scanned-2
+enum-known-scanned-2 c = search needs
+
+refused-answer-requires : tie.Need-refused-answer-requires
+refused-answer-requires c κs = omega (arith, ap (λ (r : Scanned). searchPaperOf r .place) (c .before .scanned2 .given .1), c .before .before .before .pre)
+
+-- Accepted.
+returns : tie.Need-returns
+returns c = rw (c .before .scanned .given .1) refl
+
+-- Refused.
+returns-2 : tie.Need-returns-2
+returns-2 c = rw (c .before .before .scanned2 .given .1) (c .refused-answer .ensures)
+
+pub search-answer-spec : {M : Type 1} → statement M
+search-answer-spec = tie.close (tie.spec enum-known-scanned enum-known-scanned-2 refused-answer-requires returns returns-2)

@@ -1,0 +1,21 @@
+-- `exports::searches::outlines_survey` meets its contract: it passes the answer of `survey` on.
+-- Assumes nothing.
+use Rattle.exports.proofs.PassedOn.{survey-place, survey-passed-on}
+use borrow.Author.Needs.{needs}
+use Rattle.exports.proofs.searches.outlines_survey.Statement.{statement}
+use Rattle.exports.proofs.searches.outlines_survey.Tie as tie
+
+survey-requires : tie.Need-survey-requires
+survey-requires c κs = search needs
+
+search-answer-requires : tie.Need-search-answer-requires
+search-answer-requires c κs = survey-place _ _ _ _ _ _ (c .before .before .survey .ensures)
+
+same-length : tie.Need-same-length
+same-length c = search needs
+
+returns : tie.Need-returns
+returns c = survey-passed-on _ _ _ _ _ _ (c .before .before .before .survey .ensures) _ (c .search-answer .ensures)
+
+pub outlines-survey-spec : {M : Type 1} → statement M
+outlines-survey-spec = tie.close (tie.spec survey-requires search-answer-requires same-length returns)

@@ -1,0 +1,61 @@
+-- The calls as C and Rust programs have them: each answers one struct of five numbers, whatever it counts. What survey, scan, report, pack and unpack give
+-- is said where they are defined; here stands only how the struct holds it.
+--
+--   paperOf          the number, place and counts that the struct stands for
+--   searchCounts     "found and looks"; a search counts nothing hidden
+--   recordCounts     "the number of records", as found
+--   counted          a paper with its counts so held
+--   Is..Exported     what each call promises
+use Prim.Native.Nat.{ℕ}
+use mathlib.Core.Path.{_≡_}
+use mathlib.Core.List.{List}
+use lib.ListN.{length}
+use Rattle.meaning.specs.Looks.{quickLooks, surveyLooks}
+use Rattle.answers.specs.Paper.{Paper, answerPaper}
+use Rattle.book.specs.Layout.{layout}
+use Rattle.book.specs.Packing.{wordsOfSilences, packed, unpacked, areaAtExit}
+use Rattle.book.specs.Calls.{recordsPaper}
+use Rattle.outlines.specs.Scan.{Counts, searchPaper, searchedWords}
+use Rattle.outlines.specs.Report.{ReportCounts, noReportCounts, admittedSilences, reportedBy, reportedWordsBy}
+use Rattle.exports.specs.declared.answering.Answer.{Answer}
+
+-- "A refusal carries its number and place, zero in every count"; 0 is no refusal's number, and is an accepted answer's.
+abbrev pub paperOf : Answer → Paper ReportCounts
+paperOf a = record { number = a .refusal; place = a .place; counts = record { found = a .found; hidden = a .hidden; looks = a .looks } }
+
+-- "Survey and scan return found and looks": what they do not count is 0.
+abbrev pub searchCounts : Counts → ReportCounts
+searchCounts c = record { found = c .found; hidden = 0; looks = c .looks }
+
+-- "Packer and unpacker return the number of records": they stand in found, and the rest is 0.
+abbrev pub recordCounts : ℕ → ReportCounts
+recordCounts records = record { found = records; hidden = 0; looks = 0 }
+
+-- The same number and place, and the counts as the struct holds them.
+abbrev pub counted : {C : Type 0} → (C → ReportCounts) → Paper C → Paper ReportCounts
+counted held p = record { number = p .number; place = p .place; counts = held (p .counts) }
+
+-- What `outlines_survey` promises: of the ring, the line, the allowance, the lent words, the answer and the words at exit.
+pub record IsSurveyExported (ring line : List ℕ) (k : ℕ) (words : List ℕ) (r : Answer) (out : List ℕ) : Type 0 where
+  pub paper : paperOf r ≡ counted searchCounts (searchPaper ring line k (length words) (surveyLooks ring line))
+  pub written : out ≡ searchedWords ring line k words
+
+-- What `outlines_scan` promises, of the same.
+pub record IsScanExported (ring line : List ℕ) (k : ℕ) (words : List ℕ) (r : Answer) (out : List ℕ) : Type 0 where
+  pub paper : paperOf r ≡ counted searchCounts (searchPaper ring line k (length words) (quickLooks ring line k))
+  pub written : out ≡ searchedWords ring line k words
+
+-- What `outlines_report` promises: of cell, ring number, ring, line, allowance, book, the lent words, the answer and the words at exit.
+pub record IsReportExported (cell ringNumber : ℕ) (ring line : List ℕ) (k : ℕ) (book words : List ℕ) (r : Answer) (out : List ℕ) : Type 0 where
+  pub paper : paperOf r ≡ answerPaper noReportCounts (reportedBy ring line k cell ringNumber (admittedSilences ring line k book (length words)))
+  pub written : out ≡ reportedWordsBy ring line k cell ringNumber words (admittedSilences ring line k book (length words))
+
+-- What `outlines_pack` promises: of the words, the area lent for the book, the answer and the area at exit.
+pub record IsPackExported (words area : List ℕ) (r : Answer) (out : List ℕ) : Type 0 where
+  pub paper : paperOf r ≡ counted recordCounts (recordsPaper (packed words (length area)))
+  pub written : out ≡ areaAtExit layout (packed words (length area)) area
+
+-- What `outlines_unpack` promises: of the book, the area lent for the words, the answer and the area at exit.
+pub record IsUnpackExported (book area : List ℕ) (r : Answer) (out : List ℕ) : Type 0 where
+  pub paper : paperOf r ≡ counted recordCounts (recordsPaper (unpacked book (length area)))
+  pub written : out ≡ areaAtExit wordsOfSilences (unpacked book (length area)) area

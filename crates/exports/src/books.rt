@@ -1,0 +1,20 @@
+// The silence book, for C.
+use crate::answering::Answer;
+use crate::answering::book_answer;
+use book::pack;
+use book::unpack;
+ghost use Rattle.exports.specs.Exported.{IsPackExported, IsUnpackExported};
+
+#[no_mangle]
+pub extern "C" fn outlines_pack(words: &[u32], bytes: &mut [u8]) -> Answer
+    ensures { λ r. ⌜ IsPackExported (now (words .entry)) (now (bytes .entry)) r (now (bytes .exit)) ⌝ }
+{
+    book_answer(pack(words, bytes))
+}
+
+#[no_mangle]
+pub extern "C" fn outlines_unpack(book: &[u8], words: &mut [u32]) -> Answer
+    ensures { λ r. ⌜ IsUnpackExported (now (book .entry)) (now (words .entry)) r (now (words .exit)) ⌝ }
+{
+    book_answer(unpack(book, words))
+}

@@ -1,0 +1,29 @@
+/* Finds a planted copy of a ring in a line, then silences it and finds it hidden. */
+#include <stdio.h>
+
+#include "outlines.h"
+
+static const uint8_t ring[] = {3, 1, 4, 1, 5, 9};
+/* At place 4 stands the ring from its edge 2 on, with one edge edited: 4 1 5 9 3 1, the 9 stored as 8. */
+static const uint8_t line[] = {7, 7, 7, 7, 4, 1, 5, 8, 3, 1, 7, 7};
+static const uint32_t silence[] = {7, 2, 4}; /* cell, ring number, start */
+
+static void print(const char *which, struct outlines_answer answer, const uint32_t *words) {
+    printf("%s: refusal %u found %u hidden %u looks %u\n", which, (unsigned)answer.refusal, (unsigned)answer.found, (unsigned)answer.hidden,
+           (unsigned)answer.looks);
+    for (uint64_t i = 0; i < answer.found - answer.hidden; i++, words += OUTLINES_FINDING_WORDS)
+        printf("  start %u rotation %u distance %u\n", (unsigned)words[0], (unsigned)words[1], (unsigned)words[2]);
+}
+
+int main(void) {
+    uint32_t words[OUTLINES_FINDING_WORDS * (sizeof line - sizeof ring + 1)];
+    uint8_t book[OUTLINES_SILENCE_BYTES];
+    size_t room = sizeof words / sizeof words[0];
+
+    print("scan", outlines_scan(ring, sizeof ring, line, sizeof line, 1, words, room), words);
+    struct outlines_answer packed = outlines_pack(silence, OUTLINES_SILENCE_WORDS, book, sizeof book);
+    if (packed.refusal != OUTLINES_ACCEPTED) return 1;
+    print("report of cell 7", outlines_report(7, 2, ring, sizeof ring, line, sizeof line, 1, book, sizeof book, words, room), words);
+    print("report of cell 8", outlines_report(8, 2, ring, sizeof ring, line, sizeof line, 1, book, sizeof book, words, room), words);
+    return 0;
+}

@@ -1,0 +1,42 @@
+/* The calls by C's convention, where it is not x86-64's: the lowered call takes the place for its answer as its first argument. See tools/native. */
+#include "outlines.h"
+
+struct outlines_answer *lowered_outlines_survey(struct outlines_answer *, const uint8_t *, size_t, const uint8_t *, size_t, size_t, uint32_t *, size_t);
+struct outlines_answer *lowered_outlines_scan(struct outlines_answer *, const uint8_t *, size_t, const uint8_t *, size_t, size_t, uint32_t *, size_t);
+struct outlines_answer *lowered_outlines_report(struct outlines_answer *, uint32_t, uint16_t, const uint8_t *, size_t, const uint8_t *, size_t, size_t,
+                                                const uint8_t *, size_t, uint32_t *, size_t);
+struct outlines_answer *lowered_outlines_pack(struct outlines_answer *, const uint32_t *, size_t, uint8_t *, size_t);
+struct outlines_answer *lowered_outlines_unpack(struct outlines_answer *, const uint8_t *, size_t, uint32_t *, size_t);
+
+struct outlines_answer outlines_survey(const uint8_t *ring, size_t ring_length, const uint8_t *line, size_t line_length, size_t k, uint32_t *words,
+                                       size_t words_length) {
+    struct outlines_answer answer;
+    lowered_outlines_survey(&answer, ring, ring_length, line, line_length, k, words, words_length);
+    return answer;
+}
+
+struct outlines_answer outlines_scan(const uint8_t *ring, size_t ring_length, const uint8_t *line, size_t line_length, size_t k, uint32_t *words,
+                                     size_t words_length) {
+    struct outlines_answer answer;
+    lowered_outlines_scan(&answer, ring, ring_length, line, line_length, k, words, words_length);
+    return answer;
+}
+
+struct outlines_answer outlines_report(uint32_t cell, uint16_t ring_number, const uint8_t *ring, size_t ring_length, const uint8_t *line,
+                                       size_t line_length, size_t k, const uint8_t *book, size_t book_length, uint32_t *words, size_t words_length) {
+    struct outlines_answer answer;
+    lowered_outlines_report(&answer, cell, ring_number, ring, ring_length, line, line_length, k, book, book_length, words, words_length);
+    return answer;
+}
+
+struct outlines_answer outlines_pack(const uint32_t *words, size_t words_length, uint8_t *bytes, size_t bytes_length) {
+    struct outlines_answer answer;
+    lowered_outlines_pack(&answer, words, words_length, bytes, bytes_length);
+    return answer;
+}
+
+struct outlines_answer outlines_unpack(const uint8_t *book, size_t book_length, uint32_t *words, size_t words_length) {
+    struct outlines_answer answer;
+    lowered_outlines_unpack(&answer, book, book_length, words, words_length);
+    return answer;
+}
