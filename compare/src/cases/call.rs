@@ -1,0 +1,95 @@
+//! A call of the library with all it is given.
+
+use super::draw::Draw;
+use crate::second::book::Silence;
+
+#[derive(Clone, Debug)]
+pub struct Search {
+    pub ring: Vec<u8>,
+    pub line: Vec<u8>,
+    pub allowance: usize,
+    /// Words lent for findings.
+    pub room: usize,
+}
+
+#[derive(Clone, Debug)]
+pub enum Call {
+    Survey(Search),
+    Scan(Search),
+    Report { cell: u32, ring_number: u16, search: Search, book: Vec<u8> },
+    Pack { words: Vec<u32>, room: usize },
+    Unpack { book: Vec<u8>, room: usize },
+}
+
+impl Search {
+    /// A search with just the room that the table asks for.
+    pub fn new(ring: Vec<u8>, line: Vec<u8>, allowance: usize) -> Search {
+        let room = room(ring.len(), line.len());
+        Search { ring, line, allowance, room }
+    }
+}
+
+pub fn room(m: usize, n: usize) -> usize {
+    if n >= m {
+        3 * (n - m + 1)
+    } else {
+        0
+    }
+}
+
+/// The book of these silences in rising order, each once.
+pub fn book_of(mut silences: Vec<Silence>) -> Vec<u8> {
+    silences.sort();
+    silences.dedup();
+    silences.iter().flat_map(Silence::field).collect()
+}
+
+/// Silences about a cell and a ring: most name them, the others lie one beside them or at zero.
+pub fn silences(draw: &mut Draw, cell: u32, ring_number: u16, starts: usize, count: usize) -> Vec<Silence> {
+    let one = |draw: &mut Draw| {
+        let beside = draw.one(&[1, u32::MAX]);
+        let other_cell = draw.one(&[cell.wrapping_add(beside), 0]);
+        let other_ring = draw.one(&[ring_number.wrapping_add(beside as u16), 0]);
+        let cell = if draw.chance(5) { other_cell } else { cell };
+        let ring_number = if draw.chance(5) { other_ring } else { ring_number };
+        let start = if draw.chance(12) { draw.number() as u32 } else { draw.below(starts.max(1) + 1) as u32 };
+        Silence { cell, ring_number, start }
+    };
+    (0..count).map(|_| one(draw)).collect()
+}
+
+/// Rising records as words.
+pub fn rising_words(mut records: Vec<Silence>) -> Vec<u32> {
+    records.sort();
+    records.dedup();
+    records.iter().flat_map(Silence::words).collect()
+}
+
+/// The cell and the ring number of a report.
+pub fn cell_and_ring(draw: &mut Draw) -> (u32, u16) {
+    let any = draw.number();
+    draw.one(&[(7, 2), (0, 0), (u32::MAX, u16::MAX), (0, 5), (5, 0), (any as u32, (any >> 32) as u16)])
+}
+
+/// The same search as survey, scan or report in turn.
+pub fn by_turn(index: u64, draw: &mut Draw, search: Search) -> Call {
+    match index % 3 {
+        0 => Call::Survey(search),
+        1 => Call::Scan(search),
+        _ => {
+            let (cell, ring_number) = cell_and_ring(draw);
+            let starts = (search.line.len() + 1).saturating_sub(search.ring.len());
+            let count = draw.one(&[0, 1, 3, 10, 40]);
+            let book = book_of(silences(draw, cell, ring_number, starts, count));
+            Call::Report { cell, ring_number, search, book }
+        }
+    }
+}
+
+/// As above; now and then with more room than it needs.
+pub fn in_turn(index: u64, draw: &mut Draw, mut search: Search) -> Call {
+    if draw.chance(3) {
+        search.room += draw.between(1, 9);
+    }
+    by_turn(index, draw, search)
+}

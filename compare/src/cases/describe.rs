@@ -1,0 +1,49 @@
+//! A case in words, so that a difference can be read without running anything.
+
+use super::call::Search;
+use super::{Call, Case};
+use std::fmt::{Display, Formatter, Result};
+
+/// The bytes in hex; of many only the first.
+fn hex(bytes: &[u8]) -> String {
+    let shown: Vec<String> = bytes.iter().take(60).map(|byte| format!("{byte:02x}")).collect();
+    let rest = if bytes.len() > 60 { " .." } else { "" };
+    format!("[{}: {}{rest}]", bytes.len(), shown.join(" "))
+}
+
+fn words(words: &[u32]) -> String {
+    let rest = if words.len() > 30 { " .." } else { "" };
+    format!("[{}: {:?}{rest}]", words.len(), &words[..words.len().min(30)])
+}
+
+impl Display for Search {
+    fn fmt(&self, f: &mut Formatter) -> Result {
+        let Search { ring, line, allowance, room } = self;
+        write!(f, "ring {} line {} k {allowance} room {room}", hex(ring), hex(line))
+    }
+}
+
+impl Display for Call {
+    fn fmt(&self, f: &mut Formatter) -> Result {
+        match self {
+            Call::Survey(search) => write!(f, "survey {search}"),
+            Call::Scan(search) => write!(f, "scan {search}"),
+            Call::Report { cell, ring_number, search, book } => {
+                write!(f, "report cell {cell} ring number {ring_number} {search} book {}", hex(book))
+            }
+            Call::Pack { words: given, room } => write!(f, "pack {} room {room}", words(given)),
+            Call::Unpack { book, room } => write!(f, "unpack {} room {room}", hex(book)),
+        }
+    }
+}
+
+impl Display for Case {
+    fn fmt(&self, f: &mut Formatter) -> Result {
+        match self {
+            Case::Call(call, placement) => write!(f, "{call} placed {placement:?}"),
+            Case::RoundTrip(given) => write!(f, "round trip {}", words(given)),
+            Case::Input(input) => write!(f, "input {} {:?}", hex(&input.bytes), input.manner),
+            Case::Sample(index) => write!(f, "sample {index} of document 01"),
+        }
+    }
+}

@@ -1,0 +1,132 @@
+//! Every refusal alone and every two at once, for each call.
+
+use super::call::{book_of, cell_and_ring, rising_words, room, silences, Call, Search};
+use super::draw::Draw;
+use super::searches::ring_and_line;
+use crate::second::book::FIELD;
+
+const OF_SEARCH: [u32; 4] = [1, 2, 3, 4];
+const OF_REPORT: [u32; 7] = [1, 2, 3, 4, 5, 6, 7];
+const OF_UNPACK: [u32; 4] = [5, 6, 7, 10];
+const OF_PACK: [u32; 4] = [8, 9, 7, 10];
+
+/// The pair that an index stands for; both the same means one refusal alone.
+pub fn pair(numbers: &[u32], index: u64) -> [u32; 2] {
+    let count = numbers.len() as u64;
+    [numbers[(index % count) as usize], numbers[(index / count % count) as usize]]
+}
+
+fn faulty_search(draw: &mut Draw, faults: [u32; 2]) -> Search {
+    let m = if faults.contains(&1) { draw.one(&[0, 257, 258, 300, 1_000]) } else { draw.between(1, 20) };
+    let near = draw.below(60);
+    let n = if faults.contains(&3) { draw.one(&[65_537, 65_538, 70_000]) } else { m + near };
+    let (ring, line) = ring_and_line(draw, &[3], m, n);
+    let mut search = Search::new(ring, line, 0);
+    if m > 0 {
+        search.allowance = draw.allowance(m);
+    }
+    if faults.contains(&2) {
+        search.allowance = draw.one(&[m, m + 1, m + 256, usize::MAX]);
+    }
+    if faults.contains(&4) {
+        let needed = room(m, n);
+        search.room = draw.one(&[needed - 1, needed - 2, needed - 3, needed / 2, 0]);
+    }
+    search
+}
+
+/// A field that is not 13 bytes beginning 21 00 0A.
+fn spoil_field(draw: &mut Draw, book: &mut Vec<u8>) {
+    let field = FIELD * draw.below(book.len() / FIELD);
+    match draw.below(5) {
+        0 => book[field] ^= 1 << draw.below(8),
+        1 => book[field + 1] = draw.between(1, 255) as u8,
+        2 => book[field + 2] = draw.one(&[0, 9, 11, 10 + 13, 255]),
+        3 => book.truncate(field + draw.between(1, FIELD - 1)),
+        _ => drop(book.remove(field + draw.below(FIELD))),
+    }
+}
+
+/// Two neighbours that do not rise: equal ones, or one of them the wrong way round.
+fn spoil_order(draw: &mut Draw, book: &mut [u8]) {
+    let fields = book.len() / FIELD;
+    let later = FIELD * draw.between(1, fields - 1);
+    if draw.chance(2) {
+        book.copy_within(later - FIELD..later, later);
+    } else {
+        let (front, behind) = book.split_at_mut(later);
+        front[later - FIELD..].swap_with_slice(&mut behind[..FIELD]);
+    }
+}
+
+/// A book of several records with the faults 5, 6 and 7 among those named.
+pub fn faulty_book(draw: &mut Draw, faults: [u32; 2], cell: u32, ring_number: u16) -> Vec<u8> {
+    let count = if faults.contains(&5) { 1_200 } else { draw.between(8, 20) };
+    let mut book = book_of(silences(draw, cell, ring_number, 100_000, count));
+    if faults.contains(&7) {
+        spoil_order(draw, &mut book);
+    }
+    if faults.contains(&6) {
+        spoil_field(draw, &mut book);
+    }
+    if faults.contains(&5) {
+        book.resize(draw.one(&[13_001, 13_012, 13_013, 13_026]), 0);
+    }
+    book
+}
+
+pub fn of_search(index: u64, draw: &mut Draw) -> Call {
+    let search = faulty_search(draw, pair(&OF_SEARCH, index / 2));
+    if index % 2 == 0 {
+        Call::Survey(search)
+    } else {
+        Call::Scan(search)
+    }
+}
+
+pub fn of_report(index: u64, draw: &mut Draw) -> Call {
+    let faults = pair(&OF_REPORT, index);
+    let search = faulty_search(draw, faults);
+    let (cell, ring_number) = cell_and_ring(draw);
+    let book = faulty_book(draw, faults, cell, ring_number);
+    Call::Report { cell, ring_number, search, book }
+}
+
+/// With a line shorter than the ring the book is read all the same.
+pub fn of_report_without_start(index: u64, draw: &mut Draw) -> Call {
+    let faults = pair(&OF_REPORT[4..], index);
+    let m = draw.between(2, 256);
+    let n = draw.below(m);
+    let search = Search::new(vec![1; m], vec![1; n], draw.below(m));
+    Call::Report { cell: 7, ring_number: 2, search, book: faulty_book(draw, faults, 7, 2) }
+}
+
+pub fn of_unpack(index: u64, draw: &mut Draw) -> Call {
+    let faults = pair(&OF_UNPACK, index);
+    let book = faulty_book(draw, faults, 7, 2);
+    let needed = 3 * book.len().div_ceil(FIELD);
+    let room = if faults.contains(&10) { draw.one(&[needed - 1, needed - 3, 2, 0]) } else { needed };
+    Call::Unpack { book, room }
+}
+
+pub fn of_pack(index: u64, draw: &mut Draw) -> Call {
+    let faults = pair(&OF_PACK, index);
+    let count = draw.between(5, 12);
+    let mut words = rising_words(silences(draw, 7, 2, 100_000, count));
+    let later = 3 * draw.below(words.len() / 3);
+    if faults.contains(&7) && later > 0 {
+        words.copy_within(later - 3..later, later);
+        words[later + 2] -= draw.below(2).min(words[later + 2] as usize) as u32;
+    }
+    if faults.contains(&9) {
+        let record = 3 * draw.below(words.len() / 3);
+        words[record + 1] = draw.one(&[65_536, 65_537, 65_538, 131_072 + 2, u32::MAX]);
+    }
+    let needed = 13 * words.len() / 3;
+    if faults.contains(&8) {
+        let length = draw.one(&[words.len() - 1, words.len() - 2, 3_001, 3_003, 4_000]);
+        words.resize(length, 5);
+    }
+    let room = if faults.contains(&10) { draw.one(&[needed - 1, needed - 13, 12, 0]) } else { 13 * words.len() };
+    Call::Pack { words, room }
+}

@@ -1,0 +1,86 @@
+//! The cases, each made from the seed and its number alone.
+
+mod books;
+mod bounds;
+pub mod call;
+mod describe;
+pub mod draw;
+mod faults;
+pub mod input;
+mod input_faults;
+mod inputs;
+mod kinds;
+mod nulls;
+mod packing;
+mod searches;
+
+use crate::memory::Placement;
+pub use call::Call;
+use draw::Draw;
+pub use input::Input;
+
+pub enum Case {
+    Call(Call, Placement),
+    /// Words packed by the library and unpacked by it again.
+    RoundTrip(Vec<u32>),
+    Input(Input),
+    /// What the page prints, held against the second program.
+    Sample(usize),
+}
+
+enum Make {
+    Call(fn(u64, &mut Draw) -> Call),
+    NullCall(fn(u64, &mut Draw) -> Call),
+    RoundTrip(fn(u64, &mut Draw) -> Vec<u32>),
+    Input(fn(u64, &mut Draw) -> Input),
+    Sample,
+}
+
+pub struct Kind {
+    pub name: &'static str,
+    pub count: u64,
+    make: Make,
+}
+
+/// The program's inputs come last, so that a case keeps its number in a run without them.
+pub fn kinds(with_program: bool) -> Vec<&'static Kind> {
+    let inputs = if with_program { kinds::INPUTS } else { &[] };
+    kinds::CALLS.iter().chain(inputs).collect()
+}
+
+/// A case's kind, by its place among the kinds, and the case's index within it.
+pub fn locate(kinds: &[&Kind], number: u64) -> Option<(usize, u64)> {
+    let mut index = number;
+    for (place, kind) in kinds.iter().enumerate() {
+        if index < kind.count {
+            return Some((place, index));
+        }
+        index -= kind.count;
+    }
+    None
+}
+
+/// Three calls in four lie open between canaries, one in four flush against an inaccessible page.
+fn placement(draw: &mut Draw) -> Placement {
+    match draw.below(8) {
+        0 => Placement::Behind,
+        1 => Placement::Before,
+        _ => Placement::Open,
+    }
+}
+
+impl Kind {
+    pub fn case(&self, seed: u64, place: usize, index: u64) -> Case {
+        let mut draw = Draw::new(seed, place as u64, index);
+        match self.make {
+            Make::Call(make) => {
+                let placement = placement(&mut draw);
+                Case::Call(make(index, &mut draw), placement)
+            }
+            Make::NullCall(make) => Case::Call(make(index, &mut draw), Placement::Null),
+            Make::RoundTrip(make) => Case::RoundTrip(make(index, &mut draw)),
+            Make::Input(make) => Case::Input(make(index, &mut draw)),
+            Make::Sample => Case::Sample(index as usize),
+        }
+    }
+}

@@ -1,0 +1,185 @@
+//! One call of the library held against the second program.
+
+use crate::cases::call::{Call, Search};
+use crate::memory::{bytes_of, Area, Placement};
+use crate::outlines::{self, ask, Answer, Empty, Request};
+use crate::second::calls::{self, Outcome};
+use crate::second::samples::bound;
+
+/// Memory for one worker's calls.
+pub struct Areas {
+    ring: Area,
+    line: Area,
+    book: Area,
+    lent: Area,
+}
+
+impl Areas {
+    pub fn new() -> Areas {
+        let [ring, line, book, lent] = [4_096, 75_000, 60_000, 900_000].map(Area::new);
+        Areas { ring, line, book, lent }
+    }
+
+    fn inputs(&self) -> [&Area; 3] {
+        [&self.ring, &self.line, &self.book]
+    }
+
+    fn inputs_with_canaries(&self) -> [Vec<u8>; 3] {
+        self.inputs().map(|area| area.surrounded().to_vec())
+    }
+
+    /// Lays the inputs and the lent area down; open bytes at changing alignments, words on their bounds.
+    fn lay(&mut self, call: &Call, placement: Placement) {
+        let (ring, line, book, room) = parts(call);
+        let packing = matches!(call, Call::Pack { .. });
+        let shift = (ring.len() + line.len() + book.len()) % 8;
+        self.ring.lay(placement, shift, ring);
+        self.line.lay(placement, 7 - shift, line);
+        self.book.lay(placement, if packing { 0 } else { shift }, &book);
+        self.lent.lay(placement, if packing { shift } else { 0 }, &unlike(room));
+    }
+}
+
+impl Default for Areas {
+    fn default() -> Areas {
+        Areas::new()
+    }
+}
+
+/// All that a call leaves behind: its answer, the lent area with the canaries about it, and whether the inputs with
+/// their canaries are as they were.
+#[derive(Clone, Debug, PartialEq, Eq)]
+pub struct Left {
+    pub answer: Answer,
+    pub lent: Vec<u8>,
+    pub inputs_kept: bool,
+}
+
+#[derive(Clone)]
+pub struct Compared {
+    pub expected: Left,
+    pub given: Left,
+    /// The lent area with its canaries before the call, and where the area begins in it.
+    pub before: Vec<u8>,
+    pub front: usize,
+}
+
+fn parts(call: &Call) -> (&[u8], &[u8], Vec<u8>, usize) {
+    match call {
+        Call::Survey(search) | Call::Scan(search) => (&search.ring, &search.line, Vec::new(), 4 * search.room),
+        Call::Report { search, book, .. } => (&search.ring, &search.line, book.clone(), 4 * search.room),
+        Call::Pack { words, room } => (&[], &[], bytes_of(words), *room),
+        Call::Unpack { book, room } => (&[], &[], book.clone(), 4 * room),
+    }
+}
+
+/// What the lent area holds beforehand: each word unlike its neighbours and unlike any word of a finding.
+fn unlike(length: usize) -> Vec<u8> {
+    let words = (0..length.div_ceil(4)).map(|at| 0xB000_0000 | (at as u32).wrapping_mul(0x9E_3779));
+    words.flat_map(u32::to_ne_bytes).take(length).collect()
+}
+
+fn request<'a>(call: &Call, areas: &'a mut Areas) -> Request<'a> {
+    let Areas { ring, line, book, lent } = areas;
+    let search =
+        |search: &Search| outlines::Search { ring: ring.bytes(), line: line.bytes(), allowance: search.allowance };
+    match call {
+        Call::Survey(given) => Request::Survey(search(given), lent.words_mut()),
+        Call::Scan(given) => Request::Scan(search(given), lent.words_mut()),
+        Call::Report { cell, ring_number, search: given, .. } => {
+            Request::Report(*cell, *ring_number, search(given), book.bytes(), lent.words_mut())
+        }
+        Call::Pack { .. } => Request::Pack(book.words(), lent.bytes_mut()),
+        Call::Unpack { .. } => Request::Unpack(book.bytes(), lent.words_mut()),
+    }
+}
+
+fn ask_library(call: &Call, placement: Placement, areas: &mut Areas) -> (Left, Vec<u8>) {
+    areas.lay(call, placement);
+    let (inputs, before) = (areas.inputs_with_canaries(), areas.lent.surrounded().to_vec());
+    let empty = if placement == Placement::Null { Empty::Null } else { Empty::AsLent };
+    if placement.guarded() {
+        areas.inputs().into_iter().for_each(|area| area.writable(false));
+    }
+    let answer = ask(request(call, areas), empty);
+    if placement.guarded() {
+        areas.inputs().into_iter().for_each(|area| area.writable(true));
+    }
+    let inputs_kept = areas.inputs_with_canaries() == inputs;
+    (Left { answer, lent: areas.lent.surrounded().to_vec(), inputs_kept }, before)
+}
+
+fn answer_of<T>(outcome: &Outcome<T>) -> Answer {
+    match outcome {
+        Err(refused) => Answer { refusal: refused.number, place: refused.place as u32, ..Answer::default() },
+        Ok(answered) => Answer {
+            found: answered.found as u64,
+            hidden: answered.hidden as u64,
+            looks: answered.looks,
+            ..Answer::default()
+        },
+    }
+}
+
+fn of_words(outcome: Outcome<u32>) -> (Answer, Vec<u8>) {
+    (answer_of(&outcome), outcome.map(|answered| bytes_of(&answered.written)).unwrap_or_default())
+}
+
+fn search(given: &Search) -> calls::Search<'_> {
+    let Search { ring, line, allowance, room } = given;
+    calls::Search { ring, line, allowance: *allowance, room: *room }
+}
+
+/// The second program's answer and the bytes it writes at the lent area's beginning.
+fn ask_second(call: &Call) -> (Answer, Vec<u8>) {
+    match call {
+        Call::Survey(given) => of_words(search(given).survey()),
+        Call::Scan(given) => of_words(search(given).scan()),
+        Call::Report { cell, ring_number, search: given, book } => {
+            of_words(search(given).report(*cell, *ring_number, book))
+        }
+        Call::Pack { words, room } => {
+            let outcome = calls::pack(words, *room);
+            (answer_of(&outcome), outcome.map(|answered| answered.written).unwrap_or_default())
+        }
+        Call::Unpack { book, room } => of_words(calls::unpack(book, *room)),
+    }
+}
+
+pub fn compare(call: &Call, placement: Placement, areas: &mut Areas) -> Compared {
+    let (given, before) = ask_library(call, placement, areas);
+    let front = areas.lent.front();
+    let (answer, written) = ask_second(call);
+    let mut lent = before.clone();
+    lent[front..front + written.len()].copy_from_slice(&written);
+    Compared { expected: Left { answer, lent, inputs_kept: true }, given, before, front }
+}
+
+/// The page's own formulas for looks, held against what the library counted.
+fn looks_out_of_bounds(call: &Call, answer: &Answer) -> Option<String> {
+    let (Call::Survey(search) | Call::Scan(search) | Call::Report { search, .. }) = call else { return None };
+    let (m, n) = (search.ring.len() as u64, search.line.len() as u64);
+    if answer.refusal != 0 || n < m {
+        return (answer.looks != 0).then(|| format!("{} looks where none are due", answer.looks));
+    }
+    let surveyed = matches!(call, Call::Survey(_)) && answer.looks != 2 * m * n - m * m;
+    let beyond = answer.looks > bound(m, n);
+    (surveyed || beyond).then(|| format!("{} looks against the page's formula", answer.looks))
+}
+
+impl Compared {
+    pub fn difference(&self, call: &Call) -> Option<String> {
+        let (expected, given) = (&self.expected, &self.given);
+        if expected.answer != given.answer {
+            return Some(format!("answer {:?}, expected {:?}", given.answer, expected.answer));
+        }
+        if let Some(at) = (0..given.lent.len()).find(|&at| given.lent[at] != expected.lent[at]) {
+            let (place, value, due) = (at as isize - self.front as isize, given.lent[at], expected.lent[at]);
+            return Some(format!("byte {place} of the lent area is {value:02x}, expected {due:02x}"));
+        }
+        if !given.inputs_kept {
+            return Some("an input was written to".to_string());
+        }
+        looks_out_of_bounds(call, &given.answer)
+    }
+}

@@ -1,0 +1,133 @@
+//! What was compared: counts for each kind, and the first differences in words.
+
+use crate::cases::call::Call;
+use crate::cases::Kind;
+use crate::memory::Placement;
+use crate::outlines::{Answer, Refusal};
+use crate::second::samples::bound;
+use std::collections::BTreeMap;
+
+/// Differences told in full; the others are counted.
+const TOLD: usize = 20;
+
+/// How often each refusal came back, 0 for accepted.
+type Answers = BTreeMap<u32, u64>;
+
+/// Sums over the library's answers, which show that the cases have something to compare.
+#[derive(Clone, Copy)]
+enum Sum {
+    Calls,
+    Inputs,
+    Behind,
+    Before,
+    Null,
+    Found,
+    Hidden,
+    AtBound,
+}
+
+const SUMS: usize = 8;
+
+#[derive(Default)]
+pub struct Ledger {
+    /// For each kind, by its place: compared, and of those differing.
+    kinds: BTreeMap<usize, (u64, u64)>,
+    sums: [u64; SUMS],
+    answers: Answers,
+    outputs: Answers,
+    told: Vec<String>,
+}
+
+fn at_bound(call: &Call, answer: &Answer) -> bool {
+    let (Call::Scan(search) | Call::Report { search, .. }) = call else { return false };
+    let (m, n) = (search.ring.len() as u64, search.line.len() as u64);
+    answer.refusal == 0 && n >= m && answer.looks == bound(m, n)
+}
+
+impl Ledger {
+    fn add(&mut self, sum: Sum, more: u64) {
+        self.sums[sum as usize] += more;
+    }
+
+    pub fn add_call(&mut self, call: &Call, placement: Placement, answer: &Answer) {
+        *self.answers.entry(answer.refusal).or_default() += 1;
+        self.add(Sum::Calls, 1);
+        self.add(Sum::Behind, u64::from(placement == Placement::Behind));
+        self.add(Sum::Before, u64::from(placement == Placement::Before));
+        self.add(Sum::Null, u64::from(placement == Placement::Null));
+        self.add(Sum::AtBound, u64::from(at_bound(call, answer)));
+        if !matches!(call, Call::Pack { .. } | Call::Unpack { .. }) {
+            self.add(Sum::Found, answer.found);
+            self.add(Sum::Hidden, answer.hidden);
+        }
+    }
+
+    pub fn add_round_trip(&mut self) {
+        self.add(Sum::Calls, 2);
+    }
+
+    pub fn add_output(&mut self, text: &[u8]) {
+        self.add(Sum::Inputs, 1);
+        let text = String::from_utf8_lossy(text);
+        let number = text.strip_prefix("refused ").and_then(|rest| rest.split(' ').next()?.parse().ok());
+        *self.outputs.entry(number.unwrap_or(0)).or_default() += 1;
+    }
+
+    pub fn judge(&mut self, kind: usize, difference: Option<String>) {
+        let counts = self.kinds.entry(kind).or_default();
+        counts.0 += 1;
+        counts.1 += u64::from(difference.is_some());
+        self.told.extend(difference.filter(|_| self.told.len() < TOLD));
+    }
+
+    pub fn join(&mut self, other: Ledger) {
+        for (kind, (compared, differing)) in other.kinds {
+            let counts = self.kinds.entry(kind).or_default();
+            *counts = (counts.0 + compared, counts.1 + differing);
+        }
+        self.sums.iter_mut().zip(other.sums).for_each(|(sum, more)| *sum += more);
+        for (mine, others) in [(&mut self.answers, other.answers), (&mut self.outputs, other.outputs)] {
+            others.into_iter().for_each(|(number, count)| *mine.entry(number).or_default() += count);
+        }
+        self.told.extend(other.told);
+        self.told.truncate(TOLD);
+    }
+
+    pub fn compared(&self) -> u64 {
+        self.kinds.values().map(|counts| counts.0).sum()
+    }
+
+    pub fn differing(&self) -> u64 {
+        self.kinds.values().map(|counts| counts.1).sum()
+    }
+
+    pub fn print(&self, kinds: &[&Kind]) {
+        for (place, kind) in kinds.iter().enumerate() {
+            let (compared, differing) = self.kinds.get(&place).copied().unwrap_or_default();
+            println!("{:<52} {compared:>7} compared, {differing} differ", kind.name);
+        }
+        let [calls, inputs, behind, before, null, found, hidden, at_bound] = self.sums;
+        println!("library calls: {calls}; program runs: {inputs}");
+        println!("calls flush against an inaccessible page, inputs read-only: {behind} behind, {before} before");
+        println!("calls with null pointers for empty slices: {null}; all other open sides have canaries");
+        println!("findings: {found}, of them hidden: {hidden}; scans that reach the look bound: {at_bound}");
+        for (whose, answers) in [("library", &self.answers), ("program", &self.outputs)] {
+            let listed: Vec<String> = answers.iter().map(|(number, count)| format!("{number}: {count}")).collect();
+            println!("answers of the {whose} by refusal, 0 accepted: {}", listed.join(", "));
+        }
+        self.told.iter().for_each(|told| println!("DIFFERENCE {told}"));
+        let untold = self.differing() - self.told.len() as u64;
+        if untold > 0 {
+            println!("and {untold} more differences");
+        }
+    }
+
+    /// A refusal that never came up was not compared, whatever the counts say.
+    pub fn refusals_without_case(&self, with_program: bool) -> Vec<u32> {
+        let came = |number: &u32| match number {
+            11 => !with_program || self.outputs.contains_key(number),
+            _ => self.answers.contains_key(number),
+        };
+        Refusal::ALL.into_iter().map(Refusal::number).filter(|number| !came(number)).collect()
+    }
+}

@@ -1,0 +1,153 @@
+//! The whole run: two workers over all cases, and a watch that ends a case which does not.
+
+use super::calls::{compare, Areas};
+use super::crash;
+use super::ledger::Ledger;
+use super::program::{self, Program, Slot};
+use crate::cases::{kinds, locate, Case, Kind};
+use crate::outlines::{self, Counts};
+use std::panic::{catch_unwind, AssertUnwindSafe};
+use std::sync::atomic::{AtomicU64, Ordering::Relaxed};
+use std::thread;
+use std::time::{Duration, Instant};
+
+const WORKERS: usize = 2;
+/// No case takes the second program nearly as long.
+const LONGEST_CASE: Duration = Duration::from_secs(60);
+
+pub struct Plan {
+    pub seed: u64,
+    pub program: Option<Program>,
+    pub kinds: Vec<&'static Kind>,
+}
+
+impl Plan {
+    pub fn new(seed: u64, program: Option<Program>) -> Plan {
+        let kinds = kinds(program.is_some());
+        Plan { seed, program, kinds }
+    }
+
+    pub fn intended(&self) -> u64 {
+        self.kinds.iter().map(|kind| kind.count).sum()
+    }
+}
+
+/// Where a worker is, for the watch.
+#[derive(Default)]
+pub struct Post {
+    case: AtomicU64,
+    child: Slot,
+}
+
+pub struct Worker<'a> {
+    plan: &'a Plan,
+    post: &'a Post,
+    areas: Areas,
+    pub ledger: Ledger,
+}
+
+fn round_trip(words: &[u32]) -> Option<String> {
+    let due = Ok(Counts { found: words.len() as u64 / 3, hidden: 0, looks: 0 });
+    let (mut book, mut back) = (vec![0; 13 * words.len() / 3], vec![0; words.len()]);
+    let packed = outlines::pack(words, &mut book);
+    let unpacked = outlines::unpack(&book, &mut back);
+    let whole = packed == due && unpacked == due && back == words;
+    (!whole).then(|| format!("packed {packed:?}, unpacked {unpacked:?}, the words came back: {}", back == words))
+}
+
+impl<'a> Worker<'a> {
+    pub fn new(plan: &'a Plan, post: &'a Post) -> Worker<'a> {
+        Worker { plan, post, areas: Areas::new(), ledger: Ledger::default() }
+    }
+
+    fn difference(&mut self, case: &Case) -> Option<String> {
+        match case {
+            Case::Call(call, placement) => {
+                let compared = compare(call, *placement, &mut self.areas);
+                self.ledger.add_call(call, *placement, &compared.given.answer);
+                compared.difference(call)
+            }
+            Case::RoundTrip(words) => {
+                self.ledger.add_round_trip();
+                round_trip(words)
+            }
+            Case::Input(input) => {
+                let program = self.plan.program.as_ref().expect("inputs are planned with a program only");
+                let given = program::run(program, input, &self.post.child);
+                self.ledger.add_output(given.as_deref().unwrap_or_default());
+                program::difference(&given, &program::expected(input))
+            }
+            Case::Sample(index) => {
+                let holds = crate::second::samples::holds(*index);
+                (!holds).then(|| "the second program does not give what the page prints".to_string())
+            }
+        }
+    }
+
+    /// Makes the case of this number, compares it and returns the difference, if there is one.
+    pub fn check(&mut self, number: u64) -> Option<String> {
+        crash::enter(number);
+        self.post.case.store(number, Relaxed);
+        let (place, index) = locate(&self.plan.kinds, number)?;
+        let kind = self.plan.kinds[place];
+        let case = kind.case(self.plan.seed, place, index);
+        let found = catch_unwind(AssertUnwindSafe(|| self.difference(&case)))
+            .unwrap_or_else(|_| Some("the comparison itself gave up, see above".to_string()));
+        let seed = self.plan.seed;
+        let told = found.map(|what| format!("--seed {seed} --case {number} ({}): {what}\n  {case}", kind.name));
+        self.ledger.judge(place, told.clone());
+        told
+    }
+}
+
+/// Ends the process, and the programs it started with it.
+fn give_up(posts: &[Post], case: u64) -> ! {
+    for post in posts {
+        if let Ok(Some(child)) = post.child.try_lock().as_deref_mut() {
+            let _ = child.kill();
+        }
+    }
+    println!("case {case} does not end\n0 passed, 1 failed");
+    std::process::exit(1);
+}
+
+/// Ends the process if a worker stays in one case: neither a call nor a program may run for ever.
+fn watch(posts: &[Post], finished: impl Fn() -> bool) {
+    let mut seen: Vec<(u64, Instant)> = posts.iter().map(|_| (u64::MAX, Instant::now())).collect();
+    while !finished() {
+        thread::sleep(Duration::from_millis(20));
+        for (post, (case, since)) in posts.iter().zip(&mut seen) {
+            let now = post.case.load(Relaxed);
+            if now != *case {
+                (*case, *since) = (now, Instant::now());
+            } else if since.elapsed() > LONGEST_CASE && !finished() {
+                give_up(posts, now);
+            }
+        }
+    }
+}
+
+pub fn run_all(plan: &Plan) -> Ledger {
+    let posts: Vec<Post> = (0..WORKERS).map(|_| Post::default()).collect();
+    let next = AtomicU64::new(0);
+    let work = |post| {
+        let mut worker = Worker::new(plan, post);
+        loop {
+            let number = next.fetch_add(1, Relaxed);
+            if number >= plan.intended() {
+                return worker.ledger;
+            }
+            worker.check(number);
+        }
+    };
+    thread::scope(|scope| {
+        let work = &work;
+        let workers: Vec<_> = posts.iter().map(|post| scope.spawn(move || work(post))).collect();
+        watch(&posts, || workers.iter().all(|worker| worker.is_finished()));
+        let mut whole = Ledger::default();
+        for worker in workers {
+            whole.join(worker.join().expect("a worker ends by itself"));
+        }
+        whole
+    })
+}

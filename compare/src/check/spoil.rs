@@ -1,0 +1,182 @@
+//! Ways to spoil a copy of what the library left behind, each of which the comparison has to notice.
+
+use super::calls::Compared;
+use crate::cases::call::Call;
+use crate::second::book::FIELD;
+
+/// A way returns whether there was anything to spoil.
+pub struct Way {
+    pub name: &'static str,
+    pub spoil: fn(&Call, &mut Compared) -> bool,
+}
+
+const fn way(name: &'static str, spoil: fn(&Call, &mut Compared) -> bool) -> Way {
+    Way { name, spoil }
+}
+
+pub static WAYS: &[Way] = &[
+    way("a finding dropped", finding_dropped),
+    way("a rotation one too high", rotation_too_high),
+    way("a distance one too low", distance_too_low),
+    way("looks one too few", looks_too_few),
+    way("found one too many", found_too_many),
+    way("hidden counted from records", hidden_from_records),
+    way("a hidden finding's words left behind the last shown", residue),
+    way("a word written behind the last", word_behind),
+    way("a byte written behind the lent area", byte_behind_area),
+    way("a byte written before the lent area", byte_before_area),
+    way("a refusal's number changed", refusal_number),
+    way("a refusal's place changed", refusal_place),
+    way("a refusal with a count", refusal_count),
+    way("a refusal that writes", refusal_writes),
+    way("a refusal taken for accepted", refusal_accepted),
+    way("a byte of a packed book changed", packed_byte),
+    way("a word of an unpacked book changed", unpacked_word),
+    way("an input written to", input_written),
+];
+
+/// Shown findings of an accepted search.
+fn shown(call: &Call, spoilt: &Compared) -> usize {
+    let answer = &spoilt.given.answer;
+    let searched = matches!(call, Call::Survey(_) | Call::Scan(_) | Call::Report { .. });
+    if searched && answer.refusal == 0 {
+        (answer.found - answer.hidden) as usize
+    } else {
+        0
+    }
+}
+
+fn word(spoilt: &Compared, place: usize) -> u32 {
+    let at = spoilt.front + 4 * place;
+    u32::from_ne_bytes(spoilt.given.lent[at..at + 4].try_into().expect("four bytes"))
+}
+
+fn set_word(spoilt: &mut Compared, place: usize, value: u32) -> bool {
+    let at = spoilt.front + 4 * place;
+    let fits = at + 4 <= spoilt.given.lent.len();
+    if fits {
+        spoilt.given.lent[at..at + 4].copy_from_slice(&value.to_ne_bytes());
+    }
+    fits
+}
+
+fn finding_dropped(call: &Call, spoilt: &mut Compared) -> bool {
+    let words = 3 * shown(call, spoilt);
+    if words == 0 {
+        return false;
+    }
+    let (from, to) = (spoilt.front, spoilt.front + 4 * words);
+    spoilt.given.lent.copy_within(from + 12..to, from);
+    let before = spoilt.before[to - 12..to].to_vec();
+    spoilt.given.lent[to - 12..to].copy_from_slice(&before);
+    spoilt.given.answer.found -= 1;
+    true
+}
+
+fn rotation_too_high(call: &Call, spoilt: &mut Compared) -> bool {
+    let last = 3 * shown(call, spoilt);
+    last > 0 && set_word(spoilt, last - 2, word(spoilt, last - 2) + 1)
+}
+
+fn distance_too_low(call: &Call, spoilt: &mut Compared) -> bool {
+    let last = 3 * shown(call, spoilt);
+    last > 0 && word(spoilt, last - 1) > 0 && set_word(spoilt, last - 1, word(spoilt, last - 1) - 1)
+}
+
+fn looks_too_few(_: &Call, spoilt: &mut Compared) -> bool {
+    let due = spoilt.given.answer.looks > 0;
+    spoilt.given.answer.looks -= u64::from(due);
+    due
+}
+
+fn found_too_many(_: &Call, spoilt: &mut Compared) -> bool {
+    spoilt.given.answer.found += 1;
+    true
+}
+
+fn hidden_from_records(call: &Call, spoilt: &mut Compared) -> bool {
+    let Call::Report { book, .. } = call else { return false };
+    let (answer, records) = (&mut spoilt.given.answer, (book.len() / FIELD) as u64);
+    let differs = answer.refusal == 0 && answer.hidden != records;
+    if differs {
+        answer.hidden = records;
+    }
+    differs
+}
+
+fn residue(call: &Call, spoilt: &mut Compared) -> bool {
+    let (hidden, behind) = (spoilt.given.answer.hidden, 3 * shown(call, spoilt));
+    hidden > 0 && set_word(spoilt, behind, 1)
+}
+
+fn word_behind(call: &Call, spoilt: &mut Compared) -> bool {
+    let behind = 3 * shown(call, spoilt);
+    !matches!(call, Call::Pack { .. })
+        && spoilt.given.answer.refusal == 0
+        && set_word(spoilt, behind, 0)
+        && spoilt.given.lent != spoilt.expected.lent
+}
+
+fn byte_behind_area(call: &Call, spoilt: &mut Compared) -> bool {
+    let length = match call {
+        Call::Survey(search) | Call::Scan(search) | Call::Report { search, .. } => 4 * search.room,
+        Call::Pack { room, .. } => *room,
+        Call::Unpack { room, .. } => 4 * room,
+    };
+    let behind = spoilt.front + length;
+    spoilt.given.lent.get_mut(behind).map(|byte| *byte ^= 1).is_some()
+}
+
+fn byte_before_area(_: &Call, spoilt: &mut Compared) -> bool {
+    let before = spoilt.front.checked_sub(1);
+    before.map(|place| spoilt.given.lent[place] ^= 0x80).is_some()
+}
+
+/// Applies to a refusal only.
+fn on_refusal(spoilt: &mut Compared, change: impl FnOnce(&mut Compared)) -> bool {
+    let refused = spoilt.given.answer.refusal != 0;
+    if refused {
+        change(spoilt);
+    }
+    refused
+}
+
+fn refusal_number(_: &Call, spoilt: &mut Compared) -> bool {
+    on_refusal(spoilt, |spoilt| spoilt.given.answer.refusal += 1)
+}
+
+fn refusal_place(_: &Call, spoilt: &mut Compared) -> bool {
+    on_refusal(spoilt, |spoilt| spoilt.given.answer.place += 1)
+}
+
+fn refusal_count(_: &Call, spoilt: &mut Compared) -> bool {
+    on_refusal(spoilt, |spoilt| spoilt.given.answer.looks += 1)
+}
+
+fn refusal_writes(_: &Call, spoilt: &mut Compared) -> bool {
+    let at = spoilt.front;
+    spoilt.given.answer.refusal != 0 && spoilt.given.lent.get_mut(at).map(|byte| *byte ^= 0x10).is_some()
+}
+
+fn refusal_accepted(_: &Call, spoilt: &mut Compared) -> bool {
+    on_refusal(spoilt, |spoilt| spoilt.given.answer = Default::default())
+}
+
+fn packed_byte(call: &Call, spoilt: &mut Compared) -> bool {
+    let packed = matches!(call, Call::Pack { .. }) && spoilt.given.answer.found > 0;
+    let last = spoilt.front + FIELD * spoilt.given.answer.found as usize;
+    if packed {
+        spoilt.given.lent[last - 1] ^= 1;
+    }
+    packed
+}
+
+fn unpacked_word(call: &Call, spoilt: &mut Compared) -> bool {
+    let records = spoilt.given.answer.found as usize;
+    matches!(call, Call::Unpack { .. }) && records > 0 && set_word(spoilt, 3 * records - 2, 70_000)
+}
+
+fn input_written(_: &Call, spoilt: &mut Compared) -> bool {
+    spoilt.given.inputs_kept = false;
+    true
+}

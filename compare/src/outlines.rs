@@ -1,0 +1,208 @@
+//! The library's C interface behind safe functions. Every unsafe word of the interface stands in this file.
+
+use std::ptr;
+
+/// What each call of the interface returns, field by field.
+#[repr(C)]
+#[derive(Clone, Copy, Debug, Default, PartialEq, Eq)]
+pub struct Answer {
+    pub refusal: u32,
+    pub place: u32,
+    pub found: u64,
+    pub hidden: u64,
+    pub looks: u64,
+}
+
+extern "C" {
+    fn outlines_survey(
+        ring: *const u8,
+        ring_length: usize,
+        line: *const u8,
+        line_length: usize,
+        k: usize,
+        words: *mut u32,
+        words_length: usize,
+    ) -> Answer;
+    fn outlines_scan(
+        ring: *const u8,
+        ring_length: usize,
+        line: *const u8,
+        line_length: usize,
+        k: usize,
+        words: *mut u32,
+        words_length: usize,
+    ) -> Answer;
+    fn outlines_report(
+        cell: u32,
+        ring_number: u16,
+        ring: *const u8,
+        ring_length: usize,
+        line: *const u8,
+        line_length: usize,
+        k: usize,
+        book: *const u8,
+        book_length: usize,
+        words: *mut u32,
+        words_length: usize,
+    ) -> Answer;
+    fn outlines_pack(words: *const u32, words_length: usize, bytes: *mut u8, bytes_length: usize) -> Answer;
+    fn outlines_unpack(book: *const u8, book_length: usize, words: *mut u32, words_length: usize) -> Answer;
+}
+
+/// The table of refusals of document 01; the value of each is its number.
+#[derive(Clone, Copy, Debug, PartialEq, Eq)]
+pub enum Refusal {
+    RingLength = 1,
+    Allowance = 2,
+    LineLength = 3,
+    RoomForFindings = 4,
+    BookLength = 5,
+    Field = 6,
+    Order = 7,
+    WordsToPack = 8,
+    RingNumberToPack = 9,
+    RoomForOutput = 10,
+    ProgramInput = 11,
+}
+
+impl Refusal {
+    pub const ALL: [Refusal; 11] = [
+        Refusal::RingLength,
+        Refusal::Allowance,
+        Refusal::LineLength,
+        Refusal::RoomForFindings,
+        Refusal::BookLength,
+        Refusal::Field,
+        Refusal::Order,
+        Refusal::WordsToPack,
+        Refusal::RingNumberToPack,
+        Refusal::RoomForOutput,
+        Refusal::ProgramInput,
+    ];
+
+    pub fn number(self) -> u32 {
+        self as u32
+    }
+
+    pub fn numbered(number: u32) -> Option<Refusal> {
+        Refusal::ALL.into_iter().find(|refusal| refusal.number() == number)
+    }
+}
+
+#[derive(Clone, Copy, Debug, PartialEq, Eq)]
+pub struct Refused {
+    pub refusal: Refusal,
+    pub place: u32,
+}
+
+/// The counts of an accepted call; what a call does not count is 0.
+#[derive(Clone, Copy, Debug, PartialEq, Eq)]
+pub struct Counts {
+    pub found: u64,
+    pub hidden: u64,
+    pub looks: u64,
+}
+
+impl Answer {
+    /// A number outside the table breaks the interface, so it ends the program instead of passing for an answer.
+    pub fn result(self) -> Result<Counts, Refused> {
+        if self.refusal == 0 {
+            return Ok(Counts { found: self.found, hidden: self.hidden, looks: self.looks });
+        }
+        let refusal = Refusal::numbered(self.refusal).expect("a refusal of document 01's table");
+        Err(Refused { refusal, place: self.place })
+    }
+}
+
+#[derive(Clone, Copy)]
+pub struct Search<'a> {
+    pub ring: &'a [u8],
+    pub line: &'a [u8],
+    pub allowance: usize,
+}
+
+pub enum Request<'a> {
+    Survey(Search<'a>, &'a mut [u32]),
+    Scan(Search<'a>, &'a mut [u32]),
+    Report(u32, u16, Search<'a>, &'a [u8], &'a mut [u32]),
+    Pack(&'a [u32], &'a mut [u8]),
+    Unpack(&'a [u8], &'a mut [u32]),
+}
+
+/// How an empty slice is handed over. Rust never has a null slice, but a caller in C may.
+#[derive(Clone, Copy, PartialEq, Eq)]
+pub enum Empty {
+    AsLent,
+    Null,
+}
+
+impl Empty {
+    fn read<T>(self, slice: &[T]) -> *const T {
+        if self == Empty::Null && slice.is_empty() {
+            ptr::null()
+        } else {
+            slice.as_ptr()
+        }
+    }
+
+    fn write<T>(self, slice: &mut [T]) -> *mut T {
+        if self == Empty::Null && slice.is_empty() {
+            ptr::null_mut()
+        } else {
+            slice.as_mut_ptr()
+        }
+    }
+}
+
+/// Hands one request over and returns all that came back, listed refusal or not.
+pub fn ask(request: Request, empty: Empty) -> Answer {
+    // Sound: each pointer comes from a slice that is borrowed until the call returns and is handed over with that
+    // slice's own length, so all the library may touch is alive; what it may write is borrowed mutably, hence
+    // shared with nothing else; it keeps no pointer; and a null pointer goes only with the length 0.
+    match request {
+        Request::Survey(Search { ring, line, allowance }, words) => unsafe {
+            let (r, l) = (empty.read(ring), empty.read(line));
+            outlines_survey(r, ring.len(), l, line.len(), allowance, empty.write(words), words.len())
+        },
+        Request::Scan(Search { ring, line, allowance }, words) => unsafe {
+            let (r, l) = (empty.read(ring), empty.read(line));
+            outlines_scan(r, ring.len(), l, line.len(), allowance, empty.write(words), words.len())
+        },
+        Request::Report(cell, number, Search { ring, line, allowance }, book, words) => unsafe {
+            let (r, l, b, w) = (empty.read(ring), empty.read(line), empty.read(book), empty.write(words));
+            let (rs, ls, bs, ws) = (ring.len(), line.len(), book.len(), words.len());
+            outlines_report(cell, number, r, rs, l, ls, allowance, b, bs, w, ws)
+        },
+        Request::Pack(words, bytes) => unsafe {
+            outlines_pack(empty.read(words), words.len(), empty.write(bytes), bytes.len())
+        },
+        Request::Unpack(book, words) => unsafe {
+            outlines_unpack(empty.read(book), book.len(), empty.write(words), words.len())
+        },
+    }
+}
+
+pub fn survey(search: Search, words: &mut [u32]) -> Result<Counts, Refused> {
+    ask(Request::Survey(search, words), Empty::AsLent).result()
+}
+
+pub fn scan(search: Search, words: &mut [u32]) -> Result<Counts, Refused> {
+    ask(Request::Scan(search, words), Empty::AsLent).result()
+}
+
+pub fn report(
+    (cell, ring_number): (u32, u16),
+    search: Search,
+    book: &[u8],
+    words: &mut [u32],
+) -> Result<Counts, Refused> {
+    ask(Request::Report(cell, ring_number, search, book, words), Empty::AsLent).result()
+}
+
+pub fn pack(words: &[u32], bytes: &mut [u8]) -> Result<Counts, Refused> {
+    ask(Request::Pack(words, bytes), Empty::AsLent).result()
+}
+
+pub fn unpack(book: &[u8], words: &mut [u32]) -> Result<Counts, Refused> {
+    ask(Request::Unpack(book, words), Empty::AsLent).result()
+}

@@ -1,0 +1,80 @@
+//! What each call returns and what it writes into the lent area.
+
+use super::book::{self, Silence, FIELD};
+use super::meaning::{findings, Finding};
+use super::refusals::{self, refuse_if, Refused};
+use super::rules::{plain_survey, quick_scan, Searched};
+
+#[derive(Clone, Debug, Default, PartialEq, Eq)]
+pub struct Answered<T> {
+    pub found: usize,
+    pub hidden: usize,
+    pub looks: u64,
+    pub written: Vec<T>,
+}
+
+pub type Outcome<T> = Result<Answered<T>, Refused>;
+
+pub struct Search<'a> {
+    pub ring: &'a [u8],
+    pub line: &'a [u8],
+    pub allowance: usize,
+    pub room: usize,
+}
+
+fn words(findings: &[Finding]) -> Vec<u32> {
+    findings.iter().flat_map(|f| [f.start as u32, f.rotation as u32, f.distance as u32]).collect()
+}
+
+impl Search<'_> {
+    fn refusals(&self) -> Result<(), Refused> {
+        refusals::search(self.ring, self.line, self.allowance, self.room)
+    }
+
+    /// The findings come from their meaning. That the rules lead to the same ones is this page's own claim, so a
+    /// second program in which they differ is wrong itself and must not judge anything.
+    fn checked(&self, searched: Searched) -> Searched {
+        let meant = findings(self.ring, self.line, self.allowance);
+        assert_eq!(searched.findings, meant, "the rules and the meaning of a finding differ");
+        searched
+    }
+
+    fn all_findings(&self, search: fn(&[u8], &[u8], usize) -> Searched) -> Outcome<u32> {
+        self.refusals()?;
+        let searched = self.checked(search(self.ring, self.line, self.allowance));
+        let (found, looks) = (searched.findings.len(), searched.looks);
+        Ok(Answered { found, hidden: 0, looks, written: words(&searched.findings) })
+    }
+
+    pub fn survey(&self) -> Outcome<u32> {
+        self.all_findings(plain_survey)
+    }
+
+    pub fn scan(&self) -> Outcome<u32> {
+        self.all_findings(quick_scan)
+    }
+
+    pub fn report(&self, cell: u32, ring_number: u16, book: &[u8]) -> Outcome<u32> {
+        self.refusals()?;
+        let silences = book::read(book)?;
+        let searched = self.checked(quick_scan(self.ring, self.line, self.allowance));
+        let silent = |f: &Finding| silences.contains(&Silence { cell, ring_number, start: f.start as u32 });
+        let (hidden, shown): (Vec<Finding>, Vec<Finding>) = searched.findings.iter().partition(|f| silent(f));
+        let (found, hidden) = (searched.findings.len(), hidden.len());
+        Ok(Answered { found, hidden, looks: searched.looks, written: words(&shown) })
+    }
+}
+
+pub fn pack(words: &[u32], room: usize) -> Outcome<u8> {
+    let records = book::to_pack(words)?;
+    refuse_if(room < FIELD * records.len(), 10, 0)?;
+    let written = records.iter().flat_map(Silence::field).collect();
+    Ok(Answered { found: records.len(), hidden: 0, looks: 0, written })
+}
+
+pub fn unpack(book: &[u8], room: usize) -> Outcome<u32> {
+    let records = book::read(book)?;
+    refuse_if(room < 3 * records.len(), 10, 0)?;
+    let written = records.iter().flat_map(Silence::words).collect();
+    Ok(Answered { found: records.len(), hidden: 0, looks: 0, written })
+}

@@ -1,0 +1,29 @@
+//! The table of refusals. Each check stands alone; the calls put them in their order.
+
+#[derive(Clone, Copy, Debug, PartialEq, Eq)]
+pub struct Refused {
+    pub number: u32,
+    pub place: usize,
+}
+
+pub const LONGEST_RING: usize = 256;
+pub const LONGEST_LINE: usize = 65_536;
+pub const LONGEST_BOOK: usize = 13_000;
+pub const MOST_WORDS_TO_PACK: usize = 3_000;
+
+pub fn refuse_if(given: bool, number: u32, place: usize) -> Result<(), Refused> {
+    if given {
+        Err(Refused { number, place })
+    } else {
+        Ok(())
+    }
+}
+
+/// Refusals 1 to 4, which survey, scan and report share.
+pub fn search(ring: &[u8], line: &[u8], allowance: usize, room: usize) -> Result<(), Refused> {
+    let (m, n) = (ring.len(), line.len());
+    refuse_if(m == 0 || m > LONGEST_RING, 1, 0)?;
+    refuse_if(allowance >= m, 2, 0)?;
+    refuse_if(n > LONGEST_LINE, 3, 0)?;
+    refuse_if(n >= m && room < 3 * (n - m + 1), 4, 0)
+}

@@ -1,0 +1,98 @@
+//! The page's own samples, with the answers as the page prints them.
+
+use super::book::Silence;
+use super::calls::Search;
+use super::program;
+use super::rules::quick_scan;
+
+pub struct Sample {
+    pub name: &'static str,
+    pub ring: &'static str,
+    pub line: &'static str,
+    pub allowance: usize,
+    pub findings: &'static [u32],
+    pub looks: Option<u64>,
+    pub candidates: Option<usize>,
+}
+
+const GENOME: &str = "GATACGATACCTAGGGTGATAGAATAG";
+
+const fn sample(
+    name: &'static str,
+    (ring, line, allowance): (&'static str, &'static str, usize),
+    findings: &'static [u32],
+    looks: Option<u64>,
+) -> Sample {
+    Sample { name, ring, line, allowance, findings, looks, candidates: None }
+}
+
+pub const SAMPLES: [Sample; 12] = [
+    sample("P1", ("GGGTCTA", GENOME, 0), &[10, 4, 0], None),
+    sample("P2", ("GGGTCTA", GENOME, 1), &[9, 3, 1, 10, 4, 0, 11, 5, 1], None),
+    sample("P3", ("ABCDEFGH", "BCzEzGzA", 3), &[0, 1, 3], None),
+    sample("P4", ("ABCDEFGH", "BCzEzGzA", 2), &[], None),
+    sample("P5", ("a", "ba", 0), &[1, 0, 0], Some(3)),
+    sample("P6", ("aa", "aaa", 0), &[0, 0, 0, 1, 0, 0], Some(12)),
+    sample("P7", ("abcd", "zzzzzzzzzz", 1), &[], Some(6)),
+    sample("P8", ("abc", "ab", 0), &[], Some(0)),
+    sample("P9", ("abc", "cab", 0), &[0, 2, 0], Some(12)),
+    sample("P10", ("ab", "zbz", 1), &[0, 0, 1, 1, 1, 1], None),
+    Sample { candidates: Some(1), ..sample("P11", ("abcdef", "bcdfab", 1), &[], Some(42)) },
+    sample("P12", ("abcdef", "bcdfab", 3), &[0, 1, 3], Some(42)),
+];
+
+pub const THE_SILENCE: Silence = Silence { cell: 7, ring_number: 2, start: 10 };
+
+/// P2 under that one silence, as ring 2: asking cell, shown words, hidden.
+pub const SILENCED: [(u32, &[u32], usize); 2] = [(7, &[9, 3, 1, 11, 5, 1], 1), (8, &[9, 3, 1, 10, 4, 0, 11, 5, 1], 0)];
+
+pub const EXAMPLE_INPUT: [u8; 40] = [
+    0x34, 0x00, 0x04, 0x00, 0x00, 0x00, 0x07, 0x35, 0x00, 0x02, 0x00, 0x02, 0x33, 0x00, 0x01, 0x00, 0x31, 0x00, 0x02,
+    0x61, 0x61, 0x32, 0x00, 0x03, 0x61, 0x61, 0x61, 0x21, 0x00, 0x0A, 0x00, 0x00, 0x00, 0x07, 0x00, 0x02, 0x00, 0x00,
+    0x00, 0x01,
+];
+
+pub const EXAMPLE_OUTPUT: &str = "cell 7 ring 2 edges 2 allow 0\n0 0 0\nfound 2 hidden 1 looks 12\n";
+
+pub fn bound(m: u64, n: u64) -> u64 {
+    3 * m * n - 2 * m * m + m
+}
+
+impl Sample {
+    pub fn search(&self) -> Search<'_> {
+        let (ring, line) = (self.ring.as_bytes(), self.line.as_bytes());
+        Search { ring, line, allowance: self.allowance, room: 3 * (line.len() + 1) }
+    }
+
+    fn holds(&self) -> bool {
+        let scan = self.search().scan().expect("a sample is accepted");
+        let survey = self.search().survey().expect("a sample is accepted");
+        let candidates = quick_scan(self.ring.as_bytes(), self.line.as_bytes(), self.allowance).candidates;
+        let reaches = ["P6", "P9", "P11"].contains(&self.name);
+        let (m, n) = (self.ring.len() as u64, self.line.len() as u64);
+        scan.written == self.findings
+            && survey.written == self.findings
+            && self.looks.is_none_or(|looks| looks == scan.looks)
+            && self.candidates.is_none_or(|count| count == candidates)
+            && (!reaches || scan.looks == bound(m, n))
+    }
+}
+
+pub fn silenced(index: usize) -> bool {
+    let (cell, shown, hidden) = SILENCED[index];
+    let answered = SAMPLES[1].search().report(cell, 2, &THE_SILENCE.field()).expect("a sample is accepted");
+    answered.written == shown && answered.hidden == hidden && answered.found == 3
+}
+
+/// P1 to P12, the two silenced ones, the program's example.
+pub const COUNT: usize = SAMPLES.len() + SILENCED.len() + 1;
+
+/// Whether the second program gives what the page prints.
+pub fn holds(index: usize) -> bool {
+    let behind = index.checked_sub(SAMPLES.len());
+    match behind {
+        None => SAMPLES[index].holds(),
+        Some(silent) if silent < SILENCED.len() => silenced(silent),
+        Some(_) => program::output(&EXAMPLE_INPUT) == EXAMPLE_OUTPUT,
+    }
+}
