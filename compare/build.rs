@@ -1,11 +1,11 @@
-//! Links the library's archive, whose folder OUTLINES_ARCHIVE names.
+//! Links the library's archive, whose folder OUTLINES_ARCHIVE names, and the same rules in C, compiled by $CLANG (clang) at -O3.
 
-use std::env;
-use std::fs;
+use std::path::Path;
+use std::process::Command;
+use std::{env, fs};
 
-fn main() {
+fn link_library() {
     println!("cargo:rerun-if-env-changed=OUTLINES_ARCHIVE");
-    println!("cargo:rerun-if-changed=build.rs");
     let named = env::var("OUTLINES_ARCHIVE").expect("OUTLINES_ARCHIVE must name the folder that holds libexports.a");
     // The linker works in another folder than this script, so the path has to be whole.
     let folder = fs::canonicalize(&named).unwrap_or_else(|error| panic!("OUTLINES_ARCHIVE={named}: {error}"));
@@ -14,4 +14,38 @@ fn main() {
     println!("cargo:rerun-if-changed={}", archive.display());
     println!("cargo:rustc-link-search=native={}", folder.display());
     println!("cargo:rustc-link-lib=static=exports");
+}
+
+/// The first line that a program prints with `--version`.
+fn version_of(program: &str) -> String {
+    let output = Command::new(program).arg("--version").output();
+    let text = output.unwrap_or_else(|why| panic!("{program} does not run: {why}")).stdout;
+    String::from_utf8_lossy(&text).lines().next().unwrap_or("").to_string()
+}
+
+fn run(program: &str, arguments: &[&str]) {
+    let status = Command::new(program).args(arguments).status();
+    assert!(status.is_ok_and(|s| s.success()), "{program} {arguments:?} failed");
+}
+
+fn compile_rules() {
+    println!("cargo:rerun-if-changed=c");
+    println!("cargo:rerun-if-env-changed=CLANG");
+    let out = env::var("OUT_DIR").expect("cargo sets OUT_DIR");
+    let clang = env::var("CLANG").unwrap_or_else(|_| "clang".to_string());
+    let object = Path::new(&out).join("rules.o").display().to_string();
+    let archive = Path::new(&out).join("librules.a").display().to_string();
+    run(&clang, &["-std=c11", "-O3", "-Wall", "-Wextra", "-fPIC", "-c", "c/rules.c", "-o", &object]);
+    run("ar", &["rcs", &archive, &object]);
+    println!("cargo:rustc-link-search=native={out}");
+    println!("cargo:rustc-link-lib=static=rules");
+    println!("cargo:rustc-env=BUILT_WITH_CLANG={}", version_of(&clang));
+}
+
+fn main() {
+    println!("cargo:rerun-if-changed=build.rs");
+    link_library();
+    compile_rules();
+    let rustc = env::var("RUSTC").expect("cargo sets RUSTC");
+    println!("cargo:rustc-env=BUILT_WITH_RUSTC={}", version_of(&rustc));
 }

@@ -2,15 +2,31 @@
 ghost use Prim.Native.Nat.{_<_};
 
 // The canary: its byte four times over, so that no row writes it as its last byte or word.
-pub const CANARY_BYTE: u8 = 0xA5;
+const CANARY_BYTE: u8 = 0xA5;
 
-pub const CANARY: u32 = 0xA5A5A5A5;
+const CANARY: u32 = 0xA5A5A5A5;
 
 // How many bytes or words there are to lend: more than any book has, and more than the rows with short lines ask.
 pub const AMPLE: usize = 13040;
 
 // How many words there are to lend for a long line: more than the 3·65,536 that a search asks at most.
 pub const LONG: usize = 196640;
+
+// An area of canaries. A function of its own hands it out: a proof has the length of an array that a call returns, where in one that is made in place
+// it counts the elements one by one, which takes seconds for a long one. (So with every array here of more than 10,000 elements.)
+pub fn ample() -> [u32; AMPLE] {
+    [CANARY; AMPLE]
+}
+
+// The same of bytes.
+pub fn ample_bytes() -> [u8; AMPLE] {
+    [CANARY_BYTE; AMPLE]
+}
+
+// The same of words, for a long line.
+pub fn long() -> [u32; LONG] {
+    [CANARY; LONG]
+}
 
 // A modulus small enough that nothing below overflows.
 const CHECKSUM_BELOW: usize = 1000003;

@@ -2,9 +2,7 @@
 // of a fault if there is one, and the room. Reading is lent no room.
 use crate::area;
 use crate::area::AMPLE;
-use crate::area::CANARY;
 use crate::books;
-use crate::books::MOST_BYTES;
 use crate::paper;
 use crate::printing;
 use crate::printing::Shown;
@@ -17,27 +15,24 @@ pub enum BookCall {
     Unpack,
 }
 
-fn answer(call: BookCall, name: &[u8], book: &[u8], lent: &mut [u32]) -> BookAnswer {
+fn answer(call: BookCall, book: &[u8], lent: &mut [u32]) -> BookAnswer {
     match call {
-        BookCall::Read => {
-            printing::begin(b"read", name);
-            book::read(book)
-        }
-        BookCall::Unpack => {
-            printing::begin(b"unpack", name);
-            book::unpack(book, lent)
-        }
+        BookCall::Read => book::read(book),
+        BookCall::Unpack => book::unpack(book, lent),
     }
 }
 
-pub fn book_row(call: BookCall, row: &[u8]) {
-    let mut bytes = [0u8; MOST_BYTES];
-    books::lay_row(row, &mut bytes);
-    let book = area::first_bytes(&bytes, table::number_or(row, 2, 0));
+// Reads or unpacks the row's book, and prints what comes of it.
+fn answer_row(call: BookCall, row: &[u8], book: &[u8]) {
     let room = table::number_or(row, 5, AMPLE);
-    let mut words = [CANARY; AMPLE];
+    let mut words = area::ample();
     let space: &mut [u32] = &mut words;
-    let answer = answer(call, table::field(row, 0), book, area::lend(space, room));
-    paper::print_book(answer);
+    paper::print_book(answer(call, book, area::lend(space, room)));
     printing::end(Shown::Words, space, room);
+}
+
+pub fn book_row(call: BookCall, row: &[u8]) {
+    let mut bytes = books::no_bytes();
+    let count = books::lay_row(row, 1, &mut bytes);
+    answer_row(call, row, area::first_bytes(&bytes, count));
 }

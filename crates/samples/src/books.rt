@@ -2,19 +2,21 @@
 use crate::area;
 use crate::made;
 use crate::table;
+ghost use Prim.Native.Nat.{_<_};
 
 // The words of the most records of a row, and the bytes of its book: 1,001 of them.
 pub const MOST_WORDS: usize = 3003;
 
-pub const MOST_BYTES: usize = 13013;
+const MOST_BYTES: usize = 13013;
 
 // A number cut to a word.
 pub fn word(number: usize) -> u32 {
-    if number <= 4294967295 {
-        number as u32
-    } else {
-        0
-    }
+    (number % 4294967296) as u32
+}
+
+// A number cut to a ring number.
+pub fn ring_number(number: usize) -> u16 {
+    (number % 65536) as u16
 }
 
 // The word at a place of those that a field gives: its numbers, or for `*` 1,001 records of cell 7, ring number 2 and every start from 0 on.
@@ -31,7 +33,7 @@ fn word_of(field: &[u8], at: usize) -> u32 {
 }
 
 // How many words a field gives.
-pub fn count(field: &[u8]) -> usize {
+fn count(field: &[u8]) -> usize {
     if table::begins(field, b'*') {
         MOST_WORDS
     } else {
@@ -40,12 +42,19 @@ pub fn count(field: &[u8]) -> usize {
 }
 
 // Fills in the words that a field gives, as many as there are lent.
-pub fn make(field: &[u8], words: &mut [u32]) {
+fn make(field: &[u8], words: &mut [u32]) {
     let mut at: usize = 0;
     while at < words.len() {
         words[at] = word_of(field, at);
         at += 1;
     }
+}
+
+// Fills in the words that a field gives, and says how many there are.
+pub fn fill(field: &[u8], words: &mut [u32]) -> usize {
+    let count = count(field);
+    make(field, area::lend(words, count));
+    count
 }
 
 // One byte of a number, so many bytes above its lowest.
@@ -58,25 +67,26 @@ fn byte_of(number: u32, above: usize) -> u8 {
     }
 }
 
-// The byte at an offset of the layout: "tag 21 hex, length 10, cell (4 bytes), ring number (2), start (4)", "numbers high byte first".
-fn layout_byte(words: &[u32], at: usize) -> u8 {
+// The byte at an offset of the layout of the words that a field gives: "tag 21 hex, length 10, cell (4 bytes), ring number (2), start (4)", "numbers
+// high byte first".
+fn layout_byte(field: &[u8], at: usize) -> u8 {
     let first = at / 13 * 3;
     let place = at % 13;
     match place {
         0 => 0x21,
         1 => 0,
         2 => 10,
-        3..=6 => byte_of(area::word_at(words, first), 6 - place),
-        7..=8 => byte_of(area::word_at(words, first + 1), 8 - place),
-        _ => byte_of(area::word_at(words, first + 2), 12 - place),
+        3..=6 => byte_of(word_of(field, first), 6 - place),
+        7..=8 => byte_of(word_of(field, first + 1), 8 - place),
+        _ => byte_of(word_of(field, first + 2), 12 - place),
     }
 }
 
 // Lays the silences out over the whole book.
-fn lay_out(words: &[u32], book: &mut [u8]) {
+fn lay_out(field: &[u8], book: &mut [u8]) {
     let mut at: usize = 0;
     while at < book.len() {
-        book[at] = layout_byte(words, at);
+        book[at] = layout_byte(field, at);
         at += 1;
     }
 }
@@ -88,15 +98,22 @@ fn put(book: &mut [u8], at: usize, byte: u8) {
     }
 }
 
-// The book of a row: the layout of its words (field 1), with a byte (field 4) put at an offset (field 3) where the row gives one.
-pub fn lay_row(row: &[u8], book: &mut [u8]) {
-    let given = table::field(row, 1);
-    let mut words = [0u32; MOST_WORDS];
-    make(given, area::lend(&mut words, count(given)));
-    lay_out(&words, book);
+// The bytes of a book before it is laid out.
+pub fn no_bytes() -> [u8; MOST_BYTES] {
+    [0; MOST_BYTES]
+}
+
+// Lays out the book that a row gives from a field on: the words of its silences, how many bytes of their layout it has, and the byte offset and the
+// byte of a fault where there is one. Says how many bytes it has.
+pub fn lay_row(row: &[u8], at: usize, book: &mut [u8]) -> usize
+    requires { ⌜ at < 8 ⌝ }
+{
+    let count = table::number_or(row, at + 1, 0);
+    lay_out(table::field(row, at), area::lend_bytes(book, count));
     put(
         book,
-        table::number_or(row, 3, MOST_BYTES),
-        made::code(table::number_or(row, 4, 0)),
+        table::number_or(row, at + 2, MOST_BYTES),
+        made::code(table::number_or(row, at + 3, 0)),
     );
+    count
 }

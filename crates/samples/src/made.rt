@@ -5,15 +5,17 @@ use crate::table;
 
 // A number cut to a code.
 pub fn code(number: usize) -> u8 {
-    if number <= 255 { number as u8 } else { 0 }
+    (number % 256) as u8
 }
 
 fn next(code: u8, last: u8) -> u8 {
     if code < last { code + 1 } else { 0 }
 }
 
-// Fills the edges with the codes from `first` on.
-fn rise(edges: &mut [u8], first: u8, last: u8) {
+// Fills the edges with codes that rise.
+fn rise(edges: &mut [u8], field: &[u8]) {
+    let first = code(table::number(field, 0));
+    let last = code(table::number(field, 1));
     let mut code = first;
     let mut at: usize = 0;
     while at < edges.len() {
@@ -41,7 +43,7 @@ fn spell(edges: &mut [u8], field: &[u8]) {
 }
 
 // How many edges a field gives.
-pub fn count(field: &[u8]) -> usize {
+fn count(field: &[u8]) -> usize {
     if table::begins(field, b'*') {
         return table::number(field, 2);
     }
@@ -51,15 +53,14 @@ pub fn count(field: &[u8]) -> usize {
     field.len()
 }
 
-// Fills in the edges that a field gives, as many as there are lent.
-pub fn make(field: &[u8], edges: &mut [u8]) {
+// Fills in the edges that a field gives, and says how many there are.
+pub fn fill(field: &[u8], edges: &mut [u8]) -> usize {
+    let count = count(field);
+    let lent = area::lend_bytes(edges, count);
     if table::begins(field, b'*') {
-        rise(
-            edges,
-            code(table::number(field, 0)),
-            code(table::number(field, 1)),
-        );
+        rise(lent, field);
     } else {
-        spell(edges, field);
+        spell(lent, field);
     }
+    count
 }

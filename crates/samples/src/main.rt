@@ -7,6 +7,7 @@ mod made;
 mod pack_rows;
 mod paper;
 mod printing;
+mod report_rows;
 mod search_rows;
 mod seek_rows;
 mod table;
@@ -21,6 +22,8 @@ enum Call {
     Unpack,
     Seek,
     Scan,
+    Survey,
+    Report,
 }
 
 fn run_row(call: Call, row: &[u8]) {
@@ -30,27 +33,60 @@ fn run_row(call: Call, row: &[u8]) {
         Call::Unpack => book_rows::book_row(book_rows::BookCall::Unpack, row),
         Call::Seek => seek_rows::seek_row(row),
         Call::Scan => search_rows::search_row(search_rows::SearchCall::Scan, row),
+        Call::Survey => search_rows::search_row(search_rows::SearchCall::Survey, row),
+        Call::Report => search_rows::search_row(search_rows::SearchCall::Report, row),
     }
 }
 
-// Every row of a section. Its first line is a heading, and nothing follows its last one.
-fn run(call: Call, section: &[u8]) {
-    let rows = table::parts(section, table::ROW);
-    let mut index: usize = 2;
-    while index < rows {
-        run_row(call, table::part(section, table::ROW, index - 1));
-        index += 1;
+// Which of the names below is the call's.
+fn name_index(call: Call) -> usize {
+    match call {
+        Call::Pack => 0,
+        Call::Read => 1,
+        Call::Unpack => 2,
+        Call::Seek => 3,
+        Call::Scan => 4,
+        Call::Survey => 5,
+        Call::Report => 6,
     }
+}
+
+// Writes the call, and the name of the row.
+fn begin(call: Call, row: &[u8]) {
+    let names = b"pack|read|unpack|seek|scan|survey|report";
+    printing::begin(table::field(names, name_index(call)), table::field(row, 0));
+}
+
+// Every row of a section, through one call. A section's first line is a heading, and nothing follows its last one.
+fn run(call: Call, text: &[u8], index: usize) {
+    let section = table::part(text, table::SECTION, index);
+    let rows = table::parts(section, table::ROW);
+    let mut next: usize = 2;
+    while next < rows {
+        let row = table::part(section, table::ROW, next - 1);
+        begin(call, row);
+        run_row(call, row);
+        next += 1;
+    }
+}
+
+// The text before the rows are read into it.
+fn no_text() -> [u8; MOST_INPUT] {
+    [0; MOST_INPUT]
 }
 
 fn main() {
-    let mut input = [0u8; MOST_INPUT];
+    let mut input = no_text();
     let n = io::read_full(0, &mut input);
     let text = &input[..n];
-    run(Call::Pack, table::part(text, table::SECTION, 1));
-    run(Call::Read, table::part(text, table::SECTION, 2));
-    run(Call::Unpack, table::part(text, table::SECTION, 2));
-    run(Call::Unpack, table::part(text, table::SECTION, 3));
-    run(Call::Seek, table::part(text, table::SECTION, 4));
-    run(Call::Scan, table::part(text, table::SECTION, 5));
+    run(Call::Pack, text, 1);
+    run(Call::Read, text, 2);
+    run(Call::Unpack, text, 2);
+    run(Call::Unpack, text, 3);
+    run(Call::Seek, text, 4);
+    // The same rows through each search: a row that gives no book is a report with an empty one.
+    run(Call::Scan, text, 5);
+    run(Call::Survey, text, 5);
+    run(Call::Report, text, 5);
+    run(Call::Report, text, 6);
 }

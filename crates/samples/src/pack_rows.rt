@@ -2,8 +2,6 @@
 // they are few, and whether all bytes behind the room that was lent are kept.
 use crate::area;
 use crate::area::AMPLE;
-use crate::area::CANARY;
-use crate::area::CANARY_BYTE;
 use crate::books;
 use crate::books::MOST_WORDS;
 use crate::paper;
@@ -11,18 +9,21 @@ use crate::printing;
 use crate::printing::Shown;
 use crate::table;
 
-pub fn pack_row(row: &[u8]) {
-    let given = table::field(row, 1);
-    let mut words = [0u32; MOST_WORDS];
-    books::make(given, area::lend(&mut words, books::count(given)));
-    let count = table::number_or(row, 2, books::count(given));
+// Packs the words, and prints what comes of it.
+fn pack_words(row: &[u8], words: &[u32]) {
     let room = table::number_or(row, 3, AMPLE);
-    let mut bytes = [CANARY_BYTE; AMPLE];
+    let mut bytes = area::ample_bytes();
     let lent: &mut [u8] = &mut bytes;
-    let answer = book::pack(area::first(&words, count), area::lend_bytes(lent, room));
-    let mut seen = [CANARY; AMPLE];
+    let answer = book::pack(words, area::lend_bytes(lent, room));
+    let mut seen = area::ample();
     area::spread(lent, &mut seen);
-    printing::begin(b"pack", table::field(row, 0));
     paper::print_book(answer);
     printing::end(Shown::Bytes, &seen, room);
+}
+
+pub fn pack_row(row: &[u8]) {
+    let mut words = [0u32; MOST_WORDS];
+    let given = books::fill(table::field(row, 1), &mut words);
+    let count = table::number_or(row, 2, given);
+    pack_words(row, area::first(&words, count));
 }

@@ -1,11 +1,11 @@
 // Document 01's number, place and counts of an answer, as the definitions give them.
 use crate::printing;
-use answers::Refusal;
+use answers::number_of;
+use answers::place_of;
 use book::BookAnswer;
+use outlines::Reported;
 use outlines::Scanned;
-ghost use mathlib.Core.Path.{_≡_};
-ghost use Rattle.answers.specs.Refusals.{numberOf, placeOf};
-ghost use Rattle.samples.specs.Papers.{IsBookPaper, IsSearchPaper};
+ghost use Rattle.samples.specs.Papers.{IsBookPaper, IsSearchPaper, IsReportPaper};
 
 // "Packer and unpacker return the number of records."
 pub struct BookPaper {
@@ -19,6 +19,15 @@ pub struct SearchPaper {
     pub number: usize,
     pub place: usize,
     pub found: usize,
+    pub looks: usize,
+}
+
+// The report "returns found (hidden ones included), hidden, looks".
+pub struct ReportPaper {
+    pub number: usize,
+    pub place: usize,
+    pub found: usize,
+    pub hidden: usize,
     pub looks: usize,
 }
 
@@ -60,55 +69,55 @@ fn search_paper(answer: Scanned) -> SearchPaper
     }
 }
 
+// The same of a report.
+fn report_paper(answer: Reported) -> ReportPaper
+    ensures { λ r. ⌜ IsReportPaper answer r ⌝ }
+{
+    match answer {
+        Reported::Counts {
+            found,
+            hidden,
+            looks,
+        } => ReportPaper {
+            number: 0,
+            place: 0,
+            found: found,
+            hidden: hidden,
+            looks: looks,
+        },
+        Reported::Refused(refusal) => ReportPaper {
+            number: number_of(refusal),
+            place: place_of(refusal),
+            found: 0,
+            hidden: 0,
+            looks: 0,
+        },
+    }
+}
+
 // Writes the paper of a call on a book.
 pub fn print_book(answer: BookAnswer) {
     let paper = book_paper(answer);
-    printing::number(b"number", paper.number);
-    printing::number(b"place", paper.place);
-    printing::number(b"records", paper.records);
+    let values = [paper.number, paper.place, paper.records];
+    printing::numbers(b"number|place|records", &values);
 }
 
 // Writes the paper of a search.
 pub fn print_search(answer: Scanned) {
     let paper = search_paper(answer);
-    printing::number(b"number", paper.number);
-    printing::number(b"place", paper.place);
-    printing::number(b"found", paper.found);
-    printing::number(b"looks", paper.looks);
+    let values = [paper.number, paper.place, paper.found, paper.looks];
+    printing::numbers(b"number|place|found|looks", &values);
 }
 
-fn number_of(refusal: Refusal) -> usize
-    ensures { λ r. ⌜ r ≡ numberOf refusal ⌝ }
-{
-    match refusal {
-        Refusal::Ring => 1,
-        Refusal::Allowance => 2,
-        Refusal::Line => 3,
-        Refusal::FindingsRoom => 4,
-        Refusal::BookLength => 5,
-        Refusal::Field(_) => 6,
-        Refusal::NotAbove(_) => 7,
-        Refusal::WordCount => 8,
-        Refusal::RingNumber(_) => 9,
-        Refusal::OutputRoom => 10,
-        Refusal::Input(_) => 11,
-    }
-}
-
-fn place_of(refusal: Refusal) -> usize
-    ensures { λ r. ⌜ r ≡ placeOf refusal ⌝ }
-{
-    match refusal {
-        Refusal::Ring => 0,
-        Refusal::Allowance => 0,
-        Refusal::Line => 0,
-        Refusal::FindingsRoom => 0,
-        Refusal::BookLength => 0,
-        Refusal::Field(place) => place,
-        Refusal::NotAbove(place) => place,
-        Refusal::WordCount => 0,
-        Refusal::RingNumber(place) => place,
-        Refusal::OutputRoom => 0,
-        Refusal::Input(place) => place,
-    }
+// Writes the paper of a report.
+pub fn print_report(answer: Reported) {
+    let paper = report_paper(answer);
+    let values = [
+        paper.number,
+        paper.place,
+        paper.found,
+        paper.hidden,
+        paper.looks,
+    ];
+    printing::numbers(b"number|place|found|hidden|looks", &values);
 }

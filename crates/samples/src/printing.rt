@@ -1,5 +1,6 @@
 // A row is a named line: the call and the row's name, then numbers with their names, then what the call wrote.
 use crate::area;
+use crate::table;
 
 // How what a call wrote is shown: bytes in hex, words in threes as document 01 writes a finding.
 pub enum Shown {
@@ -10,34 +11,48 @@ pub enum Shown {
 // The most bytes or words that a row shows one by one. Of more it shows a checksum.
 const MOST: usize = 26;
 
+// Writes a text.
+pub fn text(bytes: &[u8]) {
+    io::write_all(1, bytes);
+}
+
 // Writes the call and the row's name.
 pub fn begin(call: &[u8], name: &[u8]) {
-    io::write_all(1, call);
-    io::write_all(1, b" ");
-    io::write_all(1, name);
-    io::write_all(1, b":");
+    text(call);
+    text(b" ");
+    text(name);
+    text(b":");
 }
 
 // Writes one number with its name.
 pub fn number(name: &[u8], value: usize) {
-    io::write_all(1, b" ");
-    io::write_all(1, name);
-    io::write_all(1, b" ");
+    text(b" ");
+    text(name);
+    text(b" ");
     io::print_decimal(1, value as u64);
+}
+
+// Writes numbers with their names, which stand in one text as fields do in a row.
+pub fn numbers(names: &[u8], values: &[usize]) {
+    let mut at: usize = 0;
+    while at < values.len() {
+        number(table::field(names, at), values[at]);
+        at += 1;
+    }
 }
 
 // Writes one byte, which a word has four times over, or one word.
 fn value(shown: Shown, at: usize, word: u32) {
     match shown {
         Shown::Bytes => {
-            io::write_all(1, b" ");
+            text(b" ");
             io::print_hex(1, (word % 256) as u64, 2);
         }
         Shown::Words => {
             if at % 3 == 0 {
-                io::write_all(1, b" ");
+                text(b" ");
             } else {
-                io::write_all(1, b",");
+                text(b",");
             }
             io::print_decimal(1, word as u64);
         }
@@ -62,8 +77,8 @@ pub fn end(shown: Shown, area: &[u32], room: usize) {
         values(shown, area, count);
     }
     if area::is_kept(area, room) {
-        io::write_all(1, b" behind kept\n");
+        text(b" behind kept\n");
     } else {
-        io::write_all(1, b" behind touched\n");
+        text(b" behind touched\n");
     }
 }

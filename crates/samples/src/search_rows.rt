@@ -1,14 +1,13 @@
-// Searching a line for a ring. A row gives its name, ring, line, allowance and room, and goes through the call that is asked for. It says what the
-// call answers, the words written, and whether all words behind the room that was lent are kept.
+// Searching a line for a ring. A row gives its name, ring, line, allowance and room, and for a report what report_rows.rt says besides, and goes
+// through the call that is asked for. It says what the call answers, the words written, and whether all words behind the room that was lent are kept.
 use crate::area;
-use crate::area::CANARY;
 use crate::area::LONG;
 use crate::made;
 use crate::paper;
 use crate::printing;
 use crate::printing::Shown;
+use crate::report_rows;
 use crate::table;
-use outlines::Scanned;
 
 // The most edges of a row: one more than a ring or a line may have.
 const MOST_RING: usize = 257;
@@ -18,45 +17,43 @@ const MOST_LINE: usize = 65537;
 // Which call a row goes through.
 pub enum SearchCall {
     Scan,
+    Survey,
+    Report,
 }
 
-fn answer(
-    call: SearchCall,
-    name: &[u8],
-    ring: &[u8],
-    line: &[u8],
-    k: usize,
-    lent: &mut [u32],
-) -> Scanned {
+// Calls, and prints the answer.
+fn answer(call: SearchCall, row: &[u8], ring: &[u8], line: &[u8], k: usize, lent: &mut [u32]) {
     match call {
-        SearchCall::Scan => {
-            printing::begin(b"scan", name);
-            outlines::scan(ring, line, k, lent)
-        }
+        SearchCall::Scan => paper::print_search(outlines::scan(ring, line, k, lent)),
+        SearchCall::Survey => paper::print_search(outlines::survey(ring, line, k, lent)),
+        SearchCall::Report => report_rows::report(row, ring, line, k, lent),
     }
 }
 
-pub fn search_row(call: SearchCall, row: &[u8]) {
-    let ring_field = table::field(row, 1);
-    let line_field = table::field(row, 2);
-    let m = made::count(ring_field);
-    let n = made::count(line_field);
-    let mut ring = [0u8; MOST_RING];
-    let mut line = [0u8; MOST_LINE];
-    made::make(ring_field, area::lend_bytes(&mut ring, m));
-    made::make(line_field, area::lend_bytes(&mut line, n));
+// Searches a line for a ring, and prints what comes of it.
+fn search(call: SearchCall, row: &[u8], ring: &[u8], line: &[u8]) {
     let k = table::number_or(row, 3, 0);
     let room = table::number_or(row, 4, LONG);
-    let mut words = [CANARY; LONG];
+    let mut words = area::long();
     let space: &mut [u32] = &mut words;
-    let answer = answer(
+    answer(call, row, ring, line, k, area::lend(space, room));
+    printing::end(Shown::Words, space, room);
+}
+
+// The edges of a line before they are filled in.
+fn no_edges() -> [u8; MOST_LINE] {
+    [0; MOST_LINE]
+}
+
+pub fn search_row(call: SearchCall, row: &[u8]) {
+    let mut ring = [0u8; MOST_RING];
+    let m = made::fill(table::field(row, 1), &mut ring);
+    let mut line = no_edges();
+    let n = made::fill(table::field(row, 2), &mut line);
+    search(
         call,
-        table::field(row, 0),
+        row,
         area::first_bytes(&ring, m),
         area::first_bytes(&line, n),
-        k,
-        area::lend(space, room),
     );
-    paper::print_search(answer);
-    printing::end(Shown::Words, space, room);
 }

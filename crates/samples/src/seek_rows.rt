@@ -3,22 +3,16 @@
 // byte offset just past it.
 use crate::area;
 use crate::books;
-use crate::books::MOST_BYTES;
 use crate::printing;
 use crate::table;
 use book::Address;
 use book::Sought;
 
-// A number cut to a ring number.
-fn ring_number(number: usize) -> u16 {
-    if number <= 65535 { number as u16 } else { 0 }
-}
-
 // The address that a field gives: cell, ring number, start.
 fn address(field: &[u8]) -> Address {
     Address {
         cell: books::word(table::number(field, 0)),
-        ring_number: ring_number(table::number(field, 1)),
+        ring_number: books::ring_number(table::number(field, 1)),
         start: books::word(table::number(field, 2)),
     }
 }
@@ -26,24 +20,24 @@ fn address(field: &[u8]) -> Address {
 fn print_sought(sought: Sought) {
     match sought {
         Sought::Field { address, next } => {
-            printing::number(b"cell", address.cell as usize);
-            printing::number(b"ring number", address.ring_number as usize);
-            printing::number(b"start", address.start as usize);
-            printing::number(b"next", next);
+            let cell = address.cell as usize;
+            let ring_number = address.ring_number as usize;
+            let start = address.start as usize;
+            let values = [cell, ring_number, start, next];
+            printing::numbers(b"cell|ring number|start|next", &values);
         }
         Sought::Nothing => {
-            io::write_all(1, b" nothing");
+            printing::text(b" nothing");
         }
     }
 }
 
 pub fn seek_row(row: &[u8]) {
-    let mut bytes = [0u8; MOST_BYTES];
-    books::lay_row(row, &mut bytes);
-    let book = area::first_bytes(&bytes, table::number_or(row, 2, 0));
+    let mut bytes = books::no_bytes();
+    let count = books::lay_row(row, 1, &mut bytes);
+    let book = area::first_bytes(&bytes, count);
     let from = table::number_or(row, 5, 0);
-    printing::begin(b"seek", table::field(row, 0));
     printing::number(b"from", from);
     print_sought(book::seek(book, from, address(table::field(row, 6))));
-    io::write_all(1, b"\n");
+    printing::text(b"\n");
 }

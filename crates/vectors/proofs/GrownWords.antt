@@ -2,7 +2,7 @@
 -- vector's; the others are 0. Each case of the definition is one equation, so that no proof past this file opens it.
 -- Assumes nothing.
 use mathlib.Core.Path.{_≡_, refl, _∙_}
-use mathlib.Core.List.{List}
+use mathlib.Core.List.{List, [], _∷_}
 use mathlib.Core.Logic.{dite}
 use Prim.Native.Nat.{ℕ, _+_, _-_, _*_, _/_, _%_, _^_, _≤_, _<_, min}
 use native.Mathlib.Decide.{decLt}
@@ -10,7 +10,7 @@ use native.Mathlib.Omega.{arith}
 use lib.ListN.{length, getD}
 use lib.Bits.{bitAnd, bitOr, and-le-r}
 use borrow.Author.Tests.{lt-ltb, le-ltb}
-use Rattle.vectors.specs.Bits.{wordBits, Vector, bit}
+use Rattle.vectors.specs.Bits.{wordBits, Vector, bit, vectorOf}
 use Rattle.vectors.specs.ByValue.{vectorWords, lastPlace, carryInto, grownWord, grownWords}
 use Rattle.vectors.proofs.WordByWord.{vectorOf-length, vectorOf-word, vectorOf-past}
 
@@ -25,20 +25,38 @@ module _ (m count : ℕ) (held : List ℕ) (w : ℕ) where
   unfolding carryInto
   carry-last h = rw (le-ltb (w + 1) count h) refl
 
+module _ (m count : ℕ) (occurs held : List ℕ) (w : ℕ) where
+  -- A word below the count is shifted with what comes in, AND the occurrence vector's.
+  pub grown-word-below : w < count
+      → grownWord m count occurs held w ≡ bitAnd (bitOr (getD held w 0 / 2 ^ 1) (carryInto m count held w)) (getD occurs w 0)
+  unfolding grownWord
+  grown-word-below h = rw (lt-ltb w count h) refl
+
+  -- The others are 0.
+  pub grown-word-past : count ≤ w → grownWord m count occurs held w ≡ 0
+  unfolding grownWord
+  grown-word-past h = rw (le-ltb w count h) refl
+
 module _ (m count : ℕ) (occurs held : List ℕ) where
+  -- Four words, each grown, are the vector grown.
+  pub grown-of-words : (words a b c d : ℕ) → words ≡ min count vectorWords → a ≡ grownWord m words occurs held 0 → b ≡ grownWord m words occurs held 1
+      → c ≡ grownWord m words occurs held 2 → d ≡ grownWord m words occurs held 3 → a ∷ b ∷ c ∷ d ∷ [] ≡ grownWords m count occurs held
+  unfolding grownWords vectorOf
+  grown-of-words words a b c d is p q r s = rw (p, q, r, s, is) refl
+
   -- A word below the count is shifted with what comes in, AND the occurrence vector's.
   pub grown-words-word : (w : ℕ) → w < min count vectorWords
       → getD (grownWords m count occurs held) w 0
       ≡ bitAnd (bitOr (getD held w 0 / 2 ^ 1) (carryInto m (min count vectorWords) held w)) (getD occurs w 0)
-  unfolding grownWords grownWord
+  unfolding grownWords
   grown-words-word w h = vectorOf-word vectorWords (grownWord m (min count vectorWords) occurs held) w (omega arith)
-      ∙ rw (lt-ltb w (min count vectorWords) h) refl
+      ∙ grown-word-below m (min count vectorWords) occurs held w h
 
   -- The others are 0.
   pub grown-words-past : (w : ℕ) → min count vectorWords ≤ w → getD (grownWords m count occurs held) w 0 ≡ 0
-  unfolding grownWords grownWord
+  unfolding grownWords
   grown-words-past w h = dite (decLt w vectorWords)
-      (λ l. vectorOf-word vectorWords (grownWord m (min count vectorWords) occurs held) w l ∙ rw (le-ltb w (min count vectorWords) h) refl)
+      (λ l. vectorOf-word vectorWords (grownWord m (min count vectorWords) occurs held) w l ∙ grown-word-past m (min count vectorWords) occurs held w h)
       (λ past. vectorOf-past vectorWords (grownWord m (min count vectorWords) occurs held) w (omega (arith, past)))
 
   -- There are as many as in every vector held by value.

@@ -8,7 +8,6 @@ pub mod CarryBetweenWords
 pub mod WrapToLastBit
 pub mod HeldVectorGrows
 pub mod GrownWords
-pub mod GrowingLoop
 pub mod GrownInFewestWords
 pub mod PartOfTable
 pub mod OccurrenceLoop

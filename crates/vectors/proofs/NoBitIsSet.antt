@@ -1,19 +1,18 @@
 -- No bit is set exactly when every word is 0, exactly when all words joined by `|` are 0. A word is 0 when none of its bits is set, and `a | b` is
 -- 0 only where a and b are (their sum is `a | b` + `a & b`). In a vector of m bits the words of m bits tell it (`noBit-iff`).
--- A loop joins them one by one (`Joining`).
+-- Four words are joined one by one (`joined-is`).
 -- Assumes nothing.
-use mathlib.Core.Path.{_≡_, refl, sym, _∙_}
-use mathlib.Core.Bool.{Bool, true, false, true≢false}
+use mathlib.Core.Path.{_≡_, refl, sym, ap, _∙_}
+use mathlib.Core.Bool.{Bool, true, false, true≢false, cond}
 use mathlib.Core.List.{List}
 use mathlib.Core.Logic.{dite, _↔_, _⊎_, inl, inr, ⊎-elim}
 use Prim.Native.Nat.{ℕ, zero, suc, _+_, _*_, _/_, _≤_, _<_, min}
 use native.Mathlib.Decide.{decLt, ℕ-discrete}
-use native.Mathlib.Numerals.{add-one}
 use native.Mathlib.Omega.{arith}
 use lib.ListN.{length, getD, List·getD-eq-default}
 use lib.Bits.{bitOr, or-add-and, and-le-l, and-le-r, or-zero-r}
-use lib.Dec.{eqb}
-use borrow.Author.Tests.{eqb-true, eq-eqb}
+use lib.Dec.{ltb, eqb}
+use borrow.Author.Tests.{eqb-true, eq-eqb, lt-ltb, le-ltb}
 use Rattle.vectors.specs.Bits.{wordBits, wordCount, Vector, isSet, NoBit, orBelow, noBit}
 use Rattle.vectors.specs.Rotating.{Within}
 use Rattle.vectors.proofs.WordBits.{bit-zero, bit-high, bits-none}
@@ -94,29 +93,36 @@ or-below-past ws zero h = let e : length ws ≡ 0 = omega arith in rw e refl
 or-below-past ws (suc count) h = dite (ℕ-discrete (length ws) (suc count)) (λ e. rw e refl)
     (λ longer. or-below-more ws count (List·getD-eq-default ws 0 {n = count} (omega (arith, longer))) ∙ or-below-past ws count (omega (arith, longer)))
 
--- Before turn w of a loop that joins the first words, `count` of them.
-pub record Joining (ws : List ℕ) (count joined w : ℕ) : Type 0 where
-  pub turn-le : w ≤ count
-  pub join-is : joined ≡ orBelow ws w
+-- Word w where it is one of the first `words`, else 0.
+abbrev pub below : List ℕ → ℕ → ℕ → ℕ
+below ws words w = cond (ltb w words) (getD ws w 0) 0
 
-module _ (ws : List ℕ) (count : ℕ) where
-  -- Before the first turn the join is 0.
-  pub joining-start : Joining ws count 0 0
+module _ (ws : List ℕ) (words : ℕ) where
+  -- The join of the first words, w at most, with word w.
+  join-more : (w : ℕ) → bitOr (orBelow ws (min w words)) (below ws words w) ≡ orBelow ws (min (suc w) words)
   unfolding orBelow
-  joining-start = record { turn-le = omega arith; join-is = refl }
+  join-more w = dite (decLt w words)
+      (λ h. let old : min w words ≡ w = omega arith in
+      let new : min (suc w) words ≡ suc w = omega arith in
+      rw (lt-ltb w words h, old, new) refl)
+      (λ past. let old : min w words ≡ words = omega (arith, past) in
+      let new : min (suc w) words ≡ words = omega (arith, past) in
+      rw (le-ltb w words (omega (arith, past)), old, new) (or-zero-r (orBelow ws words)))
 
-  -- A turn joins word w.
-  pub joining-turn : (joined w : ℕ) → Joining ws count joined w → w < count → Joining ws count (bitOr joined (getD ws w 0)) (w + 1)
-  unfolding orBelow
-  joining-turn joined w j h = record { turn-le = omega arith; join-is = rw (add-one w, j .join-is) refl }
-
-  -- At the end the join compared with 0 is the test of the first `asked` words, of which the vector has `count`.
-  pub joining-end : (asked joined w : ℕ) → Joining ws count joined w → count ≤ w → count ≡ min asked (length ws) → eqb joined 0 ≡ noBit ws asked
-  unfolding noBit
-  joining-end asked joined w j h is =
-      let e : w ≡ count = omega (arith, j .turn-le) in
-      let join : joined ≡ orBelow ws count = j .join-is ∙ rw e refl in
-      let all : orBelow ws count ≡ orBelow ws asked = dite (decLt asked (length ws))
-      (λ less. let same : count ≡ asked = omega arith in rw same refl)
-      (λ more. let same : count ≡ length ws = omega (arith, more) in rw same (sym (or-below-past ws asked (omega (arith, more))))) in
-      rw (join, all) refl
+  -- Four words, those from the count on as 0, joined one by one and compared with 0, are the test of the first `asked` words, of which the vector has
+  -- `words`.
+  pub joined-is : (asked a b c d : ℕ) → length ws ≡ 4 → words ≡ min asked 4 → a ≡ below ws words 0 → b ≡ below ws words 1 → c ≡ below ws words 2
+      → d ≡ below ws words 3 → eqb (bitOr (bitOr (bitOr a b) c) d) 0 ≡ noBit ws asked
+  unfolding noBit orBelow
+  joined-is asked a b c d four is p q r s =
+      let all : orBelow ws words ≡ orBelow ws asked = dite (decLt asked (length ws))
+      (λ less. let same : words ≡ asked = omega arith in rw same refl)
+      (λ more. let same : words ≡ length ws = omega (arith, more) in rw same (sym (or-below-past ws asked (omega (arith, more))))) in
+      let fewer : min 4 words ≡ words = omega arith in
+      let none : min 0 words ≡ 0 = omega arith in
+      let first : below ws words 0 ≡ orBelow ws (min 1 words) = sym (ap (λ (x : ℕ). bitOr (orBelow ws x) (below ws words 0)) none) ∙ join-more 0 in
+      let joined : bitOr (bitOr (bitOr a b) c) d ≡ orBelow ws words =
+      rw (p, q, r, s) (ap (λ (x : ℕ). bitOr (bitOr (bitOr x (below ws words 1)) (below ws words 2)) (below ws words 3)) first
+      ∙ ap (λ (x : ℕ). bitOr (bitOr x (below ws words 2)) (below ws words 3)) (join-more 1)
+      ∙ ap (λ (x : ℕ). bitOr x (below ws words 3)) (join-more 2) ∙ join-more 3 ∙ ap (orBelow ws) fewer) in
+      rw (joined, all) refl

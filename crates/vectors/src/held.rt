@@ -1,10 +1,13 @@
-// A vector held by value. The functions are general in the word count: called with a literal count, the compiler makes straight code of them.
+// A vector held by value. The functions are general in the word count.
 use crate::widths::VECTOR_WORDS;
 use crate::widths::WORD_BITS;
 ghost use mathlib.Core.Path.{_≡_};
-ghost use Prim.Native.Nat.{_-_, _^_, min};
+ghost use mathlib.Core.Bool.{cond};
+ghost use Prim.Native.Nat.{_-_, _^_, _≤_, _<_, min};
+ghost use lib.Dec.{ltb};
+ghost use lib.ListN.{getD};
 ghost use Rattle.vectors.specs.Bits.{wordBits, firstBits, noBit};
-ghost use Rattle.vectors.specs.ByValue.{vectorWords, grownWords};
+ghost use Rattle.vectors.specs.ByValue.{vectorWords, carryInto, grownWord, grownWords};
 
 // The place of a word's highest bit.
 const TOP: usize = 63;
@@ -49,7 +52,39 @@ fn within_words(count: usize) -> usize
     }
 }
 
-// The held vector of m bits, kept in its first `count` words, grown by one edge: rotated, AND the edge's occurrence vector.
+// What comes into word w of the first `words` as they are shifted down by one.
+fn carry_into(held: [u64; VECTOR_WORDS], m: usize, words: usize, w: usize) -> u64
+    requires { ⌜ (w < vectorWords) × (words ≤ vectorWords) ⌝ }
+    ensures { λ r. ⌜ r ≡ carryInto m words held w ⌝ }
+{
+    if w + 1 < words {
+        held[w + 1] << TOP
+    } else {
+        // to bit m - 1 of the vector, by a sum: m may be 0
+        (held[0] % 2) << ((m % WORD_BITS + (WORD_BITS - 1)) % WORD_BITS)
+    }
+}
+
+// Word w of the held vector grown by one edge.
+fn grown_word(
+    held: [u64; VECTOR_WORDS],
+    occurs: [u64; VECTOR_WORDS],
+    m: usize,
+    words: usize,
+    w: usize,
+) -> u64
+    requires { ⌜ (w < vectorWords) × (words ≤ vectorWords) ⌝ }
+    ensures { λ r. ⌜ r ≡ grownWord m words occurs held w ⌝ }
+{
+    if w < words {
+        ((held[w] >> 1) | carry_into(held, m, words, w)) & occurs[w]
+    } else {
+        0
+    }
+}
+
+// The held vector of m bits, kept in its first `count` words, grown by one edge: rotated, AND the edge's occurrence vector. Word by word and not in a
+// loop: so the compiler keeps a vector in registers, and makes straight code for each count of a caller's loop.
 pub fn grown(
     held: [u64; VECTOR_WORDS],
     occurs: [u64; VECTOR_WORDS],
@@ -59,32 +94,30 @@ pub fn grown(
     ensures { λ r. ⌜ r ≡ grownWords m count occurs held ⌝ }
 {
     let words = within_words(count);
-    // to bit m - 1 of the vector, by a sum: m may be 0
-    let first = (held[0] % 2) << ((m % WORD_BITS + (WORD_BITS - 1)) % WORD_BITS);
-    let mut new = [0u64; VECTOR_WORDS];
-    let mut w = 0;
-    while w < words {
-        let carry = if w + 1 < words {
-            held[w + 1] << TOP
-        } else {
-            first
-        };
-        new[w] = ((held[w] >> 1) | carry) & occurs[w];
-        w += 1;
-    }
-    new
+    [
+        grown_word(held, occurs, m, words, 0),
+        grown_word(held, occurs, m, words, 1),
+        grown_word(held, occurs, m, words, 2),
+        grown_word(held, occurs, m, words, 3),
+    ]
+}
+
+// Word w where it is one of the first `words`, else 0.
+fn word_below(held: [u64; VECTOR_WORDS], words: usize, w: usize) -> u64
+    requires { ⌜ w < vectorWords ⌝ }
+    ensures { λ r. ⌜ r ≡ cond (ltb w words) (getD held w 0) 0 ⌝ }
+{
+    if w < words { held[w] } else { 0 }
 }
 
 // Whether no bit of the first `count` words is set. All are joined before the one test, so that a caller has one branch and not `count`.
 pub fn no_bit(held: [u64; VECTOR_WORDS], count: usize) -> bool
     ensures { λ r. ⌜ r ≡ noBit held count ⌝ }
 {
-    let tested = within_words(count);
-    let mut joined = 0;
-    let mut w = 0;
-    while w < tested {
-        joined = joined | held[w];
-        w += 1;
-    }
+    let words = within_words(count);
+    let joined = word_below(held, words, 0)
+        | word_below(held, words, 1)
+        | word_below(held, words, 2)
+        | word_below(held, words, 3);
     joined == 0
 }

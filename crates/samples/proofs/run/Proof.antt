@@ -6,10 +6,13 @@ use Rattle.samples.proofs.run.Statement.{statement}
 use Rattle.samples.proofs.run.Tie as tie
 
 abbrev Inv-loop : tie.InvT-loop
-Inv-loop call section rows index₀ index = 0 < index
+Inv-loop call text index section rows next₀ next = 0 < next
 
 abbrev μ-loop : tie.MeasureT-loop
-μ-loop call section rows index₀ index = rows - index
+μ-loop call text index section rows next₀ next = rows - next
+
+part-requires : tie.Need-part-requires Inv-loop μ-loop
+part-requires c κs = tt
 
 parts-requires : tie.Need-parts-requires Inv-loop μ-loop
 parts-requires c κs = tt
@@ -20,14 +23,17 @@ loop-holds c = omega arith
 sub-part : tie.Need-sub-part Inv-loop μ-loop
 sub-part c = omega arith
 
-part-requires : tie.Need-part-requires Inv-loop μ-loop
-part-requires c κs = tt
+part-requires-2 : tie.Need-part-requires-2 Inv-loop μ-loop
+part-requires-2 c κs = tt
+
+begin-requires : tie.Need-begin-requires Inv-loop μ-loop
+begin-requires c κs = tt
 
 run-row-requires : tie.Need-run-row-requires Inv-loop μ-loop
 run-row-requires c κs = tt
 
-add-index : tie.Need-add-index Inv-loop μ-loop
-add-index c = omega arith
+add-next : tie.Need-add-next Inv-loop μ-loop
+add-next c = omega arith
 
 loop-less : tie.Need-loop-less Inv-loop μ-loop
 loop-less c = omega arith
@@ -44,12 +50,14 @@ run-spec =
     (tie.spec
     Inv-loop
     μ-loop
+    part-requires
     parts-requires
     loop-holds
     sub-part
-    part-requires
+    part-requires-2
+    begin-requires
     run-row-requires
-    add-index
+    add-next
     loop-less
     loop-again
     returns)

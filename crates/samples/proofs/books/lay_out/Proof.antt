@@ -9,10 +9,10 @@ use Rattle.samples.proofs.books.lay_out.Statement.{statement}
 use Rattle.samples.proofs.books.lay_out.Tie as tie
 
 abbrev Inv-loop : tie.InvT-loop
-Inv-loop words book₀ at₀ book at = length book₀ ≡ length book
+Inv-loop field book₀ at₀ book at = length book₀ ≡ length book
 
 abbrev μ-loop : tie.MeasureT-loop
-μ-loop words book₀ at₀ book at = length book₀ - at
+μ-loop field book₀ at₀ book at = length book₀ - at
 
 loop-holds : tie.Need-loop-holds Inv-loop μ-loop
 loop-holds c = search needs

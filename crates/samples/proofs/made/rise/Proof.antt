@@ -9,10 +9,22 @@ use Rattle.samples.proofs.made.rise.Statement.{statement}
 use Rattle.samples.proofs.made.rise.Tie as tie
 
 abbrev Inv-loop : tie.InvT-loop
-Inv-loop edges₀ first last code₀ at₀ edges code at = length edges₀ ≡ length edges
+Inv-loop edges₀ field first last code₀ at₀ edges code at = length edges₀ ≡ length edges
 
 abbrev μ-loop : tie.MeasureT-loop
-μ-loop edges₀ first last code₀ at₀ edges code at = length edges₀ - at
+μ-loop edges₀ field first last code₀ at₀ edges code at = length edges₀ - at
+
+number-requires : tie.Need-number-requires Inv-loop μ-loop
+number-requires c κs = tt
+
+code-requires : tie.Need-code-requires Inv-loop μ-loop
+code-requires c κs = tt
+
+number-requires-2 : tie.Need-number-requires-2 Inv-loop μ-loop
+number-requires-2 c κs = tt
+
+code-requires-2 : tie.Need-code-requires-2 Inv-loop μ-loop
+code-requires-2 c κs = tt
 
 loop-holds : tie.Need-loop-holds Inv-loop μ-loop
 loop-holds c = search needs
@@ -44,6 +56,10 @@ rise-spec =
     (tie.spec
     Inv-loop
     μ-loop
+    number-requires
+    code-requires
+    number-requires-2
+    code-requires-2
     loop-holds
     slice-write-edges
     next-requires

@@ -1,54 +1,40 @@
--- `vectors::held::no_bit` meets its contract. Before turn w the words below w are joined (`Joining`). What is left of the words falls.
+-- `vectors::held::no_bit` meets its contract: the four words, those from the count on as 0, are joined one by one (`NoBitIsSet`).
 -- Assumes nothing.
-use Prim.Native.Nat.{_-_}
-use native.Mathlib.Omega.{arith}
-use Rattle.vectors.specs.ByValue.{vectorWords}
-use Rattle.vectors.proofs.NoBitIsSet.{Joining, joining-start, joining-turn, joining-end}
+use Rattle.vectors.proofs.NoBitIsSet.{joined-is}
 use borrow.Author.Needs.{needs}
 use Rattle.vectors.proofs.held.no_bit.Statement.{statement}
 use Rattle.vectors.proofs.held.no_bit.Tie as tie
 
-abbrev Inv-loop : tie.InvT-loop
-Inv-loop count held tested joined₀ w₀ joined w = Joining held tested joined w
-
-abbrev μ-loop : tie.MeasureT-loop
-μ-loop count held tested joined₀ w₀ joined w = vectorWords - w
-
-within-words-requires : tie.Need-within-words-requires Inv-loop μ-loop
+within-words-requires : tie.Need-within-words-requires
 within-words-requires c κs = search needs
 
-loop-holds : tie.Need-loop-holds Inv-loop μ-loop
-loop-holds c = joining-start _ _
+word-below-requires : tie.Need-word-below-requires
+word-below-requires c κs = search needs
 
-mul-joined : tie.Need-mul-joined Inv-loop μ-loop
-mul-joined c = search needs
+word-below-requires-2 : tie.Need-word-below-requires-2
+word-below-requires-2 c κs = search needs
 
-array-read-joined : tie.Need-array-read-joined Inv-loop μ-loop
-array-read-joined c = search needs
+word-below-requires-3 : tie.Need-word-below-requires-3
+word-below-requires-3 c κs = search needs
 
-add-w : tie.Need-add-w Inv-loop μ-loop
-add-w c = search needs
+word-below-requires-4 : tie.Need-word-below-requires-4
+word-below-requires-4 c κs = search needs
 
-loop-less : tie.Need-loop-less Inv-loop μ-loop
-loop-less c = search needs
-
-loop-again : tie.Need-loop-again Inv-loop μ-loop
-loop-again c = joining-turn _ _ _ _ (c .before .loop .inv) (omega arith)
-
-returns : tie.Need-returns Inv-loop μ-loop
-returns c = joining-end _ _ _ _ _ (c .before .loop .inv) (omega arith) (search needs)
+returns : tie.Need-returns
+returns c =
+    let third = c .before in
+    let second = third .before in
+    let first = second .before in
+    joined-is _ _ _ _ _ _ _ (search needs) (first .before .within-words .ensures) (first .word-below .ensures) (second .word-below2 .ensures)
+    (third .word-below3 .ensures) (c .word-below4 .ensures)
 
 pub no-bit-spec : {M : Type 1} → statement M
 no-bit-spec =
     tie.close
     (tie.spec
-    Inv-loop
-    μ-loop
     within-words-requires
-    loop-holds
-    mul-joined
-    array-read-joined
-    add-w
-    loop-less
-    loop-again
+    word-below-requires
+    word-below-requires-2
+    word-below-requires-3
+    word-below-requires-4
     returns)

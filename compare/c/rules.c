@@ -1,0 +1,176 @@
+// The quick scan, the plain survey and the report. What each part does is said in the header that has it.
+#include "rules.h"
+
+#include "book.h"
+#include "reading.h"
+#include "tally.h"
+
+enum { MOST_LINE = 65536, WORDS_EACH = 3 };
+
+// A call's ring and line, and what is made of the ring once for a call.
+struct search {
+    const uint8_t *ring;
+    size_t m;
+    const uint8_t *line;
+    size_t n;
+    size_t k;
+    struct table table;
+    uint8_t doubled[2 * MOST_RING];
+    struct tally tally;
+};
+
+struct finding {
+    size_t start;
+    size_t rotation;
+    size_t distance;
+};
+
+// Refusals 1 to 4, or 0.
+static size_t admit(size_t m, size_t k, size_t n, size_t room)
+{
+    if (m == 0 || m > MOST_RING)
+        return 1;
+    if (k >= m)
+        return 2;
+    if (n > MOST_LINE)
+        return 3;
+    if (n >= m && room < WORDS_EACH * (n - m + 1))
+        return 4;
+    return 0;
+}
+
+// Where a sweep stands: the next window's start, the last verified start if there is one, the looks so far.
+struct sweep {
+    size_t start;
+    bool verified;
+    size_t last;
+    size_t looks;
+};
+
+// Rule 5: afresh with no earlier tally or where 2·s > m, else moved by s steps. Few windows are candidates, so this stays out
+// of line and leaves the registers to the reading.
+static __attribute__((noinline)) struct reached verify(struct search *search, size_t start, bool verified, size_t last)
+{
+    size_t s = start - last;
+    if (!verified || 2 * s > search->m)
+        return count_afresh(&search->tally, search->doubled, search->m, search->line, start);
+    return move_along(&search->tally, search->ring, search->m, search->line, last, s, 0);
+}
+
+static struct finding finding_at(const struct search *search, struct reached reached)
+{
+    return (struct finding){reached.start, lowest_rotation(&search->tally, search->m, reached.least), reached.least};
+}
+
+// One window: read, and verified if it is a candidate. True where it is a finding.
+STRAIGHT bool sweep_window(struct search *search, struct sweep *at, struct finding *finding)
+{
+    size_t i = at->start;
+    struct window_read read = read_window(&search->table, search->line + i, search->m, search->k);
+    at->looks += read.looks;
+    bool found = false;
+    if (read.breaks <= search->k) {
+        struct reached reached = verify(search, i, at->verified, at->last);
+        at->verified = true;
+        at->last = i;
+        at->looks += reached.looks;
+        found = reached.least <= search->k;
+        if (found)
+            *finding = finding_at(search, reached);
+    }
+    at->start = i + read.left + 1;
+    return found;
+}
+
+static void put_finding(uint32_t *words, size_t before, struct finding finding)
+{
+    words[WORDS_EACH * before] = (uint32_t)finding.start;
+    words[WORDS_EACH * before + 1] = (uint32_t)finding.rotation;
+    words[WORDS_EACH * before + 2] = (uint32_t)finding.distance;
+}
+
+static void prepare(struct search *search, const uint8_t *ring, size_t m, const uint8_t *line, size_t n, size_t k)
+{
+    search->ring = ring;
+    search->m = m;
+    search->line = line;
+    search->n = n;
+    search->k = k;
+    double_ring(search->doubled, ring, m);
+}
+
+struct rules_answer rules_scan(const uint8_t *ring, size_t m, const uint8_t *line, size_t n, size_t k,
+                               uint32_t *words, size_t room)
+{
+    struct rules_answer answer = {admit(m, k, n, room), 0, 0, 0, 0};
+    if (answer.refusal != 0)
+        return answer;
+    struct search search;
+    prepare(&search, ring, m, line, n, k);
+    occurrences(&search.table, ring, m);
+    struct sweep at = {0, false, 0, 0};
+    struct finding finding;
+    while (at.start + m <= n)
+        if (sweep_window(&search, &at, &finding))
+            put_finding(words, answer.found++, finding);
+    answer.looks = at.looks;
+    return answer;
+}
+
+// "The first afresh and each next by one step, at m = 1 too": on to the next finding or to the last start.
+static struct reached verify_on(struct search *search, size_t i)
+{
+    if (i == 0)
+        return count_afresh(&search->tally, search->doubled, search->m, search->line, 0);
+    size_t from = i - 1;
+    size_t steps = search->n - search->m - from;
+    return move_along(&search->tally, search->ring, search->m, search->line, from, steps, search->k + 1);
+}
+
+struct rules_answer rules_survey(const uint8_t *ring, size_t m, const uint8_t *line, size_t n, size_t k,
+                                 uint32_t *words, size_t room)
+{
+    struct rules_answer answer = {admit(m, k, n, room), 0, 0, 0, 0};
+    if (answer.refusal != 0)
+        return answer;
+    struct search search;
+    prepare(&search, ring, m, line, n, k);
+    for (size_t i = 0; i + m <= n;) {
+        struct reached reached = verify_on(&search, i);
+        answer.looks += reached.looks;
+        if (reached.least <= k)
+            put_finding(words, answer.found++, finding_at(&search, reached));
+        i = reached.start + 1;
+    }
+    return answer;
+}
+
+struct rules_answer rules_report(uint32_t cell, uint16_t ring_number, const uint8_t *ring, size_t m,
+                                 const uint8_t *line, size_t n, size_t k, const uint8_t *bytes, size_t length,
+                                 uint32_t *words, size_t room)
+{
+    struct rules_answer answer = {admit(m, k, n, room), 0, 0, 0, 0};
+    struct book book = {bytes, length};
+    if (answer.refusal == 0)
+        answer.refusal = read_book(book, &answer.place);
+    if (answer.refusal != 0)
+        return answer;
+    struct search search;
+    prepare(&search, ring, m, line, n, k);
+    occurrences(&search.table, ring, m);
+    struct sweep at = {0, false, 0, 0};
+    struct field held;
+    seek(book, &held, 0, (struct address){cell, ring_number, 0});
+    struct finding finding;
+    while (at.start + m <= n) {
+        if (!sweep_window(&search, &at, &finding))
+            continue;
+        if (ask(book, &held, (struct address){cell, ring_number, (uint32_t)finding.start}))
+            answer.hidden++;
+        else
+            put_finding(words, answer.found - answer.hidden, finding);
+        answer.found++;
+    }
+    answer.looks = at.looks;
+    return answer;
+}

@@ -1,0 +1,30 @@
+// The calls of document 01 in C, in the shape of the library's own code: what the benchmark's ratios are against.
+#ifndef RULES_H
+#define RULES_H
+
+#include <stddef.h>
+#include <stdint.h>
+
+// A refusal's number and place, or 0 and 0 with the counts of an accepted call. Only a report hides.
+struct rules_answer {
+    size_t refusal;
+    size_t place;
+    size_t found;
+    size_t hidden;
+    size_t looks;
+};
+
+// Rules 1 to 5: ring of m edges, line of n edges, allowance k, `room` words lent for the findings.
+struct rules_answer rules_scan(const uint8_t *ring, size_t m, const uint8_t *line, size_t n, size_t k,
+                               uint32_t *words, size_t room);
+
+// The plain survey.
+struct rules_answer rules_survey(const uint8_t *ring, size_t m, const uint8_t *line, size_t n, size_t k,
+                                 uint32_t *words, size_t room);
+
+// The quick scan with the silence book asked for each finding before it is written.
+struct rules_answer rules_report(uint32_t cell, uint16_t ring_number, const uint8_t *ring, size_t m,
+                                 const uint8_t *line, size_t n, size_t k, const uint8_t *book, size_t length,
+                                 uint32_t *words, size_t room);
+
+#endif

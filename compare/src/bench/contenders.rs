@@ -1,0 +1,103 @@
+//! Who is timed: the library, the same rules in C and in Rust, and the peers.
+use super::inputs::Input;
+use super::ours::OURS;
+use crate::peers::{c_rules, rules, Answer, Peer, Rules, PEERS};
+
+/// A call of the rules. A report is asked with an empty book and with one of 1,000 silences.
+#[derive(Clone, Copy, PartialEq, Eq, Debug)]
+pub enum Call {
+    Scan,
+    Survey,
+    Report,
+    Hiding,
+}
+
+pub const CALLS: [Call; 4] = [Call::Scan, Call::Survey, Call::Report, Call::Hiding];
+
+impl Call {
+    pub fn name(self) -> &'static str {
+        match self {
+            Call::Scan => "scan",
+            Call::Survey => "survey",
+            Call::Report => "report",
+            Call::Hiding => "report, 1,000 silences",
+        }
+    }
+}
+
+/// Who wrote the rules that are called.
+#[derive(Clone, Copy, PartialEq, Eq, Debug)]
+pub enum Version {
+    C,
+    Ours,
+    Rust,
+}
+
+pub const VERSIONS: [Version; 3] = [Version::C, Version::Ours, Version::Rust];
+
+impl Version {
+    pub fn name(self) -> &'static str {
+        match self {
+            Version::C => "C",
+            Version::Ours => "outlines",
+            Version::Rust => "Rust",
+        }
+    }
+
+    fn rules(self) -> &'static Rules {
+        match self {
+            Version::C => &c_rules::RULES,
+            Version::Ours => &OURS,
+            Version::Rust => &rules::RULES,
+        }
+    }
+}
+
+#[derive(Clone, Copy)]
+pub enum Contender {
+    Rules(Version, Call),
+    Peer(&'static Peer),
+}
+
+impl Contender {
+    /// The rules first, call by call and C before the others; then the peers.
+    pub fn all() -> Vec<Contender> {
+        let rules = CALLS.iter().flat_map(|&call| VERSIONS.map(|version| Contender::Rules(version, call)));
+        rules.chain(PEERS.iter().map(Contender::Peer)).collect()
+    }
+
+    pub fn name(&self) -> String {
+        match self {
+            Contender::Rules(version, call) => format!("{} {}", version.name(), call.name()),
+            Contender::Peer(peer) => peer.name.to_string(),
+        }
+    }
+
+    /// What a ratio is against: the same call of the rules in C, and for a peer the scan.
+    pub fn against(&self) -> Call {
+        match self {
+            Contender::Rules(_, call) => *call,
+            Contender::Peer(_) => Call::Scan,
+        }
+    }
+
+    /// Where the rules' calls stand in the list of all.
+    pub fn place_of(version: Version, call: Call) -> usize {
+        VERSIONS.len() * call as usize + version as usize
+    }
+
+    pub fn run(&self, input: &Input, words: &mut [u32]) -> Answer {
+        match self {
+            Contender::Rules(version, call) => match call {
+                Call::Scan => (version.rules().scan)(&input.ring, &input.line, input.k, words),
+                Call::Survey => (version.rules().survey)(&input.ring, &input.line, input.k, words),
+                Call::Report => (version.rules().report)(&input.question(&[]), words),
+                Call::Hiding => (version.rules().report)(&input.question(&input.book), words),
+            },
+            Contender::Peer(peer) => {
+                let found = (peer.search)(&input.ring, &input.line, input.k, words);
+                Answer { found, ..Answer::default() }
+            }
+        }
+    }
+}

@@ -1,0 +1,126 @@
+//! The inputs that are timed. All are made from seeds.
+use super::boundaries::{boundaries, boundary};
+use super::numbers::Numbers;
+use crate::peers::Question;
+
+pub const CELL: u32 = 7;
+pub const RING_NUMBER: u16 = 2;
+const MOST_LINE: usize = 65_536;
+const COPIES: usize = 10;
+/// As many as a book holds.
+const SILENCES: usize = 1000;
+
+/// Which table an input belongs to.
+#[derive(Clone, Copy, PartialEq, Eq, Debug)]
+pub enum Kind {
+    /// Its row counts in the means; with the number of codes, or 0 for boundaries.
+    Main(usize),
+    GrowingLine,
+    GrowingRing,
+    /// Every start is a finding: for the report against the scan.
+    AllFound,
+}
+
+pub struct Input {
+    pub name: String,
+    pub kind: Kind,
+    pub ring: Vec<u8>,
+    pub line: Vec<u8>,
+    pub k: usize,
+    /// A book of 1,000 silences for this cell and ring number, every second finding among them.
+    pub book: Vec<u8>,
+}
+
+impl Input {
+    pub fn question<'a>(&'a self, book: &'a [u8]) -> Question<'a> {
+        Question { cell: CELL, ring_number: RING_NUMBER, ring: &self.ring, line: &self.line, k: self.k, book }
+    }
+
+    /// Fills the book. Silences that name no finding are spread evenly over the line.
+    pub fn silence(&mut self, findings: &[u32]) {
+        let mut starts: Vec<u32> = findings.chunks(3).step_by(2).map(|finding| finding[0]).collect();
+        let step = (starts.len() / SILENCES).max(1);
+        starts = starts.into_iter().step_by(step).take(SILENCES).collect();
+        let spread = (0..).map(|at| (at * MOST_LINE / SILENCES) as u32);
+        let others: Vec<u32> = spread.filter(|start| !starts.contains(start)).take(SILENCES - starts.len()).collect();
+        starts.extend(others);
+        starts.sort_unstable();
+        self.book = starts.into_iter().flat_map(field).collect();
+    }
+}
+
+/// "Tag 21 hex, length 10, cell (4 bytes), ring number (2), start (4)."
+fn field(start: u32) -> Vec<u8> {
+    [&[0x21, 0, 10], &CELL.to_be_bytes()[..], &RING_NUMBER.to_be_bytes(), &start.to_be_bytes()].concat()
+}
+
+fn random_edges(numbers: &mut Numbers, length: usize, codes: usize) -> Vec<u8> {
+    (0..length).map(|_| numbers.below(codes) as u8).collect()
+}
+
+/// Puts rotated copies of the ring into the line, one in each tenth of it, each with up to k edges made another code.
+fn plant(numbers: &mut Numbers, ring: &[u8], line: &mut [u8], k: usize) {
+    let m = ring.len();
+    let tenth = line.len() / COPIES;
+    for part in line.chunks_mut(tenth).take(COPIES) {
+        let start = numbers.below(tenth - m + 1);
+        let rotation = numbers.below(m);
+        let copy = &mut part[start..start + m];
+        copy.iter_mut().enumerate().for_each(|(q, edge)| *edge = ring[(rotation + q) % m]);
+        for _ in 0..numbers.below(k + 1) {
+            copy[numbers.below(m)] = ring[numbers.below(m)];
+        }
+    }
+}
+
+fn planted(kind: Kind, codes: usize, n: usize, m: usize, k: usize) -> Input {
+    let mut numbers = Numbers::seeded((codes * 1_000_000 + m * 1000 + k + n) as u64);
+    let ring = random_edges(&mut numbers, m, codes);
+    let mut line = random_edges(&mut numbers, n, codes);
+    plant(&mut numbers, &ring, &mut line, k);
+    let name = match kind {
+        Kind::GrowingLine => format!("n {n}"),
+        Kind::GrowingRing => format!("m {m}"),
+        _ => format!("{codes} / {m} / {k}"),
+    };
+    Input { name, kind, ring, line, k, book: Vec::new() }
+}
+
+fn constant(name: &str, kind: Kind, m: usize, k: usize) -> Input {
+    Input { name: name.to_string(), kind, ring: vec![1; m], line: vec![1; MOST_LINE], k, book: Vec::new() }
+}
+
+/// Lines of boundaries; one of them is the ring.
+fn outlined(m: usize, k: usize) -> Input {
+    let mut numbers = Numbers::seeded(m as u64);
+    let ring = boundary(&mut numbers, m);
+    let mut line = boundaries(&mut numbers, MOST_LINE);
+    plant(&mut numbers, &ring, &mut line, k);
+    Input { name: format!("boundaries / {m} / {k}"), kind: Kind::Main(0), ring, line, k, book: Vec::new() }
+}
+
+/// The rows that count in the means: three alphabets, five rings, three allowances; two rows with many candidates; a
+/// constant line; boundaries.
+fn main_rows() -> Vec<Input> {
+    let mut rows = Vec::new();
+    for codes in [4, 26, 256] {
+        for m in [20, 40, 60, 128, 256] {
+            for k in [1, 2, 5] {
+                rows.push(planted(Kind::Main(codes), codes, MOST_LINE, m, k));
+            }
+        }
+    }
+    rows.push(planted(Kind::Main(4), 4, MOST_LINE, 60, 15));
+    rows.push(planted(Kind::Main(4), 4, MOST_LINE, 256, 60));
+    rows.push(constant("constant / 60 / 2", Kind::Main(1), 60, 2));
+    rows.push(outlined(128, 5));
+    rows
+}
+
+pub fn all() -> Vec<Input> {
+    let mut rows = main_rows();
+    rows.extend([12, 13, 14, 15, 16].map(|power| planted(Kind::GrowingLine, 26, 1 << power, 60, 2)));
+    rows.extend([8, 16, 32, 64, 128, 256].map(|m| planted(Kind::GrowingRing, 26, MOST_LINE, m, 2)));
+    rows.push(constant("every start a finding", Kind::AllFound, 1, 0));
+    rows
+}

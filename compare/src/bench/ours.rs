@@ -1,0 +1,28 @@
+//! The place where the library is plugged in: its three calls. Nothing else of the benchmark names the library.
+use crate::outlines::{self, ask, Empty, Request, Search};
+use crate::peers::{Answer, Question, Rules};
+
+pub const OURS: Rules = Rules { scan, survey, report };
+
+fn answer(given: outlines::Answer) -> Answer {
+    Answer {
+        refusal: given.refusal as usize,
+        place: given.place as usize,
+        found: given.found as usize,
+        hidden: given.hidden as usize,
+        looks: given.looks as usize,
+    }
+}
+
+fn scan(ring: &[u8], line: &[u8], allowance: usize, words: &mut [u32]) -> Answer {
+    answer(ask(Request::Scan(Search { ring, line, allowance }, words), Empty::AsLent))
+}
+
+fn survey(ring: &[u8], line: &[u8], allowance: usize, words: &mut [u32]) -> Answer {
+    answer(ask(Request::Survey(Search { ring, line, allowance }, words), Empty::AsLent))
+}
+
+fn report(q: &Question, words: &mut [u32]) -> Answer {
+    let search = Search { ring: q.ring, line: q.line, allowance: q.k };
+    answer(ask(Request::Report(q.cell, q.ring_number, search, q.book, words), Empty::AsLent))
+}

@@ -1,0 +1,117 @@
+//! The page of results: ratios first, then the times they come from.
+use super::contenders::{Call, Version, VERSIONS};
+use super::inputs::Kind;
+use super::machine;
+use super::results::{geometric_mean, Results, Row, Second, BAR};
+use super::rows::{growth, main_row, ratios, times};
+use super::tables::{heads, short, table};
+use std::fmt::Write;
+
+/// How the times were taken and how each peer reads its source: words that no run changes.
+const METHOD: &str = include_str!("method.md");
+
+/// Some of the main rows, by their number of codes.
+type Part = (&'static str, fn(usize) -> bool);
+
+/// A line for each contender: its geometric means over all main rows and over parts of them, and its extremes.
+fn means(page: &mut String, results: &Results) {
+    let parts: [Part; 6] = [
+        ("all rows", |_| true),
+        ("4 codes", |codes| codes == 4),
+        ("26 codes", |codes| codes == 26),
+        ("256 codes", |codes| codes == 256),
+        ("constant", |codes| codes == 1),
+        ("boundaries", |codes| codes == 0),
+    ];
+    let names = parts.iter().map(|part| part.0.to_string());
+    let head = heads(&["", "over C"], names.chain(["least".to_string(), "most".to_string()]));
+    let lines = results.rivals().map(|(at, contender)| {
+        let all = results.ratios(at, |_| true);
+        let means = parts.iter().map(|part| short(geometric_mean(&results.ratios(at, part.1))));
+        let least = all.iter().copied().fold(f64::INFINITY, f64::min);
+        let most = all.iter().copied().fold(0.0, f64::max);
+        let name = [contender.name(), contender.against().name().to_string()].into_iter();
+        name.chain(means).chain([short(least), short(most)]).collect()
+    });
+    table(page, &head, lines);
+}
+
+/// The sliding survey stands among the peers, over the scan; here it is set against what it is a ceiling for.
+fn ceiling(page: &mut String, results: &Results) {
+    for (at, contender) in results.contenders.iter().enumerate() {
+        if contender.name() == "sliding survey" {
+            let over_survey = |row: &Row| row.times[at] / row.time_of(Version::C, Call::Survey);
+            let ratios: Vec<f64> = results.rows_of(main_row).map(over_survey).collect();
+            let mean = short(geometric_mean(&ratios));
+            let _ = writeln!(page, "Over the survey in C the sliding survey takes {mean}.\n");
+        }
+    }
+}
+
+/// A report that hides against the scan alone, where every start is a finding.
+fn hiding(page: &mut String, results: &Results) {
+    page.push_str(
+        "## A report that hides\n\nOn 65,536 findings (a ring of 1 edge, a constant line, k = 0), a report with 1,000 ",
+    );
+    page.push_str("silences takes so many times the scan alone of the same version:\n\n");
+    let head = heads(&["", "report over scan"], std::iter::empty());
+    for row in results.rows_of(|kind| kind == Kind::AllFound) {
+        let over_scan = |version| row.time_of(version, Call::Hiding) / row.time_of(version, Call::Scan);
+        table(page, &head, VERSIONS.iter().map(|v| vec![v.name().to_string(), short(over_scan(*v))]));
+    }
+}
+
+fn second_runs(page: &mut String, results: &Results) {
+    let _ = writeln!(
+        page,
+        "## Second runs\n\nA row whose scan took over {BAR} times the scan in C was timed once more; the second"
+    );
+    page.push_str("run's times stand in the tables.\n\n");
+    if results.seconds.is_empty() {
+        page.push_str("No row did.\n\n");
+        return;
+    }
+    let head = heads(&["codes / m / k", "first", "second", "over the bar"], std::iter::empty());
+    let verdict = |ratio: f64| {
+        if ratio > BAR {
+            "confirmed"
+        } else {
+            "withdrawn"
+        }
+    };
+    let line = |s: &Second| vec![s.name.clone(), short(s.first), short(s.second), verdict(s.second).to_string()];
+    table(page, &head, results.seconds.iter().map(line));
+}
+
+/// The whole page. `loads` are the machine's loads before and after.
+pub fn page(results: &Results, loads: [&str; 2], picture: &str) -> String {
+    let mut page = String::from("# How fast it is\n\n");
+    page.push_str("A ratio is a time over that of *the same rules in C*: the same call, in C and in the library's shape (compare/c). ");
+    page.push_str("Below 1 is faster. A peer is set against the scan in C.\n\n");
+    let _ = writeln!(
+        page,
+        "{}, on {}. Load of the machine {} before, {} after.\n",
+        machine::today(),
+        machine::processor(),
+        loads[0],
+        loads[1]
+    );
+    let head = heads(&["", "built by"], std::iter::empty());
+    table(&mut page, &head, machine::compilers().into_iter().map(|(who, by)| vec![who.to_string(), by]));
+    page.push_str("## Geometric means of the ratios\n\n");
+    means(&mut page, results);
+    ceiling(&mut page, results);
+    let _ = writeln!(page, "![ratios to the same rules in C]({picture})\n");
+    ratios(&mut page, results);
+    hiding(&mut page, results);
+    second_runs(&mut page, results);
+    times(&mut page, results);
+    growth(&mut page, results);
+    let _ = writeln!(
+        page,
+        "## How it is measured\n\n{} answers were compared before anything was timed, all equal.\n",
+        results.compared
+    );
+    page.push_str(METHOD);
+    page
+}

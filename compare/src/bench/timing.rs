@@ -1,0 +1,49 @@
+//! Timing: all contenders in turn, for several rounds, and the best of each.
+use super::clock::processor_time;
+use super::contenders::Contender;
+use super::inputs::Input;
+use std::hint::black_box;
+use std::time::{Duration, Instant};
+
+const ROUNDS: usize = 8;
+/// Every contender is timed so often, however slow it is.
+const ROUNDS_AT_LEAST: usize = 2;
+/// A sample repeats a call until it takes so long, so that the clock's steps do not show.
+const SAMPLE: Duration = Duration::from_micros(500);
+/// A contender that has taken so long on an input leaves the rest of the rounds out.
+const ENOUGH: Duration = Duration::from_millis(150);
+
+/// Calls until a sample's time is over: the processor time of one, in nanoseconds, and of all.
+fn sample(contender: &Contender, input: &Input, words: &mut [u32]) -> (f64, Duration) {
+    let begun = Instant::now();
+    let from = processor_time();
+    let mut calls = 0;
+    while calls == 0 || begun.elapsed() < SAMPLE {
+        black_box(contender.run(black_box(input), black_box(words)));
+        calls += 1;
+    }
+    let taken = processor_time() - from;
+    (taken.as_nanos() as f64 / calls as f64, taken)
+}
+
+/// For each contender the best nanoseconds of a call. Before a sample is timed the contender runs as long untimed, unless one
+/// call is longer than a sample: a processor learns the branches of a search, and the first in turn should not teach the
+/// next. The words are not cleared between calls.
+pub fn time(contenders: &[Contender], input: &Input, words: &mut [u32]) -> Vec<f64> {
+    let mut best = vec![f64::INFINITY; contenders.len()];
+    let mut spent = vec![Duration::ZERO; contenders.len()];
+    for round in 0..ROUNDS {
+        for (at, contender) in contenders.iter().enumerate() {
+            if round >= ROUNDS_AT_LEAST && spent[at] > ENOUGH {
+                continue;
+            }
+            if best[at] < SAMPLE.as_nanos() as f64 {
+                sample(contender, input, words);
+            }
+            let (nanoseconds, taken) = sample(contender, input, words);
+            best[at] = best[at].min(nanoseconds);
+            spent[at] += taken;
+        }
+    }
+    best
+}

@@ -1,0 +1,67 @@
+//! Peers: what a user would pick in place of the library, and the library's own rules written again in C and in Rust.
+//! Every one gives the same findings: start, the lowest rotation that reaches the least distance, that distance.
+pub mod acb;
+pub mod acbq;
+pub mod acsmf;
+mod automaton;
+pub mod c_rules;
+mod filter;
+mod findings;
+pub mod max_shift;
+pub mod naive;
+mod nearest;
+pub mod rules;
+pub mod sliding;
+mod vectors;
+
+/// A refusal's number and place, or 0 and 0 with the counts of an accepted call. The layout is that of the C header.
+#[repr(C)]
+#[derive(Clone, Copy, Debug, Default, PartialEq, Eq)]
+pub struct Answer {
+    pub refusal: usize,
+    pub place: usize,
+    pub found: usize,
+    pub hidden: usize,
+    pub looks: usize,
+}
+
+/// A report's question: the scan's, the address that the book is asked for, and the book.
+#[derive(Clone, Copy)]
+pub struct Question<'a> {
+    pub cell: u32,
+    pub ring_number: u16,
+    pub ring: &'a [u8],
+    pub line: &'a [u8],
+    pub k: usize,
+    pub book: &'a [u8],
+}
+
+/// Scan or survey: ring, line, allowance, lent words.
+pub type Search = fn(&[u8], &[u8], usize, &mut [u32]) -> Answer;
+
+/// The three calls of document 01, whoever wrote them.
+pub struct Rules {
+    pub scan: Search,
+    pub survey: Search,
+    pub report: fn(&Question, &mut [u32]) -> Answer,
+}
+
+/// A peer finds and counts no looks. It takes what a scan accepts.
+pub struct Peer {
+    pub name: &'static str,
+    pub search: fn(&[u8], &[u8], usize, &mut [u32]) -> usize,
+}
+
+pub const PEERS: [Peer; 6] = [
+    Peer { name: "ACB", search: acb::search },
+    Peer { name: "ACBq", search: acbq::search },
+    Peer { name: "ACSMF-Simple", search: acsmf::search },
+    Peer { name: "MW-MaxShiftM", search: max_shift::search },
+    Peer { name: "naive", search: naive::search },
+    Peer { name: "sliding survey", search: sliding::search },
+];
+
+/// The ring twice, end to end: every rotation is a part of it.
+pub fn doubled(ring: &[u8]) -> Vec<u8> {
+    [ring, ring].concat()
+}

@@ -1,0 +1,89 @@
+//! What the tests of the peers share: document 01's meanings and rules word by word, and lines to try them on.
+
+/// A small generator of numbers (xorshift), seeded.
+pub struct Numbers(pub u64);
+
+impl Numbers {
+    pub fn below(&mut self, bound: usize) -> usize {
+        self.0 ^= self.0 << 13;
+        self.0 ^= self.0 >> 7;
+        self.0 ^= self.0 << 17;
+        (self.0 >> 11) as usize % bound
+    }
+
+    pub fn ring(&mut self, m: usize, codes: usize) -> Vec<u8> {
+        (0..m).map(|_| self.below(codes) as u8).collect()
+    }
+
+    /// A line with pieces of the ring in it, so that near findings are common.
+    pub fn line(&mut self, ring: &[u8], n: usize, codes: usize) -> Vec<u8> {
+        let mut line = Vec::new();
+        while line.len() < n {
+            let from = self.below(ring.len());
+            let piece = self.below(2 * ring.len() + 1);
+            line.extend((0..piece).map(|q| ring[(from + q) % ring.len()]));
+            let others = self.below(4);
+            line.extend((0..others).map(|_| self.below(codes + 1) as u8));
+        }
+        line.truncate(n);
+        line
+    }
+}
+
+/// The findings by document 01's meanings: start, rotation, distance.
+pub fn by_definition(ring: &[u8], line: &[u8], k: usize) -> Vec<[u32; 3]> {
+    let m = ring.len();
+    let differs = |i: usize, r: usize, q: usize| line[i + q] != ring[(r + q) % m];
+    let distance = |i: usize, r: usize| (0..m).filter(|&q| differs(i, r, q)).count();
+    let mut found = Vec::new();
+    for i in 0..(line.len() + 1).saturating_sub(m) {
+        let (least, lowest) = (0..m).map(|r| (distance(i, r), r)).min().unwrap();
+        if least <= k {
+            found.push([i as u32, lowest as u32, least as u32]);
+        }
+    }
+    found
+}
+
+/// Rules 1 to 3 on one window, with the stretch kept as a stretch: how many edges are read, and the breaks.
+fn read_by_rules(ring: &[u8], window: &[u8], k: usize) -> (usize, usize) {
+    let m = ring.len();
+    let begins = |r: usize, s: &[u8]| (0..s.len()).all(|q| s[q] == ring[(r + q) % m]);
+    let (mut read, mut held, mut breaks) = (0, 0, 0);
+    while read < m && breaks <= k {
+        read += 1;
+        held += 1;
+        let stretch = &window[m - read..m - read + held];
+        if !(0..m).any(|r| begins(r, stretch)) {
+            breaks += 1;
+            held = 0;
+        }
+    }
+    (read, breaks)
+}
+
+/// The looks of rules 1 to 5.
+pub fn looks_by_rules(ring: &[u8], line: &[u8], k: usize) -> usize {
+    let m = ring.len();
+    let (mut looks, mut start, mut last) = (0, 0, None);
+    while start + m <= line.len() {
+        let (read, breaks) = read_by_rules(ring, &line[start..start + m], k);
+        looks += read;
+        if breaks <= k {
+            looks += match last {
+                Some(from) if 2 * (start - from) <= m => 2 * m * (start - from),
+                _ => m * m,
+            };
+            last = Some(start);
+        }
+        start += m - read + 1;
+    }
+    looks
+}
+
+/// A silence as a field of the book.
+pub fn field(cell: u32, ring_number: u16, start: u32) -> Vec<u8> {
+    let head = [0x21, 0, 10];
+    let parts = [&head[..], &cell.to_be_bytes(), &ring_number.to_be_bytes(), &start.to_be_bytes()];
+    parts.concat()
+}

@@ -1,0 +1,155 @@
+//! Every peer, and the rules in C and in Rust, beside the definitions on many rings. They meet here what no row of the
+//! benchmark has: rings of one edge, lines shorter than the ring, allowances up to m - 1, widths at a word's end, refusals.
+mod common;
+
+use common::{by_definition, field, looks_by_rules, Numbers};
+use compare::peers::{c_rules, rules, Answer, Question, Rules, PEERS};
+
+const VERSIONS: [&Rules; 2] = [&c_rules::RULES, &rules::RULES];
+/// A word that no finding here has.
+const UNWRITTEN: u32 = 77_777;
+
+/// The words that are wanted come first, and those behind them keep their values.
+fn check_words(words: &[u32], wanted: &[[u32; 3]], who: &str) {
+    let (put, kept) = words.split_at(3 * wanted.len());
+    assert_eq!(put, wanted.concat(), "{who}");
+    assert!(kept.iter().all(|&word| word == UNWRITTEN), "{who} wrote past its findings");
+}
+
+fn check_peers(ring: &[u8], line: &[u8], k: usize, wanted: &[[u32; 3]]) {
+    for peer in &PEERS {
+        let mut words = vec![UNWRITTEN; 3 * (line.len() + 1).saturating_sub(ring.len())];
+        let found = (peer.search)(ring, line, k, &mut words);
+        assert_eq!(found, wanted.len(), "{} on {ring:?} in {line:?} with {k}", peer.name);
+        check_words(&words, wanted, peer.name);
+    }
+}
+
+fn check_rules(ring: &[u8], line: &[u8], k: usize, wanted: &[[u32; 3]], quick_looks: usize) {
+    let (m, n) = (ring.len(), line.len());
+    let survey_looks = if n < m { 0 } else { 2 * m * n - m * m };
+    for version in VERSIONS {
+        for (call, looks) in [(version.scan, quick_looks), (version.survey, survey_looks)] {
+            let mut words = vec![UNWRITTEN; 3 * n + 5];
+            let answer = call(ring, line, k, &mut words);
+            let right = Answer { found: wanted.len(), looks, ..Answer::default() };
+            assert_eq!(answer, right, "{ring:?} in {line:?} with {k}");
+            check_words(&words, wanted, "scan or survey");
+        }
+    }
+}
+
+/// A report with every second finding silenced, beside silences of other cells and rings.
+fn check_reports(ring: &[u8], line: &[u8], k: usize, wanted: &[[u32; 3]], looks: usize) {
+    let mut book = [field(0, 2, 0), field(7, 1, 0)].concat();
+    let silenced = wanted.iter().step_by(2).take(990);
+    silenced.for_each(|finding| book.extend(field(7, 2, finding[0])));
+    book.extend(field(7, 3, 0));
+    let hidden = wanted.len().div_ceil(2).min(990);
+    let is_shown = |at: usize| at % 2 == 1 || at >= 2 * 990;
+    let shown: Vec<_> = (0..wanted.len()).filter(|&at| is_shown(at)).map(|at| wanted[at]).collect();
+    for version in VERSIONS {
+        let mut words = vec![UNWRITTEN; 3 * line.len() + 5];
+        let question = Question { cell: 7, ring_number: 2, ring, line, k, book: &book };
+        let answer = (version.report)(&question, &mut words);
+        let right = Answer { found: wanted.len(), hidden, looks, ..Answer::default() };
+        assert_eq!(answer, right);
+        check_words(&words, &shown, "report");
+    }
+}
+
+fn check(ring: &[u8], line: &[u8], k: usize) {
+    let wanted = by_definition(ring, line, k);
+    let looks = looks_by_rules(ring, line, k);
+    check_peers(ring, line, k, &wanted);
+    check_rules(ring, line, k, &wanted, looks);
+    check_reports(ring, line, k, &wanted, looks);
+}
+
+#[test]
+fn many_small_rings() {
+    let mut numbers = Numbers(0x5eed);
+    for _ in 0..20_000 {
+        let (m, codes, n) = (1 + numbers.below(20), 1 + numbers.below(4), numbers.below(60));
+        let ring = numbers.ring(m, codes);
+        let line = numbers.line(&ring, n, codes);
+        check(&ring, &line, numbers.below(m));
+    }
+}
+
+#[test]
+fn long_lines() {
+    let mut numbers = Numbers(0x10e6);
+    for _ in 0..100 {
+        let (m, codes) = (1 + numbers.below(40), 1 + numbers.below(6));
+        let ring = numbers.ring(m, codes);
+        let line = numbers.line(&ring, 3000, codes);
+        check(&ring, &line, numbers.below(m.min(8)));
+    }
+}
+
+#[test]
+fn every_width() {
+    let mut numbers = Numbers(0x1dea);
+    for m in [1, 2, 31, 32, 33, 63, 64, 65, 127, 128, 129, 191, 192, 193, 254, 255, 256] {
+        for codes in [1, 2, 4, 26, 255] {
+            for k in [0, 1, 2, 5, m / 4, m / 2, m - 1] {
+                let ring = numbers.ring(m, codes);
+                let n = m + numbers.below(120);
+                let line = numbers.line(&ring, n, codes);
+                check(&ring, &line, k.min(m - 1));
+            }
+        }
+    }
+}
+
+/// Ring, line, allowance, words lent, book; and the refusal that they get, with its place.
+type RefusedRow<'a> = (&'a [u8], &'a [u8], usize, usize, &'a [u8], usize, usize);
+
+fn check_refused((ring, line, k, room, book, refusal, place): RefusedRow) {
+    for version in VERSIONS {
+        let question = Question { cell: 7, ring_number: 2, ring, line, k, book };
+        let answer = (version.report)(&question, &mut vec![0; room]);
+        assert_eq!(answer, Answer { refusal, place, ..Answer::default() });
+        if refusal < 5 {
+            assert_eq!((version.scan)(ring, line, k, &mut vec![0; room]), answer);
+            assert_eq!((version.survey)(ring, line, k, &mut vec![0; room]), answer);
+        }
+    }
+}
+
+#[test]
+fn refusals_are_the_same() {
+    let long = vec![1; 65_537];
+    let book = [field(7, 2, 5), field(7, 2, 5)].concat();
+    let rows: [RefusedRow; 9] = [
+        (&[], &[1], 0, 9, &[], 1, 0),
+        (&long[..257], &[1], 0, 9, &[], 1, 0),
+        (&[1], &[1], 1, 9, &[], 2, 0),
+        (&[1], &long, 0, 9, &[], 3, 0),
+        (&[1], &[1, 1], 0, 5, &[], 4, 0),
+        (&[1], &[1], 0, 9, &long[..13_001], 5, 0),
+        (&[1], &[1], 0, 9, &book[..14], 6, 13),
+        (&[1, 2], &[1], 0, 9, &book, 7, 13),
+        (&[1], &[1], 0, 9, &[0x22], 6, 0),
+    ];
+    rows.into_iter().for_each(check_refused);
+}
+
+/// Document 01's samples that give their looks: ring, line, allowance, looks.
+#[test]
+fn the_samples_looks() {
+    let rows: [(&str, &str, usize, usize); 7] = [
+        ("a", "ba", 0, 3),
+        ("aa", "aaa", 0, 12),
+        ("abcd", "zzzzzzzzzz", 1, 6),
+        ("abc", "ab", 0, 0),
+        ("abc", "cab", 0, 12),
+        ("abcdef", "bcdfab", 1, 42),
+        ("abcdef", "bcdfab", 3, 42),
+    ];
+    for (ring, line, k, looks) in rows {
+        assert_eq!(looks_by_rules(ring.as_bytes(), line.as_bytes(), k), looks);
+        check(ring.as_bytes(), line.as_bytes(), k);
+    }
+}
