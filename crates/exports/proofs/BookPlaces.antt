@@ -1,5 +1,5 @@
 -- The place of a refusal fits 32 bits, for the calls on a book: a byte offset is at most the book's length and so 13,000; a record number is below the
--- number of words and so 3,000.
+-- number of records and so 1,000.
 -- Assumes nothing.
 use Prim.Native.Nat.{ℕ, _≤_, _<_}
 use mathlib.Core.Logic.{⊎-elim}

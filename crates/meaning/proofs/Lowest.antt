@@ -47,7 +47,7 @@ module _ (f : ℕ → ℕ) where
   lowest-is (suc (suc n)) h =
       lowest-more (suc n) (lowest f (suc n)) (lowest-is (suc n) (omega arith)) (ltb (f (suc n)) (f (lowest f (suc n)))) refl
 
-  -- There is lowest-one lowest only.
+  -- There is one lowest only.
   pub lowest-unique : (n r s : ℕ) → IsLowest f n r → IsLowest f n s → r ≡ s
   lowest-unique n r s h g =
       let a : ¬ (s < r) = λ l. omega (arith, h .first s l, g .least r (h .below)) in

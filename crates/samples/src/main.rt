@@ -1,5 +1,6 @@
 // Runs the calls on each edge that document 01 names, and prints a line each. The rows are the text on standard input, a section for each kind;
 // the lines are held to the stored output.
+mod answer_rows;
 mod area;
 mod book_rows;
 mod books;
@@ -24,6 +25,7 @@ enum Call {
     Scan,
     Survey,
     Report,
+    Answer,
 }
 
 fn run_row(call: Call, row: &[u8]) {
@@ -35,6 +37,7 @@ fn run_row(call: Call, row: &[u8]) {
         Call::Scan => search_rows::search_row(search_rows::SearchCall::Scan, row),
         Call::Survey => search_rows::search_row(search_rows::SearchCall::Survey, row),
         Call::Report => search_rows::search_row(search_rows::SearchCall::Report, row),
+        Call::Answer => answer_rows::answer_row(row),
     }
 }
 
@@ -48,12 +51,13 @@ fn name_index(call: Call) -> usize {
         Call::Scan => 4,
         Call::Survey => 5,
         Call::Report => 6,
+        Call::Answer => 7,
     }
 }
 
 // Writes the call, and the name of the row.
 fn begin(call: Call, row: &[u8]) {
-    let names = b"pack|read|unpack|seek|scan|survey|report";
+    let names = b"pack|read|unpack|seek|scan|survey|report|answer";
     printing::begin(table::field(names, name_index(call)), table::field(row, 0));
 }
 
@@ -89,4 +93,5 @@ fn main() {
     run(Call::Survey, text, 5);
     run(Call::Report, text, 5);
     run(Call::Report, text, 6);
+    run(Call::Answer, text, 7);
 }

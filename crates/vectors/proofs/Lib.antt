@@ -14,3 +14,4 @@ pub mod OccurrenceLoop
 pub mod OccurrenceTableLoop
 pub mod OccurrencesLoop
 pub mod HeldVectors
+pub mod OneAnswer

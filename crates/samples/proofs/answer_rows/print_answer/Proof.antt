@@ -1,0 +1,31 @@
+-- `samples::answer_rows::print_answer` meets its contract: what it writes lies within its array, since the answer's text does.
+-- Assumes nothing.
+use mathlib.Core.Path.{sym}
+use lib.Seq.{length-take-le}
+use Rattle.request.proofs.AskedParts.{answer-within}
+use borrow.Author.Needs.{needs}
+use Rattle.samples.proofs.answer_rows.print_answer.Statement.{statement}
+use Rattle.samples.proofs.answer_rows.print_answer.Tie as tie
+
+no-text-requires : tie.Need-no-text-requires
+no-text-requires c κs = search needs
+
+answer-requires : tie.Need-answer-requires
+answer-requires c κs = search needs
+
+array-share-prefix-text : tie.Need-array-share-prefix-text
+array-share-prefix-text c = answer-within (c .answer .ensures)
+
+slice-aggregate-text : tie.Need-slice-aggregate-text
+slice-aggregate-text c = sym (length-take-le _ _ (answer-within (c .before .answer .ensures)))
+
+text-requires : tie.Need-text-requires
+text-requires c κs = search needs
+
+returns : tie.Need-returns
+returns c = search needs
+
+pub print-answer-spec : {M : Type 1} → statement M
+print-answer-spec =
+    tie.close
+    (tie.spec no-text-requires answer-requires array-share-prefix-text slice-aggregate-text text-requires returns)

@@ -1,0 +1,33 @@
+// The report program's input to its text. A row gives its name, the codes of the input's first bytes, and how many bytes the input has if there are
+// more; those are 0. It prints the whole text behind its own line.
+use crate::area;
+use crate::made;
+use crate::printing;
+use crate::table;
+use request::TEXT_MOST;
+
+// The most bytes of an input: one more than the program reads.
+const MOST_INPUT: usize = 32769;
+
+fn no_input() -> [u8; MOST_INPUT] {
+    [0; MOST_INPUT]
+}
+
+fn no_text() -> [u8; TEXT_MOST] {
+    [0; TEXT_MOST]
+}
+
+// Writes the program's text for an input.
+fn print_answer(input: &[u8]) {
+    let mut text = no_text();
+    let length = request::answer(input, &mut text);
+    printing::text(&text[..length]);
+}
+
+pub fn answer_row(row: &[u8]) {
+    let mut input = no_input();
+    let listed = made::fill(table::field(row, 1), &mut input);
+    let count = table::number_or(row, 2, listed);
+    printing::text(b"\n");
+    print_answer(area::first_bytes(&input, count));
+}
