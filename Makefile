@@ -1,7 +1,8 @@
 # make test: every proof, every must-fail edit and every test; its last line is 'N passed, 0 failed'.
 # make demo: proves what the report program needs, builds it, runs it on document 01's example and says what came out.
 # make compare: every call and the program compared with the second program; SEED=S for other cases.
-.PHONY: test demo compare
+# make bench: times beside the same rules in C and Rust and what a user would pick instead; writes docs/BENCH.md and docs/bench.svg.
+.PHONY: test demo compare bench
 test:
 	@tools/gate
 
@@ -13,3 +14,6 @@ demo:
 compare:
 	@tools/native
 	@tools/compare $(if $(SEED),--seed $(SEED))
+
+bench:
+	@tools/bench
