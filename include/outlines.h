@@ -27,7 +27,7 @@ extern "C" {
 #define OUTLINES_MOST_SILENCES 1000 /* silences of a book */
 #define OUTLINES_MOST_BOOK 13000    /* bytes of a book */
 
-/* The table of refusals. Place is 0 where nothing else is said. Each call gives the first that holds, in the order said there. */
+/* The table of refusals. Place is 0 where nothing else is said. Each call gives the first that holds, in the order said at the call. */
 enum outlines_refusal {
     OUTLINES_ACCEPTED = 0,
     OUTLINES_RING = 1,          /* m = 0 or m > 256 */

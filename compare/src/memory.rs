@@ -34,7 +34,7 @@ impl Placement {
     }
 }
 
-/// A stretch of memory between two inaccessible pages, holding one slice at a time.
+/// A piece of memory between two inaccessible pages, holding one slice at a time.
 pub struct Area {
     first: *mut u8,
     capacity: usize,

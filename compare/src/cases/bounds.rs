@@ -1,4 +1,4 @@
-//! Lines drawn up against the look bound, and the limits that the page names.
+//! Lines drawn up against the look bound, and the limits that document 01 names.
 
 use super::call::{by_turn, in_turn, Call, Search};
 use super::draw::Draw;

@@ -86,7 +86,7 @@ pub fn pieces(index: u64, draw: &mut Draw) -> Input {
     Input { bytes, manner: Manner::Pieces(cuts) }
 }
 
-/// Nothing to read, in four manners. The page is silent on a reading that fails; it counts as an empty input.
+/// Nothing to read, in four manners. Document 01 does not speak of a reading that fails; it counts as an empty input.
 pub fn none(index: u64, _: &mut Draw) -> Input {
     let manner = [Manner::Whole, Manner::Nothing, Manner::Closed, Manner::Folder][(index % 4) as usize].clone();
     Input { bytes: Vec::new(), manner }
@@ -94,7 +94,7 @@ pub fn none(index: u64, _: &mut Draw) -> Input {
 
 const VALUES: u64 = 8;
 const EXAMPLE: u64 = EXAMPLE_INPUT.len() as u64;
-/// The page's example: each byte changed to several values, cut at each length, and whole.
+/// Document 01's example: each byte changed to several values, cut at each length, and whole.
 pub const EXAMPLES: u64 = EXAMPLE * VALUES + EXAMPLE + 1;
 
 pub fn example(index: u64, draw: &mut Draw) -> Input {

@@ -24,7 +24,7 @@ pub enum Case {
     /// Words packed by the library and unpacked by it again.
     RoundTrip(Vec<u32>),
     Input(Input),
-    /// What the page prints, held against the second program.
+    /// What document 01 prints, held against the second program.
     Sample(usize),
 }
 

@@ -155,7 +155,7 @@ pub fn compare(call: &Call, placement: Placement, areas: &mut Areas) -> Compared
     Compared { expected: Left { answer, lent, inputs_kept: true }, given, before, front }
 }
 
-/// The page's own formulas for looks, held against what the library counted.
+/// Document 01's own formulas for looks, held against what the library counted.
 fn looks_out_of_bounds(call: &Call, answer: &Answer) -> Option<String> {
     let (Call::Survey(search) | Call::Scan(search) | Call::Report { search, .. }) = call else { return None };
     let (m, n) = (search.ring.len() as u64, search.line.len() as u64);

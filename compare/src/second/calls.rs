@@ -31,7 +31,7 @@ impl Search<'_> {
         refusals::search(self.ring, self.line, self.allowance, self.room)
     }
 
-    /// The findings come from their meaning. That the rules lead to the same ones is this page's own claim, so a
+    /// The findings come from their meaning. That the rules lead to the same ones is document 01's own claim, so a
     /// second program in which they differ is wrong itself and must not judge anything.
     fn checked(&self, searched: Searched) -> Searched {
         let meant = findings(self.ring, self.line, self.allowance);

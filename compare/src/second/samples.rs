@@ -1,4 +1,4 @@
-//! The page's own samples, with the answers as the page prints them.
+//! Document 01's own samples, with the answers as it prints them.
 
 use super::book::Silence;
 use super::calls::Search;
@@ -87,7 +87,7 @@ pub fn silenced(index: usize) -> bool {
 /// P1 to P12, the two silenced ones, the program's example.
 pub const COUNT: usize = SAMPLES.len() + SILENCED.len() + 1;
 
-/// Whether the second program gives what the page prints.
+/// Whether the second program gives what document 01 prints.
 pub fn holds(index: usize) -> bool {
     let behind = index.checked_sub(SAMPLES.len());
     match behind {

@@ -12,7 +12,7 @@ ringPlace n = record { 0 = n }
 abbrev linePlace : ℕ → LinePlace
 linePlace n = record { 0 = n }
 
--- a ring of 4 edges turned by 3, the window at 10: line places 10, 11 and 13 are the ring places 3, 0 and 2
+-- a ring of 4 edges under rotation 3, the window at 10: line places 10, 11 and 13 are the ring places 3, 0 and 2
 ring-places : (ringPlaceOf (linePlace 10) (linePlace 10) (ringPlace 3) 4 ≡ ringPlace 3)
     × (ringPlaceOf (linePlace 11) (linePlace 10) (ringPlace 3) 4 ≡ ringPlace 0)
     × (ringPlaceOf (linePlace 13) (linePlace 10) (ringPlace 3) 4 ≡ ringPlace 2)

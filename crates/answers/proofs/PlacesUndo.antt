@@ -1,6 +1,6 @@
 -- The two conversions of a place undo each other, both ways. Along the window by q and back: (r + q) mod m, and on by the m − r that are left
--- of the turn, is q + m mod m, which is q. The rotation is below m, the place is in the window or the ring, and the window ends below the
--- largest usize, as every window of document 01 does (its lines have at most 65,536 edges).
+-- of the turn, is q + m mod m, which is q. The rotation is below m, the place is in the window or the ring, and start + m is at most
+-- the largest usize, as for every window of document 01 (its lines have at most 65,536 edges).
 -- Assumes nothing.
 use Prim.Native.Nat.{ℕ, _+_, _-_, _%_, _≤_, _<_, min}
 use mathlib.Core.Path.{_≡_, sym, ap, _∙_}
@@ -47,7 +47,7 @@ module _ (start : LinePlace) (rotation : RingPlace) (m : ℕ) (turned : rotation
       ∙ add-mod-right z m
       ∙ mod-eq-of-lt h
 
-  -- the rotation itself is no more than m, so its part mod m is itself
+  -- the rotation is below m, so mod m it is itself
   line-place-is : (place : RingPlace) → linePlaceOf place start rotation m .0 ≡ start .0 + way place
   unfolding linePlaceOf way
   line-place-is place =

@@ -1,8 +1,8 @@
 -- Document 01, "What each call returns": the shape that every call's answer has, and its number, place and counts.
 --
---   Answer      what a call was asked for, or a refusal
---   Paper       number, place and counts, as the document's table and sentences give them
---   answerPaper     the paper of an answer
+--   Answer         what a call was asked for, or a refusal
+--   Paper          number, place and counts, as the document's table and sentences give them
+--   answerPaper    the paper of an answer
 --
 -- Which counts a call has (found and looks; found, hidden and looks; records) is the call's own: they are the parameter C here.
 use Prim.Native.Nat.{ℕ}

@@ -23,7 +23,7 @@ around m x = cond (eqb m 0) 0 (x % m)
 abbrev pub lastPlace : ℕ
 lastPlace = pred (2 ^ 64)
 
--- "(r + q) mod m", q the line place's distance from the start.
+-- "(r + q) mod m", q how far the line place is past the start.
 unfoldable pub ringPlaceOf : LinePlace → LinePlace → RingPlace → ℕ → RingPlace
 ringPlaceOf place start rotation m = record { 0 = around m (rotation .0 + (place .0 - start .0)) }
 

@@ -3,7 +3,7 @@
 --
 --   numberOf    the column "No."
 --   placeOf     the column "Place"
---   IsNumber, IsPlace    what the functions of these names promise
+--   IsNumber, IsPlace    what `number_of` and `place_of` promise
 --
 -- A refusal whose place is always 0 holds none. Leaves nothing out and adds no row.
 use Prim.Native.Nat.{ℕ}

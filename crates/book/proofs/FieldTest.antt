@@ -83,7 +83,7 @@ module _ (book : List ℕ) (at : ℕ) where
       (λ n. absurd (faulty-not-whole (sym (n .1) ∙ e)))
       field-cases
 
-  -- A field is whole.
+  -- A whole field is read exactly where a field stands.
   pub field-whole-iff : (fieldAt book at ≡ whole (silenceAt book (at + headLength)) (at + 13)) ↔ IsField book at
   field-whole-iff =
       (λ e. field-whole-is (silenceAt book (at + headLength)) (at + 13) e .0, λ f. ⊎-elim (λ y. y .1) (λ n. absurd (n .0 f)) field-cases)

@@ -1,3 +1,5 @@
+-- The silence book. Numbers to Seeking, Books and Rows state document 01; Calls is what the public calls promise, Judging and Putting what private
+-- functions do. Samples are computed.
 pub mod Numbers
 pub mod Silences
 pub mod Layout

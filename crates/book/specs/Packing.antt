@@ -1,9 +1,9 @@
 -- Document 01, "What each call returns", rows 7 to 10: words to silences and back, and what a call writes into its lent area.
 --
 --   silencesOf, wordsOfSilences   silences as words, three each: cell, ring number, start
---   packRecords           "each record 9 before 7"
---   packed, unpacked      what packing and unpacking give, in the order of their refusals
---   areaAtExit            the lent area at exit
+--   packRecords                   "each record 9 before 7"
+--   packed, unpacked              what packing and unpacking give, in the order of their refusals
+--   areaAtExit                    the lent area at exit
 --
 -- That the words of a record come in this order is a reading: document 01 names the three in it and gives no other.
 use Prim.Native.Nat.{ℕ, suc, _%_}

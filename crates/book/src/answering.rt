@@ -1,3 +1,4 @@
+// What the calls on a book answer, and the address that seeking is asked for.
 use answers::Refusal;
 
 // What packing, unpacking and reading answer: "the number of records", or a refusal.

@@ -15,23 +15,28 @@ back p = record { refusal = p .number; place = p .place; found = p .counts .foun
 same : {p : Paper ReportCounts} (a b : Answer) → paperOf a ≡ p → paperOf b ≡ p → a ≡ b
 same a b e f = ap back (e ∙ sym f)
 
+-- Any two answers of `outlines_survey` are equal, and any two areas at exit.
 pub survey-unique : (ring line : List ℕ) (k : ℕ) (words : List ℕ) (a b : Answer) (out out′ : List ℕ) → IsSurveyExported ring line k words a out
     → IsSurveyExported ring line k words b out′ → (a ≡ b) × (out ≡ out′)
 survey-unique ring line k words a b out out′ h h′ = (same a b (h .paper) (h′ .paper), h .written ∙ sym (h′ .written))
 
+-- Any two answers of `outlines_scan` are equal, and any two areas at exit.
 pub scan-unique : (ring line : List ℕ) (k : ℕ) (words : List ℕ) (a b : Answer) (out out′ : List ℕ) → IsScanExported ring line k words a out
     → IsScanExported ring line k words b out′ → (a ≡ b) × (out ≡ out′)
 scan-unique ring line k words a b out out′ h h′ = (same a b (h .paper) (h′ .paper), h .written ∙ sym (h′ .written))
 
+-- Any two answers of `outlines_report` are equal, and any two areas at exit.
 pub report-unique : (cell ringNumber : ℕ) (ring line : List ℕ) (k : ℕ) (book words : List ℕ) (a b : Answer) (out out′ : List ℕ)
     → IsReportExported cell ringNumber ring line k book words a out → IsReportExported cell ringNumber ring line k book words b out′
     → (a ≡ b) × (out ≡ out′)
 report-unique cell ringNumber ring line k book words a b out out′ h h′ = (same a b (h .paper) (h′ .paper), h .written ∙ sym (h′ .written))
 
+-- Any two answers of `outlines_pack` are equal, and any two areas at exit.
 pub pack-unique : (words area : List ℕ) (a b : Answer) (out out′ : List ℕ) → IsPackExported words area a out → IsPackExported words area b out′
     → (a ≡ b) × (out ≡ out′)
 pack-unique words area a b out out′ h h′ = (same a b (h .paper) (h′ .paper), h .written ∙ sym (h′ .written))
 
+-- Any two answers of `outlines_unpack` are equal, and any two areas at exit.
 pub unpack-unique : (book area : List ℕ) (a b : Answer) (out out′ : List ℕ) → IsUnpackExported book area a out → IsUnpackExported book area b out′
     → (a ≡ b) × (out ≡ out′)
 unpack-unique book area a b out out′ h h′ = (same a b (h .paper) (h′ .paper), h .written ∙ sym (h′ .written))

@@ -1,4 +1,4 @@
--- Demand 2, of the definitions: a finding is in the list exactly when `IsFinding` says so, and a start has one exactly when some rotation
+-- The list of findings has them all and nothing else: a finding is in it exactly when `IsFinding` says so, and a start has one exactly when some rotation
 -- differs in at most k places. The list is a run of `foundAt` over the places, so membership comes from one of them; the lowest rotation is
 -- unique, so what `IsFinding` describes is what `findingAt` computes.
 -- Assumes nothing.

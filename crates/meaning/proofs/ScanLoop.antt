@@ -30,10 +30,11 @@ module _ (ring line : List ℕ) (k : ℕ) where
   scan-start pos = record { found-are = rw windows-start at (quick-finds-all ring line k pos); looks-are = rw windows-start (omega arith) }
 
   module _ (i : ℕ) (last : Option ℕ) (found : List Finding) (looks : ℕ) (h : ScanLoop i last found looks) where
-    -- The looks so far are never above all looks, and what is found never more than all findings.
+    -- The looks so far are never above all looks.
     pub scan-looks-le : looks ≤ quickLooks ring line k
     scan-looks-le = omega (arith, h .looks-are)
 
+    -- What is found so far is never more than all findings.
     pub scan-found-le : length found ≤ length (findings ring line k)
     scan-found-le =
         omega (arith, ap (λ (l : List Finding). length l) (h .found-are), length-append found (reported ring line k (candidatesOf ring k (windowsAt ring line k i))))

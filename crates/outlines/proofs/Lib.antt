@@ -2,9 +2,11 @@
 -- Rows 1 to 4.
 pub mod AdmitCases
 pub mod AdmitRows
--- A window and its reading.
+-- A window and its reading, and windows left one after the other.
 pub mod WindowEdges
 pub mod ReadingLoop
+pub mod WindowsLeft
+pub mod LeavingLoop
 -- Loops over counts.
 pub mod StoredBelow
 pub mod LeastSoFar
@@ -23,7 +25,7 @@ pub mod StepTallied
 pub mod MoveLoop
 pub mod VerifyCases
 pub mod SurveyCases
--- What a start's tally says of it, and a window of the sweep.
+-- What a start's tally says of it, and the sweep to the next candidate.
 pub mod TallyFinding
 pub mod SweepCases
 -- The quick scan.

@@ -1,4 +1,4 @@
--- The turns of the report's loop, by what a window gave: nothing, and all stays but the sweep; or a finding, which the book was asked for. The field that is
+-- The turns of the report's loop, by what the sweep gave: nothing, and all stays but the sweep; or a finding, which the book was asked for. The field that is
 -- then held is for it exactly when the book names it (`held-hides`): hidden, and the words stay; or shown, and its words are put behind the others.
 -- Assumes nothing.
 use Prim.Native.Nat.{ℕ, _+_, _≤_}
@@ -16,14 +16,40 @@ use Rattle.book.specs.Calls.{soughtOf}
 use Rattle.outlines.specs.declared.sweep.Sweep.{Sweep}
 use Rattle.outlines.specs.declared.sweep.Swept.{Swept}
 use Rattle.outlines.specs.declared.reporting.Asked.{Asked}
-use Rattle.outlines.specs.Sweep.{stateOf, foundOf, IsSwept}
+use Rattle.outlines.specs.Sweep.{stateOf, foundOf, hasEnded, LeftTo, leftState, IsSwept, IsSweptOn}
 use Rattle.outlines.specs.Scan.{CanPut, wordsPut}
 use Rattle.outlines.specs.Report.{isHidden, hidden}
 use Rattle.outlines.specs.Asking.{hides, CanAsk, IsAsked, shownPut, CanReport}
-use Rattle.outlines.proofs.ScanKeeps.{keeps-length, keeps-later, keeps-none, keeps-finding-start, keeps-can-put, keeps-put-length, keeps-put, keeps-passed}
+use Rattle.outlines.proofs.WindowsLeft.{left-from-le}
+use Rattle.outlines.proofs.ScanKeeps.{keeps-left, keeps-ended, keeps-length, keeps-later, keeps-none, keeps-finding-start, keeps-can-put, keeps-put-length, keeps-put, keeps-passed}
 use Rattle.outlines.proofs.ShownOneMore.{shown-more-no, shown-more-yes, hidden-more-no, hidden-more-yes}
 use Rattle.outlines.proofs.HeldFrom.{HeldFrom, held-later, held-turn, held-hides}
 use Rattle.outlines.proofs.ReportKeeps.{ReportKeeps, report-found-le}
+
+module _ (cell ringNumber : ℕ) (ring doubled table line : List ℕ) (k : ℕ) (book counts₀ area : List ℕ) (can : CanReport ring doubled table line k book counts₀ area)
+    (at : Sweep) (asked : Asked) (counts words : List ℕ) (h : ReportKeeps cell ringNumber ring line k book area at asked counts words) where
+  -- Windows that are left change the sweep's start and looks, and nothing else.
+  pub report-left : (j reads : ℕ) → LeftTo ring line k (at .start) j reads → ReportKeeps cell ringNumber ring line k book area (leftState at j reads) asked counts words
+  report-left j reads left = record {
+    book-read = h .book-read;
+    so-far = h .so-far;
+    keeps = keeps-left ring doubled table line k counts₀ area (can .can-scan) _ _ at _ counts words (h .keeps) j reads left;
+    hidden-is = h .hidden-is;
+    held-from = held-later cell ringNumber book (at .start) (asked .held) (h .held-from) j (left-from-le ring line k (at .start) left);
+  }
+
+  -- No window is in the line any more.
+  pub report-ended : (r : Swept) (next : Sweep) (counts′ : List ℕ) (on : IsSweptOn ring line k at r counts′) → stateOf r ≡ next → hasEnded r ≡ true
+      → ReportKeeps cell ringNumber ring line k book area next asked counts′ words
+  report-ended r next counts′ on is-next t =
+      let left = report-left (on .stop) (on .looks) (on .left-to) in
+      record {
+        book-read = h .book-read;
+        so-far = h .so-far;
+        keeps = keeps-ended ring doubled table line k counts₀ area (can .can-scan) _ _ at _ counts words (h .keeps) r next counts′ on is-next t;
+        hidden-is = h .hidden-is;
+        held-from = rw (sym is-next ∙ on .ended t .next-is) (left .held-from);
+      }
 
 module _ (cell ringNumber : ℕ) (ring doubled table line : List ℕ) (k : ℕ) (book counts₀ area : List ℕ) (can : CanReport ring doubled table line k book counts₀ area)
     (at : Sweep) (asked : Asked) (counts words : List ℕ) (h : ReportKeeps cell ringNumber ring line k book area at asked counts words)

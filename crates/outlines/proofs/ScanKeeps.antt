@@ -1,8 +1,10 @@
--- What the loop over windows keeps with the sweep's own state, and its turns by what a window gave: `ScanWindows`, and that the counts hold the tally of
--- the last verified start. Each window starts after the one before, so the places before the line's end fall.
+-- What the loop over windows keeps with the sweep's own state, and its turns by what the sweep gave: `ScanWindows`, and that the counts hold the tally of
+-- the last verified start. Windows that are left keep it (`keeps-left`), so a turn is that of the candidate they lead to, or the end. Each window starts
+-- after the one before, so the places before the line's end fall.
 -- Assumes nothing.
 use Prim.Native.Nat.{ℕ, _+_, _-_, _*_, _≤_, _<_}
-use mathlib.Core.Path.{_≡_, sym, ap, _∙_}
+use mathlib.Core.Path.{_≡_, refl, sym, ap, _∙_}
+use mathlib.Core.Bool.{Bool, true, false}
 use mathlib.Core.List.{List, [], _∷_, _++_}
 use mathlib.Core.Option.{none}
 use native.Mathlib.Omega.{arith}
@@ -14,9 +16,11 @@ use Rattle.outlines.specs.declared.sweep.Sweep.{Sweep}
 use Rattle.outlines.specs.declared.sweep.Swept.{Swept}
 use Rattle.outlines.specs.Admitting.{mostLine, roomAsked}
 use Rattle.outlines.specs.Tally.{mostCounts, TalliedBefore, lastOf}
-use Rattle.outlines.specs.Sweep.{stateOf, foundOf, sweptStart, sweptLast, sweptLooks, sweptFound, CanSweep, IsSwept}
+use Rattle.outlines.specs.Sweep.{stateOf, foundOf, hasEnded, sweptStart, sweptLast, sweptLooks, sweptFound, LeftTo, leftState, CanSweepOn, IsSwept, IsSweptOn}
 use Rattle.outlines.specs.Scan.{CanScan, CanPut, wordsPut}
-use Rattle.outlines.proofs.ScanWindows.{ScanWindows, scanning-start, scanning-end, scanning-looks-le, scanning-room, scanning-found-le, scanning-length, scanning-none, scanning-put, scanning-passed, swept-finding}
+use Rattle.outlines.proofs.WindowsLeft.{left-from-le, left-start-le}
+use Rattle.outlines.proofs.SweepCases.{before-later}
+use Rattle.outlines.proofs.ScanWindows.{ScanWindows, scanning-start, scanning-end, scanning-looks-le, scanning-left, scanning-room, scanning-found-le, scanning-length, scanning-none, scanning-put, scanning-passed, swept-finding}
 
 -- What the loop keeps.
 pub record ScanKeeps (ring line : List ℕ) (k : ℕ) (area : List ℕ) (so-far put : List Finding) (at : Sweep) (count : ℕ) (counts words : List ℕ) : Type 0 where
@@ -46,22 +50,52 @@ module _ (ring doubled table line : List ℕ) (k : ℕ) (counts₀ area : List �
     pub keeps-end : n < at .start + m → (so-far ≡ findings ring line k) × (at .looks ≡ quickLooks ring line k)
     keeps-end past = scanning-end ring line k area (can .fits .some-edge) so-far put (at .start) (lastOf (at .last)) (at .looks) count words (h .scanned) past
 
+    -- The sweep can go on.
+    pub keeps-can-sweep : CanSweepOn ring doubled table line k counts at
+    keeps-can-sweep = record {
+      fits = record { size = h .size; some-edge = can .fits .some-edge; most = can .fits .most };
+      allowed = can .allowed;
+      most-line = can .most-line;
+      occurs = can .occurs;
+      twice = can .twice;
+      start-le = h .start-le;
+      before = h .before;
+      looks-le = scanning-looks-le ring line k area (can .fits .some-edge) so-far put (at .start) (lastOf (at .last)) (at .looks) count words (h .scanned);
+    }
+
+    -- Windows that are left change the sweep's start and looks, and nothing else.
+    pub keeps-left : (j reads : ℕ) → LeftTo ring line k (at .start) j reads → ScanKeeps ring line k area so-far put (leftState at j reads) count counts words
+    keeps-left j reads left = record {
+      scanned =
+          scanning-left ring line k area (can .fits .some-edge) so-far put (at .start) (lastOf (at .last)) (at .looks) count words (h .scanned) j reads left;
+      before = before-later ring line counts (at .start) j (lastOf (at .last)) (left-from-le ring line k (at .start) left) (h .before);
+      size = h .size;
+      start-le = left-start-le ring line k (at .start) (h .start-le) left;
+    }
+
+    module _ (r : Swept) (next : Sweep) (counts′ : List ℕ) (on : IsSweptOn ring line k at r counts′) (is-next : stateOf r ≡ next) where
+      -- No window is in the line any more.
+      pub keeps-ended : hasEnded r ≡ true → ScanKeeps ring line k area so-far put next count counts′ words
+      keeps-ended t =
+          let e = on .ended t in
+          let left = keeps-left (on .stop) (on .looks) (on .left-to) in
+          rw (sym is-next ∙ e .next-is) (record { scanned = left .scanned; before = e .before; size = e .size; start-le = left .start-le })
+
+      -- The sweep has come on, and is in the line or just past it.
+      pub keeps-less : at .start + m ≤ n → n + 1 - next .start < n + 1 - at .start
+      keeps-less in-line = by-ended (hasEnded r) refl
+        where
+          rises : at .start ≤ on .stop
+          rises = left-from-le ring line k (at .start) (on .left-to)
+
+          by-ended : (t : Bool) → hasEnded r ≡ t → n + 1 - next .start < n + 1 - at .start
+          by-ended true t = omega (arith, rises, on .ended t .past, ap (λ (s : Sweep). s .start) (sym is-next ∙ on .ended t .next-is))
+          by-ended false t =
+              omega (arith, rises, on .candidate t .in-line, sym (ap (λ (s : Sweep). s .start) is-next) ∙ on .candidate t .swept .start-is)
+
     module _ (in-line : at .start + m ≤ n) where
       room : roomAsked m n ≤ length area
       room = can .room-for (omega arith)
-
-      -- The next window can be swept.
-      pub keeps-can-sweep : CanSweep ring doubled table line k counts at
-      keeps-can-sweep = record {
-        fits = record { size = h .size; some-edge = can .fits .some-edge; most = can .fits .most };
-        allowed = can .allowed;
-        most-line = can .most-line;
-        occurs = can .occurs;
-        twice = can .twice;
-        in-line = in-line;
-        before = h .before;
-        looks-le = scanning-looks-le ring line k area (can .fits .some-edge) so-far put (at .start) (lastOf (at .last)) (at .looks) count words (h .scanned) in-line;
-      }
 
       -- The count of findings fits.
       pub keeps-found-le : length so-far ≤ mostLine
@@ -81,11 +115,7 @@ module _ (ring doubled table line : List ℕ) (k : ℕ) (counts₀ area : List �
         start-is : next .start ≡ sweptStart ring line k (at .start)
         start-is = sym (ap (λ (s : Sweep). s .start) is-next) ∙ swept .start-is
 
-        -- The next window starts after this one, and in the line or just past it.
-        pub keeps-less : n + 1 - next .start < n + 1 - at .start
-        keeps-less = omega (arith, start-is)
-
-        -- So its start is later.
+        -- The next window starts after this one.
         pub keeps-later : at .start ≤ next .start
         keeps-later = omega (arith, start-is)
 

@@ -1,5 +1,6 @@
 -- The loop over windows, of a scan and of a report: what it keeps, and its turns. Of what is found so far a part stands in the words; that what is found
--- and looked at is right is `ScanLoop` of crates/meaning, whose turn is `scan-turn` here: a window left or verified.
+-- and looked at is right is `ScanLoop` of crates/meaning, whose turn is `scan-turn` here: a window left or verified. Windows left one after the other are
+-- `left-scanned`.
 -- Assumes nothing.
 use Prim.Native.Nat.{ℕ, _+_, _-_, _*_, _≤_, _<_}
 use mathlib.Core.Path.{_≡_, refl, ap, _∙_}
@@ -19,8 +20,9 @@ use Rattle.meaning.proofs.Places.{lowestRotation-is, found-mem}
 use Rattle.meaning.proofs.Words.{findings-length-le}
 use Rattle.meaning.proofs.ScanLoop.{ScanLoop, scan-start, scan-looks-le, scan-found-le, scan-end, scan-verified, scan-left}
 use Rattle.outlines.specs.Admitting.{roomAsked}
-use Rattle.outlines.specs.Sweep.{sweptStart, sweptLast, sweptLooks, sweptFound}
+use Rattle.outlines.specs.Sweep.{sweptStart, sweptLast, sweptLooks, sweptFound, LeftTo}
 use Rattle.outlines.specs.Scan.{wordsPut}
+use Rattle.outlines.proofs.WindowsLeft.{left-scanned}
 use Rattle.outlines.proofs.WordsPut.{put-more, put-none, put-length}
 
 -- One window: left, or verified.
@@ -61,13 +63,22 @@ module _ (ring line : List ℕ) (k : ℕ) (area : List ℕ) (pos : 0 < length ri
     pub scanning-end : n < i + m → (so-far ≡ findings ring line k) × (looks ≡ quickLooks ring line k)
     scanning-end past = scan-end ring line k i last so-far looks (h .scanning) past
 
+    -- The looks so far do not go beyond all looks.
+    pub scanning-looks-le : looks ≤ quickLooks ring line k
+    scanning-looks-le = scan-looks-le ring line k _ _ _ _ (h .scanning)
+
+    -- Windows left at break k + 1 find nothing.
+    pub scanning-left : (j reads : ℕ) → LeftTo ring line k i j reads → ScanWindows ring line k area so-far put j last (looks + reads) count words
+    scanning-left j reads left = record {
+      scanning = left-scanned ring line k i last so-far looks left (h .scanning);
+      put-le = h .put-le;
+      count-is = h .count-is;
+      words-are = h .words-are;
+    }
+
     module _ (in-line : i + m ≤ n) where
       turned : ScanLoop ring line k (sweptStart ring line k i) (sweptLast ring line k i last) (so-far ++ sweptFound ring line k i) (sweptLooks ring line k i last looks)
       turned = scan-turn ring line k i last so-far looks (h .scanning) in-line
-
-      -- What the window costs does not go beyond all looks.
-      pub scanning-looks-le : sweptLooks ring line k i last looks ≤ quickLooks ring line k
-      scanning-looks-le = scan-looks-le ring line k _ _ _ _ turned
 
       -- There is room for the words of one finding more.
       pub scanning-room : (f : Finding) → sweptFound ring line k i ≡ f ∷ [] → roomAsked m n ≤ length area → wordsEach * count + wordsEach ≤ length area

@@ -1,3 +1,5 @@
+-- Survey, scan and report. Admitting, Scan, Survey, SearchRows and Report state document 01 and what the three calls promise; Tally, Reading, Sweep and
+-- Asking are what private functions ask and promise. ReportSamples are computed.
 pub mod Admitting
 pub mod Tally
 pub mod Reading

@@ -1,14 +1,17 @@
--- The sweep, one window at a time: what a step asks, and what it gives, in the rules' own terms. Scan and report are loops over it.
+-- The sweep, on to the next candidate: what it asks, and what it gives, in the rules' own terms. Scan and report are loops over it.
 --
 --   sweptStart, sweptLast, sweptLooks    where the sweep stands after a window
 --   sweptFound                           what the window reports
---   IsSwept                              what `sweep_window` promises
+--   LeftTo                               windows left at break k + 1, one after the other
+--   IsWindowsRead                        what `read_windows` promises
+--   IsSwept                              one window swept
+--   IsSweptOn                            what `sweep_on` promises
 use Prim.Native.Nat.{ℕ, _+_, _-_, _≤_, _<_}
 use mathlib.Core.Path.{_≡_}
 use mathlib.Core.Bool.{Bool, true, false, cond}
 use mathlib.Core.List.{List, [], _∷_}
 use mathlib.Core.Option.{Option, none, some}
-use lib.Dec.{leb, ltb}
+use lib.Dec.{leb}
 use lib.ListN.{length}
 use Rattle.meaning.specs.Findings.{Finding, foundAt}
 use Rattle.meaning.specs.Rules.{readWindow}
@@ -17,7 +20,8 @@ use Rattle.answers.specs.declared.places.Finding.{Finding as FindingStruct}
 use Rattle.vectors.specs.ByValue.{Occurrences}
 use Rattle.outlines.specs.declared.sweep.Sweep.{Sweep}
 use Rattle.outlines.specs.declared.sweep.Swept.{Swept}
-use Rattle.outlines.specs.declared.sweep.Swept.the-variants.{Left, NoFinding, Found}
+use Rattle.outlines.specs.declared.sweep.Swept.the-variants.{Ended, NoFinding, Found}
+use Rattle.outlines.specs.declared.sweep.WindowsRead.{WindowsRead}
 use Rattle.outlines.specs.Admitting.{mostRing, mostLine}
 use Rattle.outlines.specs.Tally.{RingFits, Doubled, TalliedBefore, lastOf}
 
@@ -42,35 +46,66 @@ sweptLooks ring line k i last looks =
 abbrev pub sweptFound : List ℕ → List ℕ → ℕ → ℕ → List Finding
 sweptFound ring line k i = cond (leb (readWindow ring line k i .breaks) k) (foundAt ring line k i) []
 
--- Where the sweep stands after a window.
+-- Where the sweep stands after it.
 abbrev pub stateOf : Swept → Sweep
-stateOf (Left next) = next
+stateOf (Ended next) = next
 stateOf (NoFinding next) = next
 stateOf (Found next f) = next
 
--- What the window reported.
+-- What it reported.
 abbrev pub foundOf : Swept → List Finding
-foundOf (Left next) = []
+foundOf (Ended next) = []
 foundOf (NoFinding next) = []
 foundOf (Found next f) = findingOf f ∷ []
 
--- Whether the window was left at break k + 1.
-abbrev pub wasLeft : Swept → Bool
-wasLeft (Left next) = true
-wasLeft (NoFinding next) = false
-wasLeft (Found next f) = false
+-- Whether there was no candidate any more.
+abbrev pub hasEnded : Swept → Bool
+hasEnded (Ended next) = true
+hasEnded (NoFinding next) = false
+hasEnded (Found next f) = false
 
--- What a step asks: a call within the limits, the ring's vectors and its double, a window in the line, the tally of the last verified start, and
--- looks that do not go beyond all looks.
-pub record CanSweep (ring doubled table line : List ℕ) (k : ℕ) (counts : List ℕ) (at : Sweep) : Type 0 where
+-- Windows left at break k + 1, one after the other, from start `from` to start i: each is in the line, the next one starts as rule 3 says, and the looks are
+-- the edges read.
+pub data LeftTo (ring line : List ℕ) (k from : ℕ) : ℕ → ℕ → Type 0 where
+  none-left : LeftTo ring line k from from 0
+  one-left : {i looks : ℕ} → LeftTo ring line k from i looks → i + length ring ≤ length line → k < readWindow ring line k i .breaks
+      → LeftTo ring line k from (sweptStart ring line k i) (looks + readWindow ring line k i .read)
+
+-- What reading windows asks: a call within the limits, the ring's vectors, and a start in the line or just past it.
+pub record CanReadWindows (ring table line : List ℕ) (k from : ℕ) : Type 0 where
+  pub some-edge : 0 < length ring
+  pub most : length ring ≤ mostRing
+  pub allowed : k < length ring
+  pub most-line : length line ≤ mostLine
+  pub occurs : Occurrences ring table
+  pub start-le : from ≤ length line + 1
+
+-- Rule 4, "A window with all m edges read and at most k breaks is a candidate": the one at which reading stopped, the start after it, and its reads among
+-- the looks.
+pub record IsCandidateRead (ring line : List ℕ) (k looks : ℕ) (r : WindowsRead) : Type 0 where
+  pub in-line : r .start + length ring ≤ length line
+  pub few : readWindow ring line k (r .start) .breaks ≤ k
+  pub next-is : r .next ≡ sweptStart ring line k (r .start)
+  pub looks-are : r .looks ≡ looks + readWindow ring line k (r .start) .read
+
+-- From `from` on every window is left, up to the first candidate, or to where no window is in the line.
+pub record IsWindowsRead (ring line : List ℕ) (k from : ℕ) (r : WindowsRead) : Type 0 where
+  pub looks : ℕ
+  pub left-to : LeftTo ring line k from (r .start) looks
+  pub candidate-is : r .candidate ≡ true → IsCandidateRead ring line k looks r
+  pub ended : r .candidate ≡ false → (length line < r .start + length ring) × (r .next ≡ r .start) × (r .looks ≡ looks)
+
+-- What sweeping on asks: a call within the limits, the ring's vectors and its double, a start in the line or just past it, the tally of the last verified
+-- start, and looks that do not go beyond all looks.
+pub record CanSweepOn (ring doubled table line : List ℕ) (k : ℕ) (counts : List ℕ) (at : Sweep) : Type 0 where
   pub fits : RingFits ring counts
   pub allowed : k < length ring
   pub most-line : length line ≤ mostLine
   pub occurs : Occurrences ring table
   pub twice : Doubled ring doubled
-  pub in-line : at .start + length ring ≤ length line
+  pub start-le : at .start ≤ length line + 1
   pub before : TalliedBefore ring line (at .start) counts (lastOf (at .last))
-  pub looks-le : sweptLooks ring line k (at .start) (lastOf (at .last)) (at .looks) ≤ quickLooks ring line k
+  pub looks-le : at .looks ≤ quickLooks ring line k
 
 -- One window is swept by the rules, and the counts hold the tally of the start that was verified last.
 pub record IsSwept (ring line : List ℕ) (k : ℕ) (at : Sweep) (r : Swept) (counts : List ℕ) : Type 0 where
@@ -78,6 +113,30 @@ pub record IsSwept (ring line : List ℕ) (k : ℕ) (at : Sweep) (r : Swept) (co
   pub last-is : lastOf (stateOf r .last) ≡ sweptLast ring line k (at .start) (lastOf (at .last))
   pub looks-are : stateOf r .looks ≡ sweptLooks ring line k (at .start) (lastOf (at .last)) (at .looks)
   pub found-are : foundOf r ≡ sweptFound ring line k (at .start)
-  pub left-is : wasLeft r ≡ ltb k (readWindow ring line k (at .start) .breaks)
   pub before : TalliedBefore ring line (stateOf r .start) counts (lastOf (stateOf r .last))
   pub size : length counts ≡ mostRing
+
+-- A candidate is swept: its window is in the line and has at most k breaks.
+pub record IsCandidateSwept (ring line : List ℕ) (k : ℕ) (at : Sweep) (r : Swept) (counts : List ℕ) : Type 0 where
+  pub in-line : at .start + length ring ≤ length line
+  pub few : readWindow ring line k (at .start) .breaks ≤ k
+  pub swept : IsSwept ring line k at r counts
+
+-- No window is in the line any more, and the counts still hold the tally of the start that was verified last.
+pub record HasEnded (ring line : List ℕ) (at next : Sweep) (counts : List ℕ) : Type 0 where
+  pub past : length line < at .start + length ring
+  pub next-is : next ≡ at
+  pub before : TalliedBefore ring line (at .start) counts (lastOf (at .last))
+  pub size : length counts ≡ mostRing
+
+-- Where the sweep stands once windows are left: only its start and its looks have changed.
+abbrev pub leftState : Sweep → ℕ → ℕ → Sweep
+leftState at i looks = record { start = i; last = at .last; looks = at .looks + looks }
+
+-- Every window is left, up to the first candidate, which is swept, or to where no window is in the line.
+pub record IsSweptOn (ring line : List ℕ) (k : ℕ) (at : Sweep) (r : Swept) (counts : List ℕ) : Type 0 where
+  pub stop : ℕ
+  pub looks : ℕ
+  pub left-to : LeftTo ring line k (at .start) stop looks
+  pub ended : hasEnded r ≡ true → HasEnded ring line (leftState at stop looks) (stateOf r) counts
+  pub candidate : hasEnded r ≡ false → IsCandidateSwept ring line k (leftState at stop looks) r counts

@@ -2,7 +2,7 @@
 -- number a rotation's count is kept: under the rotation's own. So a step renumbers.
 --
 --   Tallied       "the tally of one count per rotation", at a start
---   Doubled       the ring twice, end to end: a rotation of it is a part, and no place is reckoned mod m
+--   Doubled       the ring twice, end to end: each rotation is a part of it, so no place has to be taken mod m
 --   EdgeCounted   one window edge compared with every rotation's edge over it
 --   Changed       the leaving and the entering edge compared, in every count
 --   Renumbered    each count moved on to the next rotation's number

@@ -49,8 +49,8 @@ fn moved_tally(
     }
 }
 
-// The counts of a call moved along. They go into a tally and come back, once for each verification that moves and not for
-// each step.
+// The counts of a search moved along. They go into a tally and come back once, however many steps it moves: each way is a
+// copy of 512 bytes.
 pub fn move_counts(
     counts: &mut [u16; 256],
     ring: &[u8],

@@ -5,7 +5,7 @@ use crate::admitting::admit;
 use crate::afresh::double;
 use crate::sweep::Sweep;
 use crate::sweep::Swept;
-use crate::sweep::sweep_window;
+use crate::sweep::sweep_on;
 use crate::tally::LastVerified;
 use answers::Finding;
 use answers::Refusal;
@@ -41,7 +41,7 @@ pub fn put_finding(words: &mut [u32], before: usize, finding: Finding)
     words[at + 2] = finding.distance as u32;
 }
 
-// Window after window, while one fits in the line.
+// Candidate after candidate, while a window fits in the line.
 fn scan_windows(
     ring: &[u8],
     doubled: &[u8],
@@ -62,8 +62,8 @@ fn scan_windows(
     };
     let mut found: usize = 0;
     while at.start + m <= line.len() {
-        match sweep_window(at, ring, doubled, table, line, k, counts) {
-            Swept::Left(next) => {
+        match sweep_on(at, ring, doubled, table, line, k, counts) {
+            Swept::Ended(next) => {
                 at = next;
             }
             Swept::NoFinding(next) => {

@@ -5,7 +5,7 @@ use crate::afresh::double;
 use crate::quick::put_finding;
 use crate::sweep::Sweep;
 use crate::sweep::Swept;
-use crate::sweep::sweep_window;
+use crate::sweep::sweep_on;
 use crate::tally::LastVerified;
 use answers::Finding;
 use answers::Refusal;
@@ -99,7 +99,7 @@ fn put_shown(words: &mut [u32], before: usize, shown: usize, finding: Finding)
     }
 }
 
-// Window after window, while one fits in the line. The book is first asked for start 0, which no start is below, and then
+// Candidate after candidate, while a window fits in the line. The book is first asked for start 0, which no start is below, and then
 // for each finding before anything of it is written.
 fn report_windows(
     cell: u32,
@@ -129,8 +129,8 @@ fn report_windows(
         held,
     };
     while at.start + m <= line.len() {
-        match sweep_window(at, ring, doubled, table, line, k, counts) {
-            Swept::Left(next) => {
+        match sweep_on(at, ring, doubled, table, line, k, counts) {
+            Swept::Ended(next) => {
                 at = next;
             }
             Swept::NoFinding(next) => {

@@ -77,25 +77,25 @@ module _ (input : List ℕ) where
   asked-longer h = record { is = simp (lt-ltb mostInput (length input) h); within = tt }
 
   module _ (short : length input ≤ mostInput) where
-    -- the cell
+    -- No field of the cell stands: refused where it should begin.
     pub asked-cell-no : fieldEndAt cellField input 0 ≡ none → IsAsked input (Refused (Input 0))
     unfolding requestOf fieldsOf
     asked-cell-no missing = record { is = simp (le-ltb mostInput (length input) short, missing); within = tt }
 
     module _ (a : ℕ) (cell : Stands cellField input 0 a) where
-      -- the ring number
+      -- No field of the ring number stands: refused where it should begin.
       pub asked-ring-number-no : fieldEndAt ringNumberField input a ≡ none → IsAsked input (Refused (Input a))
       unfolding requestOf fieldsOf
       asked-ring-number-no missing = record { is = simp (le-ltb mostInput (length input) short, cell .end-is, missing); within = tt }
 
       module _ (b : ℕ) (ring-number : Stands ringNumberField input a b) where
-        -- the allowance
+        -- No field of the allowance stands: refused where it should begin.
         pub asked-allowance-no : fieldEndAt allowanceField input b ≡ none → IsAsked input (Refused (Input b))
         unfolding requestOf fieldsOf
         asked-allowance-no missing = record { is = simp (le-ltb mostInput (length input) short, cell .end-is, ring-number .end-is, missing); within = tt }
 
         module _ (d : ℕ) (allowance : Stands allowanceField input b d) where
-          -- the ring
+          -- No field of the ring stands: refused where it should begin.
           pub asked-ring-no : fieldEndAt ringField input d ≡ none → IsAsked input (Refused (Input d))
           unfolding requestOf fieldsOf
           asked-ring-no missing = record {
@@ -104,7 +104,7 @@ module _ (input : List ℕ) where
           }
 
           module _ (e : ℕ) (ring : Stands ringField input d e) where
-            -- the line
+            -- No field of the line stands: refused where it should begin.
             pub asked-line-no : fieldEndAt lineField input e ≡ none → IsAsked input (Refused (Input e))
             unfolding requestOf fieldsOf
             asked-line-no missing = record {

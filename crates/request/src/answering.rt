@@ -13,7 +13,7 @@ ghost use Rattle.book.specs.Putting.{IsPut};
 ghost use Rattle.request.specs.Answering.{requestText, IsAnswered};
 ghost use Rattle.request.specs.Writing.{request, CanAnswer};
 
-// Room for the words of a finding at each place of the longest line, three words each: as many as row 4 asks of it.
+// Room for the words of a finding at each place of the longest line, three words each: row 4 never asks for more.
 const WORDS_MOST: usize = 12288;
 
 // The bytes of the longest text: a first line of 47 (10, 5, 3 and 3 digits), a line of 13 (4, 3 and 3) for each of 4,096

@@ -44,7 +44,7 @@ module _ (m count : ℕ) (occurs held : List ℕ) where
   unfolding grownWords vectorOf
   grown-of-words words a b c d is p q r s = rw (p, q, r, s, is) refl
 
-  -- A word below the count is shifted with what comes in, AND the occurrence vector's.
+  -- The same of the grown vector: a word below the count is shifted with what comes in, AND the occurrence vector's.
   pub grown-words-word : (w : ℕ) → w < min count vectorWords
       → getD (grownWords m count occurs held) w 0
       ≡ bitAnd (bitOr (getD held w 0 / 2 ^ 1) (carryInto m (min count vectorWords) held w)) (getD occurs w 0)

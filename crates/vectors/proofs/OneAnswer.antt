@@ -8,15 +8,19 @@ use Rattle.vectors.specs.Bits.{firstBits, noBit}
 use Rattle.vectors.specs.Holding.{vectorAt}
 use Rattle.vectors.specs.ByValue.{vectorWords, grownWords}
 
+-- Any two answers of `first_bits` are equal.
 pub first-bits-unique : (m : ℕ) (a b : List ℕ) → a ≡ firstBits m vectorWords → b ≡ firstBits m vectorWords → a ≡ b
 first-bits-unique m a b p q = p ∙ sym q
 
+-- Any two answers of `grown` are equal.
 pub grown-unique : (m count : ℕ) (occurs held a b : List ℕ) → a ≡ grownWords m count occurs held → b ≡ grownWords m count occurs held → a ≡ b
 grown-unique m count occurs held a b p q = p ∙ sym q
 
+-- Any two answers of `no_bit` are equal.
 pub no-bit-unique : (held : List ℕ) (count : ℕ) (a b : Bool) → a ≡ noBit held count → b ≡ noBit held count → a ≡ b
 no-bit-unique held count a b p q = p ∙ sym q
 
+-- Any two answers of `vector_of` are equal.
 pub vector-of-unique : (table : List ℕ) (code : ℕ) (a b : List ℕ) → a ≡ vectorAt table (code * vectorWords) vectorWords
     → b ≡ vectorAt table (code * vectorWords) vectorWords → a ≡ b
 vector-of-unique table code a b p q = p ∙ sym q

@@ -41,7 +41,7 @@ pub fn first_bits(m: usize) -> [u64; VECTOR_WORDS]
     new
 }
 
-// A word count that a vector has room for.
+// The word count, or all the words of a vector where it is more.
 fn within_words(count: usize) -> usize
     ensures { λ r. ⌜ r ≡ min count vectorWords ⌝ }
 {

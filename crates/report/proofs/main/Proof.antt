@@ -1,4 +1,4 @@
--- `report::main` meets its contract: what it writes lies within its array, since the answer's text does.
+-- `report::main`, which has no contract, is safe: what it writes lies within its array, since the answer's text does.
 -- Assumes nothing.
 use mathlib.Core.Path.{sym}
 use lib.Seq.{length-take-le}

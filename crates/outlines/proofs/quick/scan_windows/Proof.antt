@@ -1,4 +1,4 @@
--- `outlines::quick::scan_windows` meets its contract. The loop keeps `ScanAll`; its three turns are what a window gave, and the places up to the
+-- `outlines::quick::scan_windows` meets its contract. The loop keeps `ScanAll`; its three turns are what the sweep gave, and the places up to the
 -- line's end fall.
 -- Assumes nothing.
 use Prim.Native.Nat.{_+_, _-_}
@@ -6,8 +6,8 @@ use mathlib.Core.Path.{_≡_, refl, ap}
 use native.Mathlib.Omega.{arith}
 use borrow.Author.Needs.{needs}
 use lib.ListN.{length}
-use Rattle.outlines.specs.Sweep.{stateOf, foundOf}
-use Rattle.outlines.proofs.ScanKeeps.{keeps-can-sweep, keeps-less, keeps-none, keeps-can-put, keeps-put-length, keeps-put}
+use Rattle.outlines.specs.Sweep.{stateOf, foundOf, hasEnded}
+use Rattle.outlines.proofs.ScanKeeps.{keeps-can-sweep, keeps-left, keeps-ended, keeps-less, keeps-none, keeps-can-put, keeps-put-length, keeps-put}
 use Rattle.outlines.proofs.ScanAll.{ScanAll, all-start, all-next, all-found-le, all-end}
 use Rattle.outlines.proofs.quick.scan_windows.Statement.{statement}
 use Rattle.outlines.proofs.quick.scan_windows.Tie as tie
@@ -25,10 +25,10 @@ loop-holds c = (refl, refl, all-start _ _ _ _ _ _ _ (c .before .before .before .
 add-if1 : tie.Need-add-if1 Inv-loop μ-loop
 add-if1 c = omega (arith, c .before .loop .inv .2 .keeps .start-le)
 
-sweep-window-requires : tie.Need-sweep-window-requires Inv-loop μ-loop
-sweep-window-requires c κs =
+sweep-on-requires : tie.Need-sweep-on-requires Inv-loop μ-loop
+sweep-on-requires c κs =
     let at = c .before .before .before in
-    keeps-can-sweep _ _ _ _ _ _ _ (at .before .before .before .before .before .pre) _ _ _ _ _ _ (at .loop .inv .2 .keeps) (c .before .if1 .taken)
+    keeps-can-sweep _ _ _ _ _ _ _ (at .before .before .before .before .before .pre) _ _ _ _ _ _ (at .loop .inv .2 .keeps)
 
 enum-known-next : tie.Need-enum-known-next Inv-loop μ-loop
 enum-known-next c = search needs
@@ -37,9 +37,10 @@ loop-less : tie.Need-loop-less Inv-loop μ-loop
 loop-less c =
     let swept = c .before .before .before in
     let at = swept .before .before .before .before in
-    keeps-less _ _ _ _ _ _ _ (at .before .before .before .before .before .pre) _ _ _ _ _ _ (at .loop .inv .2 .keeps) (swept .before .before .if1 .taken) _ _ _
-    (swept .sweep-window .ensures) (ap stateOf (c .before .next .given .1))
+    keeps-less _ _ _ _ _ _ _ (at .before .before .before .before .before .pre) _ _ _ _ _ _ (at .loop .inv .2 .keeps) _ _ _ (swept .sweep-on .ensures)
+    (ap stateOf (c .before .next .given .1)) (swept .before .before .if1 .taken)
 
+-- No window is in the line any more.
 loop-again : tie.Need-loop-again Inv-loop μ-loop
 loop-again c =
     let swept = c .before .before .before in
@@ -48,8 +49,8 @@ loop-again c =
       refl,
       at .loop .inv .1,
       all-next
-          (keeps-none _ _ _ _ _ _ _ (at .before .before .before .before .before .pre) _ _ _ _ _ _ (at .loop .inv .2 .keeps) (swept .before .before .if1 .taken) _ _ _
-          (swept .sweep-window .ensures) (ap stateOf told) (ap foundOf told)),
+          (keeps-ended _ _ _ _ _ _ _ (at .before .before .before .before .before .pre) _ _ _ _ _ _ (at .loop .inv .2 .keeps) _ _ _ (swept .sweep-on .ensures)
+          (ap stateOf told) (ap hasEnded told)),
     )
 
 enum-known-next-2 : tie.Need-enum-known-next-2 Inv-loop μ-loop
@@ -59,19 +60,22 @@ loop-less-2 : tie.Need-loop-less-2 Inv-loop μ-loop
 loop-less-2 c =
     let swept = c .before .before .before in
     let at = swept .before .before .before .before in
-    keeps-less _ _ _ _ _ _ _ (at .before .before .before .before .before .pre) _ _ _ _ _ _ (at .loop .inv .2 .keeps) (swept .before .before .if1 .taken) _ _ _
-    (swept .sweep-window .ensures) (ap stateOf (c .before .next2 .given .1))
+    keeps-less _ _ _ _ _ _ _ (at .before .before .before .before .before .pre) _ _ _ _ _ _ (at .loop .inv .2 .keeps) _ _ _ (swept .sweep-on .ensures)
+    (ap stateOf (c .before .next2 .given .1)) (swept .before .before .if1 .taken)
 
 loop-again-2 : tie.Need-loop-again-2 Inv-loop μ-loop
 loop-again-2 c =
     let swept = c .before .before .before in
     let at = swept .before .before .before .before in
-    let told = c .before .next2 .given .1 in (
+    let told = c .before .next2 .given .1 in
+    let on = swept .sweep-on .ensures in
+    let here = keeps-left _ _ _ _ _ _ _ (at .before .before .before .before .before .pre) _ _ _ _ _ _ (at .loop .inv .2 .keeps) _ _ (on .left-to) in
+    let candidate = on .candidate (ap hasEnded told) in (
       refl,
       at .loop .inv .1,
       all-next
-          (keeps-none _ _ _ _ _ _ _ (at .before .before .before .before .before .pre) _ _ _ _ _ _ (at .loop .inv .2 .keeps) (swept .before .before .if1 .taken) _ _ _
-          (swept .sweep-window .ensures) (ap stateOf told) (ap foundOf told)),
+          (keeps-none _ _ _ _ _ _ _ (at .before .before .before .before .before .pre) _ _ _ _ _ _ here (candidate .in-line) _ _ _ (candidate .swept)
+          (ap stateOf told) (ap foundOf told)),
     )
 
 enum-known-next-3 : tie.Need-enum-known-next-3 Inv-loop μ-loop
@@ -82,8 +86,11 @@ put-finding-requires c κs =
     let swept = c .before .before .before .before in
     let at = swept .before .before .before .before in
     let told = c .before .before .next3 .given .1 in
-    keeps-can-put _ _ _ _ _ _ _ (at .before .before .before .before .before .pre) _ _ _ _ _ _ (at .loop .inv .2 .keeps) (swept .before .before .if1 .taken) _ _ _
-    (swept .sweep-window .ensures) (ap stateOf told) _ (ap foundOf told)
+    let on = swept .sweep-on .ensures in
+    let here = keeps-left _ _ _ _ _ _ _ (at .before .before .before .before .before .pre) _ _ _ _ _ _ (at .loop .inv .2 .keeps) _ _ (on .left-to) in
+    let candidate = on .candidate (ap hasEnded told) in
+    keeps-can-put _ _ _ _ _ _ _ (at .before .before .before .before .before .pre) _ _ _ _ _ _ here (candidate .in-line) _ _ _ (candidate .swept) (ap stateOf told)
+    _ (ap foundOf told)
 
 add-found : tie.Need-add-found Inv-loop μ-loop
 add-found c =
@@ -95,22 +102,25 @@ loop-less-3 : tie.Need-loop-less-3 Inv-loop μ-loop
 loop-less-3 c =
     let swept = c .before .before .before .before .before .before .before in
     let at = swept .before .before .before .before in
-    keeps-less _ _ _ _ _ _ _ (at .before .before .before .before .before .pre) _ _ _ _ _ _ (at .loop .inv .2 .keeps) (swept .before .before .if1 .taken) _ _ _
-    (swept .sweep-window .ensures) (ap stateOf (c .before .before .before .before .before .next3 .given .1))
+    keeps-less _ _ _ _ _ _ _ (at .before .before .before .before .before .pre) _ _ _ _ _ _ (at .loop .inv .2 .keeps) _ _ _ (swept .sweep-on .ensures)
+    (ap stateOf (c .before .before .before .before .before .next3 .given .1)) (swept .before .before .if1 .taken)
 
 loop-again-3 : tie.Need-loop-again-3 Inv-loop μ-loop
 loop-again-3 c =
     let swept = c .before .before .before .before .before .before .before in
     let at = swept .before .before .before .before in
     let told = c .before .before .before .before .before .next3 .given .1 in
-    let put = c .before .before .put-finding .ensures in (
+    let put = c .before .before .put-finding .ensures in
+    let on = swept .sweep-on .ensures in
+    let here = keeps-left _ _ _ _ _ _ _ (at .before .before .before .before .before .pre) _ _ _ _ _ _ (at .loop .inv .2 .keeps) _ _ (on .left-to) in
+    let candidate = on .candidate (ap hasEnded told) in (
       refl,
-      keeps-put-length _ _ _ _ _ _ _ (at .before .before .before .before .before .pre) _ _ _ _ _ _ (at .loop .inv .2 .keeps) (swept .before .before .if1 .taken) _ _ _
-          (swept .sweep-window .ensures) (ap stateOf told) _ (ap foundOf told) _ put,
+      keeps-put-length _ _ _ _ _ _ _ (at .before .before .before .before .before .pre) _ _ _ _ _ _ here (candidate .in-line) _ _ _ (candidate .swept)
+          (ap stateOf told) _ (ap foundOf told) _ put,
       rw put
           (all-next
-          (keeps-put _ _ _ _ _ _ _ (at .before .before .before .before .before .pre) _ _ _ _ _ _ (at .loop .inv .2 .keeps) (swept .before .before .if1 .taken) _ _ _
-          (swept .sweep-window .ensures) (ap stateOf told) _ (ap foundOf told))),
+          (keeps-put _ _ _ _ _ _ _ (at .before .before .before .before .before .pre) _ _ _ _ _ _ here (candidate .in-line) _ _ _ (candidate .swept)
+          (ap stateOf told) _ (ap foundOf told))),
     )
 
 same-length : tie.Need-same-length Inv-loop μ-loop
@@ -129,7 +139,7 @@ scan-windows-spec =
     μ-loop
     loop-holds
     add-if1
-    sweep-window-requires
+    sweep-on-requires
     enum-known-next
     loop-less
     loop-again

@@ -1,4 +1,4 @@
--- `outlines::reporting::report_windows` meets its contract. The loop keeps `ReportKeeps`; its turns are what a window gave, a finding having been asked of
+-- `outlines::reporting::report_windows` meets its contract. The loop keeps `ReportKeeps`; its turns are what the sweep gave, a finding having been asked of
 -- the book, and the places up to the line's end fall.
 -- Assumes nothing.
 use Prim.Native.Nat.{_+_, _-_}
@@ -6,10 +6,10 @@ use mathlib.Core.Path.{_≡_, refl, ap}
 use native.Mathlib.Omega.{arith}
 use borrow.Author.Needs.{needs}
 use lib.ListN.{length}
-use Rattle.outlines.specs.Sweep.{stateOf, foundOf}
+use Rattle.outlines.specs.Sweep.{stateOf, foundOf, hasEnded}
 use Rattle.outlines.proofs.ScanKeeps.{keeps-can-sweep, keeps-less}
 use Rattle.outlines.proofs.ReportKeeps.{ReportKeeps, report-start, report-found-le, report-end}
-use Rattle.outlines.proofs.ReportTurns.{report-turn-none, report-can-put, report-can-ask, report-turn-found, report-length}
+use Rattle.outlines.proofs.ReportTurns.{report-left, report-ended, report-turn-none, report-can-put, report-can-ask, report-turn-found, report-length}
 use Rattle.outlines.proofs.reporting.report_windows.Statement.{statement}
 use Rattle.outlines.proofs.reporting.report_windows.Tie as tie
 
@@ -34,11 +34,11 @@ loop-holds c =
 add-if1 : tie.Need-add-if1 Inv-loop μ-loop
 add-if1 c = omega (arith, c .before .loop .inv .2 .keeps .start-le)
 
-sweep-window-requires : tie.Need-sweep-window-requires Inv-loop μ-loop
-sweep-window-requires c κs =
+sweep-on-requires : tie.Need-sweep-on-requires Inv-loop μ-loop
+sweep-on-requires c κs =
     let at = c .before .before .before in
     let start = at .before .before .before .before .before .before .before .before in
-    keeps-can-sweep _ _ _ _ _ _ _ (start .pre .can-scan) _ _ _ _ _ _ (at .loop .inv .2 .keeps) (c .before .if1 .taken)
+    keeps-can-sweep _ _ _ _ _ _ _ (start .pre .can-scan) _ _ _ _ _ _ (at .loop .inv .2 .keeps)
 
 enum-known-next : tie.Need-enum-known-next Inv-loop μ-loop
 enum-known-next c = search needs
@@ -48,9 +48,10 @@ loop-less c =
     let swept = c .before .before .before in
     let at = swept .before .before .before .before in
     let start = at .before .before .before .before .before .before .before .before in
-    keeps-less _ _ _ _ _ _ _ (start .pre .can-scan) _ _ _ _ _ _ (at .loop .inv .2 .keeps) (swept .before .before .if1 .taken) _ _ _ (swept .sweep-window .ensures)
-    (ap stateOf (c .before .next .given .1))
+    keeps-less _ _ _ _ _ _ _ (start .pre .can-scan) _ _ _ _ _ _ (at .loop .inv .2 .keeps) _ _ _ (swept .sweep-on .ensures) (ap stateOf (c .before .next .given .1))
+    (swept .before .before .if1 .taken)
 
+-- No window is in the line any more.
 loop-again : tie.Need-loop-again Inv-loop μ-loop
 loop-again c =
     let swept = c .before .before .before in
@@ -59,8 +60,7 @@ loop-again c =
     let told = c .before .next .given .1 in (
       refl,
       at .loop .inv .1,
-      report-turn-none _ _ _ _ _ _ _ _ _ _ (start .pre) _ _ _ _ (at .loop .inv .2) (swept .before .before .if1 .taken) _ _ _ (swept .sweep-window .ensures)
-          (ap stateOf told) (ap foundOf told),
+      report-ended _ _ _ _ _ _ _ _ _ _ (start .pre) _ _ _ _ (at .loop .inv .2) _ _ _ (swept .sweep-on .ensures) (ap stateOf told) (ap hasEnded told),
     )
 
 enum-known-next-2 : tie.Need-enum-known-next-2 Inv-loop μ-loop
@@ -71,18 +71,21 @@ loop-less-2 c =
     let swept = c .before .before .before in
     let at = swept .before .before .before .before in
     let start = at .before .before .before .before .before .before .before .before in
-    keeps-less _ _ _ _ _ _ _ (start .pre .can-scan) _ _ _ _ _ _ (at .loop .inv .2 .keeps) (swept .before .before .if1 .taken) _ _ _ (swept .sweep-window .ensures)
-    (ap stateOf (c .before .next2 .given .1))
+    keeps-less _ _ _ _ _ _ _ (start .pre .can-scan) _ _ _ _ _ _ (at .loop .inv .2 .keeps) _ _ _ (swept .sweep-on .ensures) (ap stateOf (c .before .next2 .given .1))
+    (swept .before .before .if1 .taken)
 
 loop-again-2 : tie.Need-loop-again-2 Inv-loop μ-loop
 loop-again-2 c =
     let swept = c .before .before .before in
     let at = swept .before .before .before .before in
     let start = at .before .before .before .before .before .before .before .before in
-    let told = c .before .next2 .given .1 in (
+    let told = c .before .next2 .given .1 in
+    let on = swept .sweep-on .ensures in
+    let here = report-left _ _ _ _ _ _ _ _ _ _ (start .pre) _ _ _ _ (at .loop .inv .2) _ _ (on .left-to) in
+    let candidate = on .candidate (ap hasEnded told) in (
       refl,
       at .loop .inv .1,
-      report-turn-none _ _ _ _ _ _ _ _ _ _ (start .pre) _ _ _ _ (at .loop .inv .2) (swept .before .before .if1 .taken) _ _ _ (swept .sweep-window .ensures)
+      report-turn-none _ _ _ _ _ _ _ _ _ _ (start .pre) _ _ _ _ here (candidate .in-line) _ _ _ (candidate .swept)
           (ap stateOf told) (ap foundOf told),
     )
 
@@ -95,7 +98,10 @@ ask-requires c κs =
     let swept = told .before .before in
     let at = swept .before .before .before .before in
     let start = at .before .before .before .before .before .before .before .before in
-    report-can-ask _ _ _ _ _ _ _ _ _ _ (start .pre) _ _ _ _ (at .loop .inv .2) (swept .before .before .if1 .taken) _ _ _ (swept .sweep-window .ensures)
+    let on = swept .sweep-on .ensures in
+    let here = report-left _ _ _ _ _ _ _ _ _ _ (start .pre) _ _ _ _ (at .loop .inv .2) _ _ (on .left-to) in
+    let candidate = on .candidate (ap hasEnded (told .next3 .given .1)) in
+    report-can-ask _ _ _ _ _ _ _ _ _ _ (start .pre) _ _ _ _ here (candidate .in-line) _ _ _ (candidate .swept)
     (ap stateOf (told .next3 .given .1)) _ (ap foundOf (told .next3 .given .1))
 
 put-shown-requires : tie.Need-put-shown-requires Inv-loop μ-loop
@@ -104,7 +110,10 @@ put-shown-requires c κs =
     let swept = told .before .before in
     let at = swept .before .before .before .before in
     let start = at .before .before .before .before .before .before .before .before in
-    report-can-put _ _ _ _ _ _ _ _ _ _ (start .pre) _ _ _ _ (at .loop .inv .2) (swept .before .before .if1 .taken) _ _ _ (swept .sweep-window .ensures)
+    let on = swept .sweep-on .ensures in
+    let here = report-left _ _ _ _ _ _ _ _ _ _ (start .pre) _ _ _ _ (at .loop .inv .2) _ _ (on .left-to) in
+    let candidate = on .candidate (ap hasEnded (told .next3 .given .1)) in
+    report-can-put _ _ _ _ _ _ _ _ _ _ (start .pre) _ _ _ _ here (candidate .in-line) _ _ _ (candidate .swept)
     (ap stateOf (told .next3 .given .1)) _ (ap foundOf (told .next3 .given .1))
 
 loop-less-3 : tie.Need-loop-less-3 Inv-loop μ-loop
@@ -113,8 +122,8 @@ loop-less-3 c =
     let swept = told .before .before in
     let at = swept .before .before .before .before in
     let start = at .before .before .before .before .before .before .before .before in
-    keeps-less _ _ _ _ _ _ _ (start .pre .can-scan) _ _ _ _ _ _ (at .loop .inv .2 .keeps) (swept .before .before .if1 .taken) _ _ _
-    (swept .sweep-window .ensures) (ap stateOf (told .next3 .given .1))
+    keeps-less _ _ _ _ _ _ _ (start .pre .can-scan) _ _ _ _ _ _ (at .loop .inv .2 .keeps) _ _ _ (swept .sweep-on .ensures) (ap stateOf (told .next3 .given .1))
+    (swept .before .before .if1 .taken)
 
 loop-again-3 : tie.Need-loop-again-3 Inv-loop μ-loop
 loop-again-3 c =
@@ -124,11 +133,14 @@ loop-again-3 c =
     let swept = told .before .before in
     let at = swept .before .before .before .before in
     let start = at .before .before .before .before .before .before .before .before in
-    let is = told .next3 .given .1 in (
+    let is = told .next3 .given .1 in
+    let on = swept .sweep-on .ensures in
+    let here = report-left _ _ _ _ _ _ _ _ _ _ (start .pre) _ _ _ _ (at .loop .inv .2) _ _ (on .left-to) in
+    let candidate = on .candidate (ap hasEnded is) in (
       refl,
-      report-length _ _ _ _ _ _ _ _ _ _ (start .pre) _ _ _ _ (at .loop .inv .2) (swept .before .before .if1 .taken) _ _ _ (swept .sweep-window .ensures)
+      report-length _ _ _ _ _ _ _ _ _ _ (start .pre) _ _ _ _ here (candidate .in-line) _ _ _ (candidate .swept)
           (ap stateOf is) _ (ap foundOf is) _ (asked .ask .ensures) _ (put .put-shown .ensures),
-      report-turn-found _ _ _ _ _ _ _ _ _ _ (start .pre) _ _ _ _ (at .loop .inv .2) (swept .before .before .if1 .taken) _ _ _ (swept .sweep-window .ensures)
+      report-turn-found _ _ _ _ _ _ _ _ _ _ (start .pre) _ _ _ _ here (candidate .in-line) _ _ _ (candidate .swept)
           (ap stateOf is) _ (ap foundOf is) _ (asked .ask .ensures) _ (put .put-shown .ensures),
     )
 
@@ -157,7 +169,7 @@ report-windows-spec =
     seek-requires
     loop-holds
     add-if1
-    sweep-window-requires
+    sweep-on-requires
     enum-known-next
     loop-less
     loop-again

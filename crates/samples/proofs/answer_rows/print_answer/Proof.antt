@@ -1,4 +1,4 @@
--- `samples::answer_rows::print_answer` meets its contract: what it writes lies within its array, since the answer's text does.
+-- `samples::answer_rows::print_answer` is safe: what it writes lies within its array, since the answer's text does.
 -- Assumes nothing.
 use mathlib.Core.Path.{sym}
 use lib.Seq.{length-take-le}
