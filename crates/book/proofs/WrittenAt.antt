@@ -6,7 +6,7 @@ use mathlib.Core.Path.{_≡_, refl, sym, ap, _∙_}
 use mathlib.Core.List.{List, [], _∷_, _++_, append-assoc}
 use native.Mathlib.Omega.{arith}
 use lib.ListN.{length, take, drop, set, length-append, length-drop, take-append-drop}
-use lib.Seq.{sets, sets-eq, length-take-le, append-snoc, take-at, take-append-seam, drop-at, drop-append-add, drop-drop, set-split, take-set-le, drop-set-add}
+use lib.Seq.{length-take-le, append-snoc, take-at, drop-at, drop-drop, set-split, take-set-le, drop-set-add}
 use Rattle.meaning.specs.Findings.{written}
 use Rattle.book.specs.Putting.{writtenAt}
 
@@ -14,13 +14,6 @@ use Rattle.book.specs.Putting.{writtenAt}
 pub writtenAt-zero : (bytes area : List ℕ) → writtenAt 0 bytes area ≡ written bytes area
 unfolding writtenAt
 writtenAt-zero bytes area = refl
-
--- What is written, and more stored behind it where there is room: both are written.
-pub written-more : (a b area : List ℕ) → length a + length b ≤ length area → sets (written a area) (length a) b ≡ written (a ++ b) area
-unfolding written
-written-more a b area room =
-    sets-eq b (a ++ drop (length a) area) (length a) (simp (length-append, length-drop) (omega arith))
-    ∙ simp (take-append-seam, drop-append-add, drop-drop, length-append)
 
 module _ (at : ℕ) where
   -- No bytes change nothing.

@@ -24,7 +24,7 @@ unfolding example bytesOf valueOf fieldOf layout readBook readFrom fieldsFrom fi
 example-right = (refl, refl)
 
 -- "An empty book is valid."
-empty-book : readBook [] ≡ accepted []
+pub empty-book : readBook [] ≡ accepted []
 unfolding readBook readFrom fieldsFrom
 empty-book = refl
 

@@ -1,10 +1,10 @@
 -- The meanings place by place: the test of a start, the edges of a window, and what `foundAt` gives in each case.
 -- Assumes nothing.
 use Prim.Native.Nat.{ℕ, _+_, _≤_, _<_}
-use mathlib.Core.Path.{_≡_, refl, _∙_}
+use mathlib.Core.Path.{_≡_, refl, ap, _∙_}
 use mathlib.Core.Bool.{Bool, true, false, cond, _&&_}
 use mathlib.Core.Logic.{_↔_}
-use mathlib.Core.List.{List, [], _∷_, List·Memᴰ, List·Memᴰ·not-nil, List·Memᴰ·eq-of-singleton}
+use mathlib.Core.List.{List, [], _∷_, List·Memᴰ, List·Memᴰ·head, List·Memᴰ·not-nil, List·Memᴰ·eq-of-singleton}
 use native.Mathlib.Omega.{arith}
 use lib.Dec.{leb}
 use lib.ListN.{length, getD, take, drop}
@@ -64,3 +64,12 @@ module _ (ring line : List ℕ) (k i : ℕ) where
       let both = and-true (isStart ring line i) (leb (leastDistance ring line i) k) e in
       (List·Memᴰ·eq-of-singleton h, start-iff ring line i .0 (both .0), leb-true _ _ (both .1)))
       (λ _ h. absurd (List·Memᴰ·not-nil h))
+
+  -- A start's one finding starts there, has a rotation of the ring, and a distance of at most k.
+  pub found-small : (f : Finding) → 0 < length ring → foundAt ring line k i ≡ f ∷ []
+      → (f .start ≡ i) × (f .rotation < length ring) × (f .distance ≤ k)
+  found-small f pos e =
+      let mem = found-mem f (rw e (List·Memᴰ·head refl)) in
+      let rotation : f .rotation ≡ lowestRotation ring line i = ap (λ (g : Finding). g .rotation) (mem .0) in
+      let far : f .distance ≡ leastDistance ring line i = ap (λ (g : Finding). g .distance) (mem .0) in
+      (ap (λ (g : Finding). g .start) (mem .0), omega (arith, lowestRotation-is ring line pos i .below), omega (arith, mem .2))

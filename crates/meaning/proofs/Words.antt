@@ -7,7 +7,7 @@ use mathlib.Core.List.{List, [], _∷_, _++_}
 use native.Mathlib.Omega.{arith}
 use lib.Dec.{leb}
 use lib.ListN.{length, getD, drop, length-append, length-drop}
-use lib.Seq.{getD-append-add, getD-drop}
+use lib.Seq.{sets, sets-eq, getD-append-add, getD-drop, take-append-seam, drop-append-add, drop-drop}
 use Rattle.meaning.specs.Meanings.{isStart, leastDistance}
 use Rattle.meaning.specs.Findings.{Finding, foundAt, findingsBelow, findings, wordsEach, findingWords, wordsOf, written}
 use Rattle.meaning.proofs.Cases.{by-test}
@@ -73,3 +73,10 @@ module _ (words area : List ℕ) where
   pub written-rest : (j : ℕ) → getD (written words area) (length words + j) 0 ≡ getD area (length words + j) 0
   unfolding written
   written-rest j = getD-append-add words (drop (length words) area) j 0 ∙ getD-drop (length words) area j 0
+
+-- What is written, and more stored behind it where there is room: both are written.
+pub written-more : (a b area : List ℕ) → length a + length b ≤ length area → sets (written a area) (length a) b ≡ written (a ++ b) area
+unfolding written
+written-more a b area room =
+    sets-eq b (a ++ drop (length a) area) (length a) (simp (length-append, length-drop) (omega arith))
+    ∙ simp (take-append-seam, drop-append-add, drop-drop, length-append)

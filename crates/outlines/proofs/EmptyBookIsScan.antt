@@ -12,7 +12,8 @@ use Rattle.answers.specs.declared.refusals.Refusal.{Refusal}
 use Rattle.answers.specs.Paper.{Answer, accepted, refused, answerPaper}
 use Rattle.answers.proofs.OneAnswer.{answer-unique}
 use Rattle.book.specs.Silences.{names}
-use Rattle.book.specs.Reading.{fieldsFrom, readFrom, readBook}
+use Rattle.book.specs.Samples.{empty-book}
+use Rattle.book.specs.Reading.{readBook}
 use Rattle.outlines.specs.declared.quick.Scanned.{Scanned}
 use Rattle.outlines.specs.declared.quick.Scanned.the-variants.{Counts as ScanCase, Refused as ScanRefused}
 use Rattle.outlines.specs.declared.reporting.Reported.{Reported}
@@ -34,11 +35,6 @@ noneHidden (refused refusal) = refused refusal
 report-of-is : (q : Scanned) → answerOf (reportOf q) ≡ noneHidden (scanAnswerOf q)
 report-of-is (ScanCase found looks) = refl
 report-of-is (ScanRefused refusal) = refl
-
--- "An empty book is valid": it has no silence.
-pub empty-book-is : readBook [] ≡ accepted []
-unfolding readBook readFrom fieldsFrom
-empty-book-is = refl
 
 module _ (cell ringNumber : ℕ) where
   -- With no silence all are shown.
@@ -65,7 +61,7 @@ module _ (cell ringNumber : ℕ) where
           hidden = length (sym (hidden-none (findings ring line k)) j);
           looks = quickLooks ring line k;
         }))
-        ∙ ap (reportedBy ring line k cell ringNumber) (sym empty-book-is)
+        ∙ ap (reportedBy ring line k cell ringNumber) (sym empty-book)
 
     -- and so with the words
     written-same : (o : Option Refusal)
@@ -73,7 +69,7 @@ module _ (cell ringNumber : ℕ) where
     written-same (some refusal) = refl
     written-same none =
         ap (λ (l : List Finding). written (wordsOf l) words) (sym (shown-all (findings ring line k)))
-        ∙ ap (reportedWordsBy ring line k cell ringNumber words) (sym empty-book-is)
+        ∙ ap (reportedWordsBy ring line k cell ringNumber words) (sym empty-book)
 
     module _ (q : Scanned) (out : List ℕ) (scanned : IsScanned ring line k words q out) where
       -- What a scan answers and writes is what a report with an empty book does.

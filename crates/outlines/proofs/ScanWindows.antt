@@ -5,18 +5,17 @@
 use Prim.Native.Nat.{ℕ, _+_, _-_, _*_, _≤_, _<_}
 use mathlib.Core.Path.{_≡_, refl, ap, _∙_}
 use mathlib.Core.Bool.{Bool, true, false, cond}
-use mathlib.Core.List.{List, [], _∷_, _++_, append-nil, List·Memᴰ·head}
+use mathlib.Core.List.{List, [], _∷_, _++_, append-nil}
 use mathlib.Core.Option.{Option, none, some}
 use native.Mathlib.Nat.{add-zero}
 use native.Mathlib.Omega.{arith}
 use lib.Dec.{leb}
 use lib.ListN.{length, length-append}
 use borrow.Author.Tests.{leb-true, leb-false}
-use Rattle.meaning.specs.Meanings.{lowestRotation, leastDistance}
 use Rattle.meaning.specs.Findings.{Finding, foundAt, findings, wordsEach, wordsOf, written}
 use Rattle.meaning.specs.Rules.{readWindow}
 use Rattle.meaning.specs.Looks.{tallyLooks, quickLooks}
-use Rattle.meaning.proofs.Places.{lowestRotation-is, found-mem}
+use Rattle.meaning.proofs.Places.{found-small}
 use Rattle.meaning.proofs.Words.{findings-length-le}
 use Rattle.meaning.proofs.ScanLoop.{ScanLoop, scan-start, scan-looks-le, scan-found-le, scan-end, scan-verified, scan-left}
 use Rattle.outlines.specs.Admitting.{roomAsked}
@@ -93,7 +92,7 @@ module _ (ring line : List ℕ) (k : ℕ) (area : List ℕ) (pos : 0 < length ri
             findings-length-le ring line k pos (omega arith),
           )
 
-      -- Fewer findings than line places.
+      -- No more findings than line places.
       pub scanning-found-le : length so-far ≤ n
       scanning-found-le = omega (arith, scan-found-le ring line k _ _ _ _ (h .scanning), findings-length-le ring line k pos (omega arith))
 
@@ -138,9 +137,5 @@ pub swept-finding : (ring line : List ℕ) (k i : ℕ) (f : Finding) → 0 < len
 swept-finding ring line k i f pos = by-cases (leb (readWindow ring line k i .breaks) k)
   where
     by-cases : (t : Bool) → cond t (foundAt ring line k i) [] ≡ f ∷ [] → (f .start ≡ i) × (f .rotation < length ring) × (f .distance ≤ k)
-    by-cases true e =
-        let mem = found-mem ring line k i f (rw e (List·Memᴰ·head refl)) in
-        let rotation : f .rotation ≡ lowestRotation ring line i = ap (λ (g : Finding). g .rotation) (mem .0) in
-        let far : f .distance ≡ leastDistance ring line i = ap (λ (g : Finding). g .distance) (mem .0) in
-        (ap (λ (g : Finding). g .start) (mem .0), omega (arith, lowestRotation-is ring line pos i .below), omega (arith, mem .2))
+    by-cases true e = found-small ring line k i f pos e
     by-cases false e = absurd (let z : _≡_ {A = ℕ} 0 1 = cc in omega arith)

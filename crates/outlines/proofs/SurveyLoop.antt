@@ -4,16 +4,15 @@
 -- Assumes nothing.
 use Prim.Native.Nat.{ℕ, _+_, _-_, _*_, _≤_, _<_}
 use mathlib.Core.Path.{_≡_, refl, sym, ap, _∙_}
-use mathlib.Core.List.{List, [], _∷_, _++_, append-nil, List·Memᴰ·head}
+use mathlib.Core.List.{List, [], _∷_, _++_, append-nil}
 use native.Mathlib.Nat.{mul-le-mul}
 use native.Mathlib.Numerals.{add-one}
 use native.Mathlib.Omega.{arith}
 use lib.ListN.{length, length-append}
 use lib.Seq.{length-sets}
-use Rattle.meaning.specs.Meanings.{lowestRotation, leastDistance}
 use Rattle.meaning.specs.Findings.{Finding, foundAt, findingsBelow, findings, findingWords, wordsEach, wordsOf, written}
 use Rattle.meaning.specs.Looks.{afreshLooks, stepLooks, surveyLooksBelow}
-use Rattle.meaning.proofs.Places.{lowestRotation-is, found-no, found-mem}
+use Rattle.meaning.proofs.Places.{found-no, found-small}
 use Rattle.meaning.proofs.QuickFindsAll.{below-same}
 use Rattle.meaning.proofs.Words.{below-length-le, findings-below}
 use Rattle.meaning.proofs.SurveyLooks.{surveyLooks-below, surveyLooks-end}
@@ -33,15 +32,6 @@ pub record SurveyKeeps (ring line : List ℕ) (k : ℕ) (area : List ℕ) (i fou
   pub words-are : words ≡ written (wordsOf (findingsBelow ring line k i)) area
   pub before : 0 < i → Tallied ring line (i - 1) counts
   pub size : length counts ≡ mostCounts
-
--- A start's finding starts there, has a rotation of the ring, and a distance of at most k.
-found-small : (ring line : List ℕ) (k i : ℕ) (f : Finding) → 0 < length ring → foundAt ring line k i ≡ f ∷ []
-    → (f .start ≡ i) × (f .rotation < length ring) × (f .distance ≤ k)
-found-small ring line k i f pos e =
-    let mem = found-mem ring line k i f (rw e (List·Memᴰ·head refl)) in
-    let rotation : f .rotation ≡ lowestRotation ring line i = ap (λ (g : Finding). g .rotation) (mem .0) in
-    let far : f .distance ≡ leastDistance ring line i = ap (λ (g : Finding). g .distance) (mem .0) in
-    (ap (λ (g : Finding). g .start) (mem .0), omega (arith, lowestRotation-is ring line pos i .below), omega (arith, mem .2))
 
 module _ (ring doubled line : List ℕ) (k : ℕ) (counts₀ area : List ℕ) (can : CanSurvey ring doubled line k counts₀ area) where
   abbrev m : ℕ

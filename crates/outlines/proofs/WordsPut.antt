@@ -1,24 +1,14 @@
 -- The words of one finding put behind those of the findings before it: what the area then holds is what `written` says of one finding more.
 -- Assumes nothing.
 use Prim.Native.Nat.{ℕ, suc, _+_, _*_, _≤_}
-use mathlib.Core.Path.{_≡_, refl, sym, ap, ap₂, _∙_}
+use mathlib.Core.Path.{_≡_, refl, sym, ap, _∙_}
 use mathlib.Core.List.{List, [], _∷_, _++_}
 use native.Mathlib.Omega.{arith}
-use lib.ListN.{length, drop, set, length-append, length-drop}
-use lib.Seq.{sets, sets-eq, take-append-seam, drop-append-add, drop-drop}
+use lib.ListN.{length, set}
+use lib.Seq.{sets}
 use Rattle.meaning.specs.Findings.{Finding, findingWords, wordsEach, wordsOf, written}
-use Rattle.meaning.proofs.Words.{words-length, words-append, written-length}
+use Rattle.meaning.proofs.Words.{words-length, words-append, written-length, written-more}
 use Rattle.outlines.specs.Scan.{wordsPut}
-
--- Words written behind words that were written.
-sets-written : (a b area : List ℕ) → length a + length b ≤ length area → sets (written a area) (length a) b ≡ written (a ++ b) area
-unfolding written
-sets-written a b area room =
-    let whole : length a + length b ≤ length (a ++ drop (length a) area) = simp (length-append, length-drop) (omega arith) in
-    sets-eq b (a ++ drop (length a) area) (length a) whole
-    ∙ ap₂ (λ (x y : List ℕ). x ++ b ++ y) (take-append-seam a (drop (length a) area))
-    (drop-append-add a (drop (length a) area) (length b) ∙ drop-drop (length b) (length a) area)
-    ∙ ap (λ (n : ℕ). (a ++ b) ++ drop n area) (sym (length-append a b))
 
 -- One finding more.
 pub put-more : (fs : List Finding) (f : Finding) (found : ℕ) (area : List ℕ) → found ≡ length fs → wordsEach * found + wordsEach ≤ length area
@@ -27,7 +17,7 @@ unfolding wordsOf
 put-more fs f found area e room =
     let at : wordsEach * found ≡ length (wordsOf fs) = omega (arith, words-length fs) in
     ap (λ (n : ℕ). sets (written (wordsOf fs) area) n (findingWords f)) at
-    ∙ sets-written (wordsOf fs) (findingWords f) area (omega (arith, words-length fs))
+    ∙ written-more (wordsOf fs) (findingWords f) area (omega (arith, words-length fs))
     ∙ ap (λ (w : List ℕ). written w area) (sym (words-append fs (f ∷ [])))
 
 -- Nothing found, nothing written.
