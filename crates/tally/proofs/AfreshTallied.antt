@@ -1,0 +1,64 @@
+-- A window counted afresh over the doubled ring has its tally: the doubled ring's edge at q + r is the ring's at (r + q) mod m, rotation r's at q. So each count
+-- is the distance of the window, read as a line of its own, under its rotation.
+-- Assumes nothing.
+use Prim.Native.Nat.{ℕ, _+_, _*_, _%_, _≤_, _<_}
+use mathlib.Core.Path.{_≡_, refl, sym, ap, _∙_}
+use mathlib.Core.Bool.{Bool, true, cond}
+use mathlib.Core.List.{List}
+use native.Mathlib.Nat.{zero-add, add-comm}
+use native.Mathlib.Omega.{arith}
+use lib.ListN.{length, getD}
+use borrow.Author.Tests.{lt-ltb, le-leb}
+use Rattle.meaning.specs.Numbers.{count}
+use Rattle.meaning.specs.Meanings.{unequal, differs, distance}
+use Rattle.meaning.specs.Looks.{afreshLooks}
+use Rattle.meaning.proofs.Count.{count-same}
+use Rattle.tally.specs.declared.counts.Least.{Least}
+use Rattle.tally.specs.Counts.{mostCounts, leastOf, differsThere, afreshCount, afreshCounts, canCount, IsDoubled, IsCounted, IsLeast}
+use Rattle.tally.specs.Tallied.{Verified}
+use Rattle.tally.proofs.PlaceByPlace.{listOf-length, listOf-first-at}
+use Rattle.tally.proofs.LeastIsOne.{leastOf-is}
+use Rattle.tally.proofs.DoubledLoop.{doubled-edge, doubled-length}
+
+module _ (ring doubled window : List ℕ) (some : 0 < length ring) (most : length ring ≤ mostCounts) (twice : IsDoubled ring doubled)
+    (long : length window ≡ length ring) where
+  abbrev m : ℕ
+  m = length ring
+
+  -- Window and rotation r differ at q.
+  there-differs : (r q : ℕ) → r < m → q < m → differsThere doubled window r q ≡ differs ring window 0 r q
+  unfolding differs
+  there-differs r q below in-window =
+      rw (zero-add q, add-comm r q) (ap (unequal (getD window q 0)) (doubled-edge ring most doubled twice (q + r) (omega arith)))
+
+  -- A count is a distance.
+  count-distance : (r : ℕ) → r < m → afreshCount doubled window r ≡ distance ring window 0 r
+  unfolding afreshCount distance
+  count-distance r below =
+      ap (count (differsThere doubled window r) 0) long
+      ∙ count-same (differsThere doubled window r) (differs ring window 0 r) 0 m (λ q _ h. there-differs r q below (omega arith))
+
+  -- The test passes.
+  can-be : (old : List ℕ) → length old ≡ mostCounts → canCount (length window) (length old) (length doubled) ≡ true
+  unfolding canCount
+  can-be old size =
+      rw (long, size, doubled-length ring doubled twice)
+      (rw (lt-ltb 0 m some, le-leb m mostCounts most, le-leb (2 * m) (2 * mostCounts) (omega arith)) refl)
+
+  -- The window is verified.
+  pub afresh-verified : (old new : List ℕ) (z : Least) → length old ≡ mostCounts → IsCounted doubled window old new z
+      → Verified ring window 0 (afreshLooks m) new (z .least) (z .looks)
+  unfolding afreshCounts
+  afresh-verified old new z size counted =
+      let can = can-be old size in
+      let is : new ≡ afreshCounts doubled window old = rw can at (counted .written) in
+      record {
+        tallied = record {
+          size = ap length is ∙ listOf-length (length old) _ ∙ size;
+          each = λ r l. ap (λ (xs : List ℕ). getD xs r 0) is
+              ∙ listOf-first-at old (length window) (afreshCount doubled window) r (omega (arith, long)) (omega (arith, long, most))
+              ∙ count-distance r l;
+        };
+        least-is = rw (rw can at (counted .least-is), is, sym long) (leastOf-is (length window) (afreshCounts doubled window old) (omega (arith, long)));
+        looks-are = (rw can at (counted .looks-are)) ∙ ap afreshLooks long;
+      }

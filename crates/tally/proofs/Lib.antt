@@ -1,0 +1,29 @@
+-- Laws behind the tally, one module for each idea; the functions' proofs cite them. In the order in which they build on each other.
+pub mod WindowEdges
+-- Lists given place by place, and loops over counts.
+pub mod PlaceByPlace
+pub mod StoredBelow
+pub mod LeastSoFar
+pub mod LeastCount
+pub mod LeastIsOne
+pub mod ClearLoop
+pub mod LowestLoop
+-- The tally counted afresh.
+pub mod DoubledLoop
+pub mod EdgeLoop
+pub mod AfreshLoop
+pub mod CountCases
+-- The tally moved a step at a time.
+pub mod NextRotation
+pub mod ChangeLoop
+pub mod RenumberLoop
+pub mod StepIsOne
+pub mod MoveLoop
+pub mod MoveCases
+-- What the counts hold at a start, and what a start's tally says of it.
+pub mod TallyFinding
+pub mod AfreshTallied
+pub mod StepTallied
+pub mod MovedTallied
+-- Any two answers that meet a contract are equal.
+pub mod OneAnswer

@@ -1,0 +1,47 @@
+-- A list given place by place: it has as many places as were asked, and at each the number that is given there. So a list with that length and those numbers
+-- is that list. Induction on the length.
+-- Assumes nothing.
+use Prim.Native.Nat.{ℕ, zero, suc, _≤_, _<_}
+use mathlib.Core.Path.{_≡_, refl, sym, ap, _∙_}
+use mathlib.Core.Bool.{Bool, cond}
+use mathlib.Core.List.{List}
+use native.Mathlib.Omega.{arith}
+use lib.Dec.{ltb}
+use lib.ListN.{length, getD}
+use lib.Seq.{ext-getD}
+use borrow.Author.Tests.{ltb-true, ltb-false}
+use Rattle.meaning.proofs.Cases.{by-test}
+use Rattle.tally.specs.Counts.{listOf}
+
+-- It has n places.
+pub listOf-length : (n : ℕ) (f : ℕ → ℕ) → length (listOf n f) ≡ n
+unfolding listOf
+listOf-length zero f = refl
+listOf-length (suc n) f = ap suc (listOf-length n (λ p. f (suc p)))
+
+-- At place p it has f p.
+pub listOf-at : (n : ℕ) (f : ℕ → ℕ) (p : ℕ) → p < n → getD (listOf n f) p 0 ≡ f p
+unfolding listOf
+listOf-at zero f p h = absurd (omega arith)
+listOf-at (suc n) f zero h = refl
+listOf-at (suc n) f (suc p) h = listOf-at n (λ p. f (suc p)) p (omega arith)
+
+-- A list of n places that has f p at each p is that list.
+pub listOf-is : (xs : List ℕ) (n : ℕ) (f : ℕ → ℕ) → length xs ≡ n → ((p : ℕ) → p < n → getD xs p 0 ≡ f p) → xs ≡ listOf n f
+listOf-is xs n f size each =
+    ext-getD 0 xs (listOf n f) (size ∙ sym (listOf-length n f))
+    (λ p l. each p (omega arith) ∙ sym (listOf-at n f p (omega arith)))
+
+-- A list whose first m places have f and whose others are those of another list.
+pub listOf-first : (xs old : List ℕ) (m : ℕ) (f : ℕ → ℕ) → length xs ≡ length old → ((p : ℕ) → p < m → getD xs p 0 ≡ f p)
+    → ((p : ℕ) → m ≤ p → getD xs p 0 ≡ getD old p 0) → xs ≡ listOf (length old) (λ p. cond (ltb p m) (f p) (getD old p 0))
+listOf-first xs old m f size first kept =
+    listOf-is xs (length old) (λ p. cond (ltb p m) (f p) (getD old p 0)) size
+    (λ p l. by-test (λ (x : ℕ). getD xs p 0 ≡ x) (ltb p m) (λ e. first p (ltb-true p m e)) (λ e. kept p (ltb-false p m e)))
+
+-- At one of the first m places it has f.
+pub listOf-first-at : (old : List ℕ) (m : ℕ) (f : ℕ → ℕ) (p : ℕ) → p < m → m ≤ length old
+    → getD (listOf (length old) (λ p. cond (ltb p m) (f p) (getD old p 0))) p 0 ≡ f p
+listOf-first-at old m f p l room =
+    listOf-at (length old) (λ p. cond (ltb p m) (f p) (getD old p 0)) p (omega arith)
+    ∙ by-test (λ (x : ℕ). x ≡ f p) (ltb p m) (λ _. refl) (λ e. absurd (omega (arith, ltb-false p m e)))

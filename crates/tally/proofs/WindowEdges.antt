@@ -1,0 +1,26 @@
+-- A window handed out as a list: at a start it has m edges, and they are the line's from its start on.
+-- Assumes nothing.
+use Prim.Native.Nat.{ℕ, _+_, _≤_, _<_}
+use mathlib.Core.Path.{_≡_, refl, ap, _∙_}
+use mathlib.Core.List.{List}
+use native.Mathlib.Omega.{arith}
+use lib.ListN.{length, getD, drop, length-drop}
+use lib.Seq.{length-take-le}
+use borrow.Author.Tests.{le-leb}
+use Rattle.meaning.specs.Meanings.{window, windowEdge}
+use Rattle.meaning.proofs.Places.{window-edge-is}
+use Rattle.tally.specs.Windows.{IsWindow}
+
+module _ (line : List ℕ) (i m : ℕ) (edges : List ℕ) (answer : IsWindow line i m edges) (in-line : i + m ≤ length line) where
+  -- At a start the window is there.
+  pub start-window : edges ≡ window m line i
+  start-window = answer .is ∙ rw (le-leb (i + m) (length line) in-line) refl
+
+  -- It has m edges.
+  pub start-length : length edges ≡ m
+  unfolding window
+  start-length = ap length start-window ∙ length-take-le m (drop i line) (omega (arith, length-drop i line))
+
+  -- Its edges are the line's.
+  pub start-edge : (q : ℕ) → q < m → getD edges q 0 ≡ windowEdge line i q
+  start-edge q l = ap (λ (xs : List ℕ). getD xs q 0) start-window ∙ window-edge-is m line i q l

@@ -1,0 +1,108 @@
+-- `tally::steps::change` meets its contract: before turn r the counts below r are changed and their least is known (`Changing`). What is left of
+-- the ring falls.
+-- Assumes nothing.
+use Prim.Native.Nat.{_-_}
+use mathlib.Core.Logic.{⊎-elim}
+use borrow.Author.Needs.{needs}
+use lib.ListN.{length}
+use Rattle.tally.proofs.ChangeLoop.{Changing, changing-start, changing-turn-less, changing-turn-kept, changing-end}
+use Rattle.tally.proofs.steps.change.Statement.{statement}
+use Rattle.tally.proofs.steps.change.Tie as tie
+
+abbrev Inv-loop : tie.InvT-loop
+Inv-loop counts₀ ring leaving entering least₀ looks₀ r₀ counts least looks r = Changing ring leaving entering counts₀ counts least looks r
+
+abbrev μ-loop : tie.MeasureT-loop
+μ-loop counts₀ ring leaving entering least₀ looks₀ r₀ counts least looks r = length ring - r
+
+loop-holds : tie.Need-loop-holds Inv-loop μ-loop
+loop-holds c = changing-start _ _ _ _
+
+shared-slice-read-edge : tie.Need-shared-slice-read-edge Inv-loop μ-loop
+shared-slice-read-edge c = search needs
+
+differing-requires : tie.Need-differing-requires Inv-loop μ-loop
+differing-requires c κs = search needs
+
+add-looks : tie.Need-add-looks Inv-loop μ-loop
+add-looks c = search needs
+
+differing-requires-2 : tie.Need-differing-requires-2 Inv-loop μ-loop
+differing-requires-2 c κs = search needs
+
+add-looks-2 : tie.Need-add-looks-2 Inv-loop μ-loop
+add-looks-2 c = search needs
+
+mul-wrapping-sub-u16 : tie.Need-mul-wrapping-sub-u16 Inv-loop μ-loop
+mul-wrapping-sub-u16 c = search needs
+
+element-copy-out-wrapping-sub-u16 : tie.Need-element-copy-out-wrapping-sub-u16 Inv-loop μ-loop
+element-copy-out-wrapping-sub-u16 c = search needs
+
+wrapping-sub-u16-requires : tie.Need-wrapping-sub-u16-requires Inv-loop μ-loop
+wrapping-sub-u16-requires c κs = search needs
+
+wrapping-add-u16-requires : tie.Need-wrapping-add-u16-requires Inv-loop μ-loop
+wrapping-add-u16-requires c κs = search needs
+
+mul-counts : tie.Need-mul-counts Inv-loop μ-loop
+mul-counts c = search needs
+
+element-write-counts : tie.Need-element-write-counts Inv-loop μ-loop
+element-write-counts c = search needs
+
+add-r : tie.Need-add-r Inv-loop μ-loop
+add-r c = search needs
+
+loop-less : tie.Need-loop-less Inv-loop μ-loop
+loop-less c = search needs
+
+-- The least is the count just changed, or stays.
+loop-again : tie.Need-loop-again Inv-loop μ-loop
+loop-again c =
+    let added = c .before in
+    let less = added .before in
+    let won = less .before .before in
+    let lost = won .before in
+    let turn = lost .before .before in
+    let fits = turn .before .before .before .pre in
+    ⊎-elim
+    (λ lower.
+    changing-turn-less _ _ _ _ fits _ _ _ _ _ _ _ _ (turn .before .loop .inv) (turn .loop-test .taken)
+    (lost .differing .ensures) (won .differing2 .ensures) (less .wrapping-sub-u16 .ensures) (added .wrapping-add-u16 .ensures) _ (lower .0 .taken) (lower .1))
+    (λ kept.
+    changing-turn-kept _ _ _ _ fits _ _ _ _ _ _ _ _ (turn .before .loop .inv) (turn .loop-test .taken)
+    (lost .differing .ensures) (won .differing2 .ensures) (less .wrapping-sub-u16 .ensures) (added .wrapping-add-u16 .ensures) _ (kept .0 .left) (kept .1))
+    (c .if1 .came)
+
+wide-requires : tie.Need-wide-requires Inv-loop μ-loop
+wide-requires c κs = search needs
+
+returns : tie.Need-returns Inv-loop μ-loop
+returns c =
+    let done = c .before in
+    rw (c .wide .ensures) (changing-end _ _ _ _ _ _ _ _ (done .before .before .before .pre) (done .before .loop .inv) (done .loop-test .left))
+
+pub change-spec : {M : Type 1} → statement M
+change-spec =
+    tie.close
+    (tie.spec
+    Inv-loop
+    μ-loop
+    loop-holds
+    shared-slice-read-edge
+    differing-requires
+    add-looks
+    differing-requires-2
+    add-looks-2
+    mul-wrapping-sub-u16
+    element-copy-out-wrapping-sub-u16
+    wrapping-sub-u16-requires
+    wrapping-add-u16-requires
+    mul-counts
+    element-write-counts
+    add-r
+    loop-less
+    loop-again
+    wide-requires
+    returns)

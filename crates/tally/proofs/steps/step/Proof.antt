@@ -1,0 +1,20 @@
+-- `tally::steps::step` meets its contract: the counts are changed, then renumbered, and renumbering leaves the least.
+-- Assumes nothing.
+use borrow.Author.Needs.{needs}
+use Rattle.tally.proofs.StepIsOne.{stepped-is}
+use Rattle.tally.proofs.steps.step.Statement.{statement}
+use Rattle.tally.proofs.steps.step.Tie as tie
+
+change-requires : tie.Need-change-requires
+change-requires c κs = search needs
+
+renumber-requires : tie.Need-renumber-requires
+renumber-requires c κs = search needs
+
+returns : tie.Need-returns
+returns c =
+    let changed = c .before .before .change .ensures in
+    stepped-is _ _ _ _ _ _ _ (changed .0) (changed .1) (changed .2) (c .renumber .ensures)
+
+pub step-spec : {M : Type 1} → statement M
+step-spec = tie.close (tie.spec change-requires renumber-requires returns)

@@ -1,0 +1,122 @@
+-- Counts of differing edges, one for each rotation: the tally counted afresh, its least count, and the lowest rotation that has it.
+--
+--   listOf          numbers given place by place
+--   leastOf         the least of the first m counts
+--   lowestWith      the lowest rotation that has a given count
+--   doubledRing     the ring twice, end to end: each rotation is a part of it, so no place has to be taken mod m
+--   afreshCount     how many edges of a window differ from a rotation's
+--   afreshCounts    the counts after that: one for each rotation, the others kept
+--   IsDoubled, IsCounted, IsLowestWith    what `double`, `count_afresh` and `lowest_rotation` promise
+-- Assumes nothing.
+use Prim.Native.Nat.{ℕ, zero, suc, _+_, _*_, _%_, _≤_, _<_, min}
+use mathlib.Core.Path.{_≡_}
+use mathlib.Core.Bool.{Bool, cond, _&&_}
+use mathlib.Core.List.{List, [], _∷_}
+use lib.Dec.{ltb, leb, eqb}
+use lib.ListN.{length, getD}
+use Rattle.meaning.specs.Numbers.{oneIf, count, lowest}
+use Rattle.meaning.specs.Meanings.{unequal}
+use Rattle.meaning.specs.Looks.{afreshLooks}
+use Rattle.tally.specs.declared.counts.Least.{Least}
+
+-- One count for each rotation of the longest ring.
+abbrev pub mostCounts : ℕ
+mostCounts = 256
+
+-- Numbers given place by place.
+unfoldable pub listOf : ℕ → (ℕ → ℕ) → List ℕ
+listOf zero f = []
+listOf (suc n) f = f zero ∷ listOf n (λ p. f (suc p))
+
+-- The least of the first m counts.
+unfoldable pub leastOf : ℕ → List ℕ → ℕ
+leastOf m counts = getD counts (lowest (λ r. getD counts r 0) m) 0
+
+-- The lowest of the n rotations from r on that has this count, and the number past them where none has it.
+unfoldable pub lowestFrom : List ℕ → ℕ → ℕ → ℕ → ℕ
+lowestFrom counts least zero r = r
+lowestFrom counts least (suc n) r =
+    let later : ℕ = lowestFrom counts least n (r + 1) in
+    cond (eqb (getD counts r 0) least) r later
+
+-- The lowest of m rotations that has this count, and m where none has it. There are counts for 256 rotations.
+abbrev pub lowestWith : ℕ → List ℕ → ℕ → ℕ
+lowestWith m counts least = lowestFrom counts least (min m mostCounts) 0
+
+-- The edge at place p of the ring twice, end to end; past both rings 0. A ring with more edges than there are counts is not doubled.
+unfoldable pub doubledEdge : List ℕ → ℕ → ℕ
+doubledEdge ring p = cond (leb (length ring) mostCounts && ltb p (2 * length ring)) (getD ring (p % length ring) 0) 0
+
+-- The ring twice, end to end, with room for the longest.
+abbrev pub doubledRing : List ℕ → List ℕ
+doubledRing ring = listOf (2 * mostCounts) (doubledEdge ring)
+
+-- Rotation r has at its place q the doubled ring's edge at q + r: window and rotation r differ there.
+abbrev pub differsThere : List ℕ → List ℕ → ℕ → ℕ → Bool
+differsThere doubled window r q = unequal (getD window q 0) (getD doubled (q + r) 0)
+
+-- "The number of places where window and rotation r differ."
+unfoldable pub afreshCount : List ℕ → List ℕ → ℕ → ℕ
+afreshCount doubled window r = count (differsThere doubled window r) 0 (length window)
+
+-- The counts after a window of m edges: m are counted, the others are kept.
+unfoldable pub afreshCounts : List ℕ → List ℕ → List ℕ → List ℕ
+afreshCounts doubled window old =
+    listOf (length old) (λ r. cond (ltb r (length window)) (afreshCount doubled window r) (getD old r 0))
+
+-- Whether a window of m edges can be counted: one edge at least, no more than there are counts, and a ring of m edges twice.
+unfoldable pub canCount : ℕ → ℕ → ℕ → Bool
+canCount m room long = (ltb 0 m && leb m mostCounts) && (leb m room && leb (2 * m) long)
+
+-- What `double` promises.
+pub record IsDoubled (ring doubled : List ℕ) : Type 0 where
+  pub is : doubled ≡ doubledRing ring
+
+-- What `count_afresh` promises: of the doubled ring, a window, the counts, the counts at exit and the answer. Where the window cannot be counted, no
+-- count changes.
+pub record IsCounted (doubled window old new : List ℕ) (z : Least) : Type 0 where
+  pub written : new ≡ cond (canCount (length window) (length old) (length doubled)) (afreshCounts doubled window old) old
+  pub least-is : z .least ≡ cond (canCount (length window) (length old) (length doubled)) (leastOf (length window) (afreshCounts doubled window old)) 0
+  pub looks-are : z .looks ≡ cond (canCount (length window) (length old) (length doubled)) (afreshLooks (length window)) 0
+
+-- What `lowest_rotation` promises.
+pub record IsLowestWith (m : ℕ) (counts : List ℕ) (least r : ℕ) : Type 0 where
+  pub is : r ≡ lowestWith m counts least
+
+-- From here on: what private functions ask and promise.
+
+-- A ring of m edges that the counts have room for.
+pub record RingFits (m : ℕ) (counts : List ℕ) : Type 0 where
+  pub some-edge : 0 < m
+  pub most : m ≤ mostCounts
+  pub room : m ≤ length counts
+
+-- A ring of m edges that can be counted: the counts have room, and it is there twice.
+pub record CanCount (m : ℕ) (doubled counts : List ℕ) : Type 0 where
+  pub fits : RingFits m counts
+  pub twice : 2 * m ≤ length doubled
+
+-- Every rotation's count is 0, the others are kept.
+pub record Cleared (m : ℕ) (old new : List ℕ) : Type 0 where
+  pub size : length new ≡ length old
+  pub each : (r : ℕ) → r < m → getD new r 0 ≡ 0
+  pub kept : (r : ℕ) → m ≤ r → getD new r 0 ≡ getD old r 0
+
+-- One window edge, at the place that rotation 0 has over ring place `place`, compared with every rotation's edge there.
+pub record EdgeCounted (m : ℕ) (doubled old : List ℕ) (place edge : ℕ) (new : List ℕ) : Type 0 where
+  pub size : length new ≡ length old
+  pub each : (r : ℕ) → r < m → getD new r 0 ≡ getD old r 0 + oneIf (unequal edge (getD doubled (place + r) 0))
+  pub kept : (r : ℕ) → m ≤ r → getD new r 0 ≡ getD old r 0
+
+-- The least of the first m counts: none is below it, and one is as low.
+pub record IsLeast (m : ℕ) (counts : List ℕ) (least : ℕ) : Type 0 where
+  pub le : (r : ℕ) → r < m → least ≤ getD counts r 0
+  pub place : ℕ
+  pub place-lt : place < m
+  pub is : getD counts place 0 ≡ least
+
+-- A window is counted: the counts, their least, and the looks.
+pub record IsCountedAfresh (doubled window old new : List ℕ) (z : Least) : Type 0 where
+  pub written : new ≡ afreshCounts doubled window old
+  pub least-is : z .least ≡ leastOf (length window) (afreshCounts doubled window old)
+  pub looks-are : z .looks ≡ afreshLooks (length window)

@@ -1,0 +1,99 @@
+// Rule 5: the tally counted afresh, m·m looks.
+use crate::counts::Least;
+use crate::counts::MOST_COUNTS;
+use crate::counts::clear;
+use crate::counts::differing;
+use crate::counts::least_of;
+use crate::counts::wide;
+use answers::LinePlace;
+use answers::RingPlace;
+use answers::to_ring;
+ghost use mathlib.Core.Path.{_≡_};
+ghost use Prim.Native.Nat.{ℕ, _<_, _≤_};
+ghost use lib.ListN.{length, getD};
+ghost use Rattle.tally.specs.Counts.{RingFits, canCount, CanCount, IsDoubled, EdgeCounted, IsCountedAfresh, IsCounted};
+
+// The edges of the longest ring twice.
+const DOUBLED: usize = 2 * MOST_COUNTS;
+
+// The ring twice, end to end, so that every rotation is a part of it. A ring with more edges than there are counts is not
+// doubled.
+pub fn double(ring: &[u8]) -> [u8; DOUBLED]
+    ensures { λ r. ⌜ IsDoubled (now (ring .entry)) r ⌝ }
+{
+    let mut doubled = [0u8; DOUBLED];
+    let m = ring.len();
+    if MOST_COUNTS < m {
+        return doubled;
+    }
+    let mut p = 0;
+    while p < m {
+        let edge = ring[p];
+        doubled[p] = edge;
+        doubled[m + p] = edge;
+        p += 1;
+    }
+    doubled
+}
+
+// One window edge against every rotation's edge over it: rotation r has there the doubled ring's edge at place + r.
+fn count_edge(counts: &mut [u16; MOST_COUNTS], doubled: &[u8], m: usize, place: usize, edge: u8) -> usize
+    requires { ⌜ CanCount m (now doubled) (now counts) × (place < m) × ((r : ℕ) → r < m → getD (now counts) r 0 ≤ 256) ⌝ }
+    ensures { λ looks. ⌜ EdgeCounted m (now (doubled .entry)) (now (counts .entry)) place edge (now (counts .exit)) × (looks ≡ m) ⌝ }
+{
+    let mut looks: usize = 0;
+    let mut r = 0;
+    while r < m {
+        counts[r] = counts[r] + differing(edge, doubled[place + r]);
+        looks += 1; // one look
+        r += 1;
+    }
+    looks
+}
+
+// Every rotation counted afresh: m edges, each against m ring edges. The window is a line of its own, from place 0 on; the
+// line place of an edge is turned into the ring place that rotation 0 has over it once, outside the loop over the rotations.
+fn count_edges(counts: &mut [u16; MOST_COUNTS], doubled: &[u8], window: &[u8]) -> Least
+    requires { ⌜ CanCount (length (now window)) (now doubled) (now counts) ⌝ }
+    ensures { λ z. ⌜ IsCountedAfresh (now (doubled .entry)) (now (window .entry)) (now (counts .entry)) (now (counts .exit)) z ⌝ }
+{
+    let m = window.len();
+    clear(counts, m);
+    let mut looks: usize = 0;
+    let mut q = 0;
+    while q < m {
+        let place = to_ring(LinePlace(q), LinePlace(0), RingPlace(0), m);
+        looks += count_edge(counts, doubled, m, place.0, window[q]);
+        q += 1;
+    }
+    let least = wide(least_of(counts, m));
+    Least { least, looks }
+}
+
+// Whether a window of m edges can be counted: one edge at least, no more than there are counts, and the ring twice.
+fn can_count(m: usize, room: usize, long: usize) -> bool
+    ensures { λ r. ⌜ r ≡ canCount m room long ⌝ }
+{
+    if m == 0 {
+        return false;
+    }
+    if MOST_COUNTS < m {
+        return false;
+    }
+    if room < m {
+        return false;
+    }
+    2 * m <= long
+}
+
+// The tally of a window: its edges against those of every rotation of the doubled ring. Where that cannot be counted, no
+// count changes.
+pub fn count_afresh(counts: &mut [u16; MOST_COUNTS], doubled: &[u8], window: &[u8]) -> Least
+    ensures { λ z. ⌜ IsCounted (now (doubled .entry)) (now (window .entry)) (now (counts .entry)) (now (counts .exit)) z ⌝ }
+{
+    let all = &counts[..];
+    if !can_count(window.len(), all.len(), doubled.len()) {
+        return Least { least: 0, looks: 0 };
+    }
+    count_edges(counts, doubled, window)
+}

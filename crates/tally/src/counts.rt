@@ -1,0 +1,82 @@
+// Counts of differing edges, one for each rotation. A count is at most 256, which eight bits do not hold.
+ghost use mathlib.Core.Path.{_≡_};
+ghost use Prim.Native.Nat.{_<_, _≤_, _^_, min};
+ghost use lib.ListN.{length};
+ghost use Rattle.meaning.specs.Numbers.{oneIf};
+ghost use Rattle.meaning.specs.Meanings.{unequal};
+ghost use Rattle.tally.specs.Counts.{mostCounts, RingFits, Cleared, IsLeast, IsLowestWith};
+
+// One count for each rotation of the longest ring.
+pub const MOST_COUNTS: usize = 256;
+
+// The least of a start's counts, and the looks that its tally took.
+pub struct Least {
+    pub least: usize,
+    pub looks: usize,
+}
+
+// One comparison: 1 where the two edges differ.
+pub fn differing(a: u8, b: u8) -> u16
+    ensures { λ r. ⌜ r ≡ oneIf (unequal a b) ⌝ }
+{
+    if a == b { 0 } else { 1 }
+}
+
+// A count as a distance: it is compared with the allowance, and goes out in a finding.
+pub fn wide(count: u16) -> usize
+    ensures { λ r. ⌜ r ≡ count ⌝ }
+{
+    count as usize
+}
+
+// Every count of m rotations starts at 0.
+pub fn clear(counts: &mut [u16; MOST_COUNTS], m: usize)
+    requires { ⌜ RingFits m (now counts) ⌝ }
+    ensures { λ _. ⌜ Cleared m (now (counts .entry)) (now (counts .exit)) ⌝ }
+{
+    let mut r = 0;
+    while r < m {
+        counts[r] = 0;
+        r += 1;
+    }
+}
+
+// The least of the first m counts.
+pub fn least_of(counts: &[u16; MOST_COUNTS], m: usize) -> u16
+    requires { ⌜ RingFits m (now counts) ⌝ }
+    ensures { λ z. ⌜ IsLeast m (now (counts .entry)) z ⌝ }
+{
+    let mut least = counts[0];
+    let mut r = 1;
+    while r < m {
+        let count = counts[r];
+        if count < least {
+            least = count;
+        }
+        r += 1;
+    }
+    least
+}
+
+// As many rotations as there are counts for.
+fn rotations(m: usize) -> usize
+    ensures { λ r. ⌜ r ≡ min m mostCounts ⌝ }
+{
+    if m < MOST_COUNTS { m } else { MOST_COUNTS }
+}
+
+// The lowest of m rotations whose count is the least, and m where none has that count. It is looked for only where a start
+// is a finding.
+pub fn lowest_rotation(counts: &[u16; MOST_COUNTS], m: usize, least: usize) -> usize
+    ensures { λ r. ⌜ IsLowestWith m (now (counts .entry)) least r ⌝ }
+{
+    let all = rotations(m);
+    let mut rotation = 0;
+    while rotation < all {
+        if wide(counts[rotation]) == least {
+            return rotation;
+        }
+        rotation += 1;
+    }
+    rotation
+}

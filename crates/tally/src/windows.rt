@@ -1,0 +1,16 @@
+// Where a window comes from. Everything that reads the line reads it through here.
+ghost use Rattle.tally.specs.Windows.{IsWindow};
+
+// "Its window is the m edges from i": the part of the line that start i has. A place that is no start has none. The place
+// is compared before anything is added to it, so nothing overflows.
+pub fn window(line: &[u8], i: usize, m: usize) -> &[u8]
+    ensures { λ r. ⌜ IsWindow (now (line .entry)) i m (now r) ⌝ }
+{
+    if line.len() < m {
+        return &line[0..0];
+    }
+    if line.len() - m < i {
+        return &line[0..0];
+    }
+    &line[i..i + m]
+}
