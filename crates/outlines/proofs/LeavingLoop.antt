@@ -10,11 +10,12 @@ use lib.ListN.{length}
 use Rattle.meaning.specs.Meanings.{window}
 use Rattle.meaning.specs.Rules.{readWindow}
 use Rattle.meaning.proofs.WindowAlone.{alone-reading}
+use Rattle.tally.specs.Windows.{IsWindow}
 use Rattle.vectors.specs.Bits.{wordCount}
 use Rattle.outlines.specs.Admitting.{mostRing, mostLine}
 use Rattle.outlines.specs.Reading.{CanRead, IsWindowRead}
 use Rattle.outlines.specs.Sweep.{sweptStart, LeftTo, one-left, CanReadWindows, IsWindowsRead}
-use Rattle.outlines.proofs.WindowEdges.{window-length}
+use Rattle.tally.proofs.WindowEdges.{start-window, start-length}
 use Rattle.outlines.proofs.WindowsLeft.{left-start-le, left-looks-le}
 
 module _ (ring table line : List ℕ) (k from : ℕ) (can : CanReadWindows ring table line k from) (i looks : ℕ) (h : LeftTo ring line k from i looks) where
@@ -32,14 +33,17 @@ module _ (ring table line : List ℕ) (k from : ℕ) (can : CanReadWindows ring 
   pub leaving-end : n < i + m → IsWindowsRead ring line k from (record { start = i; next = i; looks = looks; candidate = false })
   leaving-end past = record { looks = looks; left-to = h; candidate-is = λ e. absurd (true≢false (sym e)); ended = λ _. (past, refl, refl) }
 
-  module _ (in-line : i + m ≤ n) (edges : List ℕ) (is : edges ≡ window m line i) where
+  module _ (in-line : i + m ≤ n) (edges : List ℕ) (handed : IsWindow line i m edges) where
+    is : edges ≡ window m line i
+    is = start-window line i m edges handed in-line
+
     -- The window can be read.
     pub leaving-can-read : CanRead ring edges table k (wordCount m)
     leaving-can-read = record {
       some-edge = can .some-edge;
       most = can .most;
       allowed = can .allowed;
-      long = window-length m line edges i is in-line;
+      long = start-length line i m edges handed in-line;
       occurs = can .occurs;
       words-are = refl;
     }

@@ -3,30 +3,12 @@
 pub mod AdmitCases
 pub mod AdmitRows
 -- A window and its reading, and windows left one after the other.
-pub mod WindowEdges
 pub mod ReadingLoop
 pub mod WindowsLeft
 pub mod LeavingLoop
--- Loops over counts.
-pub mod StoredBelow
-pub mod LeastSoFar
-pub mod LeastCount
-pub mod ClearLoop
-pub mod LowestLoop
--- The tally counted afresh.
-pub mod DoubledLoop
-pub mod EdgeLoop
-pub mod AfreshLoop
--- The tally moved a step at a time.
-pub mod NextRotation
-pub mod ChangeLoop
-pub mod RenumberLoop
-pub mod StepTallied
-pub mod MoveLoop
+-- Verifying, and the sweep to the next candidate.
 pub mod VerifyCases
 pub mod SurveyCases
--- What a start's tally says of it, and the sweep to the next candidate.
-pub mod TallyFinding
 pub mod SweepCases
 -- The quick scan.
 pub mod WordsPut

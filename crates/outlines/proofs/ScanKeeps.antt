@@ -15,7 +15,8 @@ use Rattle.meaning.specs.Looks.{quickLooks}
 use Rattle.outlines.specs.declared.sweep.Sweep.{Sweep}
 use Rattle.outlines.specs.declared.sweep.Swept.{Swept}
 use Rattle.outlines.specs.Admitting.{mostLine, roomAsked}
-use Rattle.outlines.specs.Tally.{mostCounts, TalliedBefore, lastOf}
+use Rattle.tally.specs.Counts.{mostCounts}
+use Rattle.outlines.specs.Verifying.{TalliedBefore, lastOf}
 use Rattle.outlines.specs.Sweep.{stateOf, foundOf, hasEnded, sweptStart, sweptLast, sweptLooks, sweptFound, LeftTo, leftState, CanSweepOn, IsSwept, IsSweptOn}
 use Rattle.outlines.specs.Scan.{CanScan, CanPut, wordsPut}
 use Rattle.outlines.proofs.WindowsLeft.{left-from-le, left-start-le}

@@ -4,21 +4,25 @@
 use Prim.Native.Nat.{ℕ, _+_, _-_, _*_, _≤_, _<_}
 use mathlib.Core.Path.{_≡_, sym, ap, _∙_}
 use mathlib.Core.List.{List, [], _∷_}
-use mathlib.Core.Option.{none}
 use native.Mathlib.Numerals.{add-one}
 use native.Mathlib.Omega.{arith}
 use lib.ListN.{length}
-use Rattle.meaning.specs.Meanings.{window}
 use Rattle.meaning.specs.Findings.{Finding, foundAt}
 use Rattle.meaning.specs.Looks.{afreshLooks, stepLooks, surveyLooksBelow}
 use Rattle.meaning.proofs.SurveyLooks.{surveyLooks-first, surveyLooks-below}
 use Rattle.answers.specs.declared.places.Finding.{Finding as FindingStruct}
-use Rattle.outlines.specs.declared.steps.Reached.{Reached}
+use Rattle.tally.specs.declared.counts.Least.{Least}
+use Rattle.tally.specs.declared.steps.Reached.{Reached}
+use Rattle.tally.proofs.LowestLoop.{lowest-at}
+use Rattle.tally.proofs.MovedTallied.{moved-tallied}
 use Rattle.outlines.specs.declared.plain.Surveyed.the-variants.{NoFinding, Found}
-use Rattle.outlines.specs.Tally.{RingFits, Doubled, CanMove, Verified, IsReached, IsLowestAt}
+use Rattle.tally.specs.Windows.{IsWindow}
+use Rattle.tally.specs.Counts.{IsCounted, IsLowestWith}
+use Rattle.tally.specs.Moves.{IsMoved}
+use Rattle.tally.specs.Tallied.{IsReached}
 use Rattle.outlines.specs.Survey.{CanVerifyOn, IsVerifiedOn, IsSurveyedOn}
-use Rattle.outlines.proofs.TallyFinding.{least-no, least-yes}
-use Rattle.outlines.proofs.VerifyCases.{verify-can-count, alone-verified}
+use Rattle.tally.proofs.TallyFinding.{least-no, least-yes}
+use Rattle.outlines.proofs.VerifyCases.{counted-verified}
 
 module _ (ring doubled line : List ℕ) (k i : ℕ) (old : List ℕ) (can : CanVerifyOn ring doubled line k i old) where
   abbrev m : ℕ
@@ -27,29 +31,19 @@ module _ (ring doubled line : List ℕ) (k i : ℕ) (old : List ℕ) (can : CanV
   abbrev n : ℕ
   n = length line
 
-  -- The start's window can be counted afresh.
-  pub on-can-count : (edges : List ℕ) → edges ≡ window m line i → RingFits ring old × Doubled ring doubled × (length edges ≡ m) × (i ≤ 65536)
-  on-can-count edges is =
-      verify-can-count ring line i doubled old edges none
-      (record { fits = can .fits; twice = can .twice; in-line = can .in-line; most-line = can .most-line; before = tt })
-      is
-
-  -- The tally of the start before can be moved to the last start.
-  pub on-can-move : 0 < i → CanMove ring line (i - 1) (n - m - (i - 1)) old
-  on-can-move after = record {
-    fits = can .fits;
-    tallied = can .before after;
-    some-step = omega (arith, can .in-line);
-    in-line = omega (arith, can .in-line);
-    most-line = can .most-line;
-  }
+  -- The tally of the start before, moved on to the last start.
+  pub on-reached : 0 < i → (new : List ℕ) (r : Reached) → IsMoved ring line (i - 1) (n - m - (i - 1)) (k + 1) old new r
+      → IsReached ring line (i - 1) (n - m - (i - 1)) (k + 1) new r
+  on-reached after =
+      moved-tallied ring line (k + 1) (can .fits .some-edge) (can .fits .most) (i - 1) (n - m - (i - 1)) old (can .before after) (omega (arith, can .in-line))
+      (omega (arith, can .in-line)) (omega (arith, can .most-line))
 
   -- The first start is counted afresh.
-  pub on-first : (edges counts : List ℕ) (least looked : ℕ) → i ≡ 0 → edges ≡ window m line i → Verified ring edges 0 (afreshLooks m) counts least looked
-      → IsVerifiedOn ring line k i counts (record { start = i; least = least; looks = looked })
+  pub on-first : (edges counts : List ℕ) (z : Least) → i ≡ 0 → IsWindow line i m edges → IsCounted doubled edges old counts z
+      → IsVerifiedOn ring line k i counts (record { start = i; least = z .least; looks = z .looks })
   unfolding surveyLooksBelow
-  on-first edges counts least looked first is verified =
-      let v = alone-verified ring line i edges counts (afreshLooks m) least looked is verified in
+  on-first edges counts z first handed counted =
+      let v = counted-verified ring line i doubled old counts edges z (can .fits) (can .twice) (can .in-line) handed counted in
       record {
         start-ge = omega arith;
         in-line = can .in-line;
@@ -93,11 +87,12 @@ module _ (ring doubled line : List ℕ) (k i : ℕ) (old : List ℕ) (can : CanV
     }
 
     -- A finding.
-    pub on-found : (f : FindingStruct) (rotation : ℕ) → r .least ≤ k → IsLowestAt m counts (r .least) rotation
+    pub on-found : (f : FindingStruct) (rotation : ℕ) → r .least ≤ k → IsLowestWith m counts (r .least) rotation
         → f .start .0 ≡ r .start → f .rotation .0 ≡ rotation → f .distance ≡ r .least → IsSurveyedOn ring line k i (Found r f) counts
     on-found f rotation near low fs fr fd = record {
       verified = v;
       found-are =
           ap {A = Finding} (λ x. x ∷ []) (λ j. record { start = fs j; rotation = fr j; distance = fd j })
-          ∙ sym (least-yes ring line k (r .start) counts (r .least) (can .fits .some-edge) (v .tallied) (v .least-is) rotation low (v .in-line) near);
+          ∙ sym (least-yes ring line k (r .start) counts (r .least) (can .fits .some-edge) (v .tallied) (v .least-is) rotation
+          (lowest-at counts (r .least) m rotation (can .fits .most) (v .least-is) low) (v .in-line) near);
     }

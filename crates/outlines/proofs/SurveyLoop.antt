@@ -16,10 +16,11 @@ use Rattle.meaning.proofs.Places.{found-no, found-small}
 use Rattle.meaning.proofs.QuickFindsAll.{below-same}
 use Rattle.meaning.proofs.Words.{below-length-le, findings-below}
 use Rattle.meaning.proofs.SurveyLooks.{surveyLooks-below, surveyLooks-end}
-use Rattle.outlines.specs.declared.steps.Reached.{Reached}
+use Rattle.tally.specs.declared.steps.Reached.{Reached}
 use Rattle.outlines.specs.declared.plain.Surveyed.{Surveyed}
 use Rattle.outlines.specs.Admitting.{mostLine}
-use Rattle.outlines.specs.Tally.{mostCounts, Tallied}
+use Rattle.tally.specs.Counts.{mostCounts}
+use Rattle.tally.specs.Tallied.{Tallied}
 use Rattle.outlines.specs.Scan.{CanPut, wordsPut}
 use Rattle.outlines.specs.Survey.{CanVerifyOn, IsVerifiedOn, reachedOf, foundOf, IsSurveyedOn, CanSurvey, LineSurveyed}
 use Rattle.outlines.proofs.WordsPut.{put-more, put-none, put-length}

@@ -22,12 +22,15 @@ use Rattle.outlines.specs.declared.sweep.Sweep.{Sweep}
 use Rattle.outlines.specs.declared.sweep.Swept.{Swept}
 use Rattle.outlines.specs.declared.sweep.Swept.the-variants.{Ended, NoFinding, Found}
 use Rattle.outlines.specs.declared.sweep.WindowsRead.{WindowsRead}
-use Rattle.outlines.specs.declared.tally.LastVerified.the-variants.{At}
+use Rattle.outlines.specs.declared.verifying.LastVerified.the-variants.{At}
 use Rattle.outlines.specs.Admitting.{mostRing, mostLine}
-use Rattle.outlines.specs.Tally.{lastOf, Verified, CanVerify, TalliedBefore, IsLowestAt}
+use Rattle.tally.specs.Counts.{IsLowestWith}
+use Rattle.tally.specs.Tallied.{Verified}
+use Rattle.tally.proofs.LowestLoop.{lowest-at}
+use Rattle.outlines.specs.Verifying.{lastOf, CanVerify, TalliedBefore}
 use Rattle.outlines.specs.Sweep.{stateOf, foundOf, hasEnded, CanReadWindows, IsCandidateRead, IsWindowsRead, CanSweepOn, IsSweptOn}
 use Rattle.outlines.proofs.WindowsLeft.{left-from-le, left-start-le, left-looks-le}
-use Rattle.outlines.proofs.TallyFinding.{least-no, least-yes}
+use Rattle.tally.proofs.TallyFinding.{least-no, least-yes}
 
 -- The tally of the last verified start stays that at every later start.
 pub before-later : (ring line counts : List ℕ) (i i′ : ℕ) (last : Option ℕ) → i ≤ i′ → TalliedBefore ring line i counts last → TalliedBefore ring line i′ counts last
@@ -150,10 +153,11 @@ module _ (ring doubled table line : List ℕ) (k : ℕ) (counts : List ℕ) (at 
             (sym (least-no ring line k i counts′ least (can .fits .some-edge) (v .tallied) (v .least-is) far)) s l o
 
         -- A finding.
-        pub swept-found : (next : Sweep) (f : FindingStruct) (rotation : ℕ) → least ≤ k → IsLowestAt (length ring) counts′ least rotation
+        pub swept-found : (next : Sweep) (f : FindingStruct) (rotation : ℕ) → least ≤ k → IsLowestWith (length ring) counts′ least rotation
             → f .start .0 ≡ i → f .rotation .0 ≡ rotation → f .distance ≡ least
             → next .start ≡ read .next → next .last ≡ At i → next .looks ≡ at .looks + read .looks + looked → IsSweptOn ring line k at (Found next f) counts′
         swept-found next f rotation near low fs fr fd s l o =
             candidate-after (Found next f) next refl refl
             (ap {A = Finding} (λ x. x ∷ []) (λ j. record { start = fs j; rotation = fr j; distance = fd j })
-            ∙ sym (least-yes ring line k i counts′ least (can .fits .some-edge) (v .tallied) (v .least-is) rotation low (read-is .in-line) near)) s l o
+            ∙ sym (least-yes ring line k i counts′ least (can .fits .some-edge) (v .tallied) (v .least-is) rotation
+            (lowest-at counts′ least (length ring) rotation (can .fits .most) (v .least-is) low) (read-is .in-line) near)) s l o

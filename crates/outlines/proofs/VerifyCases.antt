@@ -9,37 +9,41 @@ use mathlib.Core.Option.{Option}
 use native.Mathlib.Omega.{arith}
 use lib.ListN.{length}
 use borrow.Author.Tests.{lt-ltb, le-ltb}
-use Rattle.meaning.specs.Meanings.{window, distance}
+use Rattle.meaning.specs.Meanings.{distance}
 use Rattle.meaning.specs.Looks.{afreshLooks, stepLooks, tallyLooks}
 use Rattle.meaning.proofs.Cases.{le-or-lt}
 use Rattle.meaning.proofs.WindowAlone.{alone-distance}
-use Rattle.outlines.specs.Tally.{Tallied, RingFits, Doubled, lastOf, TalliedBefore, CanVerify, CanMove, Verified, IsReached}
-use Rattle.outlines.proofs.WindowEdges.{window-length}
-use Rattle.outlines.specs.declared.steps.Reached.{Reached}
-use Rattle.outlines.specs.declared.tally.LastVerified.{LastVerified}
-use Rattle.outlines.specs.declared.tally.LastVerified.the-variants.{Nothing, At}
+use Rattle.tally.specs.Windows.{IsWindow}
+use Rattle.tally.specs.Counts.{IsDoubled, IsCounted}
+use Rattle.tally.specs.Moves.{IsMoved}
+use Rattle.tally.specs.Tallied.{Tallied, Verified, IsReached}
+use Rattle.outlines.specs.Verifying.{RingFits, lastOf, TalliedBefore, CanVerify}
+use Rattle.tally.proofs.WindowEdges.{start-window, start-length}
+use Rattle.tally.specs.declared.counts.Least.{Least}
+use Rattle.tally.specs.declared.steps.Reached.{Reached}
+use Rattle.tally.proofs.AfreshTallied.{afresh-verified}
+use Rattle.tally.proofs.MovedTallied.{moved-tallied}
+use Rattle.outlines.specs.declared.verifying.LastVerified.{LastVerified}
+use Rattle.outlines.specs.declared.verifying.LastVerified.the-variants.{Nothing, At}
 
 module _ (ring line : List ℕ) (i : ℕ) where
   abbrev m : ℕ
   m = length ring
 
-  -- The window can be counted afresh.
-  pub verify-can-count : (doubled counts edges : List ℕ) (last : Option ℕ) → CanVerify ring doubled line i counts last → edges ≡ window m line i
-      → RingFits ring counts × Doubled ring doubled × (length edges ≡ m) × (i ≤ 65536)
-  verify-can-count doubled counts edges last can is =
-      (can .fits, can .twice, window-length m line edges i is (can .in-line), omega (arith, can .in-line, can .most-line))
-
-  -- A window verified alone is verified in the line.
-  pub alone-verified : (edges counts : List ℕ) (looks least looked : ℕ) → edges ≡ window m line i → Verified ring edges 0 looks counts least looked
-      → Verified ring line i looks counts least looked
-  alone-verified edges counts looks least looked is verified = record {
-    tallied = record {
-      size = verified .tallied .size;
-      each = λ r l. verified .tallied .each r l ∙ ap (λ (xs : List ℕ). distance ring xs 0 r) is ∙ alone-distance ring line i r;
-    };
-    least-is = verified .least-is;
-    looks-are = verified .looks-are;
-  }
+  -- A window counted afresh is verified: alone, as a line of its own, and so in the line.
+  pub counted-verified : (doubled old new edges : List ℕ) (z : Least) → RingFits ring old → IsDoubled ring doubled → i + m ≤ length line
+      → IsWindow line i m edges → IsCounted doubled edges old new z → Verified ring line i (afreshLooks m) new (z .least) (z .looks)
+  counted-verified doubled old new edges z fits twice in-line handed counted =
+      let alone = afresh-verified ring doubled edges (fits .some-edge) (fits .most) twice (start-length line i m edges handed in-line) old new z (fits .size) counted in
+      record {
+        tallied = record {
+          size = alone .tallied .size;
+          each = λ r l. alone .tallied .each r l ∙ ap (λ (xs : List ℕ). distance ring xs 0 r) (start-window line i m edges handed in-line)
+              ∙ alone-distance ring line i r;
+        };
+        least-is = alone .least-is;
+        looks-are = alone .looks-are;
+      }
 
   -- Looks that are equal count the same.
   looks-same : (counts : List ℕ) (looks looks′ least looked : ℕ) → looks ≡ looks′ → Verified ring line i looks counts least looked
@@ -55,23 +59,18 @@ module _ (ring line : List ℕ) (i : ℕ) where
     asked = tallyLooks m (lastOf last) i
 
     -- With no earlier tally the start is counted afresh.
-    pub verify-first : (edges counts : List ℕ) (least looked : ℕ) → last ≡ Nothing → edges ≡ window m line i
-        → Verified ring edges 0 (afreshLooks m) counts least looked → Verified ring line i asked counts least looked
+    pub verify-first : (counts : List ℕ) (least looked : ℕ) → last ≡ Nothing → Verified ring line i (afreshLooks m) counts least looked
+        → Verified ring line i asked counts least looked
     unfolding tallyLooks
-    verify-first edges counts least looked none-yet is verified =
-        looks-same counts (afreshLooks m) asked least looked
-        (rw none-yet refl)
-        (alone-verified edges counts (afreshLooks m) least looked is verified)
+    verify-first counts least looked none-yet verified = looks-same counts (afreshLooks m) asked least looked (rw none-yet refl) verified
 
     module _ (from : ℕ) (after : last ≡ At from) where
       -- Far beyond the last verified start it is counted afresh too.
-      pub verify-afresh : (edges counts : List ℕ) (least looked : ℕ) → m < 2 * (i - from) → edges ≡ window m line i
-          → Verified ring edges 0 (afreshLooks m) counts least looked → Verified ring line i asked counts least looked
+      pub verify-afresh : (counts : List ℕ) (least looked : ℕ) → m < 2 * (i - from) → Verified ring line i (afreshLooks m) counts least looked
+          → Verified ring line i asked counts least looked
       unfolding tallyLooks
-      verify-afresh edges counts least looked far is verified =
-          looks-same counts (afreshLooks m) asked least looked
-          (rw (after, lt-ltb m (2 * (i - from)) far) refl)
-          (alone-verified edges counts (afreshLooks m) least looked is verified)
+      verify-afresh counts least looked far verified =
+          looks-same counts (afreshLooks m) asked least looked (rw (after, lt-ltb m (2 * (i - from)) far) refl) verified
 
       -- Else the tally moves as many steps as the start is beyond it: no least count is below 0.
       pub verify-moved : (counts : List ℕ) (r : Reached) → 2 * (i - from) ≤ m → from < i → IsReached ring line from (i - from) 0 counts r
@@ -94,12 +93,8 @@ module _ (ring line : List ℕ) (i : ℕ) where
         pub verify-from-lt : from < i
         verify-from-lt = tallied-before .0
 
-        -- The tally of the last verified start can be moved to this one.
-        pub verify-can-move : CanMove ring line from (i - from) counts
-        verify-can-move = record {
-          fits = can .fits;
-          tallied = tallied-before .1;
-          some-step = omega (arith, verify-from-lt);
-          in-line = omega (arith, verify-from-lt, can .in-line);
-          most-line = can .most-line;
-        }
+        -- The tally of the last verified start, moved to this one.
+        pub verify-reached : (new : List ℕ) (r : Reached) → IsMoved ring line from (i - from) 0 counts new r → IsReached ring line from (i - from) 0 new r
+        verify-reached =
+            moved-tallied ring line 0 (can .fits .some-edge) (can .fits .most) from (i - from) counts (tallied-before .1) (omega (arith, verify-from-lt))
+            (omega (arith, verify-from-lt, can .in-line)) (omega (arith, can .most-line))

@@ -19,7 +19,8 @@ use Rattle.vectors.specs.ByValue.{Occurrences}
 use Rattle.outlines.specs.declared.quick.Scanned.{Scanned}
 use Rattle.outlines.specs.declared.quick.Scanned.the-variants.{Counts as CountsCase, Refused}
 use Rattle.outlines.specs.Admitting.{mostLine, roomAsked, refusalOf}
-use Rattle.outlines.specs.Tally.{RingFits, Doubled}
+use Rattle.tally.specs.Counts.{IsDoubled}
+use Rattle.outlines.specs.Verifying.{RingFits}
 
 -- "found and looks"
 pub record Counts : Type 0 where
@@ -85,7 +86,7 @@ pub record CanScan (ring doubled table line : List ℕ) (k : ℕ) (counts words 
   pub allowed : k < length ring
   pub most-line : length line ≤ mostLine
   pub occurs : Occurrences ring table
-  pub twice : Doubled ring doubled
+  pub twice : IsDoubled ring doubled
   pub room-for : length ring ≤ length line → roomAsked (length ring) (length line) ≤ length words
 
 -- A line is scanned: found, looks and the words at exit.

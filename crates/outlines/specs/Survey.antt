@@ -12,12 +12,14 @@ use lib.ListN.{length}
 use Rattle.meaning.specs.Meanings.{leastDistance}
 use Rattle.meaning.specs.Findings.{Finding, foundAt, findings, wordsOf, written}
 use Rattle.meaning.specs.Looks.{surveyLooksBelow, surveyLooks}
-use Rattle.outlines.specs.declared.steps.Reached.{Reached}
+use Rattle.tally.specs.declared.steps.Reached.{Reached}
 use Rattle.outlines.specs.declared.quick.Scanned.{Scanned}
 use Rattle.outlines.specs.declared.plain.Surveyed.{Surveyed}
 use Rattle.outlines.specs.declared.plain.Surveyed.the-variants.{NoFinding, Found}
 use Rattle.outlines.specs.Admitting.{mostLine, roomAsked}
-use Rattle.outlines.specs.Tally.{RingFits, Doubled, Tallied, IsLeast}
+use Rattle.tally.specs.Counts.{IsDoubled, IsLeast}
+use Rattle.tally.specs.Tallied.{Tallied}
+use Rattle.outlines.specs.Verifying.{RingFits}
 use Rattle.outlines.specs.Sweep.{findingOf}
 use Rattle.outlines.specs.Scan.{paperOf, searchPaper, searchedWords}
 
@@ -25,7 +27,7 @@ use Rattle.outlines.specs.Scan.{paperOf, searchPaper, searchedWords}
 pub record CanVerifyOn (ring doubled line : List ℕ) (k i : ℕ) (counts : List ℕ) : Type 0 where
   pub fits : RingFits ring counts
   pub allowed : k < length ring
-  pub twice : Doubled ring doubled
+  pub twice : IsDoubled ring doubled
   pub in-line : i + length ring ≤ length line
   pub most-line : length line ≤ mostLine
   pub before : 0 < i → Tallied ring line (i - 1) counts
@@ -60,7 +62,7 @@ pub record CanSurvey (ring doubled line : List ℕ) (k : ℕ) (counts words : Li
   pub fits : RingFits ring counts
   pub allowed : k < length ring
   pub most-line : length line ≤ mostLine
-  pub twice : Doubled ring doubled
+  pub twice : IsDoubled ring doubled
   pub room-for : length ring ≤ length line → roomAsked (length ring) (length line) ≤ length words
 
 -- A line is surveyed: found, looks and the words at exit.

@@ -23,7 +23,8 @@ use Rattle.outlines.specs.declared.sweep.Swept.{Swept}
 use Rattle.outlines.specs.declared.sweep.Swept.the-variants.{Ended, NoFinding, Found}
 use Rattle.outlines.specs.declared.sweep.WindowsRead.{WindowsRead}
 use Rattle.outlines.specs.Admitting.{mostRing, mostLine}
-use Rattle.outlines.specs.Tally.{RingFits, Doubled, TalliedBefore, lastOf}
+use Rattle.tally.specs.Counts.{IsDoubled}
+use Rattle.outlines.specs.Verifying.{RingFits, TalliedBefore, lastOf}
 
 -- The finding that a struct stands for: a line place, a ring place and a distance.
 abbrev pub findingOf : FindingStruct → Finding
@@ -102,7 +103,7 @@ pub record CanSweepOn (ring doubled table line : List ℕ) (k : ℕ) (counts : L
   pub allowed : k < length ring
   pub most-line : length line ≤ mostLine
   pub occurs : Occurrences ring table
-  pub twice : Doubled ring doubled
+  pub twice : IsDoubled ring doubled
   pub start-le : at .start ≤ length line + 1
   pub before : TalliedBefore ring line (at .start) counts (lastOf (at .last))
   pub looks-le : at .looks ≤ quickLooks ring line k

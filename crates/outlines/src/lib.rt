@@ -5,17 +5,12 @@
 // the same findings: specs/Survey.antt. `report` is the scan with the silence book asked for each finding before it is
 // written: specs/Report.antt. No public function has a `requires`: each takes every input.
 mod admitting;
-mod afresh;
-mod counts;
-mod moving;
 mod plain;
 mod quick;
 mod reading;
 mod reporting;
-mod steps;
 mod sweep;
-mod tally;
-mod windows;
+mod verifying;
 
 pub use plain::survey;
 pub use quick::Scanned;

@@ -1,19 +1,18 @@
 // The plain survey: every start is verified, the first afresh and each next by one step.
 use crate::admitting::Verdict;
 use crate::admitting::admit;
-use crate::afresh::count_afresh;
-use crate::afresh::double;
-use crate::counts::lowest_rotation;
-use crate::counts::wide;
-use crate::moving::move_counts;
 use crate::quick::Counted;
 use crate::quick::Scanned;
 use crate::quick::put_finding;
-use crate::steps::Reached;
-use crate::windows::window;
 use answers::Finding;
 use answers::LinePlace;
 use answers::RingPlace;
+use tally::Reached;
+use tally::count_afresh;
+use tally::double;
+use tally::lowest_rotation;
+use tally::move_counts;
+use tally::window;
 ghost use lib.ListN.{length};
 ghost use Rattle.outlines.specs.Admitting.{Admitted};
 ghost use Rattle.outlines.specs.Survey.{CanVerifyOn, IsVerifiedOn, IsSurveyedOn, CanSurvey, LineSurveyed, IsSurveyed};
@@ -39,7 +38,7 @@ fn verify_on(
 {
     let m = ring.len();
     if i == 0 {
-        let first = count_afresh(counts, ring, doubled, window(line, i, m), LinePlace(i));
+        let first = count_afresh(counts, doubled, window(line, i, m));
         Reached {
             start: i,
             least: first.least,
@@ -64,12 +63,11 @@ fn survey_on(
     ensures { λ r. ⌜ IsSurveyedOn (now (ring .entry)) (now (line .entry)) k i r (now (counts .exit)) ⌝ }
 {
     let reached = verify_on(counts, ring, doubled, line, k, i);
-    let least = reached.least;
-    let distance = wide(least);
+    let distance = reached.least;
     if k < distance {
         return Surveyed::NoFinding(reached);
     }
-    let rotation = lowest_rotation(counts, ring.len(), least);
+    let rotation = lowest_rotation(counts, ring.len(), distance);
     Surveyed::Found(
         reached,
         Finding {
@@ -118,8 +116,7 @@ fn survey_line(ring: &[u8], line: &[u8], k: usize, words: &mut [u32]) -> Counted
     requires { ⌜ Admitted (length (now ring)) k (length (now line)) (length (now words)) ⌝ }
     ensures { λ z. ⌜ LineSurveyed (now (ring .entry)) (now (line .entry)) k (now (words .entry)) (z .found) (z .looks) (now (words .exit)) ⌝ }
 {
-    let mut doubled = [0u8; 512];
-    double(ring, &mut doubled);
+    let doubled = double(ring);
     let mut counts = [0u16; 256];
     survey_starts(ring, &doubled, line, k, &mut counts, words)
 }

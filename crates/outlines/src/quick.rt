@@ -2,13 +2,13 @@
 use crate::admitting::Verdict;
 use crate::admitting::WORDS_EACH;
 use crate::admitting::admit;
-use crate::afresh::double;
 use crate::sweep::Sweep;
 use crate::sweep::Swept;
 use crate::sweep::sweep_on;
-use crate::tally::LastVerified;
+use crate::verifying::LastVerified;
 use answers::Finding;
 use answers::Refusal;
+use tally::double;
 use vectors::occurrences;
 ghost use mathlib.Core.Path.{_≡_};
 ghost use lib.ListN.{length};
@@ -89,8 +89,7 @@ fn scan_line(ring: &[u8], line: &[u8], k: usize, words: &mut [u32]) -> Counted
 {
     let mut table = [0u64; 1024];
     occurrences(ring, &mut table);
-    let mut doubled = [0u8; 512];
-    double(ring, &mut doubled);
+    let doubled = double(ring);
     let mut counts = [0u16; 256];
     scan_windows(ring, &doubled, &table, line, k, &mut counts, words)
 }

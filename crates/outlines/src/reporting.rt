@@ -1,12 +1,11 @@
 // The report: the quick scan, and of its findings only those that the silence book does not name.
 use crate::admitting::Verdict;
 use crate::admitting::admit;
-use crate::afresh::double;
 use crate::quick::put_finding;
 use crate::sweep::Sweep;
 use crate::sweep::Swept;
 use crate::sweep::sweep_on;
-use crate::tally::LastVerified;
+use crate::verifying::LastVerified;
 use answers::Finding;
 use answers::Refusal;
 use book::Address;
@@ -16,6 +15,7 @@ use book::is_for;
 use book::read;
 use book::seek;
 use book::seek_on;
+use tally::double;
 use vectors::occurrences;
 ghost use mathlib.Core.Path.{_≡_};
 ghost use Prim.Native.Nat.{_<_, _^_};
@@ -167,8 +167,7 @@ fn report_line(
 {
     let mut table = [0u64; 1024];
     occurrences(ring, &mut table);
-    let mut doubled = [0u8; 512];
-    double(ring, &mut doubled);
+    let doubled = double(ring);
     let mut counts = [0u16; 256];
     report_windows(
         cell,

@@ -1,14 +1,13 @@
 // The sweep goes on from candidate to candidate. Its state is small and goes by value; the counts and the ring's vectors
 // are lent beside it.
-use crate::counts::lowest_rotation;
-use crate::counts::wide;
 use crate::reading::read_window;
-use crate::tally::LastVerified;
-use crate::tally::verify;
-use crate::windows::window;
+use crate::verifying::LastVerified;
+use crate::verifying::verify;
 use answers::Finding;
 use answers::LinePlace;
 use answers::RingPlace;
+use tally::lowest_rotation;
+use tally::window;
 ghost use Rattle.outlines.specs.Sweep.{CanReadWindows, IsWindowsRead, CanSweepOn, IsSweptOn};
 
 // Where a sweep stands: the start of the window to be read next, the last verified start, the looks so far.
@@ -97,12 +96,11 @@ pub fn sweep_on(
         last: LastVerified::At(i),
         looks: looks + verified.looks,
     };
-    let least = verified.least;
-    let distance = wide(least);
+    let distance = verified.least;
     if k < distance {
         return Swept::NoFinding(next);
     }
-    let rotation = lowest_rotation(counts, ring.len(), least);
+    let rotation = lowest_rotation(counts, ring.len(), distance);
     Swept::Found(
         next,
         Finding {

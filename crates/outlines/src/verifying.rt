@@ -1,13 +1,13 @@
 // Rule 5: the tally is kept, and moved along the line from one verified start to the next.
-use crate::afresh::count_afresh;
-use crate::counts::Least;
-use crate::moving::move_counts;
-use crate::windows::window;
-use answers::LinePlace;
+use tally::Least;
+use tally::count_afresh;
+use tally::move_counts;
+use tally::window;
 ghost use mathlib.Core.Path.{_≡_};
 ghost use lib.ListN.{length};
 ghost use Rattle.meaning.specs.Looks.{tallyLooks};
-ghost use Rattle.outlines.specs.Tally.{lastOf, CanVerify, Verified};
+ghost use Rattle.tally.specs.Tallied.{Verified};
+ghost use Rattle.outlines.specs.Verifying.{lastOf, CanVerify};
 
 // The last verified start, if there is one.
 pub enum LastVerified {
@@ -30,17 +30,11 @@ pub fn verify(
 {
     let m = ring.len();
     match last {
-        LastVerified::Nothing => count_afresh(
-            counts,
-            ring,
-            doubled,
-            window(line, i, m),
-            LinePlace(i),
-        ),
+        LastVerified::Nothing => count_afresh(counts, doubled, window(line, i, m)),
         LastVerified::At(from) => {
             let s = i - from;
             if m < 2 * s {
-                count_afresh(counts, ring, doubled, window(line, i, m), LinePlace(i))
+                count_afresh(counts, doubled, window(line, i, m))
             } else {
                 // No least count is below 0: it moves all the s steps.
                 let reached = move_counts(counts, ring, line, from, s, 0);

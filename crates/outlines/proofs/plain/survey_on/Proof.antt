@@ -10,15 +10,12 @@ use Rattle.outlines.proofs.plain.survey_on.Tie as tie
 verify-on-requires : tie.Need-verify-on-requires
 verify-on-requires c κs = search needs
 
-wide-requires : tie.Need-wide-requires
-wide-requires c κs = search needs
-
 -- Verified, and no finding.
 returns : tie.Need-returns
 returns c =
-    let verified = c .before .before in
+    let verified = c .before in
     let start = verified .before .before .before .before .before in
-    on-none _ _ _ _ _ _ (start .pre) _ _ (verified .verify-on .ensures) (omega arith)
+    on-none _ _ _ _ _ _ (start .pre) _ _ (verified .verify-on .ensures) (c .if1 .taken)
 
 lowest-rotation-requires : tie.Need-lowest-rotation-requires
 lowest-rotation-requires c κs = search needs
@@ -26,12 +23,11 @@ lowest-rotation-requires c κs = search needs
 -- A finding.
 returns-2 : tie.Need-returns-2
 returns-2 c =
-    let widened = c .before .before .before in
-    let verified = widened .before in
+    let verified = c .before .before .before in
     let start = verified .before .before .before .before .before in
-    on-found _ _ _ _ _ _ (start .pre) _ _ (verified .verify-on .ensures) _ _ (omega arith) (c .lowest-rotation .ensures) refl refl (widened .wide .ensures)
+    on-found _ _ _ _ _ _ (start .pre) _ _ (verified .verify-on .ensures) _ _ (c .before .before .if1 .left) (c .lowest-rotation .ensures) refl refl refl
 
 pub survey-on-spec : {M : Type 1} → statement M
 survey-on-spec =
     tie.close
-    (tie.spec verify-on-requires wide-requires returns lowest-rotation-requires returns-2)
+    (tie.spec verify-on-requires returns lowest-rotation-requires returns-2)

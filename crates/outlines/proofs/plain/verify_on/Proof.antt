@@ -3,7 +3,7 @@
 -- Assumes nothing.
 use native.Mathlib.Omega.{arith}
 use borrow.Author.Needs.{needs}
-use Rattle.outlines.proofs.SurveyCases.{on-can-count, on-can-move, on-first, on-moved}
+use Rattle.outlines.proofs.SurveyCases.{on-first, on-reached, on-moved}
 use Rattle.outlines.proofs.plain.verify_on.Statement.{statement}
 use Rattle.outlines.proofs.plain.verify_on.Tie as tie
 
@@ -11,9 +11,7 @@ window-requires : tie.Need-window-requires
 window-requires c κs = search needs
 
 count-afresh-requires : tie.Need-count-afresh-requires
-count-afresh-requires c κs =
-    let start = c .before .before .before .before .before .before in
-    on-can-count _ _ _ _ _ _ (start .pre) _ (c .window .ensures)
+count-afresh-requires c κs = search needs
 
 sub-from : tie.Need-sub-from
 sub-from c = search needs
@@ -28,22 +26,21 @@ add-move-counts : tie.Need-add-move-counts
 add-move-counts c = search needs
 
 move-counts-requires : tie.Need-move-counts-requires
-move-counts-requires c κs =
-    let start = c .before .before .before .before .before in
-    on-can-move _ _ _ _ _ _ (start .pre) (omega (arith, c .before .if1 .left))
+move-counts-requires c κs = search needs
 
 -- The first start.
 returns : tie.Need-returns
 returns c =
     let counted = c .before in
     let start = counted .before .before .before .before .before .before in
-    on-first _ _ _ _ _ _ (start .pre) _ _ _ _ (counted .before .before .if1 .taken) (counted .window .ensures) (c .count-afresh .ensures)
+    on-first _ _ _ _ _ _ (start .pre) _ _ _ (counted .before .before .if1 .taken) (counted .window .ensures) (c .count-afresh .ensures)
 
 -- A later one, and those after it.
 returns-2 : tie.Need-returns-2
 returns-2 c =
     let start = c .before .before .before .before .before .before in
-    on-moved _ _ _ _ _ _ (start .pre) _ _ (omega (arith, c .before .before .if1 .left)) (c .move-counts .ensures)
+    on-moved _ _ _ _ _ _ (start .pre) _ _ (omega (arith, c .before .before .if1 .left))
+    (on-reached _ _ _ _ _ _ (start .pre) (omega (arith, c .before .before .if1 .left)) _ _ (c .move-counts .ensures))
 
 pub verify-on-spec : {M : Type 1} → statement M
 verify-on-spec =

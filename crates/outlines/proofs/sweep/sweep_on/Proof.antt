@@ -38,33 +38,26 @@ add-lowest-rotation c =
           (verified .verify .ensures),
     )
 
-wide-requires : tie.Need-wide-requires
-wide-requires c κs = search needs
-
 -- Verified, and no finding.
 returns-2 : tie.Need-returns-2
 returns-2 c =
-    let verified = c .before .before .before in
+    let verified = c .before .before in
     let candidate = verified .before .before in
     let read = candidate .before .before .before .before in
     swept-none _ _ _ _ _ _ _ (read .before .before .before .before .pre) _ (read .read-windows .ensures) (not-false _ (candidate .if1 .left)) _ _ _
-    (verified .verify .ensures) _ (omega arith) refl refl refl
+    (verified .verify .ensures) _ (c .if2 .taken) refl refl refl
 
 lowest-rotation-requires : tie.Need-lowest-rotation-requires
-lowest-rotation-requires c κs =
-    let verified = c .before .before .before .before in
-    let read = verified .before .before .before .before .before .before in
-    (read .before .before .before .before .pre .fits .most, verified .verify .ensures .tallied .size, verified .verify .ensures .least-is)
+lowest-rotation-requires c κs = search needs
 
 -- A finding.
 returns-3 : tie.Need-returns-3
 returns-3 c =
-    let widened = c .before .before .before in
-    let verified = widened .before .before in
+    let verified = c .before .before .before .before in
     let candidate = verified .before .before in
     let read = candidate .before .before .before .before in
     swept-found _ _ _ _ _ _ _ (read .before .before .before .before .pre) _ (read .read-windows .ensures) (not-false _ (candidate .if1 .left)) _ _ _
-    (verified .verify .ensures) _ _ _ (omega arith) (c .lowest-rotation .ensures) refl refl (widened .wide .ensures) refl refl refl
+    (verified .verify .ensures) _ _ _ (c .before .before .if2 .left) (c .lowest-rotation .ensures) refl refl refl refl refl refl
 
 pub sweep-on-spec : {M : Type 1} → statement M
 sweep-on-spec =
@@ -75,7 +68,6 @@ sweep-on-spec =
     returns
     verify-requires
     add-lowest-rotation
-    wide-requires
     returns-2
     lowest-rotation-requires
     returns-3)

@@ -2,9 +2,9 @@
 -- Assumes nothing.
 use native.Mathlib.Omega.{arith}
 use borrow.Author.Needs.{needs}
-use Rattle.outlines.proofs.VerifyCases.{verify-can-count, verify-first, verify-afresh, verify-moved, verify-from-lt, verify-can-move}
-use Rattle.outlines.proofs.tally.verify.Statement.{statement}
-use Rattle.outlines.proofs.tally.verify.Tie as tie
+use Rattle.outlines.proofs.VerifyCases.{counted-verified, verify-first, verify-afresh, verify-moved, verify-from-lt, verify-reached}
+use Rattle.outlines.proofs.verifying.verify.Statement.{statement}
+use Rattle.outlines.proofs.verifying.verify.Tie as tie
 
 enum-told : tie.Need-enum-told
 enum-told c = search needs
@@ -13,9 +13,7 @@ window-requires : tie.Need-window-requires
 window-requires c κs = search needs
 
 count-afresh-requires : tie.Need-count-afresh-requires
-count-afresh-requires c κs =
-    let start = c .before .before .before .before .before .before .before in
-    verify-can-count _ _ _ _ _ _ _ (start .pre) (c .window .ensures)
+count-afresh-requires c κs = search needs
 
 enum-known-last : tie.Need-enum-known-last
 enum-known-last c = search needs
@@ -32,28 +30,29 @@ window-requires-2 : tie.Need-window-requires-2
 window-requires-2 c κs = search needs
 
 count-afresh-requires-2 : tie.Need-count-afresh-requires-2
-count-afresh-requires-2 c κs =
-    let start = c .before .before .before .before .before .before .before .before .before in
-    verify-can-count _ _ _ _ _ _ _ (start .pre) (c .window2 .ensures)
+count-afresh-requires-2 c κs = search needs
 
 move-counts-requires : tie.Need-move-counts-requires
-move-counts-requires c κs =
-    let from = c .before .before .before in
-    let start = from .before .before .before .before .before in
-    verify-can-move _ _ _ _ _ (from .last .given .1) _ _ (start .pre)
+move-counts-requires c κs = search needs
 
 -- No earlier tally.
 returns : tie.Need-returns
 returns c =
     let counted = c .before in
-    verify-first _ _ _ _ _ _ _ _ (counted .before .before .enum-told .given .1) (counted .window .ensures) (c .count-afresh .ensures)
+    let told = counted .before .before in
+    let pre = told .before .before .before .before .before .pre in
+    verify-first _ _ _ _ _ _ _ (told .enum-told .given .1)
+    (counted-verified _ _ _ _ _ _ _ _ (pre .fits) (pre .twice) (pre .in-line) (counted .window .ensures) (c .count-afresh .ensures))
 
 -- 2·s > m.
 returns-2 : tie.Need-returns-2
 returns-2 c =
     let counted = c .before in
     let far = counted .before .before in
-    verify-afresh _ _ _ _ _ (far .before .before .last .given .1) _ _ _ _ (far .if1 .taken) (counted .window2 .ensures) (c .count-afresh2 .ensures)
+    let from = far .before .before in
+    let pre = from .before .before .before .before .before .pre in
+    verify-afresh _ _ _ _ _ (from .last .given .1) _ _ _ (far .if1 .taken)
+    (counted-verified _ _ _ _ _ _ _ _ (pre .fits) (pre .twice) (pre .in-line) (counted .window2 .ensures) (c .count-afresh2 .ensures))
 
 -- Otherwise.
 returns-3 : tie.Need-returns-3
@@ -62,7 +61,8 @@ returns-3 c =
     let from = near .before .before in
     let start = from .before .before .before .before .before in
     verify-moved _ _ _ _ _ (from .last .given .1) _ _ (near .if1 .left)
-    (verify-from-lt _ _ _ _ _ (from .last .given .1) _ _ (start .pre)) (c .move-counts .ensures)
+    (verify-from-lt _ _ _ _ _ (from .last .given .1) _ _ (start .pre))
+    (verify-reached _ _ _ _ _ (from .last .given .1) _ _ (start .pre) _ _ (c .move-counts .ensures))
 
 pub verify-spec : {M : Type 1} → statement M
 verify-spec =
