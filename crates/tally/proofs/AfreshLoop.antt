@@ -85,8 +85,8 @@ module _ (doubled window first old : List ℕ) (can-first : CanCount (length win
     counting-afresh-end least h is-least =
         let all : q ≡ m = omega (arith, known .turn-le) in
         let written : counts ≡ afreshCounts doubled window first =
-            listOf-first counts first m (afreshCount doubled window) (known .size ∙ cleared .size)
-            (λ r l. known .each r l ∙ ap (count (differsThere doubled window r) 0) all) (λ r l. known .kept r l ∙ cleared .kept r l) in
+        listOf-first counts first m (afreshCount doubled window) (known .size ∙ cleared .size)
+        (λ r l. known .each r l ∙ ap (count (differsThere doubled window r) 0) all) (λ r l. known .kept r l ∙ cleared .kept r l) in
         record {
           written = written;
           least-is = leastOf-only m (afreshCounts doubled window first) least (rw written at is-least);

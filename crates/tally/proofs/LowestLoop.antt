@@ -81,8 +81,7 @@ module _ (counts : List ℕ) (least : ℕ) where
       (λ e.
       let differs : getD counts a 0 ≡ least → ⊥ = eqb-false (getD counts a 0) least e in
       let apart : a ≡ place → ⊥ = λ same. differs (ap (λ (p : ℕ). getD counts p 0) same ∙ is) in
-      let later = lowest-from n (a + 1) place (omega (arith, apart)) (omega arith) is in
-      (
+      let later = lowest-from n (a + 1) place (omega (arith, apart)) (omega arith) is in (
         omega (arith, later .0),
         later .1,
         λ s l h same. dite (ℕ-discrete s a)

@@ -32,8 +32,7 @@ module _ (m room n from steps : ℕ) where
       let both = and-true (ltb 0 m && (leb m mostCounts && leb m room)) (leb n mostPlaces && leb (from + steps + m) n) passed in
       let edges = and-true (ltb 0 m) (leb m mostCounts && leb m room) (both .0) in
       let most = and-true (leb m mostCounts) (leb m room) (edges .1) in
-      let places = and-true (leb n mostPlaces) (leb (from + steps + m) n) (both .1) in
-      (
+      let places = and-true (leb n mostPlaces) (leb (from + steps + m) n) (both .1) in (
         ltb-true 0 m (edges .0),
         leb-true m mostCounts (most .0),
         leb-true m room (most .1),

@@ -37,7 +37,13 @@ pub fn double(ring: &[u8]) -> [u8; DOUBLED]
 }
 
 // One window edge against every rotation's edge over it: rotation r has there the doubled ring's edge at place + r.
-fn count_edge(counts: &mut [u16; MOST_COUNTS], doubled: &[u8], m: usize, place: usize, edge: u8) -> usize
+fn count_edge(
+    counts: &mut [u16; MOST_COUNTS],
+    doubled: &[u8],
+    m: usize,
+    place: usize,
+    edge: u8,
+) -> usize
     requires { ⌜ CanCount m (now doubled) (now counts) × (place < m) × ((r : ℕ) → r < m → getD (now counts) r 0 ≤ 256) ⌝ }
     ensures { λ looks. ⌜ EdgeCounted m (now (doubled .entry)) (now (counts .entry)) place edge (now (counts .exit)) × (looks ≡ m) ⌝ }
 {

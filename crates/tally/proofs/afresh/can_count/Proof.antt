@@ -25,8 +25,7 @@ returns-3 : tie.Need-returns-3
 unfolding canCount
 returns-3 c =
     let args = c .before .before .before .args in
-    rw
-    (
+    rw (
       lt-ltb 0 (args .m) (omega (arith, c .before .before .if1 .left)),
       le-leb (args .m) mostCounts (c .before .if2 .left),
       lt-leb (args .m) (args .room) (c .if3 .taken),
@@ -41,8 +40,7 @@ returns-4 : tie.Need-returns-4
 unfolding canCount
 returns-4 c =
     let args = c .before .before .before .args in
-    rw
-    (
+    rw (
       lt-ltb 0 (args .m) (omega (arith, c .before .before .if1 .left)),
       le-leb (args .m) mostCounts (c .before .if2 .left),
       le-leb (args .m) (args .room) (c .if3 .left),

@@ -33,8 +33,7 @@ count-edge-requires c κs =
     let turn = c .before .before .before in
     let cleared = turn .before .before in
     let pre = cleared .before .before .before .before .pre in
-    let place-is = place-under-is _ _ _ _ _ (sym (zero-add _)) (turn .loop-test .taken) (omega (arith, pre .fits .most)) (c .before .before .to-ring .ensures) in
-    (
+    let place-is = place-under-is _ _ _ _ _ (sym (zero-add _)) (turn .loop-test .taken) (omega (arith, pre .fits .most)) (c .before .before .to-ring .ensures) in (
       counting-afresh-can _ _ _ _ pre (cleared .clear .ensures) _ _ _ (turn .before .loop .inv),
       omega (arith, place-is, turn .loop-test .taken),
       counting-afresh-le _ _ _ _ pre (cleared .clear .ensures) _ _ _ (turn .before .loop .inv),
