@@ -43,3 +43,8 @@ eqb-sym a b = go (eqb b a) refl
     go : (t : Bool) → eqb b a ≡ t → eqb a b ≡ t
     go true e = eq-eqb a b (sym (eqb-true b a e))
     go false e = ne-eqb a b (λ q. eqb-false b a e (sym q))
+
+-- A test that cannot pass fails.
+pub not-passed : (t : Bool) → (t ≡ true → ⊥) → false ≡ t
+not-passed true can-not = absurd (can-not refl)
+not-passed false can-not = refl

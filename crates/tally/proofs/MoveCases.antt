@@ -11,15 +11,10 @@ use native.Mathlib.Omega.{arith}
 use lib.Dec.{ltb, leb}
 use lib.ListN.{length}
 use borrow.Author.Tests.{ltb-true, leb-true, lt-ltb, le-leb, lt-leb}
-use Rattle.meaning.proofs.Cases.{and-true}
+use Rattle.meaning.proofs.Cases.{and-true, not-passed}
 use Rattle.tally.specs.declared.steps.Reached.{Reached}
 use Rattle.tally.specs.Counts.{mostCounts}
 use Rattle.tally.specs.Moves.{mostPlaces, canMove, CanMove, IsMovedOn, IsMoved}
-
--- A test that cannot pass fails.
-not-passed : (t : Bool) → (t ≡ true → ⊥) → false ≡ t
-not-passed true can-not = absurd (can-not refl)
-not-passed false can-not = refl
 
 -- What the test asks, in words of order.
 abbrev Asked : ℕ → ℕ → ℕ → ℕ → ℕ → Type 0

@@ -6,11 +6,13 @@ use Prim.Native.Nat.{ℕ, zero, suc, _+_, _-_, _*_, _≤_, _<_}
 use mathlib.Core.Path.{_≡_, refl, sym, ap, _∙_}
 use mathlib.Core.Bool.{true, false}
 use mathlib.Core.List.{List}
+use native.Mathlib.Nat.{add-mul}
 use native.Mathlib.Omega.{arith}
 use lib.Dec.{ltb}
 use lib.ListN.{length, getD}
 use borrow.Author.Tests.{lt-ltb, le-ltb}
 use Rattle.meaning.specs.Meanings.{windowEdge}
+use Rattle.meaning.proofs.Cases.{by-test}
 use Rattle.meaning.specs.Looks.{stepLooks}
 use Rattle.tally.specs.declared.counts.Least.{Least}
 use Rattle.tally.specs.Windows.{IsWindow}
@@ -122,3 +124,12 @@ module _ (ring line : List ℕ) (from steps below : ℕ) (old : List ℕ) (can :
         record {
           is = sym (move-none ring line below here-at) ∙ ap (λ (n : ℕ). moveOn ring line below n here-at) (sym none) ∙ before .still;
         }
+
+-- So many steps take at most so many looks.
+pub move-looks-le : (ring line : List ℕ) (below left : ℕ) (at : Place) → moveOn ring line below left at .looks ≤ at .looks + left * stepLooks (length ring)
+unfolding moveOn stepOn
+move-looks-le ring line below zero at = omega arith
+move-looks-le ring line below (suc left) at =
+    by-test (λ (p : Place). p .looks ≤ at .looks + suc left * stepLooks (length ring)) (ltb (stepOn ring line at .least) below)
+    (λ _. omega (arith, add-mul 1 left (stepLooks (length ring))))
+    (λ _. omega (arith, move-looks-le ring line below left (stepOn ring line at), add-mul 1 left (stepLooks (length ring))))

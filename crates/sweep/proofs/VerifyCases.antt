@@ -17,14 +17,14 @@ use Rattle.tally.specs.Windows.{IsWindow}
 use Rattle.tally.specs.Counts.{IsDoubled, IsCounted}
 use Rattle.tally.specs.Moves.{IsMoved}
 use Rattle.tally.specs.Tallied.{Tallied, Verified, IsReached}
-use Rattle.outlines.specs.Verifying.{RingFits, lastOf, TalliedBefore, CanVerify}
+use Rattle.sweep.specs.Verifying.{RingFits, lastOf, TalliedBefore, CanVerify}
 use Rattle.tally.proofs.WindowEdges.{start-window, start-length}
 use Rattle.tally.specs.declared.counts.Least.{Least}
 use Rattle.tally.specs.declared.steps.Reached.{Reached}
 use Rattle.tally.proofs.AfreshTallied.{afresh-verified}
 use Rattle.tally.proofs.MovedTallied.{moved-tallied}
-use Rattle.outlines.specs.declared.verifying.LastVerified.{LastVerified}
-use Rattle.outlines.specs.declared.verifying.LastVerified.the-variants.{Nothing, At}
+use Rattle.sweep.specs.declared.verifying.LastVerified.{LastVerified}
+use Rattle.sweep.specs.declared.verifying.LastVerified.the-variants.{Nothing, At}
 
 module _ (ring line : List ℕ) (i : ℕ) where
   abbrev m : ℕ

@@ -3,33 +3,28 @@
 -- Assumes nothing.
 use Prim.Native.Nat.{ℕ, _+_, _-_, _*_, _≤_, _<_}
 use mathlib.Core.Path.{_≡_, refl, sym, ap, _∙_}
-use mathlib.Core.Bool.{Bool, true, false, true≢false}
+use mathlib.Core.Bool.{true, false, true≢false}
 use mathlib.Core.List.{List, [], _∷_}
 use mathlib.Core.Option.{Option, none, some}
-use native.Mathlib.Nat.{mul-le-mul, mul-le-mul-right}
 use native.Mathlib.Omega.{arith}
-use lib.Dec.{leb, ltb}
+use lib.Dec.{leb}
 use lib.ListN.{length}
-use borrow.Author.Tests.{le-leb, ltb-false}
+use borrow.Author.Tests.{le-leb}
 use Rattle.meaning.specs.Findings.{Finding, foundAt}
 use Rattle.meaning.specs.Rules.{readWindow}
-use Rattle.meaning.specs.Looks.{tallyLooks, quickLooks}
-use Rattle.meaning.proofs.Cases.{by-test}
-use Rattle.meaning.proofs.LookBound.{quickLooks-most}
-use Rattle.meaning.proofs.WindowRead.{window-read}
+use Rattle.meaning.specs.Looks.{tallyLooks}
 use Rattle.answers.specs.declared.places.Finding.{Finding as FindingStruct}
-use Rattle.outlines.specs.declared.sweep.Sweep.{Sweep}
-use Rattle.outlines.specs.declared.sweep.Swept.{Swept}
-use Rattle.outlines.specs.declared.sweep.Swept.the-variants.{Ended, NoFinding, Found}
-use Rattle.outlines.specs.declared.sweep.WindowsRead.{WindowsRead}
-use Rattle.outlines.specs.declared.verifying.LastVerified.the-variants.{At}
-use Rattle.outlines.specs.Admitting.{mostRing, mostLine}
+use Rattle.sweep.specs.declared.sweeping.Sweep.{Sweep}
+use Rattle.sweep.specs.declared.sweeping.Swept.{Swept}
+use Rattle.sweep.specs.declared.sweeping.Swept.the-variants.{Ended, NoFinding, Found}
+use Rattle.sweep.specs.declared.sweeping.WindowsRead.{WindowsRead}
+use Rattle.sweep.specs.declared.verifying.LastVerified.the-variants.{At}
 use Rattle.tally.specs.Counts.{IsLowestWith}
 use Rattle.tally.specs.Tallied.{Verified}
 use Rattle.tally.proofs.LowestLoop.{lowest-at}
-use Rattle.outlines.specs.Verifying.{lastOf, CanVerify, TalliedBefore}
-use Rattle.outlines.specs.Sweep.{stateOf, foundOf, hasEnded, CanReadWindows, IsCandidateRead, IsWindowsRead, CanSweepOn, IsSweptOn}
-use Rattle.outlines.proofs.WindowsLeft.{left-from-le, left-start-le, left-looks-le}
+use Rattle.sweep.specs.Verifying.{lastOf, CanVerify, TalliedBefore}
+use Rattle.sweep.specs.Sweep.{stateOf, foundOf, hasEnded, CanReadOn, IsCandidateRead, IsWindowsRead, CanSweepOn, IsSweptOn}
+use Rattle.sweep.proofs.WindowsLeft.{left-from-le}
 use Rattle.tally.proofs.TallyFinding.{least-no, least-yes}
 
 -- The tally of the last verified start stays that at every later start.
@@ -37,18 +32,10 @@ pub before-later : (ring line counts : List ℕ) (i i′ : ℕ) (last : Option �
 before-later ring line counts i i′ none l h = tt
 before-later ring line counts i i′ (some last) l h = (omega arith, h .1)
 
--- Verifying a start never costs more than a fresh count.
-tallyLooks-most : (m : ℕ) (last : Option ℕ) (i : ℕ) → tallyLooks m last i ≤ m * m
-unfolding tallyLooks
-tallyLooks-most m none i = omega arith
-tallyLooks-most m (some last) i =
-    by-test (λ (looks : ℕ). looks ≤ m * m) (ltb m (2 * (i - last))) (λ _. omega arith)
-    (λ near. omega (arith, mul-le-mul-right m (ltb-false m (2 * (i - last)) near)))
-
 module _ (ring doubled table line : List ℕ) (k : ℕ) (counts : List ℕ) (at : Sweep) (can : CanSweepOn ring doubled table line k counts at) where
   -- Windows can be read from the sweep's start on.
-  pub sweep-can-read : CanReadWindows ring table line k (at .start)
-  sweep-can-read = record {
+  pub sweep-can-read-on : CanReadOn ring table line k (at .start)
+  sweep-can-read-on = record {
     some-edge = can .fits .some-edge;
     most = can .fits .most;
     allowed = can .allowed;
@@ -60,29 +47,6 @@ module _ (ring doubled table line : List ℕ) (k : ℕ) (counts : List ℕ) (at 
   module _ (read : WindowsRead) (reads : IsWindowsRead ring line k (at .start) read) where
     abbrev i : ℕ
     i = read .start
-
-    -- All looks fit: m ≤ 256 and n ≤ 65,536. Those so far are no more than all; a window left costs at most m, and verifying no more than a fresh count.
-    at-looks-le : at .looks ≤ 3 * (mostRing * mostLine)
-    at-looks-le = omega (arith, can .looks-le, quickLooks-most ring line k (can .fits .some-edge), mul-le-mul (can .fits .most) (can .most-line))
-
-    left-looks : reads .looks ≤ mostRing * (mostLine + 1)
-    left-looks =
-        omega (
-          arith,
-          left-looks-le ring line k (at .start) (can .fits .most) (reads .left-to),
-          left-start-le ring line k (at .start) (can .start-le) (reads .left-to),
-          can .most-line,
-        )
-
-    -- The looks with those of the windows read.
-    pub read-looks-le : at .looks + read .looks ≤ 5 * (mostRing * mostLine)
-    read-looks-le = by-candidate (read .candidate) refl
-      where
-        by-candidate : (t : Bool) → read .candidate ≡ t → at .looks + read .looks ≤ 5 * (mostRing * mostLine)
-        by-candidate true e =
-            let c = reads .candidate-is e in
-            omega (arith, at-looks-le, left-looks, c .looks-are, window-read ring line k i .read-le, can .fits .most)
-        by-candidate false e = omega (arith, at-looks-le, left-looks, reads .ended e .2)
 
     -- the counts still hold the tally of the last verified start
     tallied-here : TalliedBefore ring line i counts (lastOf (at .last))
@@ -115,11 +79,6 @@ module _ (ring doubled table line : List ℕ) (k : ℕ) (counts : List ℕ) (at 
       sweep-can-verify = record { fits = can .fits; twice = can .twice; in-line = read-is .in-line; most-line = can .most-line; before = tallied-here }
 
       module _ (counts′ : List ℕ) (least looked : ℕ) (v : Verified ring line i (tallyLooks (length ring) (lastOf (at .last)) i) counts′ least looked) where
-        -- The looks with those of its verification.
-        pub verified-looks-le : at .looks + read .looks + looked ≤ 6 * (mostRing * mostLine)
-        verified-looks-le =
-            omega (arith, read-looks-le, v .looks-are, tallyLooks-most (length ring) (lastOf (at .last)) i, mul-le-mul (can .fits .most) (can .fits .most))
-
         few : leb (readWindow ring line k i .breaks) k ≡ true
         few = le-leb (readWindow ring line k i .breaks) k (read-is .few)
 

@@ -8,7 +8,19 @@ use answers::LinePlace;
 use answers::RingPlace;
 use tally::lowest_rotation;
 use tally::window;
-ghost use Rattle.outlines.specs.Sweep.{CanReadWindows, IsWindowsRead, CanSweepOn, IsSweptOn};
+ghost use mathlib.Core.Path.{_≡_};
+ghost use lib.ListN.{length};
+ghost use Rattle.sweep.specs.Reads.{CanReadWindows, windowsBy};
+ghost use Rattle.sweep.specs.Sweeps.{canSweep, CanSweep, IsSweptTo, IsSweptBy};
+
+// "Ring: m edges, 1 to 256."
+const MOST_RING: usize = 256;
+
+// A line place goes out as one word of 32 bits, so no line has more places.
+const MOST_PLACES: usize = 4294967296;
+
+// More looks than any sweep takes: those of the next windows are added without a look being lost.
+const MOST_LOOKS: usize = 4611686018427387904;
 
 // Where a sweep stands: the start of the window to be read next, the last verified start, the looks so far.
 pub struct Sweep {
@@ -37,15 +49,14 @@ pub struct WindowsRead {
 // Rules 1 to 3, window after window, to the next candidate. The next window starts past the edge where the one before was
 // left, since every start up to there differs in over k places. Most windows are left after a few reads, so nothing
 // else is done between them.
-fn read_windows(ring: &[u8], table: &[u64; 1024], line: &[u8], k: usize, from: usize) -> WindowsRead
-    requires { ⌜ CanReadWindows (now ring) (now table) (now line) k from ⌝ }
-    ensures { λ z. ⌜ IsWindowsRead (now (ring .entry)) (now (line .entry)) k from z ⌝ }
+fn read_windows(m: usize, table: &[u64; 1024], line: &[u8], k: usize, from: usize) -> WindowsRead
+    requires { ⌜ CanReadWindows m (now line) from ⌝ }
+    ensures { λ z. ⌜ z ≡ windowsBy m (now (table .entry)) (now (line .entry)) k from ⌝ }
 {
-    let m = ring.len();
     let mut i = from;
     let mut looks: usize = 0;
     while i + m <= line.len() {
-        let read = read_window(ring, window(line, i, m), table, k);
+        let read = read_window(window(line, i, m), table, k);
         looks += read.looks;
         let next = i + read.left + 1;
         if read.breaks <= k {
@@ -67,7 +78,7 @@ fn read_windows(ring: &[u8], table: &[u64; 1024], line: &[u8], k: usize, from: u
 }
 
 // On to the next candidate, which rule 4 verifies.
-pub fn sweep_on(
+fn to_candidate(
     at: Sweep,
     ring: &[u8],
     doubled: &[u8],
@@ -76,11 +87,11 @@ pub fn sweep_on(
     k: usize,
     counts: &mut [u16; 256],
 ) -> Swept
-    requires { ⌜ CanSweepOn (now ring) (now doubled) (now table) (now line) k (now counts) at ⌝ }
-    ensures { λ r. ⌜ IsSweptOn (now (ring .entry)) (now (line .entry)) k at r (now (counts .exit)) ⌝ }
+    requires { ⌜ CanSweep (length (now ring)) (length (now line)) at ⌝ }
+    ensures { λ r. ⌜ IsSweptTo (now (ring .entry)) (now (doubled .entry)) (now (table .entry)) (now (line .entry)) k at (now (counts .entry)) (now (counts .exit)) r ⌝ }
 {
     let last = at.last;
-    let read = read_windows(ring, table, line, k, at.start);
+    let read = read_windows(ring.len(), table, line, k, at.start);
     let i = read.start;
     let looks = at.looks + read.looks;
     if !read.candidate {
@@ -109,4 +120,42 @@ pub fn sweep_on(
             distance,
         },
     )
+}
+
+// Whether a sweep can go on from a start with so many looks: a ring within the limit, a line that has places for its
+// starts, a start in the line or just past it, and room for more looks.
+fn can_sweep(m: usize, n: usize, start: usize, looks: usize) -> bool
+    ensures { λ r. ⌜ r ≡ canSweep m n start looks ⌝ }
+{
+    if m == 0 {
+        return false;
+    }
+    if MOST_RING < m {
+        return false;
+    }
+    if MOST_PLACES <= n {
+        return false;
+    }
+    if n + 1 < start {
+        return false;
+    }
+    looks <= MOST_LOOKS
+}
+
+// On to the next candidate, from anywhere; where the sweep cannot go on it stays where it is, and no count changes.
+pub fn sweep_on(
+    at: Sweep,
+    ring: &[u8],
+    doubled: &[u8],
+    table: &[u64; 1024],
+    line: &[u8],
+    k: usize,
+    counts: &mut [u16; 256],
+) -> Swept
+    ensures { λ r. ⌜ IsSweptBy (now (ring .entry)) (now (doubled .entry)) (now (table .entry)) (now (line .entry)) k at (now (counts .entry)) (now (counts .exit)) r ⌝ }
+{
+    if !can_sweep(ring.len(), line.len(), at.start, at.looks) {
+        return Swept::Ended(at);
+    }
+    to_candidate(at, ring, doubled, table, line, k, counts)
 }

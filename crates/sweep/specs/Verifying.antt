@@ -1,4 +1,4 @@
--- Rule 5, which of the two: the tally is counted afresh or moved, as `verify` promises it.
+-- Rule 5, which of the two: the tally is counted afresh or moved, with the ring's own double and the last verified start's tally.
 --
 --   RingFits         a ring that a tally has room for
 --   lastOf           the last verified start, if there is one
@@ -11,9 +11,9 @@ use mathlib.Core.Option.{Option, none, some}
 use lib.ListN.{length}
 use Rattle.tally.specs.Counts.{mostCounts, IsDoubled}
 use Rattle.tally.specs.Tallied.{Tallied}
-use Rattle.outlines.specs.Admitting.{mostLine}
-use Rattle.outlines.specs.declared.verifying.LastVerified.{LastVerified}
-use Rattle.outlines.specs.declared.verifying.LastVerified.the-variants.{Nothing, At}
+use Rattle.tally.specs.Moves.{mostPlaces}
+use Rattle.sweep.specs.declared.verifying.LastVerified.{LastVerified}
+use Rattle.sweep.specs.declared.verifying.LastVerified.the-variants.{Nothing, At}
 
 -- A ring that a tally has room for.
 pub record RingFits (ring counts : List ℕ) : Type 0 where
@@ -36,5 +36,5 @@ pub record CanVerify (ring doubled line : List ℕ) (i : ℕ) (counts : List ℕ
   pub fits : RingFits ring counts
   pub twice : IsDoubled ring doubled
   pub in-line : i + length ring ≤ length line
-  pub most-line : length line ≤ mostLine
+  pub most-line : length line < mostPlaces
   pub before : TalliedBefore ring line i counts last

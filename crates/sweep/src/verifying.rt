@@ -3,11 +3,9 @@ use tally::Least;
 use tally::count_afresh;
 use tally::move_counts;
 use tally::window;
-ghost use mathlib.Core.Path.{_≡_};
-ghost use lib.ListN.{length};
-ghost use Rattle.meaning.specs.Looks.{tallyLooks};
-ghost use Rattle.tally.specs.Tallied.{Verified};
-ghost use Rattle.outlines.specs.Verifying.{lastOf, CanVerify};
+ghost use Prim.Native.Nat.{_≤_};
+ghost use Rattle.tally.specs.Moves.{mostPlaces};
+ghost use Rattle.sweep.specs.Sweeps.{IsTallied};
 
 // The last verified start, if there is one.
 pub enum LastVerified {
@@ -16,7 +14,7 @@ pub enum LastVerified {
 }
 
 // Rule 5: "With no earlier tally, or if the new start is s beyond the last verified one and 2·s > m, it is counted
-// afresh. Otherwise it moves s steps."
+// afresh. Otherwise it moves s steps." A start that is not beyond the last verified one is counted afresh too.
 pub fn verify(
     counts: &mut [u16; 256],
     ring: &[u8],
@@ -25,13 +23,16 @@ pub fn verify(
     i: usize,
     last: LastVerified,
 ) -> Least
-    requires { ⌜ CanVerify (now ring) (now doubled) (now line) i (now counts) (lastOf last) ⌝ }
-    ensures { λ z. ⌜ Verified (now (ring .entry)) (now (line .entry)) i (tallyLooks (length (now (ring .entry))) (lastOf last) i) (now (counts .exit)) (z .least) (z .looks) ⌝ }
+    requires { ⌜ i ≤ mostPlaces ⌝ }
+    ensures { λ z. ⌜ IsTallied (now (ring .entry)) (now (doubled .entry)) (now (line .entry)) i last (now (counts .entry)) (now (counts .exit)) z ⌝ }
 {
     let m = ring.len();
     match last {
         LastVerified::Nothing => count_afresh(counts, doubled, window(line, i, m)),
         LastVerified::At(from) => {
+            if i <= from {
+                return count_afresh(counts, doubled, window(line, i, m));
+            }
             let s = i - from;
             if m < 2 * s {
                 count_afresh(counts, doubled, window(line, i, m))

@@ -4,9 +4,11 @@ use vectors::first_bits;
 use vectors::grown;
 use vectors::no_bit;
 use vectors::vector_of;
+ghost use mathlib.Core.Path.{_≡_};
+ghost use Prim.Native.Nat.{_<_, _≤_};
 ghost use lib.ListN.{length};
-ghost use Rattle.vectors.specs.Bits.{wordCount};
-ghost use Rattle.outlines.specs.Reading.{CanRead, IsWindowRead};
+ghost use Rattle.tally.specs.Counts.{mostCounts};
+ghost use Rattle.sweep.specs.Reads.{readWith, readBy};
 
 // How far a window was read: the edges left unread, the breaks, and the looks, one for each edge read.
 pub struct WindowRead {
@@ -17,11 +19,10 @@ pub struct WindowRead {
 
 // Rule 2 and 3, with the held vector in its first `words` words. At break k + 1 the window is left; the test stands at
 // the break, since nowhere else the count of breaks changes.
-fn read_words(ring: &[u8], window: &[u8], table: &[u64; 1024], k: usize, words: usize) -> WindowRead
-    requires { ⌜ CanRead (now ring) (now window) (now table) k words ⌝ }
-    ensures { λ z. ⌜ IsWindowRead (now (ring .entry)) (now (window .entry)) k (z .left) (z .breaks) (z .looks) ⌝ }
+fn read_words(window: &[u8], table: &[u64; 1024], k: usize, words: usize) -> WindowRead
+    ensures { λ z. ⌜ z ≡ readWith (now (table .entry)) (now (window .entry)) k words ⌝ }
 {
-    let m = ring.len();
+    let m = window.len();
     let full = first_bits(m);
     let mut held = full;
     let mut left = m;
@@ -54,19 +55,19 @@ fn read_words(ring: &[u8], window: &[u8], table: &[u64; 1024], k: usize, words: 
 }
 
 // The window read with as few words as its m bits need: a literal count lets the compiler make straight code of each.
-pub fn read_window(ring: &[u8], window: &[u8], table: &[u64; 1024], k: usize) -> WindowRead
-    requires { ⌜ CanRead (now ring) (now window) (now table) k (wordCount (length (now ring))) ⌝ }
-    ensures { λ z. ⌜ IsWindowRead (now (ring .entry)) (now (window .entry)) k (z .left) (z .breaks) (z .looks) ⌝ }
+pub fn read_window(window: &[u8], table: &[u64; 1024], k: usize) -> WindowRead
+    requires { ⌜ (0 < length (now window)) × (length (now window) ≤ mostCounts) ⌝ }
+    ensures { λ z. ⌜ z ≡ readBy (now (table .entry)) (now (window .entry)) k ⌝ }
 {
-    let m = ring.len();
+    let m = window.len();
     if m <= 64 {
-        return read_words(ring, window, table, k, 1);
+        return read_words(window, table, k, 1);
     }
     if m <= 128 {
-        return read_words(ring, window, table, k, 2);
+        return read_words(window, table, k, 2);
     }
     if m <= 192 {
-        return read_words(ring, window, table, k, 3);
+        return read_words(window, table, k, 3);
     }
-    read_words(ring, window, table, k, 4)
+    read_words(window, table, k, 4)
 }

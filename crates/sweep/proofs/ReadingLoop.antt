@@ -18,7 +18,7 @@ use Rattle.vectors.specs.Bits.{wordCount, isSet, firstBits, noBit}
 use Rattle.vectors.specs.Holding.{vectorAt}
 use Rattle.vectors.specs.ByValue.{vectorWords, HeldVector, grownWords}
 use Rattle.vectors.proofs.HeldVectors.{first-held, first-set, no-bit-iff, no-bit-no, GrownByEdge, grown-by-edge}
-use Rattle.outlines.specs.Reading.{CanRead, IsWindowRead}
+use Rattle.sweep.specs.Reading.{CanRead, IsWindowRead}
 
 -- What holds with `left` edges unread: the breaks are not yet too many, the vector stands for the stretch, each edge read was a look.
 pub record ReadingLoop (ring window : List ℕ) (k : ℕ) (held : List ℕ) (left breaks looks : ℕ) : Type 0 where

@@ -1,7 +1,6 @@
--- Windows left at break k + 1, one after the other (`LeftTo`), by induction on them: starts rise and stay in the line or just past it, each window costs at
--- most m looks, and what a loop over windows keeps (`ScanLoop` of crates/meaning) it keeps over all of them, since none of them finds anything.
+-- Windows left at break k + 1, one after the other (`LeftTo`), by induction on them: starts rise, and what a loop over windows keeps (`ScanLoop` of crates/meaning) it keeps over all of them, since none of them finds anything.
 -- Assumes nothing.
-use Prim.Native.Nat.{ℕ, _+_, _*_, _≤_}
+use Prim.Native.Nat.{ℕ, _+_, _≤_}
 use mathlib.Core.List.{List}
 use mathlib.Core.Option.{Option}
 use native.Mathlib.Nat.{add-zero, add-assoc}
@@ -9,26 +8,14 @@ use native.Mathlib.Omega.{arith}
 use lib.ListN.{length}
 use Rattle.meaning.specs.Findings.{Finding}
 use Rattle.meaning.specs.Rules.{readWindow}
-use Rattle.meaning.proofs.WindowRead.{window-read}
 use Rattle.meaning.proofs.ScanLoop.{ScanLoop, scan-left}
-use Rattle.outlines.specs.Admitting.{mostRing}
-use Rattle.outlines.specs.Sweep.{LeftTo, none-left, one-left}
+use Rattle.sweep.specs.Sweep.{LeftTo, none-left, one-left}
 
 module _ (ring line : List ℕ) (k from : ℕ) where
   -- Starts rise.
   pub left-from-le : {i looks : ℕ} → LeftTo ring line k from i looks → from ≤ i
   left-from-le none-left = omega arith
   left-from-le (one-left before in-line many) = omega (arith, left-from-le before)
-
-  -- The next one is in the line or just past it.
-  pub left-start-le : {i looks : ℕ} → from ≤ length line + 1 → LeftTo ring line k from i looks → i ≤ length line + 1
-  left-start-le l none-left = l
-  left-start-le l (one-left before in-line many) = omega (arith, in-line)
-
-  -- Each costs at most m looks.
-  pub left-looks-le : {i looks : ℕ} → length ring ≤ mostRing → LeftTo ring line k from i looks → looks + mostRing * from ≤ mostRing * i
-  left-looks-le l none-left = omega arith
-  left-looks-le l (one-left {i = i} before in-line many) = omega (arith, left-looks-le l before, window-read ring line k i .read-le)
 
   -- What the loop over windows keeps.
   pub left-scanned : {i looks : ℕ} (last : Option ℕ) (found : List Finding) (looks₀ : ℕ) → LeftTo ring line k from i looks

@@ -3,9 +3,9 @@
 --   sweptStart, sweptLast, sweptLooks    where the sweep stands after a window
 --   sweptFound                           what the window reports
 --   LeftTo                               windows left at break k + 1, one after the other
---   IsWindowsRead                        what `read_windows` promises
+--   IsWindowsRead                        where reading windows came to
 --   IsSwept                              one window swept
---   IsSweptOn                            what `sweep_on` promises
+--   IsSweptOn                            the sweep to the next candidate
 use Prim.Native.Nat.{ℕ, _+_, _-_, _≤_, _<_}
 use mathlib.Core.Path.{_≡_}
 use mathlib.Core.Bool.{Bool, true, false, cond}
@@ -15,16 +15,17 @@ use lib.Dec.{leb}
 use lib.ListN.{length}
 use Rattle.meaning.specs.Findings.{Finding, foundAt}
 use Rattle.meaning.specs.Rules.{readWindow}
-use Rattle.meaning.specs.Looks.{tallyLooks, quickLooks}
+use Rattle.meaning.specs.Looks.{tallyLooks}
 use Rattle.answers.specs.declared.places.Finding.{Finding as FindingStruct}
 use Rattle.vectors.specs.ByValue.{Occurrences}
-use Rattle.outlines.specs.declared.sweep.Sweep.{Sweep}
-use Rattle.outlines.specs.declared.sweep.Swept.{Swept}
-use Rattle.outlines.specs.declared.sweep.Swept.the-variants.{Ended, NoFinding, Found}
-use Rattle.outlines.specs.declared.sweep.WindowsRead.{WindowsRead}
-use Rattle.outlines.specs.Admitting.{mostRing, mostLine}
-use Rattle.tally.specs.Counts.{IsDoubled}
-use Rattle.outlines.specs.Verifying.{RingFits, TalliedBefore, lastOf}
+use Rattle.sweep.specs.declared.sweeping.Sweep.{Sweep}
+use Rattle.sweep.specs.declared.sweeping.Swept.{Swept}
+use Rattle.sweep.specs.declared.sweeping.Swept.the-variants.{Ended, NoFinding, Found}
+use Rattle.sweep.specs.declared.sweeping.WindowsRead.{WindowsRead}
+use Rattle.sweep.specs.Sweeps.{mostLooks}
+use Rattle.tally.specs.Moves.{mostPlaces}
+use Rattle.tally.specs.Counts.{mostCounts, IsDoubled}
+use Rattle.sweep.specs.Verifying.{RingFits, TalliedBefore, lastOf}
 
 -- The finding that a struct stands for: a line place, a ring place and a distance.
 abbrev pub findingOf : FindingStruct → Finding
@@ -73,11 +74,11 @@ pub data LeftTo (ring line : List ℕ) (k from : ℕ) : ℕ → ℕ → Type 0 w
       → LeftTo ring line k from (sweptStart ring line k i) (looks + readWindow ring line k i .read)
 
 -- What reading windows asks: a call within the limits, the ring's vectors, and a start in the line or just past it.
-pub record CanReadWindows (ring table line : List ℕ) (k from : ℕ) : Type 0 where
+pub record CanReadOn (ring table line : List ℕ) (k from : ℕ) : Type 0 where
   pub some-edge : 0 < length ring
-  pub most : length ring ≤ mostRing
+  pub most : length ring ≤ mostCounts
   pub allowed : k < length ring
-  pub most-line : length line ≤ mostLine
+  pub most-line : length line < mostPlaces
   pub occurs : Occurrences ring table
   pub start-le : from ≤ length line + 1
 
@@ -97,16 +98,16 @@ pub record IsWindowsRead (ring line : List ℕ) (k from : ℕ) (r : WindowsRead)
   pub ended : r .candidate ≡ false → (length line < r .start + length ring) × (r .next ≡ r .start) × (r .looks ≡ looks)
 
 -- What sweeping on asks: a call within the limits, the ring's vectors and its double, a start in the line or just past it, the tally of the last verified
--- start, and looks that do not go beyond all looks.
+-- start, and room for more looks.
 pub record CanSweepOn (ring doubled table line : List ℕ) (k : ℕ) (counts : List ℕ) (at : Sweep) : Type 0 where
   pub fits : RingFits ring counts
   pub allowed : k < length ring
-  pub most-line : length line ≤ mostLine
+  pub most-line : length line < mostPlaces
   pub occurs : Occurrences ring table
   pub twice : IsDoubled ring doubled
   pub start-le : at .start ≤ length line + 1
   pub before : TalliedBefore ring line (at .start) counts (lastOf (at .last))
-  pub looks-le : at .looks ≤ quickLooks ring line k
+  pub looks-le : at .looks ≤ mostLooks
 
 -- One window is swept by the rules, and the counts hold the tally of the start that was verified last.
 pub record IsSwept (ring line : List ℕ) (k : ℕ) (at : Sweep) (r : Swept) (counts : List ℕ) : Type 0 where
@@ -115,7 +116,7 @@ pub record IsSwept (ring line : List ℕ) (k : ℕ) (at : Sweep) (r : Swept) (co
   pub looks-are : stateOf r .looks ≡ sweptLooks ring line k (at .start) (lastOf (at .last)) (at .looks)
   pub found-are : foundOf r ≡ sweptFound ring line k (at .start)
   pub before : TalliedBefore ring line (stateOf r .start) counts (lastOf (stateOf r .last))
-  pub size : length counts ≡ mostRing
+  pub size : length counts ≡ mostCounts
 
 -- A candidate is swept: its window is in the line and has at most k breaks.
 pub record IsCandidateSwept (ring line : List ℕ) (k : ℕ) (at : Sweep) (r : Swept) (counts : List ℕ) : Type 0 where
@@ -128,7 +129,7 @@ pub record HasEnded (ring line : List ℕ) (at next : Sweep) (counts : List ℕ)
   pub past : length line < at .start + length ring
   pub next-is : next ≡ at
   pub before : TalliedBefore ring line (at .start) counts (lastOf (at .last))
-  pub size : length counts ≡ mostRing
+  pub size : length counts ≡ mostCounts
 
 -- Where the sweep stands once windows are left: only its start and its looks have changed.
 abbrev pub leftState : Sweep → ℕ → ℕ → Sweep

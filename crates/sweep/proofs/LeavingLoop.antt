@@ -1,4 +1,4 @@
--- The loop that reads windows to the next candidate: before a turn every window so far was left (`LeftTo`). A window is read as a line of its own
+-- Windows read to the next candidate by the rules: every window so far was left (`LeftTo`). A window is read as a line of its own
 -- (`alone-reading`); it is left at break k + 1, and the next one starts later, or it is the candidate.
 -- Assumes nothing.
 use Prim.Native.Nat.{ℕ, _+_, _-_, _*_, _≤_, _<_}
@@ -12,22 +12,16 @@ use Rattle.meaning.specs.Rules.{readWindow}
 use Rattle.meaning.proofs.WindowAlone.{alone-reading}
 use Rattle.tally.specs.Windows.{IsWindow}
 use Rattle.vectors.specs.Bits.{wordCount}
-use Rattle.outlines.specs.Admitting.{mostRing, mostLine}
-use Rattle.outlines.specs.Reading.{CanRead, IsWindowRead}
-use Rattle.outlines.specs.Sweep.{sweptStart, LeftTo, one-left, CanReadWindows, IsWindowsRead}
+use Rattle.sweep.specs.Reading.{CanRead, IsWindowRead}
+use Rattle.sweep.specs.Sweep.{sweptStart, LeftTo, one-left, CanReadOn, IsWindowsRead}
 use Rattle.tally.proofs.WindowEdges.{start-window, start-length}
-use Rattle.outlines.proofs.WindowsLeft.{left-start-le, left-looks-le}
 
-module _ (ring table line : List ℕ) (k from : ℕ) (can : CanReadWindows ring table line k from) (i looks : ℕ) (h : LeftTo ring line k from i looks) where
+module _ (ring table line : List ℕ) (k from : ℕ) (can : CanReadOn ring table line k from) (i looks : ℕ) (h : LeftTo ring line k from i looks) where
   abbrev m : ℕ
   m = length ring
 
   abbrev n : ℕ
   n = length line
-
-  -- The start is in the line or just past it.
-  pub leaving-start-le : i ≤ mostLine + 1
-  leaving-start-le = omega (arith, left-start-le ring line k from (can .start-le) h, can .most-line)
 
   -- No window is in the line any more.
   pub leaving-end : n < i + m → IsWindowsRead ring line k from (record { start = i; next = i; looks = looks; candidate = false })
@@ -59,22 +53,10 @@ module _ (ring table line : List ℕ) (k from : ℕ) (can : CanReadWindows ring 
       start-after : i + left + 1 ≡ sweptStart ring line k i
       start-after = omega (arith, reads-are, read .left-is)
 
-      -- The looks fit.
-      pub leaving-looks-le : looks + reads ≤ mostRing * (mostLine + 1)
-      leaving-looks-le = omega (arith, left-looks-le ring line k from (can .most) h, can .most, can .most-line, read .left-is)
-
-      -- The next start fits.
-      pub leaving-next-le : i + left + 1 ≤ mostLine + 1
-      leaving-next-le = omega (arith, can .most-line, read .left-is)
-
       module _ (next : ℕ) (further : next ≡ i + left + 1) where
         -- The window is left at break k + 1.
         pub leaving-turn : k < breaks → LeftTo ring line k from next (looks + reads)
         leaving-turn many = rw (further ∙ start-after, reads-are) (one-left h in-line (omega (arith, breaks-are)))
-
-        -- The next one starts after it.
-        pub leaving-less : n + 1 - next < n + 1 - i
-        leaving-less = omega arith
 
         -- It is the candidate.
         pub leaving-stops : breaks ≤ k → IsWindowsRead ring line k from (record { start = i; next = next; looks = looks + reads; candidate = true })

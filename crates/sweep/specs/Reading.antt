@@ -1,4 +1,4 @@
--- Reading one window by rules 1 to 3, as the functions that do it promise: what they ask, and what they give. A window is handed out as a part of
+-- Reading one window by rules 1 to 3 with the ring's own vectors: what it asks, and what it gives. A window is handed out as a part of
 -- the line and read as a line of its own, at start 0; that this is the same is `alone-reading` of crates/meaning.
 use Prim.Native.Nat.{ℕ, _+_, _≤_, _<_}
 use mathlib.Core.Path.{_≡_}
@@ -7,12 +7,12 @@ use lib.ListN.{length}
 use Rattle.meaning.specs.Rules.{readWindow}
 use Rattle.vectors.specs.Bits.{wordCount}
 use Rattle.vectors.specs.ByValue.{Occurrences}
-use Rattle.outlines.specs.Admitting.{mostRing}
+use Rattle.tally.specs.Counts.{mostCounts}
 
 -- What reading asks: a ring within the limit, an allowance below m, a window of m edges, the ring's occurrence vectors, and the word count of m bits.
 pub record CanRead (ring window table : List ℕ) (k words : ℕ) : Type 0 where
   pub some-edge : 0 < length ring
-  pub most : length ring ≤ mostRing
+  pub most : length ring ≤ mostCounts
   pub allowed : k < length ring
   pub long : length window ≡ length ring
   pub occurs : Occurrences ring table

@@ -1,0 +1,97 @@
+-- A start verified, by its four ways: with no earlier tally, not beyond the last verified start, far beyond it, and moved. Each is a case of `tallyBy`; none takes
+-- more looks than a fresh count of the longest ring.
+-- Assumes nothing.
+use Prim.Native.Nat.{ℕ, zero, suc, _+_, _-_, _*_, _≤_, _<_}
+use mathlib.Core.Path.{_≡_, refl, sym, ap, _∙_}
+use mathlib.Core.Bool.{Bool, true, false, cond, _&&_}
+use mathlib.Core.List.{List}
+use native.Mathlib.Nat.{mul-le-mul, mul-le-mul-right}
+use native.Mathlib.Omega.{arith}
+use lib.Dec.{ltb, leb}
+use lib.ListN.{length}
+use borrow.Author.Tests.{lt-ltb, le-ltb, le-leb, lt-leb, ltb-false, ltb-true, leb-true}
+use Rattle.meaning.specs.Looks.{stepLooks}
+use Rattle.meaning.proofs.Cases.{by-test, and-true}
+use Rattle.tally.specs.Windows.{windowAt, IsWindow}
+use Rattle.tally.specs.Counts.{mostCounts, canCount, IsCounted}
+use Rattle.tally.specs.Moves.{Place, placeOf, placeAt, moveOn, canMove, IsMoved}
+use Rattle.tally.specs.declared.counts.Least.{Least}
+use Rattle.tally.specs.declared.steps.Reached.{Reached}
+use Rattle.tally.proofs.MoveLoop.{move-looks-le}
+use Rattle.sweep.specs.declared.verifying.LastVerified.{LastVerified}
+use Rattle.sweep.specs.declared.verifying.LastVerified.the-variants.{Nothing, At}
+use Rattle.sweep.specs.Sweeps.{TallyTo, afreshTo, movedTo, tallyBy, IsTallied}
+
+module _ (ring doubled line : List ℕ) (i : ℕ) (old : List ℕ) where
+  abbrev m : ℕ
+  m = length ring
+
+  -- What `count_afresh` answers of the window that was handed out.
+  afresh-is : (edges new : List ℕ) (z : Least) → IsWindow line i m edges → IsCounted doubled edges old new z
+      → record { counts = new; least = z .least; looks = z .looks } ≡ afreshTo doubled (windowAt m line i) old
+  unfolding afreshTo
+  afresh-is edges new z handed counted =
+      (λ j. record { counts = counted .written j; least = counted .least-is j; looks = counted .looks-are j })
+      ∙ ap (λ (w : List ℕ). afreshTo doubled w old) (handed .is)
+
+  -- With no earlier tally.
+  pub tallied-first : (last : LastVerified) (edges new : List ℕ) (z : Least) → last ≡ Nothing → IsWindow line i m edges → IsCounted doubled edges old new z
+      → IsTallied ring doubled line i last old new z
+  unfolding tallyBy
+  tallied-first last edges new z none handed counted = record { is = rw none (afresh-is edges new z handed counted) }
+
+  module _ (last : LastVerified) (from : ℕ) (after : last ≡ At from) where
+    -- Not beyond the last verified start.
+    pub tallied-behind : (edges new : List ℕ) (z : Least) → i ≤ from → IsWindow line i m edges → IsCounted doubled edges old new z
+        → IsTallied ring doubled line i last old new z
+    unfolding tallyBy
+    tallied-behind edges new z behind handed counted = record { is = rw (after, le-leb i from behind) (afresh-is edges new z handed counted) }
+
+    -- Far beyond it.
+    pub tallied-far : (edges new : List ℕ) (z : Least) → from < i → m < 2 * (i - from) → IsWindow line i m edges → IsCounted doubled edges old new z
+        → IsTallied ring doubled line i last old new z
+    unfolding tallyBy
+    tallied-far edges new z beyond far handed counted = record {
+      is = rw (after, lt-leb i from beyond, lt-ltb m (2 * (i - from)) far) (afresh-is edges new z handed counted);
+    }
+
+    -- Moved.
+    pub tallied-moved : (new : List ℕ) (r : Reached) → from < i → 2 * (i - from) ≤ m → IsMoved ring line from (i - from) 0 old new r
+        → IsTallied ring doubled line i last old new (record { least = r .least; looks = r .looks })
+    unfolding tallyBy movedTo
+    tallied-moved new r beyond near moved = record {
+      is = rw (after, lt-leb i from beyond, le-ltb m (2 * (i - from)) near)
+          (ap (λ (p : Place). record { counts = p .counts; least = p .least; looks = p .looks }) (moved .is));
+    }
+
+  -- A fresh count of the longest ring.
+  abbrev pub mostTally : ℕ
+  mostTally = mostCounts * mostCounts
+
+  afresh-looks : (window : List ℕ) → afreshTo doubled window old .looks ≤ mostTally
+  unfolding afreshTo canCount
+  afresh-looks window =
+      by-test (λ (looks : ℕ). looks ≤ mostTally) (canCount (length window) (length old) (length doubled))
+      (λ e.
+      let both = and-true (ltb 0 (length window) && leb (length window) mostCounts) (leb (length window) (length old) && leb (2 * length window) (length doubled)) e in
+      let most : length window ≤ mostCounts = leb-true (length window) mostCounts (and-true (ltb 0 (length window)) (leb (length window) mostCounts) (both .0) .1) in
+      mul-le-mul most most)
+      (λ _. omega arith)
+
+  moved-looks : (from : ℕ) → m ≤ mostCounts → 2 * (i - from) ≤ m → movedTo ring line from (i - from) old .looks ≤ mostTally
+  unfolding movedTo
+  moved-looks from most near =
+      by-test (λ (p : Place). p .looks ≤ mostTally) (canMove m (length old) (length line) from (i - from))
+      (λ _. omega (arith, move-looks-le ring line 0 (i - from) (placeAt from old), mul-le-mul-right m near, mul-le-mul most most))
+      (λ _. omega arith)
+
+  -- No verification takes more looks.
+  pub tally-looks : (last : LastVerified) → m ≤ mostCounts → tallyBy ring doubled line i last old .looks ≤ mostTally
+  unfolding tallyBy
+  tally-looks Nothing most = afresh-looks (windowAt m line i)
+  tally-looks (At from) most =
+      by-test (λ (t : TallyTo). t .looks ≤ mostTally) (leb i from)
+      (λ _. afresh-looks (windowAt m line i))
+      (λ _. by-test (λ (t : TallyTo). t .looks ≤ mostTally) (ltb m (2 * (i - from)))
+      (λ _. afresh-looks (windowAt m line i))
+      (λ e. moved-looks from most (ltb-false m (2 * (i - from)) e)))

@@ -1,0 +1,122 @@
+-- `sweep::sweeping::read_windows` meets its contract: what is still to be read gives the answer (`StillWindows`). A turn leaves a window, or stops at the candidate, and
+-- the places up to the line's end fall.
+-- Assumes nothing.
+use Prim.Native.Nat.{_+_, _-_}
+use native.Mathlib.Omega.{arith}
+use borrow.Author.Needs.{needs}
+use lib.ListN.{length}
+use Rattle.tally.proofs.WindowEdges.{start-length}
+use Rattle.sweep.specs.Reads.{CanReadWindows}
+use Rattle.sweep.proofs.WindowTurns.{StillWindows, windows-start, windows-end, windows-reads, windows-stop, windows-turn}
+use Rattle.sweep.proofs.sweeping.read_windows.Statement.{statement}
+use Rattle.sweep.proofs.sweeping.read_windows.Tie as tie
+
+abbrev Inv-loop : tie.InvT-loop
+Inv-loop m table line k from i₀ looks₀ i looks = (ok : CanReadWindows m line from) × StillWindows m table line k (ok .some-edge) (ok .most) from ok i looks
+
+abbrev μ-loop : tie.MeasureT-loop
+μ-loop m table line k from i₀ looks₀ i looks = length line + 1 - i
+
+loop-holds : tie.Need-loop-holds Inv-loop μ-loop
+loop-holds c = let ok = c .before .pre in (ok, windows-start _ _ _ _ (ok .some-edge) (ok .most) _ ok)
+
+add-loop : tie.Need-add-loop Inv-loop μ-loop
+add-loop c = let inv = c .loop .inv in omega (arith, inv .1 .start-le, inv .0 .most, inv .0 .most-line)
+
+window-requires : tie.Need-window-requires Inv-loop μ-loop
+window-requires c κs = search needs
+
+read-window-requires : tie.Need-read-window-requires Inv-loop μ-loop
+read-window-requires c κs =
+    let turn = c .before in
+    let ok = turn .before .loop .inv .0 in (
+      omega (arith, start-length _ _ _ _ (c .window .ensures) (turn .loop-test .taken), ok .some-edge),
+      omega (arith, start-length _ _ _ _ (c .window .ensures) (turn .loop-test .taken), ok .most),
+    )
+
+add-looks : tie.Need-add-looks Inv-loop μ-loop
+add-looks c =
+    let read = c .before in
+    let turn = read .before .before in
+    let inv = turn .before .loop .inv in
+    omega (
+      arith,
+      windows-reads _ _ _ _ (inv .0 .some-edge) (inv .0 .most) _ (inv .0) _ _ (inv .1) (turn .loop-test .taken) _ (read .before .window .ensures) _ (read .read-window .ensures) .0,
+      inv .1 .looks-le,
+      inv .1 .start-le,
+      inv .0 .most,
+      inv .0 .most-line,
+    )
+
+add-next : tie.Need-add-next Inv-loop μ-loop
+add-next c =
+    let read = c .before .before in
+    let turn = read .before .before in
+    let inv = turn .before .loop .inv in
+    omega (
+      arith,
+      windows-reads _ _ _ _ (inv .0 .some-edge) (inv .0 .most) _ (inv .0) _ _ (inv .1) (turn .loop-test .taken) _ (read .before .window .ensures) _ (read .read-window .ensures) .1,
+      inv .1 .start-le,
+      inv .0 .most,
+      inv .0 .most-line,
+    )
+
+add-next-2 : tie.Need-add-next-2 Inv-loop μ-loop
+add-next-2 c =
+    let read = c .before .before in
+    let turn = read .before .before in
+    let inv = turn .before .loop .inv in
+    omega (
+      arith,
+      windows-reads _ _ _ _ (inv .0 .some-edge) (inv .0 .most) _ (inv .0) _ _ (inv .1) (turn .loop-test .taken) _ (read .before .window .ensures) _ (read .read-window .ensures) .1,
+      inv .1 .start-le,
+      inv .0 .most,
+      inv .0 .most-line,
+    )
+
+-- The candidate.
+returns : tie.Need-returns Inv-loop μ-loop
+returns c =
+    let read = c .before .before .before .before in
+    let turn = read .before .before in
+    let inv = turn .before .loop .inv in
+    windows-stop _ _ _ _ (inv .0 .some-edge) (inv .0 .most) _ (inv .0) _ _ (inv .1) (turn .loop-test .taken) _ (read .before .window .ensures) _
+    (read .read-window .ensures) (c .if1 .taken)
+
+loop-less : tie.Need-loop-less Inv-loop μ-loop
+loop-less c = omega (arith, c .before .before .before .before .before .before .loop-test .taken)
+
+-- A window that is left.
+loop-again : tie.Need-loop-again Inv-loop μ-loop
+loop-again c =
+    let read = c .before .before .before .before in
+    let turn = read .before .before in
+    let inv = turn .before .loop .inv in (
+      inv .0,
+      windows-turn _ _ _ _ (inv .0 .some-edge) (inv .0 .most) _ (inv .0) _ _ (inv .1) (turn .loop-test .taken) _ (read .before .window .ensures) _
+          (read .read-window .ensures) (c .if1 .left),
+    )
+
+-- No window is in the line any more.
+returns-2 : tie.Need-returns-2 Inv-loop μ-loop
+returns-2 c =
+    let inv = c .before .loop .inv in
+    windows-end _ _ _ _ (inv .0 .some-edge) (inv .0 .most) _ (inv .0) _ _ (inv .1) (c .loop-test .left)
+
+pub read-windows-spec : {M : Type 1} → statement M
+read-windows-spec =
+    tie.close
+    (tie.spec
+    Inv-loop
+    μ-loop
+    loop-holds
+    add-loop
+    window-requires
+    read-window-requires
+    add-looks
+    add-next
+    add-next-2
+    returns
+    loop-less
+    loop-again
+    returns-2)

@@ -1,0 +1,31 @@
+-- `sweep::sweeping::sweep_on` meets its contract: its two ways are the two cases of the test (`SweepWays`).
+-- Assumes nothing.
+use mathlib.Core.Path.{_∙_, sym}
+use mathlib.Core.List.{[]}
+use borrow.Author.Needs.{needs}
+use borrow.Author.Tests.{not-true, not-false}
+use Rattle.sweep.proofs.SweepWays.{can-sweep, swept-yes, swept-no}
+use Rattle.sweep.proofs.sweeping.sweep_on.Statement.{statement}
+use Rattle.sweep.proofs.sweeping.sweep_on.Tie as tie
+
+can-sweep-requires : tie.Need-can-sweep-requires
+can-sweep-requires c κs = search needs
+
+-- It cannot go on.
+returns : tie.Need-returns
+returns c = swept-no _ _ _ _ _ _ _ (sym (c .before .can-sweep .ensures) ∙ not-true _ (c .if1 .taken))
+
+to-candidate-requires : tie.Need-to-candidate-requires
+to-candidate-requires c κs =
+    let tested = c .before in
+    let args = tested .before .before .before .before .before .args in
+    can-sweep (args .ring .now) [] [] (args .line .now) 0 (args .at) [] (sym (tested .before .can-sweep .ensures) ∙ not-false _ (tested .if1 .left))
+
+-- It goes on.
+returns-2 : tie.Need-returns-2
+returns-2 c =
+    let tested = c .before .before in
+    swept-yes _ _ _ _ _ _ _ _ _ (sym (tested .before .can-sweep .ensures) ∙ not-false _ (tested .if1 .left)) (c .to-candidate .ensures)
+
+pub sweep-on-spec : {M : Type 1} → statement M
+sweep-on-spec = tie.close (tie.spec can-sweep-requires returns to-candidate-requires returns-2)

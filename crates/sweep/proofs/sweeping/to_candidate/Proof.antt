@@ -1,0 +1,78 @@
+-- `sweep::sweeping::to_candidate` meets its contract: its three returns are the three ways of `sweepBy` (`SweepWays`).
+-- Assumes nothing.
+use mathlib.Core.List.{[]}
+use native.Mathlib.Omega.{arith}
+use borrow.Author.Needs.{needs}
+use borrow.Author.Tests.{not-true, not-false}
+use Rattle.sweep.proofs.SweepWays.{sweep-can-read, sweep-looks-le, sweep-start-le, way-ended, sweep-all-looks-le, way-none, way-found}
+use Rattle.sweep.proofs.sweeping.to_candidate.Statement.{statement}
+use Rattle.sweep.proofs.sweeping.to_candidate.Tie as tie
+
+read-windows-requires : tie.Need-read-windows-requires
+read-windows-requires c κs = let start = c .before .before .before in sweep-can-read (start .args .ring .now) [] [] _ 0 _ [] (start .pre)
+
+add-looks : tie.Need-add-looks
+add-looks c =
+    let read = c .before .before in
+    let start = read .before .before .before .before in
+    omega (arith, sweep-looks-le (start .args .ring .now) [] (start .args .table .now) (start .args .line .now) (start .args .k) (start .args .at) [] (start .pre) _ (read .read-windows .ensures))
+
+-- No candidate.
+returns : tie.Need-returns
+returns c =
+    let read = c .before .before .before .before in
+    let start = read .before .before .before .before in
+    way-ended _ _ _ _ _ _ _ (start .pre) _ (read .read-windows .ensures) (not-true _ (c .if1 .taken))
+
+verify-requires : tie.Need-verify-requires
+verify-requires c κs =
+    let read = c .before .before .before .before .before in
+    let start = read .before .before .before .before in
+    sweep-start-le (start .args .ring .now) [] (start .args .table .now) (start .args .line .now) (start .args .k) (start .args .at) [] (start .pre) _ (read .read-windows .ensures)
+
+add-lowest-rotation : tie.Need-add-lowest-rotation
+add-lowest-rotation c =
+    let verified = c .before in
+    let candidate = verified .before .before in
+    let read = candidate .before .before .before .before in
+    let start = read .before .before .before .before in
+    omega (
+      arith,
+      sweep-all-looks-le _ _ _ _ _ _ _ (start .pre) _ (read .read-windows .ensures) (not-false _ (candidate .if1 .left)) _ _ (verified .verify .ensures),
+    )
+
+-- Verified, and no finding.
+returns-2 : tie.Need-returns-2
+returns-2 c =
+    let verified = c .before .before in
+    let candidate = verified .before .before in
+    let read = candidate .before .before .before .before in
+    let start = read .before .before .before .before in
+    way-none _ _ _ _ _ _ _ (start .pre) _ (read .read-windows .ensures) (not-false _ (candidate .if1 .left)) _ _ (verified .verify .ensures) (c .if2 .taken)
+
+lowest-rotation-requires : tie.Need-lowest-rotation-requires
+lowest-rotation-requires c κs = search needs
+
+-- A finding.
+returns-3 : tie.Need-returns-3
+returns-3 c =
+    let tested = c .before .before in
+    let verified = tested .before .before in
+    let candidate = verified .before .before in
+    let read = candidate .before .before .before .before in
+    let start = read .before .before .before .before in
+    way-found _ _ _ _ _ _ _ (start .pre) _ (read .read-windows .ensures) (not-false _ (candidate .if1 .left)) _ _ (verified .verify .ensures) _ (tested .if2 .left)
+    (c .lowest-rotation .ensures)
+
+pub to-candidate-spec : {M : Type 1} → statement M
+to-candidate-spec =
+    tie.close
+    (tie.spec
+    read-windows-requires
+    add-looks
+    returns
+    verify-requires
+    add-lowest-rotation
+    returns-2
+    lowest-rotation-requires
+    returns-3)

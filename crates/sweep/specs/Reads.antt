@@ -1,0 +1,70 @@
+-- Windows read with a table of occurrence vectors, as `sweep_on` reads them, whatever the table holds: rules 1 to 3 with the stretch held as a vector of bits (source
+-- document 003). With the ring's own table this is what the rules give: `read-by-rules` and `windows-by-rules` in proofs/.
+--
+--   readOn, readWith, readBy    one window
+--   windowsOn, windowsBy        window after window, to the next candidate
+use Prim.Native.Nat.{ℕ, zero, suc, _+_, _-_, _*_, _≤_, _<_}
+use mathlib.Core.Bool.{Bool, true, false, cond}
+use mathlib.Core.List.{List}
+use lib.Dec.{ltb, leb}
+use lib.ListN.{length, getD}
+use Rattle.vectors.specs.Bits.{wordCount, firstBits, noBit}
+use Rattle.vectors.specs.Holding.{vectorAt}
+use Rattle.vectors.specs.ByValue.{vectorWords, grownWords}
+use Rattle.tally.specs.Windows.{windowAt}
+use Rattle.tally.specs.Counts.{mostCounts}
+use Rattle.tally.specs.Moves.{mostPlaces}
+use Rattle.sweep.specs.declared.reading.WindowRead.{WindowRead}
+use Rattle.sweep.specs.declared.sweeping.WindowsRead.{WindowsRead}
+
+-- The held vector grown by the edge at place `left` of a window.
+abbrev pub heldWith : List ℕ → List ℕ → ℕ → ℕ → List ℕ → List ℕ
+heldWith table window words left held =
+    grownWords (length window) words (vectorAt table (getD window left 0 * vectorWords) vectorWords) held
+
+-- The edges before place `left` are still to be read. Rule 2: "If the grown stretch doesn't fit the ring, that edge is a break: count one and empty the
+-- stretch." Rule 3: "Stop at break k+1, or when all m edges are read."
+unfoldable pub readOn : List ℕ → List ℕ → ℕ → ℕ → ℕ → List ℕ → ℕ → ℕ → WindowRead
+readOn table window k words zero held breaks looks = record { left = 0; breaks = breaks; looks = looks }
+readOn table window k words (suc left) held breaks looks =
+    let next : List ℕ = heldWith table window words left held in
+    let stopped : WindowRead = record { left = left; breaks = breaks + 1; looks = looks + 1 } in
+    let emptied : WindowRead = readOn table window k words left (firstBits (length window) vectorWords) (breaks + 1) (looks + 1) in
+    let grown : WindowRead = readOn table window k words left next breaks (looks + 1) in
+    let broken : WindowRead = cond (ltb k (breaks + 1)) stopped emptied in
+    cond (noBit next words) broken grown
+
+-- Rule 1: "read its edges from the last towards the first". An empty stretch is the beginning of every rotation.
+abbrev pub readWith : List ℕ → List ℕ → ℕ → ℕ → WindowRead
+readWith table window k words = readOn table window k words (length window) (firstBits (length window) vectorWords) 0 0
+
+-- With as few words as m bits need.
+abbrev pub readBy : List ℕ → List ℕ → ℕ → WindowRead
+readBy table window k = readWith table window k (wordCount (length window))
+
+-- No window is in the line any more.
+abbrev pub noneLeft : ℕ → ℕ → WindowsRead
+noneLeft i looks = record { start = i; next = i; looks = looks; candidate = false }
+
+-- The windows from start i on. Rule 1: "While a window fits in the line". Rule 3: "With j edges read, the next window starts m − j + 1 further on." Rule 4: "A
+-- window with all m edges read and at most k breaks is a candidate." Each window starts past the one before, so there are at most as many as `left`.
+unfoldable pub windowsOn : ℕ → List ℕ → List ℕ → ℕ → ℕ → ℕ → ℕ → WindowsRead
+windowsOn m table line k zero i looks = noneLeft i looks
+windowsOn m table line k (suc left) i looks =
+    let read : WindowRead = readBy table (windowAt m line i) k in
+    let found : WindowsRead = record { start = i; next = i + read .left + 1; looks = looks + read .looks; candidate = true } in
+    let later : WindowsRead = windowsOn m table line k left (i + read .left + 1) (looks + read .looks) in
+    let tried : WindowsRead = cond (leb (read .breaks) k) found later in
+    let none : WindowsRead = noneLeft i looks in
+    cond (leb (i + m) (length line)) tried none
+
+-- The windows from a start on, to the next candidate.
+abbrev pub windowsBy : ℕ → List ℕ → List ℕ → ℕ → ℕ → WindowsRead
+windowsBy m table line k from = windowsOn m table line k (length line + 1 - from) from 0
+
+-- What reading windows asks: a ring within the limit, a line that has places for its starts, and a start in it or just past it.
+pub record CanReadWindows (m : ℕ) (line : List ℕ) (from : ℕ) : Type 0 where
+  pub some-edge : 0 < m
+  pub most : m ≤ mostCounts
+  pub most-line : length line < mostPlaces
+  pub start-le : from ≤ length line + 1

@@ -1,0 +1,111 @@
+-- What `sweep_on` answers on every input, with whatever tables and counts it is lent. Where they are the ring's own this is what the rules give:
+-- `swept-by-rules` in proofs/.
+--
+--   tallyBy      a start verified: counted afresh, or the tally moved (rule 5)
+--   sweepBy      the sweep to the next candidate, which is verified (rule 4)
+--   canSweep     whether the sweep can go on
+--   IsSweptBy    what `sweep_on` promises
+use Prim.Native.Nat.{ℕ, _+_, _-_, _*_, _≤_, _<_}
+use mathlib.Core.Path.{_≡_}
+use mathlib.Core.Bool.{Bool, cond, _&&_}
+use mathlib.Core.List.{List}
+use lib.Dec.{ltb, leb}
+use lib.ListN.{length}
+use Rattle.meaning.specs.Looks.{afreshLooks}
+use Rattle.answers.specs.declared.places.Finding.{Finding as FindingStruct}
+use Rattle.tally.specs.Windows.{windowAt}
+use Rattle.tally.specs.Counts.{mostCounts, leastOf, afreshCounts, canCount, lowestWith}
+use Rattle.tally.specs.Moves.{Place, placeAt, moveOn, canMove, mostPlaces}
+use Rattle.tally.specs.declared.counts.Least.{Least}
+use Rattle.sweep.specs.declared.verifying.LastVerified.{LastVerified}
+use Rattle.sweep.specs.declared.verifying.LastVerified.the-variants.{Nothing, At}
+use Rattle.sweep.specs.declared.sweeping.Sweep.{Sweep}
+use Rattle.sweep.specs.declared.sweeping.Swept.{Swept}
+use Rattle.sweep.specs.declared.sweeping.Swept.the-variants.{Ended, NoFinding, Found}
+use Rattle.sweep.specs.declared.sweeping.WindowsRead.{WindowsRead}
+use Rattle.sweep.specs.Reads.{windowsBy}
+
+-- The counts of a start once it is verified, their least, and the looks that it took.
+pub record TallyTo : Type 0 where
+  pub counts : List ℕ
+  pub least : ℕ
+  pub looks : ℕ
+
+-- Counted afresh, as `count_afresh` promises.
+unfoldable pub afreshTo : List ℕ → List ℕ → List ℕ → TallyTo
+afreshTo doubled window old =
+    let can : Bool = canCount (length window) (length old) (length doubled) in
+    record {
+      counts = cond can (afreshCounts doubled window old) old;
+      least = cond can (leastOf (length window) (afreshCounts doubled window old)) 0;
+      looks = cond can (afreshLooks (length window)) 0;
+    }
+
+-- Moved s steps, as `move_counts` promises.
+unfoldable pub movedTo : List ℕ → List ℕ → ℕ → ℕ → List ℕ → TallyTo
+movedTo ring line from s old =
+    let to : Place = cond (canMove (length ring) (length old) (length line) from s) (moveOn ring line 0 s (placeAt from old)) (placeAt from old) in
+    record { counts = to .counts; least = to .least; looks = to .looks }
+
+-- Rule 5: "With no earlier tally, or if the new start is s beyond the last verified one and 2·s > m, it is counted afresh. Otherwise it moves s steps." A
+-- start that is not beyond the last verified one is counted afresh too.
+unfoldable pub tallyBy : List ℕ → List ℕ → List ℕ → ℕ → LastVerified → List ℕ → TallyTo
+tallyBy ring doubled line i Nothing old = afreshTo doubled (windowAt (length ring) line i) old
+tallyBy ring doubled line i (At from) old =
+    let afresh : TallyTo = afreshTo doubled (windowAt (length ring) line i) old in
+    let moved : TallyTo = movedTo ring line from (i - from) old in
+    let beyond : TallyTo = cond (ltb (length ring) (2 * (i - from))) afresh moved in
+    cond (leb i from) afresh beyond
+
+-- What a sweep gives: its answer, and the counts.
+pub record SweptTo : Type 0 where
+  pub swept : Swept
+  pub counts : List ℕ
+
+-- The sweep to the next candidate. Rule 4: "Each candidate is verified, and reported if it is a finding."
+unfoldable pub sweepBy : List ℕ → List ℕ → List ℕ → List ℕ → ℕ → Sweep → List ℕ → SweptTo
+sweepBy ring doubled table line k at old =
+    let read : WindowsRead = windowsBy (length ring) table line k (at .start) in
+    let looks : ℕ = at .looks + read .looks in
+    let tally : TallyTo = tallyBy ring doubled line (read .start) (at .last) old in
+    let next : Sweep = record { start = read .next; last = At (read .start); looks = looks + tally .looks } in
+    let rotation : ℕ = lowestWith (length ring) (tally .counts) (tally .least) in
+    let finding : FindingStruct = record { start = record { 0 = read .start }; rotation = record { 0 = rotation }; distance = tally .least } in
+    let ended : SweptTo = record { swept = Ended (record { start = read .start; last = at .last; looks = looks }); counts = old } in
+    let none : SweptTo = record { swept = NoFinding next; counts = tally .counts } in
+    let found : SweptTo = record { swept = Found next finding; counts = tally .counts } in
+    let verified : SweptTo = cond (ltb k (tally .least)) none found in
+    cond (read .candidate) verified ended
+
+-- More looks than any sweep takes.
+abbrev pub mostLooks : ℕ
+mostLooks = 4611686018427387904
+
+-- Whether a sweep can go on from a start with so many looks: a ring within the limit, a line that has places for its starts, a start in the line or just
+-- past it, and room for more looks.
+unfoldable pub canSweep : ℕ → ℕ → ℕ → ℕ → Bool
+canSweep m n start looks = (ltb 0 m && leb m mostCounts) && (ltb n mostPlaces && (leb start (n + 1) && leb looks mostLooks))
+
+-- What `sweep_on` promises: of ring, doubled ring, table, line, allowance, where the sweep stands, the counts, the counts at exit and the answer. A sweep that cannot
+-- go on stays where it is, and no count changes.
+pub record IsSweptBy (ring doubled table line : List ℕ) (k : ℕ) (at : Sweep) (old new : List ℕ) (r : Swept) : Type 0 where
+  pub is : record { swept = r; counts = new }
+      ≡ cond (canSweep (length ring) (length line) (at .start) (at .looks)) (sweepBy ring doubled table line k at old) (record { swept = Ended at; counts = old })
+
+-- From here on: what private functions ask and promise.
+
+-- A start is verified.
+pub record IsTallied (ring doubled line : List ℕ) (i : ℕ) (last : LastVerified) (old new : List ℕ) (z : Least) : Type 0 where
+  pub is : record { counts = new; least = z .least; looks = z .looks } ≡ tallyBy ring doubled line i last old
+
+-- A sweep that can go on.
+pub record CanSweep (m n : ℕ) (at : Sweep) : Type 0 where
+  pub some-edge : 0 < m
+  pub most : m ≤ mostCounts
+  pub most-line : n < mostPlaces
+  pub start-le : at .start ≤ n + 1
+  pub looks-le : at .looks ≤ mostLooks
+
+-- The sweep to the next candidate.
+pub record IsSweptTo (ring doubled table line : List ℕ) (k : ℕ) (at : Sweep) (old new : List ℕ) (r : Swept) : Type 0 where
+  pub is : record { swept = r; counts = new } ≡ sweepBy ring doubled table line k at old
