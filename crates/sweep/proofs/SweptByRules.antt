@@ -56,7 +56,7 @@ module _ (ring window table : List ℕ) (k words : ℕ) (can : CanRead ring wind
       let back : suc left - 1 ≡ left = omega arith in
       let occurs : List ℕ = vectorAt table (getD window left 0 * vectorWords) vectorWords in
       let of-edge : occurs ≡ vectorAt table (getD window (suc left - 1) 0 * vectorWords) vectorWords =
-          ap (λ (p : ℕ). vectorAt table (getD window p 0 * vectorWords) vectorWords) (sym back) in
+      ap (λ (p : ℕ). vectorAt table (getD window p 0 * vectorWords) vectorWords) (sym back) in
       let new : List ℕ = heldWith table window words left held in
       let is-grown : new ≡ grownWords (length ring) words occurs held = ap (λ (n : ℕ). grownWords n words occurs held) (can .long) in
       either-way (noBit new words)
@@ -87,76 +87,72 @@ module _ (ring table line : List ℕ) (k from : ℕ) (can : CanReadOn ring table
   abbrev n : ℕ
   n = length line
 
+  -- No window is in the line any more.
+  windows-ended : (left i looks : ℕ) → LeftTo ring line k from i looks → n < i + m → IsWindowsRead ring line k from (windowsOn m table line k left i looks)
+  windows-ended left i looks h past = rw (windows-none m table line k left i looks past) (leaving-end ring table line k from can i looks h past)
+
   -- The windows from a start up to which every window was left.
   windows-on : (left i looks : ℕ) → n + 1 ≤ i + left → LeftTo ring line k from i looks
       → IsWindowsRead ring line k from (windowsOn m table line k left i looks)
-  windows-on left i looks enough h = dite (decLe (i + m) n) (λ in-line. in-the-line left enough in-line) (λ past. ended left (omega (arith, past)))
-    where
-      ended : (left : ℕ) → n < i + m → IsWindowsRead ring line k from (windowsOn m table line k left i looks)
-      ended left past = rw (windows-none m table line k left i looks past) (leaving-end ring table line k from can i looks h past)
-
-      handed : IsWindow line i m (windowAt m line i)
-      handed = record { is = refl }
-
-      in-the-line : (left : ℕ) → n + 1 ≤ i + left → i + m ≤ n → IsWindowsRead ring line k from (windowsOn m table line k left i looks)
-      in-the-line zero enough in-line = absurd (omega arith)
-      in-the-line (suc left) enough in-line =
-          let edges : List ℕ = windowAt m line i in
-          let r : WindowRead = readBy table edges k in
-          let can-read = leaving-can-read ring table line k from can i looks h in-line edges handed in
-          let read = read-by-rules ring edges table k (wordCount m) can-read in
-          dite (decLe (r .breaks) k)
-          (λ few.
-          rw (windows-found m table line k left i looks in-line few)
-          (leaving-stops ring table line k from can i looks h in-line edges handed (r .left) (r .breaks) (r .looks) read (i + r .left + 1) refl few))
-          (λ many.
-          rw (windows-later m table line k left i looks in-line (omega (arith, many)))
-          (windows-on left (i + r .left + 1) (looks + r .looks) (omega arith)
-          (leaving-turn ring table line k from can i looks h in-line edges handed (r .left) (r .breaks) (r .looks) read (i + r .left + 1) refl (omega (arith, many)))))
+  windows-on zero i looks enough h = windows-ended zero i looks h (omega (arith, can .some-edge))
+  windows-on (suc left) i looks enough h =
+      let edges : List ℕ = windowAt m line i in
+      let handed : IsWindow line i m edges = record { is = refl } in
+      let r : WindowRead = readBy table edges k in
+      dite (decLe (i + m) n)
+      (λ in-line.
+      let read = read-by-rules ring edges table k (wordCount m) (leaving-can-read ring table line k from can i looks h in-line edges handed) in
+      dite (decLe (r .breaks) k)
+      (λ few.
+      rw (windows-found m table line k left i looks in-line few)
+      (leaving-stops ring table line k from can i looks h in-line edges handed (r .left) (r .breaks) (r .looks) read (i + r .left + 1) refl few))
+      (λ many.
+      rw (windows-later m table line k left i looks in-line (omega (arith, many)))
+      (windows-on left (i + r .left + 1) (looks + r .looks) (omega arith)
+      (leaving-turn ring table line k from can i looks h in-line edges handed (r .left) (r .breaks) (r .looks) read (i + r .left + 1) refl (omega (arith, many))))))
+      (λ past. windows-ended (suc left) i looks h (omega (arith, past)))
 
   -- Windows read with the ring's vectors are read by the rules, to the next candidate.
   pub windows-by-rules : IsWindowsRead ring line k from (windowsBy m table line k from)
   windows-by-rules = windows-on (n + 1 - from) from 0 (omega (arith, can .start-le)) none-left
 
 module _ (ring doubled line : List ℕ) (i : ℕ) (old : List ℕ) where
-  abbrev m : ℕ
-  m = length ring
-
   -- A start is verified, at the looks of rule 5.
   abbrev VerifiedTo : LastVerified → TallyTo → Type 0
-  VerifiedTo last t = Verified ring line i (tallyLooks m (lastOf last) i) (t .counts) (t .least) (t .looks)
+  VerifiedTo last t = Verified ring line i (tallyLooks (length ring) (lastOf last) i) (t .counts) (t .least) (t .looks)
 
   afresh-by-rules : (last : LastVerified) → CanVerify ring doubled line i old (lastOf last)
-      → Verified ring line i (afreshLooks m) (afreshTo doubled (windowAt m line i) old .counts) (afreshTo doubled (windowAt m line i) old .least)
-          (afreshTo doubled (windowAt m line i) old .looks)
+      → Verified ring line i (afreshLooks (length ring)) (afreshTo doubled (windowAt (length ring) line i) old .counts) (afreshTo doubled (windowAt (length ring) line i) old .least)
+      (afreshTo doubled (windowAt (length ring) line i) old .looks)
   unfolding afreshTo
   afresh-by-rules last can =
-      counted-verified ring line i doubled old (afreshTo doubled (windowAt m line i) old .counts) (windowAt m line i)
-      (record { least = afreshTo doubled (windowAt m line i) old .least; looks = afreshTo doubled (windowAt m line i) old .looks })
+      counted-verified ring line i doubled old (afreshTo doubled (windowAt (length ring) line i) old .counts) (windowAt (length ring) line i)
+      (record { least = afreshTo doubled (windowAt (length ring) line i) old .least; looks = afreshTo doubled (windowAt (length ring) line i) old .looks })
       (can .fits) (can .twice) (can .in-line) (record { is = refl }) (record { written = refl; least-is = refl; looks-are = refl })
+
+  -- The tally moved to a start.
+  moved-by-rules : (from : ℕ) → CanVerify ring doubled line i old (lastOf (At from)) → from < i → 2 * (i - from) ≤ length ring
+      → VerifiedTo (At from) (movedTo ring line from (i - from) old)
+  unfolding movedTo
+  moved-by-rules from can before near =
+      let to : Place = cond (canMove (length ring) (length old) (length line) from (i - from)) (moveOn ring line 0 (i - from) (placeAt from old)) (placeAt from old) in
+      verify-moved ring line i (At from) from refl (to .counts) (record { start = to .start; least = to .least; looks = to .looks }) near before
+      (verify-reached ring line i (At from) from refl doubled old can (to .counts) (record { start = to .start; least = to .least; looks = to .looks })
+      (record { is = refl }))
 
   -- A start verified with the last verified start's tally is verified by rule 5.
   pub tally-by-rules : (last : LastVerified) → CanVerify ring doubled line i old (lastOf last) → VerifiedTo last (tallyBy ring doubled line i last old)
   unfolding tallyBy
   tally-by-rules Nothing can =
-      let t : TallyTo = afreshTo doubled (windowAt m line i) old in
+      let t : TallyTo = afreshTo doubled (windowAt (length ring) line i) old in
       verify-first ring line i Nothing (t .counts) (t .least) (t .looks) refl (afresh-by-rules Nothing can)
   tally-by-rules (At from) can =
-      let t : TallyTo = afreshTo doubled (windowAt m line i) old in
+      let t : TallyTo = afreshTo doubled (windowAt (length ring) line i) old in
       let before : from < i = verify-from-lt ring line i (At from) from refl doubled old can in
       rw (lt-leb i from before)
-      (by-test (VerifiedTo (At from)) (ltb m (2 * (i - from)))
-      (λ e. verify-afresh ring line i (At from) from refl (t .counts) (t .least) (t .looks) (ltb-true m (2 * (i - from)) e) (afresh-by-rules (At from) can))
-      (λ e. moved-by-rules from can before (ltb-false m (2 * (i - from)) e)))
-    where
-      moved-by-rules : (from : ℕ) → CanVerify ring doubled line i old (lastOf (At from)) → from < i → 2 * (i - from) ≤ m
-          → VerifiedTo (At from) (movedTo ring line from (i - from) old)
-      unfolding movedTo
-      moved-by-rules from can before near =
-          let to : Place = cond (canMove m (length old) (length line) from (i - from)) (moveOn ring line 0 (i - from) (placeAt from old)) (placeAt from old) in
-          verify-moved ring line i (At from) from refl (to .counts) (record { start = to .start; least = to .least; looks = to .looks }) near before
-          (verify-reached ring line i (At from) from refl doubled old can (to .counts) (record { start = to .start; least = to .least; looks = to .looks })
-          (record { is = refl }))
+      (by-test (VerifiedTo (At from)) (ltb (length ring) (2 * (i - from)))
+      (λ e. verify-afresh ring line i (At from) from refl (t .counts) (t .least) (t .looks) (ltb-true (length ring) (2 * (i - from)) e) (afresh-by-rules (At from) can))
+      (λ e. moved-by-rules from can before (ltb-false (length ring) (2 * (i - from)) e)))
 
 module _ (ring doubled table line : List ℕ) (k : ℕ) (old : List ℕ) (at : Sweep) (can : CanSweepOn ring doubled table line k old at) where
   -- What a sweep came to.
@@ -183,8 +179,7 @@ module _ (ring doubled table line : List ℕ) (k : ℕ) (old : List ℕ) (at : S
   can-be : canSweep (length ring) (length line) (at .start) (at .looks) ≡ true
   unfolding canSweep
   can-be =
-      rw
-      (
+      rw (
         lt-ltb 0 (length ring) (can .fits .some-edge),
         le-leb (length ring) mostCounts (can .fits .most),
         lt-ltb (length line) mostPlaces (can .most-line),
