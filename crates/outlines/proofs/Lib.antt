@@ -3,13 +3,8 @@
 pub mod AdmitCases
 pub mod AdmitRows
 -- A window and its reading, and windows left one after the other.
-pub mod ReadingLoop
-pub mod WindowsLeft
-pub mod LeavingLoop
 -- Verifying, and the sweep to the next candidate.
-pub mod VerifyCases
 pub mod SurveyCases
-pub mod SweepCases
 -- The quick scan.
 pub mod WordsPut
 pub mod ScanAll

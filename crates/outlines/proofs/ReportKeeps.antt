@@ -14,10 +14,10 @@ use Rattle.answers.specs.Paper.{accepted}
 use Rattle.book.specs.declared.answering.Address.{Address}
 use Rattle.book.specs.Silences.{Silence, silence}
 use Rattle.book.specs.Calls.{silenceOf, IsSought}
-use Rattle.outlines.specs.declared.sweep.Sweep.{Sweep}
+use Rattle.sweep.specs.declared.sweeping.Sweep.{Sweep}
 use Rattle.outlines.specs.declared.reporting.Asked.{Asked}
 use Rattle.outlines.specs.Admitting.{mostLine}
-use Rattle.outlines.specs.Verifying.{lastOf}
+use Rattle.sweep.specs.Verifying.{lastOf}
 use Rattle.outlines.specs.Report.{shown, hidden, reportedBy, reportedWordsBy}
 use Rattle.outlines.specs.Asking.{IsAccepted, CanReport, LineReported}
 use Rattle.outlines.proofs.ScanKeeps.{ScanKeeps, keeps-start, keeps-end}

@@ -13,14 +13,14 @@ use Rattle.meaning.specs.Findings.{Finding}
 use Rattle.meaning.proofs.Cases.{by-test}
 use Rattle.book.specs.Silences.{Silence}
 use Rattle.book.specs.Calls.{soughtOf}
-use Rattle.outlines.specs.declared.sweep.Sweep.{Sweep}
-use Rattle.outlines.specs.declared.sweep.Swept.{Swept}
+use Rattle.sweep.specs.declared.sweeping.Sweep.{Sweep}
+use Rattle.sweep.specs.declared.sweeping.Swept.{Swept}
 use Rattle.outlines.specs.declared.reporting.Asked.{Asked}
-use Rattle.outlines.specs.Sweep.{stateOf, foundOf, hasEnded, LeftTo, leftState, IsSwept, IsSweptOn}
+use Rattle.sweep.specs.Sweep.{stateOf, foundOf, hasEnded, LeftTo, leftState, IsSwept, IsSweptOn}
 use Rattle.outlines.specs.Scan.{CanPut, wordsPut}
 use Rattle.outlines.specs.Report.{isHidden, hidden}
 use Rattle.outlines.specs.Asking.{hides, CanAsk, IsAsked, shownPut, CanReport}
-use Rattle.outlines.proofs.WindowsLeft.{left-from-le}
+use Rattle.sweep.proofs.WindowsLeft.{left-from-le}
 use Rattle.outlines.proofs.ScanKeeps.{keeps-left, keeps-ended, keeps-length, keeps-later, keeps-none, keeps-finding-start, keeps-can-put, keeps-put-length, keeps-put, keeps-passed}
 use Rattle.outlines.proofs.ShownOneMore.{shown-more-no, shown-more-yes, hidden-more-no, hidden-more-yes}
 use Rattle.outlines.proofs.HeldFrom.{HeldFrom, held-later, held-turn, held-hides}

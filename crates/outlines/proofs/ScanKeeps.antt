@@ -7,20 +7,24 @@ use mathlib.Core.Path.{_≡_, refl, sym, ap, _∙_}
 use mathlib.Core.Bool.{Bool, true, false}
 use mathlib.Core.List.{List, [], _∷_, _++_}
 use mathlib.Core.Option.{none}
+use native.Mathlib.Nat.{mul-le-mul}
 use native.Mathlib.Omega.{arith}
 use lib.ListN.{length}
 use lib.Seq.{length-sets}
 use Rattle.meaning.specs.Findings.{Finding, findings, findingWords, wordsEach}
 use Rattle.meaning.specs.Looks.{quickLooks}
-use Rattle.outlines.specs.declared.sweep.Sweep.{Sweep}
-use Rattle.outlines.specs.declared.sweep.Swept.{Swept}
+use Rattle.sweep.specs.declared.sweeping.Sweep.{Sweep}
+use Rattle.sweep.specs.declared.sweeping.Swept.{Swept}
 use Rattle.outlines.specs.Admitting.{mostLine, roomAsked}
 use Rattle.tally.specs.Counts.{mostCounts}
-use Rattle.outlines.specs.Verifying.{TalliedBefore, lastOf}
-use Rattle.outlines.specs.Sweep.{stateOf, foundOf, hasEnded, sweptStart, sweptLast, sweptLooks, sweptFound, LeftTo, leftState, CanSweepOn, IsSwept, IsSweptOn}
+use Rattle.sweep.specs.Verifying.{TalliedBefore, lastOf}
+use Rattle.sweep.specs.Sweep.{stateOf, foundOf, hasEnded, sweptStart, sweptLast, sweptLooks, sweptFound, LeftTo, leftState, CanSweepOn, IsSwept, IsSweptOn}
 use Rattle.outlines.specs.Scan.{CanScan, CanPut, wordsPut}
-use Rattle.outlines.proofs.WindowsLeft.{left-from-le, left-start-le}
-use Rattle.outlines.proofs.SweepCases.{before-later}
+use Rattle.sweep.proofs.WindowsLeft.{left-from-le, left-start-le}
+use Rattle.sweep.specs.Sweeps.{IsSweptBy}
+use Rattle.sweep.proofs.SweepCases.{before-later}
+use Rattle.sweep.proofs.SweptByRules.{swept-by-rules}
+use Rattle.meaning.proofs.LookBound.{quickLooks-most}
 use Rattle.outlines.proofs.ScanWindows.{ScanWindows, scanning-start, scanning-end, scanning-looks-le, scanning-left, scanning-room, scanning-found-le, scanning-length, scanning-none, scanning-put, scanning-passed, swept-finding}
 
 -- What the loop keeps.
@@ -56,13 +60,22 @@ module _ (ring doubled table line : List ℕ) (k : ℕ) (counts₀ area : List �
     keeps-can-sweep = record {
       fits = record { size = h .size; some-edge = can .fits .some-edge; most = can .fits .most };
       allowed = can .allowed;
-      most-line = can .most-line;
+      most-line = omega (arith, can .most-line);
       occurs = can .occurs;
       twice = can .twice;
       start-le = h .start-le;
       before = h .before;
-      looks-le = scanning-looks-le ring line k area (can .fits .some-edge) so-far put (at .start) (lastOf (at .last)) (at .looks) count words (h .scanned);
+      looks-le = omega (
+        arith,
+        scanning-looks-le ring line k area (can .fits .some-edge) so-far put (at .start) (lastOf (at .last)) (at .looks) count words (h .scanned),
+        quickLooks-most ring line k (can .fits .some-edge),
+        mul-le-mul (can .fits .most) (can .most-line),
+      );
     }
+
+    -- What it then gives, by the rules.
+    pub keeps-swept : (counts′ : List ℕ) (r : Swept) → IsSweptBy ring doubled table line k at counts counts′ r → IsSweptOn ring line k at r counts′
+    keeps-swept = swept-by-rules ring doubled table line k counts at keeps-can-sweep
 
     -- Windows that are left change the sweep's start and looks, and nothing else.
     pub keeps-left : (j reads : ℕ) → LeftTo ring line k (at .start) j reads → ScanKeeps ring line k area so-far put (leftState at j reads) count counts words

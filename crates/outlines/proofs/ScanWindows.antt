@@ -19,9 +19,9 @@ use Rattle.meaning.proofs.Places.{found-small}
 use Rattle.meaning.proofs.Words.{findings-length-le}
 use Rattle.meaning.proofs.ScanLoop.{ScanLoop, scan-start, scan-looks-le, scan-found-le, scan-end, scan-verified, scan-left}
 use Rattle.outlines.specs.Admitting.{roomAsked}
-use Rattle.outlines.specs.Sweep.{sweptStart, sweptLast, sweptLooks, sweptFound, LeftTo}
+use Rattle.sweep.specs.Sweep.{sweptStart, sweptLast, sweptLooks, sweptFound, LeftTo}
 use Rattle.outlines.specs.Scan.{wordsPut}
-use Rattle.outlines.proofs.WindowsLeft.{left-scanned}
+use Rattle.sweep.proofs.WindowsLeft.{left-scanned}
 use Rattle.outlines.proofs.WordsPut.{put-more, put-none, put-length}
 
 -- One window: left, or verified.

@@ -22,7 +22,7 @@ use Rattle.tally.specs.Moves.{IsMoved}
 use Rattle.tally.specs.Tallied.{IsReached}
 use Rattle.outlines.specs.Survey.{CanVerifyOn, IsVerifiedOn, IsSurveyedOn}
 use Rattle.tally.proofs.TallyFinding.{least-no, least-yes}
-use Rattle.outlines.proofs.VerifyCases.{counted-verified}
+use Rattle.sweep.proofs.VerifyCases.{counted-verified}
 
 module _ (ring doubled line : List ℕ) (k i : ℕ) (old : List ℕ) (can : CanVerifyOn ring doubled line k i old) where
   abbrev m : ℕ

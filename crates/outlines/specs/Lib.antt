@@ -1,9 +1,6 @@
 -- Survey, scan and report. Admitting, Scan, Survey, SearchRows and Report state document 01 and what the three calls promise; Reading, Verifying, Sweep and
 -- Asking are what private functions ask and promise. ReportSamples are computed.
 pub mod Admitting
-pub mod Reading
-pub mod Verifying
-pub mod Sweep
 pub mod Scan
 pub mod Report
 pub mod Survey

@@ -20,7 +20,7 @@ use Rattle.outlines.specs.declared.quick.Scanned.{Scanned}
 use Rattle.outlines.specs.declared.quick.Scanned.the-variants.{Counts as CountsCase, Refused}
 use Rattle.outlines.specs.Admitting.{mostLine, roomAsked, refusalOf}
 use Rattle.tally.specs.Counts.{IsDoubled}
-use Rattle.outlines.specs.Verifying.{RingFits}
+use Rattle.sweep.specs.Verifying.{RingFits}
 
 -- "found and looks"
 pub record Counts : Type 0 where

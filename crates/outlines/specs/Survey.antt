@@ -19,8 +19,8 @@ use Rattle.outlines.specs.declared.plain.Surveyed.the-variants.{NoFindin
 use Rattle.outlines.specs.Admitting.{mostLine, roomAsked}
 use Rattle.tally.specs.Counts.{IsDoubled, IsLeast}
 use Rattle.tally.specs.Tallied.{Tallied}
-use Rattle.outlines.specs.Verifying.{RingFits}
-use Rattle.outlines.specs.Sweep.{findingOf}
+use Rattle.sweep.specs.Verifying.{RingFits}
+use Rattle.sweep.specs.Sweep.{findingOf}
 use Rattle.outlines.specs.Scan.{paperOf, searchPaper, searchedWords}
 
 -- What verifying from start i on asks: a window in the line, and after the first start the tally of the start before.

@@ -7,10 +7,7 @@
 mod admitting;
 mod plain;
 mod quick;
-mod reading;
 mod reporting;
-mod sweep;
-mod verifying;
 
 pub use plain::survey;
 pub use quick::Scanned;

@@ -2,18 +2,18 @@
 use crate::admitting::Verdict;
 use crate::admitting::WORDS_EACH;
 use crate::admitting::admit;
-use crate::sweep::Sweep;
-use crate::sweep::Swept;
-use crate::sweep::sweep_on;
-use crate::verifying::LastVerified;
 use answers::Finding;
 use answers::Refusal;
+use sweep::LastVerified;
+use sweep::Sweep;
+use sweep::Swept;
+use sweep::sweep_on;
 use tally::double;
 use vectors::occurrences;
 ghost use mathlib.Core.Path.{_≡_};
 ghost use lib.ListN.{length};
 ghost use Rattle.outlines.specs.Admitting.{Admitted};
-ghost use Rattle.outlines.specs.Sweep.{findingOf};
+ghost use Rattle.sweep.specs.Sweep.{findingOf};
 ghost use Rattle.outlines.specs.Scan.{CanPut, wordsPut, CanScan, LineScanned, IsScanned};
 
 // What survey and scan answer: "found and looks", or a refusal.

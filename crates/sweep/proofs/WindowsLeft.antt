@@ -1,4 +1,4 @@
--- Windows left at break k + 1, one after the other (`LeftTo`), by induction on them: starts rise, and what a loop over windows keeps (`ScanLoop` of crates/meaning) it keeps over all of them, since none of them finds anything.
+-- Windows left at break k + 1, one after the other (`LeftTo`), by induction on them: starts rise and stay in the line or just past it, and what a loop over windows keeps (`ScanLoop` of crates/meaning) it keeps over all of them, since none of them finds anything.
 -- Assumes nothing.
 use Prim.Native.Nat.{ℕ, _+_, _≤_}
 use mathlib.Core.List.{List}
@@ -16,6 +16,11 @@ module _ (ring line : List ℕ) (k from : ℕ) where
   pub left-from-le : {i looks : ℕ} → LeftTo ring line k from i looks → from ≤ i
   left-from-le none-left = omega arith
   left-from-le (one-left before in-line many) = omega (arith, left-from-le before)
+
+  -- The next one is in the line or just past it.
+  pub left-start-le : {i looks : ℕ} → from ≤ length line + 1 → LeftTo ring line k from i looks → i ≤ length line + 1
+  left-start-le l none-left = l
+  left-start-le l (one-left before in-line many) = omega (arith, in-line)
 
   -- What the loop over windows keeps.
   pub left-scanned : {i looks : ℕ} (last : Option ℕ) (found : List Finding) (looks₀ : ℕ) → LeftTo ring line k from i looks

@@ -6,8 +6,8 @@ use mathlib.Core.Path.{_≡_, refl, ap}
 use native.Mathlib.Omega.{arith}
 use borrow.Author.Needs.{needs}
 use lib.ListN.{length}
-use Rattle.outlines.specs.Sweep.{stateOf, foundOf, hasEnded}
-use Rattle.outlines.proofs.ScanKeeps.{keeps-can-sweep, keeps-left, keeps-ended, keeps-less, keeps-none, keeps-can-put, keeps-put-length, keeps-put}
+use Rattle.sweep.specs.Sweep.{stateOf, foundOf, hasEnded}
+use Rattle.outlines.proofs.ScanKeeps.{keeps-swept, keeps-left, keeps-ended, keeps-less, keeps-none, keeps-can-put, keeps-put-length, keeps-put}
 use Rattle.outlines.proofs.ScanAll.{ScanAll, all-start, all-next, all-found-le, all-end}
 use Rattle.outlines.proofs.quick.scan_windows.Statement.{statement}
 use Rattle.outlines.proofs.quick.scan_windows.Tie as tie
@@ -26,9 +26,7 @@ add-if1 : tie.Need-add-if1 Inv-loop μ-loop
 add-if1 c = omega (arith, c .before .loop .inv .2 .keeps .start-le)
 
 sweep-on-requires : tie.Need-sweep-on-requires Inv-loop μ-loop
-sweep-on-requires c κs =
-    let at = c .before .before .before in
-    keeps-can-sweep _ _ _ _ _ _ _ (at .before .before .before .before .before .pre) _ _ _ _ _ _ (at .loop .inv .2 .keeps)
+sweep-on-requires c κs = search needs
 
 enum-known-next : tie.Need-enum-known-next Inv-loop μ-loop
 enum-known-next c = search needs
@@ -37,7 +35,7 @@ loop-less : tie.Need-loop-less Inv-loop μ-loop
 loop-less c =
     let swept = c .before .before .before in
     let at = swept .before .before .before .before in
-    keeps-less _ _ _ _ _ _ _ (at .before .before .before .before .before .pre) _ _ _ _ _ _ (at .loop .inv .2 .keeps) _ _ _ (swept .sweep-on .ensures)
+    keeps-less _ _ _ _ _ _ _ (at .before .before .before .before .before .pre) _ _ _ _ _ _ (at .loop .inv .2 .keeps) _ _ _ (keeps-swept _ _ _ _ _ _ _ (at .before .before .before .before .before .pre) _ _ _ _ _ _ (at .loop .inv .2 .keeps) _ _ (swept .sweep-on .ensures))
     (ap stateOf (c .before .next .given .1)) (swept .before .before .if1 .taken)
 
 -- No window is in the line any more.
@@ -49,7 +47,7 @@ loop-again c =
       refl,
       at .loop .inv .1,
       all-next
-          (keeps-ended _ _ _ _ _ _ _ (at .before .before .before .before .before .pre) _ _ _ _ _ _ (at .loop .inv .2 .keeps) _ _ _ (swept .sweep-on .ensures)
+          (keeps-ended _ _ _ _ _ _ _ (at .before .before .before .before .before .pre) _ _ _ _ _ _ (at .loop .inv .2 .keeps) _ _ _ (keeps-swept _ _ _ _ _ _ _ (at .before .before .before .before .before .pre) _ _ _ _ _ _ (at .loop .inv .2 .keeps) _ _ (swept .sweep-on .ensures))
           (ap stateOf told) (ap hasEnded told)),
     )
 
@@ -60,7 +58,7 @@ loop-less-2 : tie.Need-loop-less-2 Inv-loop μ-loop
 loop-less-2 c =
     let swept = c .before .before .before in
     let at = swept .before .before .before .before in
-    keeps-less _ _ _ _ _ _ _ (at .before .before .before .before .before .pre) _ _ _ _ _ _ (at .loop .inv .2 .keeps) _ _ _ (swept .sweep-on .ensures)
+    keeps-less _ _ _ _ _ _ _ (at .before .before .before .before .before .pre) _ _ _ _ _ _ (at .loop .inv .2 .keeps) _ _ _ (keeps-swept _ _ _ _ _ _ _ (at .before .before .before .before .before .pre) _ _ _ _ _ _ (at .loop .inv .2 .keeps) _ _ (swept .sweep-on .ensures))
     (ap stateOf (c .before .next2 .given .1)) (swept .before .before .if1 .taken)
 
 loop-again-2 : tie.Need-loop-again-2 Inv-loop μ-loop
@@ -68,7 +66,7 @@ loop-again-2 c =
     let swept = c .before .before .before in
     let at = swept .before .before .before .before in
     let told = c .before .next2 .given .1 in
-    let on = swept .sweep-on .ensures in
+    let on = keeps-swept _ _ _ _ _ _ _ (at .before .before .before .before .before .pre) _ _ _ _ _ _ (at .loop .inv .2 .keeps) _ _ (swept .sweep-on .ensures) in
     let here = keeps-left _ _ _ _ _ _ _ (at .before .before .before .before .before .pre) _ _ _ _ _ _ (at .loop .inv .2 .keeps) _ _ (on .left-to) in
     let candidate = on .candidate (ap hasEnded told) in (
       refl,
@@ -86,7 +84,7 @@ put-finding-requires c κs =
     let swept = c .before .before .before .before in
     let at = swept .before .before .before .before in
     let told = c .before .before .next3 .given .1 in
-    let on = swept .sweep-on .ensures in
+    let on = keeps-swept _ _ _ _ _ _ _ (at .before .before .before .before .before .pre) _ _ _ _ _ _ (at .loop .inv .2 .keeps) _ _ (swept .sweep-on .ensures) in
     let here = keeps-left _ _ _ _ _ _ _ (at .before .before .before .before .before .pre) _ _ _ _ _ _ (at .loop .inv .2 .keeps) _ _ (on .left-to) in
     let candidate = on .candidate (ap hasEnded told) in
     keeps-can-put _ _ _ _ _ _ _ (at .before .before .before .before .before .pre) _ _ _ _ _ _ here (candidate .in-line) _ _ _ (candidate .swept) (ap stateOf told)
@@ -102,7 +100,7 @@ loop-less-3 : tie.Need-loop-less-3 Inv-loop μ-loop
 loop-less-3 c =
     let swept = c .before .before .before .before .before .before .before in
     let at = swept .before .before .before .before in
-    keeps-less _ _ _ _ _ _ _ (at .before .before .before .before .before .pre) _ _ _ _ _ _ (at .loop .inv .2 .keeps) _ _ _ (swept .sweep-on .ensures)
+    keeps-less _ _ _ _ _ _ _ (at .before .before .before .before .before .pre) _ _ _ _ _ _ (at .loop .inv .2 .keeps) _ _ _ (keeps-swept _ _ _ _ _ _ _ (at .before .before .before .before .before .pre) _ _ _ _ _ _ (at .loop .inv .2 .keeps) _ _ (swept .sweep-on .ensures))
     (ap stateOf (c .before .before .before .before .before .next3 .given .1)) (swept .before .before .if1 .taken)
 
 loop-again-3 : tie.Need-loop-again-3 Inv-loop μ-loop
@@ -111,7 +109,7 @@ loop-again-3 c =
     let at = swept .before .before .before .before in
     let told = c .before .before .before .before .before .next3 .given .1 in
     let put = c .before .before .put-finding .ensures in
-    let on = swept .sweep-on .ensures in
+    let on = keeps-swept _ _ _ _ _ _ _ (at .before .before .before .before .before .pre) _ _ _ _ _ _ (at .loop .inv .2 .keeps) _ _ (swept .sweep-on .ensures) in
     let here = keeps-left _ _ _ _ _ _ _ (at .before .before .before .before .before .pre) _ _ _ _ _ _ (at .loop .inv .2 .keeps) _ _ (on .left-to) in
     let candidate = on .candidate (ap hasEnded told) in (
       refl,

@@ -6,8 +6,8 @@ use mathlib.Core.Path.{_≡_, refl, ap}
 use native.Mathlib.Omega.{arith}
 use borrow.Author.Needs.{needs}
 use lib.ListN.{length}
-use Rattle.outlines.specs.Sweep.{stateOf, foundOf, hasEnded}
-use Rattle.outlines.proofs.ScanKeeps.{keeps-can-sweep, keeps-less}
+use Rattle.sweep.specs.Sweep.{stateOf, foundOf, hasEnded}
+use Rattle.outlines.proofs.ScanKeeps.{keeps-swept, keeps-less}
 use Rattle.outlines.proofs.ReportKeeps.{ReportKeeps, report-start, report-found-le, report-end}
 use Rattle.outlines.proofs.ReportTurns.{report-left, report-ended, report-turn-none, report-can-put, report-can-ask, report-turn-found, report-length}
 use Rattle.outlines.proofs.reporting.report_windows.Statement.{statement}
@@ -35,10 +35,7 @@ add-if1 : tie.Need-add-if1 Inv-loop μ-loop
 add-if1 c = omega (arith, c .before .loop .inv .2 .keeps .start-le)
 
 sweep-on-requires : tie.Need-sweep-on-requires Inv-loop μ-loop
-sweep-on-requires c κs =
-    let at = c .before .before .before in
-    let start = at .before .before .before .before .before .before .before .before in
-    keeps-can-sweep _ _ _ _ _ _ _ (start .pre .can-scan) _ _ _ _ _ _ (at .loop .inv .2 .keeps)
+sweep-on-requires c κs = search needs
 
 enum-known-next : tie.Need-enum-known-next Inv-loop μ-loop
 enum-known-next c = search needs
@@ -48,7 +45,7 @@ loop-less c =
     let swept = c .before .before .before in
     let at = swept .before .before .before .before in
     let start = at .before .before .before .before .before .before .before .before in
-    keeps-less _ _ _ _ _ _ _ (start .pre .can-scan) _ _ _ _ _ _ (at .loop .inv .2 .keeps) _ _ _ (swept .sweep-on .ensures) (ap stateOf (c .before .next .given .1))
+    keeps-less _ _ _ _ _ _ _ (start .pre .can-scan) _ _ _ _ _ _ (at .loop .inv .2 .keeps) _ _ _ (keeps-swept _ _ _ _ _ _ _ (start .pre .can-scan) _ _ _ _ _ _ (at .loop .inv .2 .keeps) _ _ (swept .sweep-on .ensures)) (ap stateOf (c .before .next .given .1))
     (swept .before .before .if1 .taken)
 
 -- No window is in the line any more.
@@ -60,7 +57,7 @@ loop-again c =
     let told = c .before .next .given .1 in (
       refl,
       at .loop .inv .1,
-      report-ended _ _ _ _ _ _ _ _ _ _ (start .pre) _ _ _ _ (at .loop .inv .2) _ _ _ (swept .sweep-on .ensures) (ap stateOf told) (ap hasEnded told),
+      report-ended _ _ _ _ _ _ _ _ _ _ (start .pre) _ _ _ _ (at .loop .inv .2) _ _ _ (keeps-swept _ _ _ _ _ _ _ (start .pre .can-scan) _ _ _ _ _ _ (at .loop .inv .2 .keeps) _ _ (swept .sweep-on .ensures)) (ap stateOf told) (ap hasEnded told),
     )
 
 enum-known-next-2 : tie.Need-enum-known-next-2 Inv-loop μ-loop
@@ -71,7 +68,7 @@ loop-less-2 c =
     let swept = c .before .before .before in
     let at = swept .before .before .before .before in
     let start = at .before .before .before .before .before .before .before .before in
-    keeps-less _ _ _ _ _ _ _ (start .pre .can-scan) _ _ _ _ _ _ (at .loop .inv .2 .keeps) _ _ _ (swept .sweep-on .ensures) (ap stateOf (c .before .next2 .given .1))
+    keeps-less _ _ _ _ _ _ _ (start .pre .can-scan) _ _ _ _ _ _ (at .loop .inv .2 .keeps) _ _ _ (keeps-swept _ _ _ _ _ _ _ (start .pre .can-scan) _ _ _ _ _ _ (at .loop .inv .2 .keeps) _ _ (swept .sweep-on .ensures)) (ap stateOf (c .before .next2 .given .1))
     (swept .before .before .if1 .taken)
 
 loop-again-2 : tie.Need-loop-again-2 Inv-loop μ-loop
@@ -80,7 +77,7 @@ loop-again-2 c =
     let at = swept .before .before .before .before in
     let start = at .before .before .before .before .before .before .before .before in
     let told = c .before .next2 .given .1 in
-    let on = swept .sweep-on .ensures in
+    let on = keeps-swept _ _ _ _ _ _ _ (start .pre .can-scan) _ _ _ _ _ _ (at .loop .inv .2 .keeps) _ _ (swept .sweep-on .ensures) in
     let here = report-left _ _ _ _ _ _ _ _ _ _ (start .pre) _ _ _ _ (at .loop .inv .2) _ _ (on .left-to) in
     let candidate = on .candidate (ap hasEnded told) in (
       refl,
@@ -98,7 +95,7 @@ ask-requires c κs =
     let swept = told .before .before in
     let at = swept .before .before .before .before in
     let start = at .before .before .before .before .before .before .before .before in
-    let on = swept .sweep-on .ensures in
+    let on = keeps-swept _ _ _ _ _ _ _ (start .pre .can-scan) _ _ _ _ _ _ (at .loop .inv .2 .keeps) _ _ (swept .sweep-on .ensures) in
     let here = report-left _ _ _ _ _ _ _ _ _ _ (start .pre) _ _ _ _ (at .loop .inv .2) _ _ (on .left-to) in
     let candidate = on .candidate (ap hasEnded (told .next3 .given .1)) in
     report-can-ask _ _ _ _ _ _ _ _ _ _ (start .pre) _ _ _ _ here (candidate .in-line) _ _ _ (candidate .swept)
@@ -110,7 +107,7 @@ put-shown-requires c κs =
     let swept = told .before .before in
     let at = swept .before .before .before .before in
     let start = at .before .before .before .before .before .before .before .before in
-    let on = swept .sweep-on .ensures in
+    let on = keeps-swept _ _ _ _ _ _ _ (start .pre .can-scan) _ _ _ _ _ _ (at .loop .inv .2 .keeps) _ _ (swept .sweep-on .ensures) in
     let here = report-left _ _ _ _ _ _ _ _ _ _ (start .pre) _ _ _ _ (at .loop .inv .2) _ _ (on .left-to) in
     let candidate = on .candidate (ap hasEnded (told .next3 .given .1)) in
     report-can-put _ _ _ _ _ _ _ _ _ _ (start .pre) _ _ _ _ here (candidate .in-line) _ _ _ (candidate .swept)
@@ -122,7 +119,7 @@ loop-less-3 c =
     let swept = told .before .before in
     let at = swept .before .before .before .before in
     let start = at .before .before .before .before .before .before .before .before in
-    keeps-less _ _ _ _ _ _ _ (start .pre .can-scan) _ _ _ _ _ _ (at .loop .inv .2 .keeps) _ _ _ (swept .sweep-on .ensures) (ap stateOf (told .next3 .given .1))
+    keeps-less _ _ _ _ _ _ _ (start .pre .can-scan) _ _ _ _ _ _ (at .loop .inv .2 .keeps) _ _ _ (keeps-swept _ _ _ _ _ _ _ (start .pre .can-scan) _ _ _ _ _ _ (at .loop .inv .2 .keeps) _ _ (swept .sweep-on .ensures)) (ap stateOf (told .next3 .given .1))
     (swept .before .before .if1 .taken)
 
 loop-again-3 : tie.Need-loop-again-3 Inv-loop μ-loop
@@ -134,7 +131,7 @@ loop-again-3 c =
     let at = swept .before .before .before .before in
     let start = at .before .before .before .before .before .before .before .before in
     let is = told .next3 .given .1 in
-    let on = swept .sweep-on .ensures in
+    let on = keeps-swept _ _ _ _ _ _ _ (start .pre .can-scan) _ _ _ _ _ _ (at .loop .inv .2 .keeps) _ _ (swept .sweep-on .ensures) in
     let here = report-left _ _ _ _ _ _ _ _ _ _ (start .pre) _ _ _ _ (at .loop .inv .2) _ _ (on .left-to) in
     let candidate = on .candidate (ap hasEnded is) in (
       refl,
