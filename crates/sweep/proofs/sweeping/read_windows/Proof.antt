@@ -81,7 +81,7 @@ returns c =
     let turn = read .before .before in
     let inv = turn .before .loop .inv in
     windows-stop _ _ _ _ (inv .0 .some-edge) (inv .0 .most) _ (inv .0) _ _ (inv .1) (turn .loop-test .taken) _ (read .before .window .ensures) _
-    (read .read-window .ensures) (c .if1 .taken)
+    (read .read-window .ensures) (omega (arith, c .if1 .taken))
 
 loop-less : tie.Need-loop-less Inv-loop μ-loop
 loop-less c = omega (arith, c .before .before .before .before .before .before .loop-test .taken)
@@ -94,14 +94,14 @@ loop-again c =
     let inv = turn .before .loop .inv in (
       inv .0,
       windows-turn _ _ _ _ (inv .0 .some-edge) (inv .0 .most) _ (inv .0) _ _ (inv .1) (turn .loop-test .taken) _ (read .before .window .ensures) _
-          (read .read-window .ensures) (c .if1 .left),
+          (read .read-window .ensures) (omega (arith, c .if1 .left)),
     )
 
 -- No window is in the line any more.
 returns-2 : tie.Need-returns-2 Inv-loop μ-loop
 returns-2 c =
     let inv = c .before .loop .inv in
-    windows-end _ _ _ _ (inv .0 .some-edge) (inv .0 .most) _ (inv .0) _ _ (inv .1) (c .loop-test .left)
+    windows-end _ _ _ _ (inv .0 .some-edge) (inv .0 .most) _ (inv .0) _ _ (inv .1) (omega (arith, c .loop-test .left))
 
 pub read-windows-spec : {M : Type 1} → statement M
 read-windows-spec =

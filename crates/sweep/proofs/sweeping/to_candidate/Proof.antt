@@ -48,7 +48,8 @@ returns-2 c =
     let candidate = verified .before .before in
     let read = candidate .before .before .before .before in
     let start = read .before .before .before .before in
-    way-none _ _ _ _ _ _ _ (start .pre) _ (read .read-windows .ensures) (not-false _ (candidate .if1 .left)) _ _ (verified .verify .ensures) (c .if2 .taken)
+    way-none _ _ _ _ _ _ _ (start .pre) _ (read .read-windows .ensures) (not-false _ (candidate .if1 .left)) _ _ (verified .verify .ensures)
+    (omega (arith, c .if2 .taken))
 
 lowest-rotation-requires : tie.Need-lowest-rotation-requires
 lowest-rotation-requires c κs = search needs
@@ -61,7 +62,8 @@ returns-3 c =
     let candidate = verified .before .before in
     let read = candidate .before .before .before .before in
     let start = read .before .before .before .before in
-    way-found _ _ _ _ _ _ _ (start .pre) _ (read .read-windows .ensures) (not-false _ (candidate .if1 .left)) _ _ (verified .verify .ensures) _ (tested .if2 .left)
+    way-found _ _ _ _ _ _ _ (start .pre) _ (read .read-windows .ensures) (not-false _ (candidate .if1 .left)) _ _ (verified .verify .ensures) _
+    (omega (arith, tested .if2 .left))
     (c .lowest-rotation .ensures)
 
 pub to-candidate-spec : {M : Type 1} → statement M

@@ -29,7 +29,7 @@ returns : tie.Need-returns
 returns c =
     let counted = c .before in
     let behind = counted .before .before in
-    tallied-behind _ _ _ _ _ _ _ (behind .before .before .last .given .1) _ _ _ (behind .if1 .taken) (counted .window2 .ensures) (c .count-afresh2 .ensures)
+    tallied-behind _ _ _ _ _ _ _ (behind .before .before .last .given .1) _ _ _ (omega (arith, behind .if1 .taken)) (counted .window2 .ensures) (c .count-afresh2 .ensures)
 
 sub-s : tie.Need-sub-s
 sub-s c = search needs
@@ -58,7 +58,7 @@ returns-3 c =
     let counted = c .before in
     let far = counted .before .before in
     let beyond = far .before in
-    tallied-far _ _ _ _ _ _ _ (beyond .before .before .last .given .1) _ _ _ (beyond .if1 .left) (far .if2 .taken) (counted .window3 .ensures)
+    tallied-far _ _ _ _ _ _ _ (beyond .before .before .last .given .1) _ _ _ (omega (arith, beyond .if1 .left)) (omega (arith, far .if2 .taken)) (counted .window3 .ensures)
     (c .count-afresh3 .ensures)
 
 -- Otherwise.
@@ -66,7 +66,7 @@ returns-4 : tie.Need-returns-4
 returns-4 c =
     let near = c .before .before in
     let beyond = near .before in
-    tallied-moved _ _ _ _ _ _ _ (beyond .before .before .last .given .1) _ _ (beyond .if1 .left) (near .if2 .left) (c .move-counts .ensures)
+    tallied-moved _ _ _ _ _ _ _ (beyond .before .before .last .given .1) _ _ (omega (arith, beyond .if1 .left)) (omega (arith, near .if2 .left)) (c .move-counts .ensures)
 
 pub verify-spec : {M : Type 1} → statement M
 verify-spec =
