@@ -16,19 +16,15 @@ use lib.ListN.{length}
 use Rattle.meaning.specs.Findings.{Finding, foundAt}
 use Rattle.meaning.specs.Rules.{readWindow}
 use Rattle.meaning.specs.Looks.{tallyLooks, quickLooks}
-use Rattle.answers.specs.declared.places.Finding.{Finding as FindingStruct}
 use Rattle.vectors.specs.ByValue.{Occurrences}
 use Rattle.outlines.specs.declared.sweep.Sweep.{Sweep}
 use Rattle.outlines.specs.declared.sweep.Swept.{Swept}
 use Rattle.outlines.specs.declared.sweep.Swept.the-variants.{Ended, NoFinding, Found}
 use Rattle.outlines.specs.declared.sweep.WindowsRead.{WindowsRead}
-use Rattle.outlines.specs.Admitting.{mostRing, mostLine}
+use Rattle.findings.specs.Admitting.{mostRing, mostLine}
+use Rattle.findings.specs.Putting.{findingOf}
 use Rattle.tally.specs.Counts.{IsDoubled}
 use Rattle.outlines.specs.Verifying.{RingFits, TalliedBefore, lastOf}
-
--- The finding that a struct stands for: a line place, a ring place and a distance.
-abbrev pub findingOf : FindingStruct → Finding
-findingOf f = record { start = f .start .0; rotation = f .rotation .0; distance = f .distance }
 
 -- Rule 3: "With j edges read, the next window starts m − j + 1 further on."
 abbrev pub sweptStart : List ℕ → List ℕ → ℕ → ℕ → ℕ

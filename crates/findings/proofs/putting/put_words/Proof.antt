@@ -1,12 +1,12 @@
--- `outlines::quick::put_finding` meets its contract: three stores, one after the other, are `sets` of the finding's words.
+-- `findings::putting::put_words` meets its contract: three stores, one after the other, are `sets` of the finding's words.
 -- Assumes nothing.
 use Prim.Native.Nat.{_*_}
 use native.Mathlib.Omega.{arith}
 use borrow.Author.Needs.{needs}
 use lib.ListN.{length-set}
-use Rattle.outlines.proofs.WordsPut.{three-stores}
-use Rattle.outlines.proofs.quick.put_finding.Statement.{statement}
-use Rattle.outlines.proofs.quick.put_finding.Tie as tie
+use Rattle.findings.proofs.WordsPut.{three-stores}
+use Rattle.findings.proofs.putting.put_words.Statement.{statement}
+use Rattle.findings.proofs.putting.put_words.Tie as tie
 
 mul-at : tie.Need-mul-at
 mul-at c = search needs
@@ -52,8 +52,8 @@ returns c =
     let a = c .before .before .before .before .before .args in
     three-stores (a .words .now) (3 * a .before) (a .finding .start .0) (a .finding .rotation .0) (a .finding .distance)
 
-pub put-finding-spec : {M : Type 1} → statement M
-put-finding-spec =
+pub put-words-spec : {M : Type 1} → statement M
+put-words-spec =
     tie.close
     (tie.spec
     mul-at

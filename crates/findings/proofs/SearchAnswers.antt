@@ -9,9 +9,9 @@ use lib.ListN.{length}
 use Rattle.meaning.specs.Findings.{findings, wordsOf, written}
 use Rattle.answers.specs.declared.refusals.Refusal.{Refusal}
 use Rattle.answers.specs.Paper.{answerPaper}
-use Rattle.outlines.specs.declared.quick.Scanned.the-variants.{Counts as CountsCase, Refused}
-use Rattle.outlines.specs.Admitting.{refusalOf}
-use Rattle.outlines.specs.Scan.{noCounts, answerBy, wordsBy, searched, searchedWords, paperOf, searchPaper}
+use Rattle.findings.specs.declared.searching.Scanned.the-variants.{Counts as CountsCase, Refused}
+use Rattle.findings.specs.Admitting.{refusalOf}
+use Rattle.findings.specs.Searching.{noCounts, answerBy, wordsBy, searched, searchedWords, paperOf, searchPaper}
 
 module _ (ring line : List ℕ) (k : ℕ) (words : List ℕ) where
   abbrev row : Option Refusal

@@ -1,5 +1,5 @@
--- The table's rows 1 to 4 hold of any answer that meets the contract of `scan` or of `survey`. Which row is given is one of five cases (`RowGiven` of
--- AdmitRows); in each the number is known, and so is what holds of m, k, n and the room. Stated once over the looks, and then for both calls.
+-- The table's rows 1 to 4 hold of any answer that is a search's, of survey or scan: the paper and the words go by `refusalOf`. Which row is given is one of
+-- five cases (`RowGiven` of AdmitRows); in each the number is known, and so is what holds of m, k, n and the room.
 -- Assumes nothing.
 use Prim.Native.Nat.{ℕ, _+_, _-_, _*_, _≤_, _<_}
 use mathlib.Core.Path.{_≡_, refl, ap, _∙_}
@@ -9,16 +9,14 @@ use mathlib.Core.Option.{Option, none, some}
 use native.Mathlib.Omega.{arith}
 use lib.ListN.{length}
 use Rattle.meaning.specs.Findings.{findings, wordsOf, written}
-use Rattle.meaning.specs.Looks.{quickLooks, surveyLooks}
 use Rattle.answers.specs.declared.refusals.Refusal.{Refusal}
 use Rattle.answers.specs.Refusals.{numberOf, placeOf}
 use Rattle.answers.specs.Paper.{Paper, answerPaper}
-use Rattle.outlines.specs.declared.quick.Scanned.{Scanned}
-use Rattle.outlines.specs.Admitting.{refusalOf}
-use Rattle.outlines.specs.Scan.{Counts, noCounts, answerBy, wordsBy, searched, searchedWords, paperOf, searchPaper, IsScanned}
-use Rattle.outlines.specs.Survey.{IsSurveyed}
-use Rattle.outlines.specs.SearchRows.{SearchRows}
-use Rattle.outlines.proofs.AdmitRows.{IsRing, RowGiven, row-1, row-2, row-3, row-4, no-row, row-given}
+use Rattle.findings.specs.declared.searching.Scanned.{Scanned}
+use Rattle.findings.specs.Admitting.{refusalOf}
+use Rattle.findings.specs.Searching.{Counts, noCounts, answerBy, wordsBy, searched, searchedWords, paperOf, searchPaper}
+use Rattle.findings.specs.SearchRows.{SearchRows}
+use Rattle.findings.proofs.AdmitRows.{IsRing, RowGiven, row-1, row-2, row-3, row-4, no-row, row-given}
 
 -- The number of the first row that is given, 0 if none is.
 abbrev rowNumber : Option Refusal → ℕ
@@ -98,7 +96,7 @@ paper-by (some refusal) counts new old = record {
 
 module _ (ring line : List ℕ) (k : ℕ) (words : List ℕ) (r : Scanned) (out : List ℕ) where
   -- The rows of a search, whatever its looks.
-  search-rows : (looks : ℕ) → paperOf r ≡ searchPaper ring line k (length words) looks → out ≡ searchedWords ring line k words
+  pub search-rows : (looks : ℕ) → paperOf r ≡ searchPaper ring line k (length words) looks → out ≡ searchedWords ring line k words
       → SearchRows (length ring) k (length line) words (paperOf r) out
   unfolding searched searchedWords
   search-rows looks paper is-out =
@@ -119,11 +117,3 @@ module _ (ring line : List ℕ) (k : ℕ) (words : List ℕ) (r : Scanned) (out 
         no-looks = λ l. ap (λ (p : Paper Counts). p .counts .looks) paper ∙ given .no-looks (omega (arith, number-is, given .number-is));
         untouched = λ l. is-out ∙ given .untouched (omega (arith, number-is, given .number-is));
       }
-
-  -- The rows of `scan`.
-  pub scan-rows : IsScanned ring line k words r out → SearchRows (length ring) k (length line) words (paperOf r) out
-  scan-rows meets = search-rows (quickLooks ring line k) (meets .paper) (meets .written)
-
-  -- The rows of `survey`.
-  pub survey-rows : IsSurveyed ring line k words r out → SearchRows (length ring) k (length line) words (paperOf r) out
-  survey-rows meets = search-rows (surveyLooks ring line) (meets .paper) (meets .written)

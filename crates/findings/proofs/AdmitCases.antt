@@ -11,7 +11,7 @@ use borrow.Author.Tests.{lt-ltb, le-ltb, le-leb, lt-leb, eq-eqb, ne-eqb}
 use Rattle.meaning.proofs.Cases.{le-or-lt}
 use Rattle.answers.specs.declared.refusals.Refusal.{Refusal}
 use Rattle.answers.specs.declared.refusals.Refusal.the-variants.{Ring, Allowance, Line, FindingsRoom}
-use Rattle.outlines.specs.Admitting.{mostRing, mostLine, roomAsked, isRow1, refusalOf, Admitted}
+use Rattle.findings.specs.Admitting.{mostRing, mostLine, roomAsked, isRow1, refusalOf, Admitted}
 
 module _ (m k n room : ℕ) where
   -- An empty ring.

@@ -1,6 +1,6 @@
 -- Document 01, "What each call returns", the table's rows 1 to 4 as they read for survey and scan: "given exactly when", number and place written out, in
 -- their order. The contracts go by `refusalOf` of specs/Admitting.antt; this is the same table once more in plain comparisons, and
--- proofs/RowsOfSearching.antt shows it of any answer that meets the contract of `survey` or of `scan`.
+-- proofs/RowsOfSearching.antt shows it of any answer that is a search's.
 --
 --   SearchRows    what the table says of an answer's paper and of the words at exit
 use Prim.Native.Nat.{ℕ, _+_, _-_, _*_, _≤_, _<_}
@@ -9,7 +9,7 @@ use mathlib.Core.Logic.{_↔_, _⊎_}
 use mathlib.Core.List.{List}
 use lib.ListN.{length}
 use Rattle.answers.specs.Paper.{Paper}
-use Rattle.outlines.specs.Scan.{Counts}
+use Rattle.findings.specs.Searching.{Counts}
 
 -- The rows of a search with m, k, n and the lent words; p is the paper of its answer, out the words at exit.
 pub record SearchRows (m k n : ℕ) (words : List ℕ) (p : Paper Counts) (out : List ℕ) : Type 0 where

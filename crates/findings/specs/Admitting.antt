@@ -3,15 +3,18 @@
 --   mostRing, mostLine    the document's limits
 --   roomAsked             the words asked for findings
 --   refusalOf             "Order: survey and scan 1 to 4": the first row that is given, if one is
+--   Admitted              what is known of an accepted call
+--   IsVerdict             what `admit` promises
 use Prim.Native.Nat.{ℕ, _+_, _-_, _*_, _≤_, _<_}
+use mathlib.Core.Path.{_≡_}
 use mathlib.Core.Bool.{Bool, cond, _&&_, _||_}
 use mathlib.Core.Option.{Option, none, some}
 use lib.Dec.{ltb, leb, eqb}
 use Rattle.meaning.specs.Findings.{wordsEach}
 use Rattle.answers.specs.declared.refusals.Refusal.{Refusal}
 use Rattle.answers.specs.declared.refusals.Refusal.the-variants.{Ring, Allowance, Line, FindingsRoom}
-use Rattle.outlines.specs.declared.admitting.Verdict.{Verdict}
-use Rattle.outlines.specs.declared.admitting.Verdict.the-variants.{Accepted, Refused}
+use Rattle.findings.specs.declared.admitting.Verdict.{Verdict}
+use Rattle.findings.specs.declared.admitting.Verdict.the-variants.{Accepted, Refused}
 
 -- "Ring: m edges, 1 to 256."
 abbrev pub mostRing : ℕ
@@ -61,3 +64,7 @@ pub record Admitted (m k n room : ℕ) : Type 0 where
 abbrev pub verdictOf : Verdict → Option Refusal
 verdictOf Accepted = none
 verdictOf (Refused refusal) = some refusal
+
+-- What `admit` promises: of m, k, n, the words lent for findings, and the verdict. It stands for the first row that is given, if one is.
+pub record IsVerdict (m k n room : ℕ) (r : Verdict) : Type 0 where
+  pub is : verdictOf r ≡ refusalOf m k n room

@@ -1,7 +1,6 @@
 // Rows 1 to 4 of document 01's table: what is refused before anything is looked at.
 use answers::Refusal;
-ghost use mathlib.Core.Path.{_≡_};
-ghost use Rattle.outlines.specs.Admitting.{refusalOf, verdictOf};
+ghost use Rattle.findings.specs.Admitting.{IsVerdict};
 
 // "Ring: m edges, 1 to 256."
 pub const MOST_RING: usize = 256;
@@ -18,7 +17,7 @@ pub enum Verdict {
 
 // The first of rows 1 to 4 that is given, in their order.
 pub fn admit(m: usize, k: usize, n: usize, room: usize) -> Verdict
-    ensures { λ r. ⌜ verdictOf r ≡ refusalOf m k n room ⌝ }
+    ensures { λ r. ⌜ IsVerdict m k n room r ⌝ }
 {
     if m == 0 {
         return Verdict::Refused(Refusal::Ring);

@@ -9,8 +9,8 @@ use Rattle.meaning.proofs.Cases.{le-or-lt}
 use Rattle.answers.specs.declared.refusals.Refusal.{Refusal}
 use Rattle.answers.specs.declared.refusals.Refusal.the-variants.{Ring, Allowance, Line, FindingsRoom}
 use Rattle.answers.specs.Refusals.{numberOf}
-use Rattle.outlines.specs.Admitting.{refusalOf, Admitted}
-use Rattle.outlines.proofs.AdmitCases.{row1-empty, row1-long, row2-is, row3-is, row4-is, short-accepted, room-accepted, admitted-by}
+use Rattle.findings.specs.Admitting.{refusalOf, Admitted}
+use Rattle.findings.proofs.AdmitCases.{row1-empty, row1-long, row2-is, row3-is, row4-is, short-accepted, room-accepted, admitted-by}
 
 -- "Ring: m edges, 1 to 256": row 1 is not given.
 pub record IsRing (m : ℕ) : Type 0 where

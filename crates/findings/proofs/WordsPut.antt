@@ -8,7 +8,7 @@ use lib.ListN.{length, set}
 use lib.Seq.{sets}
 use Rattle.meaning.specs.Findings.{Finding, findingWords, wordsEach, wordsOf, written}
 use Rattle.meaning.proofs.Words.{words-length, words-append, written-length, written-more}
-use Rattle.outlines.specs.Scan.{wordsPut}
+use Rattle.findings.specs.Putting.{wordsPut}
 
 -- One finding more.
 pub put-more : (fs : List Finding) (f : Finding) (found : ℕ) (area : List ℕ) → found ≡ length fs → wordsEach * found + wordsEach ≤ length area
