@@ -7,10 +7,10 @@ use mathlib.Core.Option.{none, some}
 use lib.ListN.{length}
 use Rattle.meaning.specs.Looks.{surveyLooks}
 use Rattle.answers.specs.declared.refusals.Refusal.{Refusal}
-use Rattle.outlines.specs.declared.quick.Scanned.the-variants.{Counts as CountsCase, Refused}
-use Rattle.outlines.specs.Admitting.{refusalOf}
-use Rattle.outlines.specs.Survey.{IsSurveyed, LineSurveyed}
-use Rattle.outlines.proofs.SearchAnswers.{search-refused, search-accepted}
+use Rattle.findings.specs.declared.searching.Scanned.the-variants.{Counts as CountsCase, Refused}
+use Rattle.findings.specs.Admitting.{refusalOf}
+use Rattle.survey.specs.Survey.{IsSurveyed, LineSurveyed}
+use Rattle.findings.proofs.SearchAnswers.{search-refused, search-accepted}
 
 module _ (ring line : List ℕ) (k : ℕ) (words : List ℕ) where
   -- A row is given: the refusal, and the words as they were.

@@ -13,16 +13,16 @@ use Rattle.meaning.proofs.SurveyLooks.{surveyLooks-first, surveyLooks-below}
 use Rattle.answers.specs.declared.places.Finding.{Finding as FindingStruct}
 use Rattle.tally.specs.declared.counts.Least.{Least}
 use Rattle.tally.specs.declared.steps.Reached.{Reached}
+use Rattle.tally.proofs.AfreshTallied.{counted-verified}
 use Rattle.tally.proofs.LowestLoop.{lowest-at}
 use Rattle.tally.proofs.MovedTallied.{moved-tallied}
-use Rattle.outlines.specs.declared.plain.Surveyed.the-variants.{NoFinding, Found}
+use Rattle.survey.specs.declared.plain.Surveyed.the-variants.{NoFinding, Found}
 use Rattle.tally.specs.Windows.{IsWindow}
 use Rattle.tally.specs.Counts.{IsCounted, IsLowestWith}
 use Rattle.tally.specs.Moves.{IsMoved}
 use Rattle.tally.specs.Tallied.{IsReached}
-use Rattle.outlines.specs.Survey.{CanVerifyOn, IsVerifiedOn, IsSurveyedOn}
+use Rattle.survey.specs.Survey.{CanVerifyOn, IsVerifiedOn, IsSurveyedOn}
 use Rattle.tally.proofs.TallyFinding.{least-no, least-yes}
-use Rattle.outlines.proofs.VerifyCases.{counted-verified}
 
 module _ (ring doubled line : List ℕ) (k i : ℕ) (old : List ℕ) (can : CanVerifyOn ring doubled line k i old) where
   abbrev m : ℕ
@@ -43,7 +43,7 @@ module _ (ring doubled line : List ℕ) (k i : ℕ) (old : List ℕ) (can : CanV
       → IsVerifiedOn ring line k i counts (record { start = i; least = z .least; looks = z .looks })
   unfolding surveyLooksBelow
   on-first edges counts z first handed counted =
-      let v = counted-verified ring line i doubled old counts edges z (can .fits) (can .twice) (can .in-line) handed counted in
+      let v = counted-verified ring line i doubled old counts edges z (can .fits .size) (can .fits .some-edge) (can .fits .most) (can .twice) (can .in-line) handed counted in
       record {
         start-ge = omega arith;
         in-line = can .in-line;

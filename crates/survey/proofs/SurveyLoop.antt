@@ -17,13 +17,14 @@ use Rattle.meaning.proofs.QuickFindsAll.{below-same}
 use Rattle.meaning.proofs.Words.{below-length-le, findings-below}
 use Rattle.meaning.proofs.SurveyLooks.{surveyLooks-below, surveyLooks-end}
 use Rattle.tally.specs.declared.steps.Reached.{Reached}
-use Rattle.outlines.specs.declared.plain.Surveyed.{Surveyed}
-use Rattle.outlines.specs.Admitting.{mostLine}
+use Rattle.survey.specs.declared.plain.Surveyed.{Surveyed}
+use Rattle.findings.specs.Admitting.{mostLine}
 use Rattle.tally.specs.Counts.{mostCounts}
 use Rattle.tally.specs.Tallied.{Tallied}
-use Rattle.outlines.specs.Scan.{CanPut, wordsPut}
-use Rattle.outlines.specs.Survey.{CanVerifyOn, IsVerifiedOn, reachedOf, foundOf, IsSurveyedOn, CanSurvey, LineSurveyed}
-use Rattle.outlines.proofs.WordsPut.{put-more, put-none, put-length}
+use Rattle.findings.specs.Putting.{CanPut, IsPut, wordsPut}
+use Rattle.survey.specs.Survey.{CanVerifyOn, IsVerifiedOn, reachedOf, foundOf, IsSurveyedOn, CanSurvey, LineSurveyed}
+use Rattle.findings.proofs.WordsPut.{put-more, put-none, put-length}
+use Rattle.findings.proofs.PutCases.{words-are-put}
 
 -- What the loop keeps before start i.
 pub record SurveyKeeps (ring line : List ℕ) (k : ℕ) (area : List ℕ) (i found looks : ℕ) (counts words : List ℕ) : Type 0 where
@@ -159,7 +160,7 @@ module _ (ring doubled line : List ℕ) (k : ℕ) (counts₀ area : List ℕ) (c
         found-here = sym (rw is-reached at (surveyed .found-are)) ∙ e
 
         -- A finding has room for its words, and each is a 32-bit word.
-        pub survey-can-put : CanPut words found f
+        survey-can-put : CanPut words found f
         survey-can-put =
             let small = found-small ring line k j f (can .fits .some-edge) found-here in
             record {
@@ -168,6 +169,10 @@ module _ (ring doubled line : List ℕ) (k : ℕ) (counts₀ area : List ℕ) (c
               rotation-lt = omega (arith, small .1, can .fits .most);
               distance-lt = omega (arith, small .2, can .allowed, can .fits .most);
             }
+
+        -- So they are put.
+        pub survey-put : (out : List ℕ) → IsPut words found f out → out ≡ wordsPut found f words
+        survey-put out put = words-are-put words found f out survey-can-put put
 
         -- Putting them keeps the words' length.
         pub survey-put-length : (out : List ℕ) → out ≡ wordsPut found f words → length out ≡ length area

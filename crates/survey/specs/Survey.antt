@@ -1,10 +1,10 @@
 -- Document 01, the plain survey: it "verifies every start, the first afresh and each next by one step, at m = 1 too: 2·m·n − m·m looks for n ≥ m, else
--- 0. It gives the same findings." Refusals, counts and words are the scan's, by the same definitions (specs/Scan.antt); only the looks are its own,
+-- 0. It gives the same findings." Refusals, counts and words are the scan's, by the same definitions (specs/Searching.antt of crates/findings); only the looks are its own,
 -- `surveyLooks` of crates/meaning. What a survey promises is one record, on every input, accepted or refused.
 --
+--   IsSurveyed      what `survey` promises
 --   IsVerifiedOn    starts verified, to the next finding or the last start
 --   IsSurveyedOn    what they give
---   IsSurveyed      what `survey` promises
 use Prim.Native.Nat.{ℕ, _+_, _-_, _≤_, _<_}
 use mathlib.Core.Path.{_≡_}
 use mathlib.Core.List.{List, [], _∷_}
@@ -13,15 +13,27 @@ use Rattle.meaning.specs.Meanings.{leastDistance}
 use Rattle.meaning.specs.Findings.{Finding, foundAt, findings, wordsOf, written}
 use Rattle.meaning.specs.Looks.{surveyLooksBelow, surveyLooks}
 use Rattle.tally.specs.declared.steps.Reached.{Reached}
-use Rattle.outlines.specs.declared.quick.Scanned.{Scanned}
-use Rattle.outlines.specs.declared.plain.Surveyed.{Surveyed}
-use Rattle.outlines.specs.declared.plain.Surveyed.the-variants.{NoFinding, Found}
-use Rattle.outlines.specs.Admitting.{mostLine, roomAsked}
-use Rattle.tally.specs.Counts.{IsDoubled, IsLeast}
+use Rattle.findings.specs.declared.searching.Scanned.{Scanned}
+use Rattle.survey.specs.declared.plain.Surveyed.{Surveyed}
+use Rattle.survey.specs.declared.plain.Surveyed.the-variants.{NoFinding, Found}
+use Rattle.findings.specs.Admitting.{mostLine, roomAsked}
+use Rattle.tally.specs.Counts.{mostCounts, IsDoubled, IsLeast}
 use Rattle.tally.specs.Tallied.{Tallied}
-use Rattle.outlines.specs.Verifying.{RingFits}
-use Rattle.outlines.specs.Sweep.{findingOf}
-use Rattle.outlines.specs.Scan.{paperOf, searchPaper, searchedWords}
+use Rattle.findings.specs.Putting.{findingOf}
+use Rattle.findings.specs.Searching.{paperOf, searchPaper, searchedWords}
+
+-- What `survey` promises: of the ring, the line, the allowance, the lent words, the answer and the words at exit.
+pub record IsSurveyed (ring line : List ℕ) (k : ℕ) (words : List ℕ) (r : Scanned) (out : List ℕ) : Type 0 where
+  pub paper : paperOf r ≡ searchPaper ring line k (length words) (surveyLooks ring line)
+  pub written : out ≡ searchedWords ring line k words
+
+-- From here on: what private functions ask and promise.
+
+-- A ring that a tally has room for.
+pub record RingFits (ring counts : List ℕ) : Type 0 where
+  pub size : length counts ≡ mostCounts
+  pub some-edge : 0 < length ring
+  pub most : length ring ≤ mostCounts
 
 -- What verifying from start i on asks: a window in the line, and after the first start the tally of the start before.
 pub record CanVerifyOn (ring doubled line : List ℕ) (k i : ℕ) (counts : List ℕ) : Type 0 where
@@ -70,8 +82,3 @@ pub record LineSurveyed (ring line : List ℕ) (k : ℕ) (words : List ℕ) (fou
   pub found-is : found ≡ length (findings ring line k)
   pub looks-are : looks ≡ surveyLooks ring line
   pub written : out ≡ written (wordsOf (findings ring line k)) words
-
--- What `survey` promises: of the ring, the line, the allowance, the lent words, the answer and the words at exit.
-pub record IsSurveyed (ring line : List ℕ) (k : ℕ) (words : List ℕ) (r : Scanned) (out : List ℕ) : Type 0 where
-  pub paper : paperOf r ≡ searchPaper ring line k (length words) (surveyLooks ring line)
-  pub written : out ≡ searchedWords ring line k words

@@ -1,12 +1,12 @@
 // The plain survey: every start is verified, the first afresh and each next by one step.
-use crate::admitting::Verdict;
-use crate::admitting::admit;
-use crate::quick::Counted;
-use crate::quick::Scanned;
-use crate::quick::put_finding;
 use answers::Finding;
 use answers::LinePlace;
 use answers::RingPlace;
+use findings::Counted;
+use findings::Scanned;
+use findings::Verdict;
+use findings::admit;
+use findings::put_finding;
 use tally::Reached;
 use tally::count_afresh;
 use tally::double;
@@ -14,8 +14,8 @@ use tally::lowest_rotation;
 use tally::move_counts;
 use tally::window;
 ghost use lib.ListN.{length};
-ghost use Rattle.outlines.specs.Admitting.{Admitted};
-ghost use Rattle.outlines.specs.Survey.{CanVerifyOn, IsVerifiedOn, IsSurveyedOn, CanSurvey, LineSurveyed, IsSurveyed};
+ghost use Rattle.findings.specs.Admitting.{Admitted};
+ghost use Rattle.survey.specs.Survey.{CanVerifyOn, IsVerifiedOn, IsSurveyedOn, CanSurvey, LineSurveyed, IsSurveyed};
 
 // What the starts up to the one reached gave: it is verified and no finding, and the last; or it is a finding.
 pub enum Surveyed {

@@ -2,7 +2,8 @@
 -- Assumes nothing.
 use native.Mathlib.Omega.{arith}
 use borrow.Author.Needs.{needs}
-use Rattle.outlines.proofs.VerifyCases.{counted-verified, verify-first, verify-afresh, verify-moved, verify-from-lt, verify-reached}
+use Rattle.tally.proofs.AfreshTallied.{counted-verified}
+use Rattle.outlines.proofs.VerifyCases.{verify-first, verify-afresh, verify-moved, verify-from-lt, verify-reached}
 use Rattle.outlines.proofs.verifying.verify.Statement.{statement}
 use Rattle.outlines.proofs.verifying.verify.Tie as tie
 
@@ -42,7 +43,7 @@ returns c =
     let told = counted .before .before in
     let pre = told .before .before .before .before .before .pre in
     verify-first _ _ _ _ _ _ _ (told .enum-told .given .1)
-    (counted-verified _ _ _ _ _ _ _ _ (pre .fits) (pre .twice) (pre .in-line) (counted .window .ensures) (c .count-afresh .ensures))
+    (counted-verified _ _ _ _ _ _ _ _ (pre .fits .size) (pre .fits .some-edge) (pre .fits .most) (pre .twice) (pre .in-line) (counted .window .ensures) (c .count-afresh .ensures))
 
 -- 2·s > m.
 returns-2 : tie.Need-returns-2
@@ -52,7 +53,7 @@ returns-2 c =
     let from = far .before .before in
     let pre = from .before .before .before .before .before .pre in
     verify-afresh _ _ _ _ _ (from .last .given .1) _ _ _ (far .if1 .taken)
-    (counted-verified _ _ _ _ _ _ _ _ (pre .fits) (pre .twice) (pre .in-line) (counted .window2 .ensures) (c .count-afresh2 .ensures))
+    (counted-verified _ _ _ _ _ _ _ _ (pre .fits .size) (pre .fits .some-edge) (pre .fits .most) (pre .twice) (pre .in-line) (counted .window2 .ensures) (c .count-afresh2 .ensures))
 
 -- Otherwise.
 returns-3 : tie.Need-returns-3

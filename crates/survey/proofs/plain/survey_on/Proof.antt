@@ -1,11 +1,11 @@
--- `outlines::plain::survey_on` meets its contract: its two returns are the two cases of the start reached (`SurveyCases`).
+-- `survey::plain::survey_on` meets its contract: its two returns are the two cases of the start reached (`SurveyCases`).
 -- Assumes nothing.
 use mathlib.Core.Path.{refl}
 use native.Mathlib.Omega.{arith}
 use borrow.Author.Needs.{needs}
-use Rattle.outlines.proofs.SurveyCases.{on-none, on-found}
-use Rattle.outlines.proofs.plain.survey_on.Statement.{statement}
-use Rattle.outlines.proofs.plain.survey_on.Tie as tie
+use Rattle.survey.proofs.SurveyCases.{on-none, on-found}
+use Rattle.survey.proofs.plain.survey_on.Statement.{statement}
+use Rattle.survey.proofs.plain.survey_on.Tie as tie
 
 verify-on-requires : tie.Need-verify-on-requires
 verify-on-requires c κs = search needs

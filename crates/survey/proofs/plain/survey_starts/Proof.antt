@@ -1,4 +1,4 @@
--- `outlines::plain::survey_starts` meets its contract. The loop keeps `SurveyKeeps`; its two turns are that the start reached is a finding or not, and the
+-- `survey::plain::survey_starts` meets its contract. The loop keeps `SurveyKeeps`; its two turns are that the start reached is a finding or not, and the
 -- places up to the line's end fall.
 -- Assumes nothing.
 use Prim.Native.Nat.{_+_, _-_}
@@ -6,10 +6,10 @@ use mathlib.Core.Path.{_≡_, refl, ap}
 use native.Mathlib.Omega.{arith}
 use borrow.Author.Needs.{needs}
 use lib.ListN.{length}
-use Rattle.outlines.specs.Survey.{reachedOf, foundOf}
-use Rattle.outlines.proofs.SurveyLoop.{SurveyKeeps, survey-start, survey-end, survey-can-verify, survey-found-le, survey-looks-le, survey-start-le, survey-less, survey-none, survey-can-put, survey-put-length, survey-found}
-use Rattle.outlines.proofs.plain.survey_starts.Statement.{statement}
-use Rattle.outlines.proofs.plain.survey_starts.Tie as tie
+use Rattle.survey.specs.Survey.{reachedOf, foundOf}
+use Rattle.survey.proofs.SurveyLoop.{SurveyKeeps, survey-start, survey-end, survey-can-verify, survey-found-le, survey-looks-le, survey-start-le, survey-less, survey-none, survey-put, survey-put-length, survey-found}
+use Rattle.survey.proofs.plain.survey_starts.Statement.{statement}
+use Rattle.survey.proofs.plain.survey_starts.Tie as tie
 
 abbrev Inv-loop : tie.InvT-loop
 Inv-loop ring doubled line k counts₀ words₀ m found₀ looks₀ i₀ counts words found looks i =
@@ -75,12 +75,7 @@ enum-known-reached-2 : tie.Need-enum-known-reached-2 Inv-loop μ-loop
 enum-known-reached-2 c = search needs
 
 put-finding-requires : tie.Need-put-finding-requires Inv-loop μ-loop
-put-finding-requires c κs =
-    let surveyed = c .before .before .before .before in
-    let at = surveyed .before .before .before in
-    let told = c .before .before .reached2 .given .1 in
-    survey-can-put _ _ _ _ _ _ (at .before .before .before .before .before .pre) _ _ _ _ _ (at .loop .inv .2) (surveyed .before .before .loop-test .taken) _ _
-    (surveyed .survey-on .ensures) _ (ap reachedOf told) _ (ap foundOf told)
+put-finding-requires c κs = search needs
 
 add-found : tie.Need-add-found Inv-loop μ-loop
 add-found c =
@@ -121,7 +116,10 @@ loop-again-2 c =
     let surveyed = c .before .before .before .before .before .before .before .before .before in
     let at = surveyed .before .before .before in
     let told = c .before .before .before .before .before .before .before .reached2 .given .1 in
-    let put = c .before .before .before .before .put-finding .ensures in (
+    let put =
+    survey-put _ _ _ _ _ _ (at .before .before .before .before .before .pre) _ _ _ _ _ (at .loop .inv .2) (surveyed .before .before .loop-test .taken) _ _
+    (surveyed .survey-on .ensures) _ (ap reachedOf told) _ (ap foundOf told) _ (c .before .before .before .before .put-finding .ensures)
+    in (
       refl,
       survey-put-length _ _ _ _ _ _ (at .before .before .before .before .before .pre) _ _ _ _ _ (at .loop .inv .2) (surveyed .before .before .loop-test .taken) _ _
           (surveyed .survey-on .ensures) _ (ap reachedOf told) _ (ap foundOf told) _ put,

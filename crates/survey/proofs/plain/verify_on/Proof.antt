@@ -1,11 +1,11 @@
--- `outlines::plain::verify_on` meets its contract: the first start is counted afresh, and from a later one on the tally of the start before is moved
+-- `survey::plain::verify_on` meets its contract: the first start is counted afresh, and from a later one on the tally of the start before is moved
 -- (`SurveyCases`).
 -- Assumes nothing.
 use native.Mathlib.Omega.{arith}
 use borrow.Author.Needs.{needs}
-use Rattle.outlines.proofs.SurveyCases.{on-first, on-reached, on-moved}
-use Rattle.outlines.proofs.plain.verify_on.Statement.{statement}
-use Rattle.outlines.proofs.plain.verify_on.Tie as tie
+use Rattle.survey.proofs.SurveyCases.{on-first, on-reached, on-moved}
+use Rattle.survey.proofs.plain.verify_on.Statement.{statement}
+use Rattle.survey.proofs.plain.verify_on.Tie as tie
 
 window-requires : tie.Need-window-requires
 window-requires c κs = search needs
