@@ -12,7 +12,7 @@ use Rattle.meaning.specs.Rules.{readWindow}
 use Rattle.meaning.proofs.WindowAlone.{alone-reading}
 use Rattle.tally.specs.Windows.{IsWindow}
 use Rattle.vectors.specs.Bits.{wordCount}
-use Rattle.outlines.specs.Admitting.{mostRing, mostLine}
+use Rattle.findings.specs.Admitting.{mostRing, mostLine}
 use Rattle.outlines.specs.Reading.{CanRead, IsWindowRead}
 use Rattle.outlines.specs.Sweep.{sweptStart, LeftTo, one-left, CanReadWindows, IsWindowsRead}
 use Rattle.tally.proofs.WindowEdges.{start-window, start-length}

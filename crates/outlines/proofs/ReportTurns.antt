@@ -17,7 +17,7 @@ use Rattle.outlines.specs.declared.sweep.Sweep.{Sweep}
 use Rattle.outlines.specs.declared.sweep.Swept.{Swept}
 use Rattle.outlines.specs.declared.reporting.Asked.{Asked}
 use Rattle.outlines.specs.Sweep.{stateOf, foundOf, hasEnded, LeftTo, leftState, IsSwept, IsSweptOn}
-use Rattle.outlines.specs.Scan.{CanPut, wordsPut}
+use Rattle.findings.specs.Putting.{CanPut, wordsPut}
 use Rattle.outlines.specs.Report.{isHidden, hidden}
 use Rattle.outlines.specs.Asking.{hides, CanAsk, IsAsked, shownPut, CanReport}
 use Rattle.outlines.proofs.WindowsLeft.{left-from-le}

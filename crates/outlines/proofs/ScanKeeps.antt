@@ -14,11 +14,12 @@ use Rattle.meaning.specs.Findings.{Finding, findings, findingWords, wordsEach}
 use Rattle.meaning.specs.Looks.{quickLooks}
 use Rattle.outlines.specs.declared.sweep.Sweep.{Sweep}
 use Rattle.outlines.specs.declared.sweep.Swept.{Swept}
-use Rattle.outlines.specs.Admitting.{mostLine, roomAsked}
+use Rattle.findings.specs.Admitting.{mostLine, roomAsked}
 use Rattle.tally.specs.Counts.{mostCounts}
 use Rattle.outlines.specs.Verifying.{TalliedBefore, lastOf}
 use Rattle.outlines.specs.Sweep.{stateOf, foundOf, hasEnded, sweptStart, sweptLast, sweptLooks, sweptFound, LeftTo, leftState, CanSweepOn, IsSwept, IsSweptOn}
-use Rattle.outlines.specs.Scan.{CanScan, CanPut, wordsPut}
+use Rattle.findings.specs.Putting.{CanPut, wordsPut}
+use Rattle.outlines.specs.Scan.{CanScan}
 use Rattle.outlines.proofs.WindowsLeft.{left-from-le, left-start-le}
 use Rattle.outlines.proofs.SweepCases.{before-later}
 use Rattle.outlines.proofs.ScanWindows.{ScanWindows, scanning-start, scanning-end, scanning-looks-le, scanning-left, scanning-room, scanning-found-le, scanning-length, scanning-none, scanning-put, scanning-passed, swept-finding}

@@ -23,7 +23,7 @@ use Rattle.outlines.specs.declared.sweep.Swept.{Swept}
 use Rattle.outlines.specs.declared.sweep.Swept.the-variants.{Ended, NoFinding, Found}
 use Rattle.outlines.specs.declared.sweep.WindowsRead.{WindowsRead}
 use Rattle.outlines.specs.declared.verifying.LastVerified.the-variants.{At}
-use Rattle.outlines.specs.Admitting.{mostRing, mostLine}
+use Rattle.findings.specs.Admitting.{mostRing, mostLine}
 use Rattle.tally.specs.Counts.{IsLowestWith}
 use Rattle.tally.specs.Tallied.{Verified}
 use Rattle.tally.proofs.LowestLoop.{lowest-at}

@@ -11,7 +11,7 @@ use Rattle.meaning.specs.Findings.{Finding}
 use Rattle.meaning.specs.Rules.{readWindow}
 use Rattle.meaning.proofs.WindowRead.{window-read}
 use Rattle.meaning.proofs.ScanLoop.{ScanLoop, scan-left}
-use Rattle.outlines.specs.Admitting.{mostRing}
+use Rattle.findings.specs.Admitting.{mostRing}
 use Rattle.outlines.specs.Sweep.{LeftTo, none-left, one-left}
 
 module _ (ring line : List ℕ) (k from : ℕ) where

@@ -7,7 +7,7 @@ use lib.ListN.{length}
 use Rattle.meaning.specs.Rules.{readWindow}
 use Rattle.vectors.specs.Bits.{wordCount}
 use Rattle.vectors.specs.ByValue.{Occurrences}
-use Rattle.outlines.specs.Admitting.{mostRing}
+use Rattle.findings.specs.Admitting.{mostRing}
 
 -- What reading asks: a ring within the limit, an allowance below m, a window of m edges, the ring's occurrence vectors, and the word count of m bits.
 pub record CanRead (ring window table : List ℕ) (k words : ℕ) : Type 0 where

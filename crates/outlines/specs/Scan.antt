@@ -1,25 +1,19 @@
--- Document 01, "What each call returns", the plain survey and the quick scan: "Survey and scan return found and looks"; findings go into the lent
--- words. What a scan promises is one record, on every input, accepted or refused.
+-- Document 01, "What each call returns", the quick scan. Refusals, counts and words are the search's (specs/Searching.antt of crates/findings); the looks are rules 1
+-- to 5's own, `quickLooks` of crates/meaning. What a scan promises is one record, on every input, accepted or refused.
 --
---   Counts               found and looks
---   searched             what a search gives: the refusal, or its counts
---   searchedWords        the lent words at exit
---   IsScanned            what `scan` promises
-use Prim.Native.Nat.{ℕ, _+_, _*_, _^_, _≤_, _<_}
+--   IsScanned       what `scan` promises
+--   LineScanned     a line scanned
+use Prim.Native.Nat.{ℕ, _≤_, _<_}
 use mathlib.Core.Path.{_≡_}
 use mathlib.Core.List.{List}
-use mathlib.Core.Option.{Option, none, some}
 use lib.ListN.{length}
-use lib.Seq.{sets}
-use Rattle.meaning.specs.Findings.{Finding, findings, findingWords, wordsEach, wordsOf, written}
+use Rattle.meaning.specs.Findings.{findings, wordsOf, written}
 use Rattle.meaning.specs.Looks.{quickLooks}
-use Rattle.answers.specs.declared.refusals.Refusal.{Refusal}
-use Rattle.answers.specs.Paper.{Answer, accepted, refused, Paper, answerPaper}
 use Rattle.vectors.specs.ByValue.{Occurrences}
-use Rattle.outlines.specs.declared.quick.Scanned.{Scanned}
-use Rattle.outlines.specs.declared.quick.Scanned.the-variants.{Counts as CountsCase, Refused}
-use Rattle.outlines.specs.Admitting.{mostLine, roomAsked, refusalOf}
 use Rattle.tally.specs.Counts.{IsDoubled}
+use Rattle.findings.specs.declared.searching.Scanned.{Scanned}
+use Rattle.findings.specs.Admitting.{mostLine, roomAsked}
+use Rattle.findings.specs.Searching.{paperOf, searchPaper, searchedWords}
 use Rattle.outlines.specs.Verifying.{RingFits}
 
 -- What `scan` promises: of the ring, the line, the allowance, the lent words, the answer and the words at exit.

@@ -11,7 +11,7 @@ use mathlib.Core.Option.{Option, none, some}
 use lib.ListN.{length}
 use Rattle.tally.specs.Counts.{mostCounts, IsDoubled}
 use Rattle.tally.specs.Tallied.{Tallied}
-use Rattle.outlines.specs.Admitting.{mostLine}
+use Rattle.findings.specs.Admitting.{mostLine}
 use Rattle.outlines.specs.declared.verifying.LastVerified.{LastVerified}
 use Rattle.outlines.specs.declared.verifying.LastVerified.the-variants.{Nothing, At}
 
