@@ -16,7 +16,7 @@ use Rattle.findings.specs.declared.searching.Scanned.{Scanned}
 use Rattle.findings.specs.Admitting.{refusalOf}
 use Rattle.findings.specs.Searching.{Counts, noCounts, answerBy, wordsBy, searched, searchedWords, paperOf, searchPaper}
 use Rattle.findings.specs.SearchRows.{SearchRows}
-use Rattle.findings.proofs.AdmitRows.{IsRing, RowGiven, row-1, row-2, row-3, row-4, no-row, row-given}
+use Rattle.findings.proofs.AdmitRows.{RowGiven, row-1, row-2, row-3, row-4, no-row, row-given}
 
 -- The number of the first row that is given, 0 if none is.
 abbrev rowNumber : Option Refusal → ℕ

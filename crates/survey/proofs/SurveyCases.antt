@@ -7,8 +7,8 @@ use mathlib.Core.List.{List, [], _∷_}
 use native.Mathlib.Numerals.{add-one}
 use native.Mathlib.Omega.{arith}
 use lib.ListN.{length}
-use Rattle.meaning.specs.Findings.{Finding, foundAt}
-use Rattle.meaning.specs.Looks.{afreshLooks, stepLooks, surveyLooksBelow}
+use Rattle.meaning.specs.Findings.{Finding}
+use Rattle.meaning.specs.Looks.{stepLooks, surveyLooksBelow}
 use Rattle.meaning.proofs.SurveyLooks.{surveyLooks-first, surveyLooks-below}
 use Rattle.answers.specs.declared.places.Finding.{Finding as FindingStruct}
 use Rattle.tally.specs.declared.counts.Least.{Least}

@@ -1,5 +1,5 @@
 -- Document 01, the plain survey: it "verifies every start, the first afresh and each next by one step, at m = 1 too: 2·m·n − m·m looks for n ≥ m, else
--- 0. It gives the same findings." Refusals, counts and words are the scan's, by the same definitions (specs/Searching.antt of crates/findings); only the looks are its own,
+-- 0. It gives the same findings." Refusals, counts and words are those of every search (specs/Searching.antt of crates/findings); only the looks are its own,
 -- `surveyLooks` of crates/meaning. What a survey promises is one record, on every input, accepted or refused.
 --
 --   IsSurveyed      what `survey` promises
@@ -13,14 +13,14 @@ use Rattle.meaning.specs.Meanings.{leastDistance}
 use Rattle.meaning.specs.Findings.{Finding, foundAt, findings, wordsOf, written}
 use Rattle.meaning.specs.Looks.{surveyLooksBelow, surveyLooks}
 use Rattle.tally.specs.declared.steps.Reached.{Reached}
-use Rattle.findings.specs.declared.searching.Scanned.{Scanned}
-use Rattle.survey.specs.declared.plain.Surveyed.{Surveyed}
-use Rattle.survey.specs.declared.plain.Surveyed.the-variants.{NoFinding, Found}
-use Rattle.findings.specs.Admitting.{mostLine, roomAsked}
 use Rattle.tally.specs.Counts.{mostCounts, IsDoubled, IsLeast}
 use Rattle.tally.specs.Tallied.{Tallied}
+use Rattle.findings.specs.declared.searching.Scanned.{Scanned}
+use Rattle.findings.specs.Admitting.{mostLine, roomAsked}
 use Rattle.findings.specs.Putting.{findingOf}
 use Rattle.findings.specs.Searching.{paperOf, searchPaper, searchedWords}
+use Rattle.survey.specs.declared.plain.Surveyed.{Surveyed}
+use Rattle.survey.specs.declared.plain.Surveyed.the-variants.{NoFinding, Found}
 
 -- What `survey` promises: of the ring, the line, the allowance, the lent words, the answer and the words at exit.
 pub record IsSurveyed (ring line : List ℕ) (k : ℕ) (words : List ℕ) (r : Scanned) (out : List ℕ) : Type 0 where
