@@ -10,10 +10,11 @@ use Rattle.meaning.specs.Looks.{quickLooks, surveyLooks}
 use Rattle.answers.specs.Paper.{Paper}
 use Rattle.book.specs.declared.answering.BookAnswer.{BookAnswer}
 use Rattle.book.specs.Calls.{paperOf as bookPaperOf, IsPacked, IsUnpacked}
-use Rattle.outlines.specs.declared.quick.Scanned.{Scanned}
+use Rattle.findings.specs.declared.searching.Scanned.{Scanned}
 use Rattle.outlines.specs.declared.reporting.Reported.{Reported}
-use Rattle.outlines.specs.Scan.{Counts, paperOf as searchPaperOf, IsScanned}
-use Rattle.outlines.specs.Survey.{IsSurveyed}
+use Rattle.findings.specs.Searching.{Counts, paperOf as searchPaperOf}
+use Rattle.outlines.specs.Scan.{IsScanned}
+use Rattle.survey.specs.Survey.{IsSurveyed}
 use Rattle.outlines.specs.Report.{ReportCounts, paperOf as reportPaperOf, IsReported}
 use Rattle.exports.specs.declared.answering.Answer.{Answer}
 use Rattle.exports.specs.Exported.{paperOf, searchCounts, recordCounts, counted, IsSurveyExported, IsScanExported, IsReportExported, IsPackExported, IsUnpackExported}

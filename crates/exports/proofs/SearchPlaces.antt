@@ -12,10 +12,10 @@ use Rattle.answers.specs.Paper.{Answer, accepted, refused, answerPaper}
 use Rattle.book.specs.Silences.{Silence}
 use Rattle.book.specs.Reading.{readBook}
 use Rattle.book.specs.Calls.{recordsPaper}
-use Rattle.outlines.specs.Admitting.{refusalOf}
-use Rattle.outlines.specs.Scan.{Counts, noCounts, answerBy, searched, searchPaper}
+use Rattle.findings.specs.Admitting.{refusalOf}
+use Rattle.findings.specs.Searching.{Counts, noCounts, answerBy, searched, searchPaper}
 use Rattle.outlines.specs.Report.{noReportCounts, silencesBy, admittedSilences, reportedBy}
-use Rattle.outlines.proofs.AdmitRows.{RowGiven, row-1, row-2, row-3, row-4, no-row, row-given}
+use Rattle.findings.proofs.AdmitRows.{RowGiven, row-1, row-2, row-3, row-4, no-row, row-given}
 use Rattle.exports.proofs.BookPlaces.{read-place-le}
 
 module _ (ring line : List ℕ) (k room : ℕ) where

@@ -15,7 +15,7 @@ use Rattle.answers.specs.Paper.{Paper, answerPaper}
 use Rattle.book.specs.Layout.{layout}
 use Rattle.book.specs.Packing.{wordsOfSilences, packed, unpacked, areaAtExit}
 use Rattle.book.specs.Calls.{recordsPaper}
-use Rattle.outlines.specs.Scan.{Counts, searchPaper, searchedWords}
+use Rattle.findings.specs.Searching.{Counts, searchPaper, searchedWords}
 use Rattle.outlines.specs.Report.{ReportCounts, noReportCounts, admittedSilences, reportedBy, reportedWordsBy}
 use Rattle.exports.specs.declared.answering.Answer.{Answer}
 

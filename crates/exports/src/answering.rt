@@ -10,7 +10,7 @@ ghost use Prim.Native.Nat.{_<_, _^_};
 ghost use Rattle.answers.specs.Refusals.{placeOf};
 ghost use Rattle.answers.specs.Paper.{answerPaper, refused};
 ghost use Rattle.book.specs.Calls.{paperOf as bookPaperOf};
-ghost use Rattle.outlines.specs.Scan.{paperOf as searchPaperOf};
+ghost use Rattle.findings.specs.Searching.{paperOf as searchPaperOf};
 ghost use Rattle.outlines.specs.Report.{noReportCounts, paperOf as reportPaperOf};
 ghost use Rattle.exports.specs.Exported.{paperOf, searchCounts, recordCounts, counted};
 

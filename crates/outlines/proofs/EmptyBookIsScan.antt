@@ -14,12 +14,13 @@ use Rattle.answers.proofs.OneAnswer.{answer-unique}
 use Rattle.book.specs.Silences.{names}
 use Rattle.book.specs.Samples.{empty-book}
 use Rattle.book.specs.Reading.{readBook}
-use Rattle.outlines.specs.declared.quick.Scanned.{Scanned}
-use Rattle.outlines.specs.declared.quick.Scanned.the-variants.{Counts as ScanCase, Refused as ScanRefused}
+use Rattle.findings.specs.declared.searching.Scanned.{Scanned}
+use Rattle.findings.specs.declared.searching.Scanned.the-variants.{Counts as ScanCase, Refused as ScanRefused}
 use Rattle.outlines.specs.declared.reporting.Reported.{Reported}
 use Rattle.outlines.specs.declared.reporting.Reported.the-variants.{Counts as CountsCase, Refused}
-use Rattle.outlines.specs.Admitting.{refusalOf}
-use Rattle.outlines.specs.Scan.{Counts, noCounts, answerBy, wordsBy, searched, searchedWords, answerOf as scanAnswerOf, IsScanned}
+use Rattle.findings.specs.Admitting.{refusalOf}
+use Rattle.findings.specs.Searching.{Counts, noCounts, answerBy, wordsBy, searched, searchedWords, answerOf as scanAnswerOf}
+use Rattle.outlines.specs.Scan.{IsScanned}
 use Rattle.outlines.specs.Report.{shown, hidden, ReportCounts, noReportCounts, silencesBy, admittedSilences, reportedBy, reportedWordsBy, answerOf, IsReported}
 use Rattle.outlines.proofs.ReportOneAnswer.{report-unique}
 

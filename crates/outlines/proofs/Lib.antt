@@ -1,23 +1,12 @@
 -- Laws behind the calls, one module for each idea; the functions' proofs cite them. In the order in which they build on each other.
--- Rows 1 to 4.
-pub mod AdmitCases
-pub mod AdmitRows
--- A window and its reading, and windows left one after the other.
--- Verifying, and the sweep to the next candidate.
-pub mod SurveyCases
 -- The quick scan.
-pub mod WordsPut
 pub mod ScanAll
 pub mod ScanWindows
 pub mod ScanKeeps
-pub mod SearchAnswers
 pub mod ScanAnswers
--- The plain survey, and what holds of both searches.
-pub mod SurveyLoop
-pub mod SurveyAnswers
-pub mod RowsOfSearching
-pub mod OneSearchAnswer
-pub mod SearchLooks
+-- What any answer of a scan gives, and that a survey gives the same.
+pub mod ScanGives
+pub mod OneScanAnswer
 pub mod SameFindings
 -- The report.
 pub mod AskCases

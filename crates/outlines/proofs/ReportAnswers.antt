@@ -16,7 +16,7 @@ use Rattle.book.specs.Reading.{readBook}
 use Rattle.book.specs.Calls.{recordsOf, IsRead}
 use Rattle.book.proofs.AcceptedBook.{HasRecords, has-records, read-answer-is}
 use Rattle.outlines.specs.declared.reporting.Reported.the-variants.{Counts as CountsCase, Refused}
-use Rattle.outlines.specs.Admitting.{refusalOf}
+use Rattle.findings.specs.Admitting.{refusalOf}
 use Rattle.outlines.specs.Report.{noReportCounts, silencesBy, admittedSilences, reportedBy, reportedWordsBy, IsReported}
 use Rattle.outlines.specs.Asking.{IsAccepted, LineReported}
 

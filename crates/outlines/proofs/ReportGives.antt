@@ -21,9 +21,9 @@ use Rattle.book.specs.Books.{IsBytes, IsBook}
 use Rattle.book.proofs.AcceptedIsLayout.{accepted-iff}
 use Rattle.outlines.specs.declared.reporting.Reported.{Reported}
 use Rattle.outlines.specs.declared.reporting.Reported.the-variants.{Counts as CountsCase, Refused}
-use Rattle.outlines.specs.Admitting.{refusalOf, Admitted}
+use Rattle.findings.specs.Admitting.{refusalOf, Admitted}
 use Rattle.outlines.specs.Report.{shown, hidden, ReportCounts, noReportCounts, silencesBy, admittedSilences, reportedBy, reportedWordsBy, paperOf, IsReported}
-use Rattle.outlines.proofs.AdmitRows.{no-row-iff}
+use Rattle.findings.proofs.AdmitRows.{no-row-iff}
 
 -- An accepted report: its limits, the silences that it goes by, its counts and its words.
 pub record IsGiven (cell ringNumber : ℕ) (ring line : List ℕ) (k : ℕ) (book words : List ℕ) (found hid looks : ℕ) (out : List ℕ) : Type 0 where

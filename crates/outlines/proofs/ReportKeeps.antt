@@ -16,7 +16,7 @@ use Rattle.book.specs.Silences.{Silence, silence}
 use Rattle.book.specs.Calls.{silenceOf, IsSought}
 use Rattle.sweep.specs.declared.sweeping.Sweep.{Sweep}
 use Rattle.outlines.specs.declared.reporting.Asked.{Asked}
-use Rattle.outlines.specs.Admitting.{mostLine}
+use Rattle.findings.specs.Admitting.{mostLine}
 use Rattle.sweep.specs.Verifying.{lastOf}
 use Rattle.outlines.specs.Report.{shown, hidden, reportedBy, reportedWordsBy}
 use Rattle.outlines.specs.Asking.{IsAccepted, CanReport, LineReported}

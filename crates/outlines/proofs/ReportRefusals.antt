@@ -19,9 +19,9 @@ use Rattle.book.specs.Calls.{recordsPaper, paperOf as bookPaperOf}
 use Rattle.book.proofs.RowNumbers.{HasNoPlace, row-iff, row-number-iff, row-place-is}
 use Rattle.book.proofs.BookRows.{book-rows}
 use Rattle.outlines.specs.declared.reporting.Reported.{Reported}
-use Rattle.outlines.specs.Admitting.{refusalOf, Admitted}
+use Rattle.findings.specs.Admitting.{refusalOf, Admitted}
 use Rattle.outlines.specs.Report.{ReportCounts, noReportCounts, silencesBy, admittedSilences, reportedBy, paperOf, IsReported}
-use Rattle.outlines.proofs.AdmitRows.{row-numbers, no-row-iff}
+use Rattle.findings.proofs.AdmitRows.{row-numbers, no-row-iff}
 
 -- an answer as the book's calls give it: the same number and place
 abbrev bookAnswer : Answer (List Silence) → BookAnswer

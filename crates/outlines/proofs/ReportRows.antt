@@ -12,9 +12,9 @@ use Rattle.book.specs.Books.{IsBytes}
 use Rattle.book.specs.Rows.{IsFieldFault, IsOrderFault}
 use Rattle.book.proofs.BookRows.{book-row-5-iff, book-row-6-iff, book-row-7-iff}
 use Rattle.outlines.specs.declared.reporting.Reported.{Reported}
-use Rattle.outlines.specs.Admitting.{Admitted}
+use Rattle.findings.specs.Admitting.{Admitted}
 use Rattle.outlines.specs.Report.{paperOf, IsReported}
-use Rattle.outlines.proofs.AdmitRows.{IsRing, row-1-iff, row-2-iff, row-3-iff, row-4-iff}
+use Rattle.findings.proofs.AdmitRows.{IsRing, row-1-iff, row-2-iff, row-3-iff, row-4-iff}
 use Rattle.outlines.proofs.ReportRefusals.{early-row-iff, book-row-iff, report-refusal-iff, report-number-iff, report-place-is}
 
 module _ (cell ringNumber : ℕ) (ring line : List ℕ) (k : ℕ) (book words : List ℕ) (r : Reported) (out : List ℕ)

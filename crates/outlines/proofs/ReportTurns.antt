@@ -17,7 +17,7 @@ use Rattle.sweep.specs.declared.sweeping.Sweep.{Sweep}
 use Rattle.sweep.specs.declared.sweeping.Swept.{Swept}
 use Rattle.outlines.specs.declared.reporting.Asked.{Asked}
 use Rattle.sweep.specs.Sweep.{stateOf, foundOf, hasEnded, LeftTo, leftState, IsSwept, IsSweptOn}
-use Rattle.outlines.specs.Scan.{CanPut, wordsPut}
+use Rattle.findings.specs.Putting.{CanPut, wordsPut}
 use Rattle.outlines.specs.Report.{isHidden, hidden}
 use Rattle.outlines.specs.Asking.{hides, CanAsk, IsAsked, shownPut, CanReport}
 use Rattle.sweep.proofs.WindowsLeft.{left-from-le}

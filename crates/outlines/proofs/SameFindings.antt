@@ -1,8 +1,8 @@
 -- "It gives the same findings": of one input, whatever survey answers and whatever scan answers, they give the same refusal or the same found, and leave
--- the same words. Both go by the definitions of specs/Scan.antt; they differ in their looks alone.
+-- the same words. Both go by the definitions of specs/Searching.antt of crates/findings; they differ in their looks alone.
 -- Assumes nothing.
 use Prim.Native.Nat.{ℕ}
-use mathlib.Core.Path.{_≡_, refl, sym, ap, _∙_}
+use mathlib.Core.Path.{_≡_, refl, sym, _∙_}
 use mathlib.Core.List.{List}
 use mathlib.Core.Option.{Option, none, some}
 use lib.ListN.{length}
@@ -10,10 +10,11 @@ use Rattle.meaning.specs.Findings.{findings}
 use Rattle.meaning.specs.Looks.{quickLooks, surveyLooks}
 use Rattle.answers.specs.declared.refusals.Refusal.{Refusal}
 use Rattle.answers.specs.Paper.{Paper, answerPaper}
-use Rattle.outlines.specs.declared.quick.Scanned.{Scanned}
-use Rattle.outlines.specs.Admitting.{refusalOf}
-use Rattle.outlines.specs.Scan.{Counts, noCounts, answerBy, searched, paperOf, searchPaper, IsScanned}
-use Rattle.outlines.specs.Survey.{IsSurveyed}
+use Rattle.findings.specs.declared.searching.Scanned.{Scanned}
+use Rattle.findings.specs.Admitting.{refusalOf}
+use Rattle.findings.specs.Searching.{Counts, noCounts, answerBy, searched, paperOf, searchPaper}
+use Rattle.outlines.specs.Scan.{IsScanned}
+use Rattle.survey.specs.Survey.{IsSurveyed}
 
 -- Two papers that differ in their looks at most.
 pub record SameButLooks (a b : Paper Counts) : Type 0 where

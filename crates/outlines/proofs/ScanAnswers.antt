@@ -1,5 +1,5 @@
 -- The scan's two answers, by the first row that is given: refused, and nothing written; or accepted, with the line scanned. What follows of any answer
--- that meets the contract stands in RowsOfSearching, OneSearchAnswer and SearchLooks.
+-- that meets the contract stands in ScanGives and OneScanAnswer.
 -- Assumes nothing.
 use Prim.Native.Nat.{ℕ}
 use mathlib.Core.Path.{_≡_}
@@ -8,10 +8,10 @@ use mathlib.Core.Option.{none, some}
 use lib.ListN.{length}
 use Rattle.meaning.specs.Looks.{quickLooks}
 use Rattle.answers.specs.declared.refusals.Refusal.{Refusal}
-use Rattle.outlines.specs.declared.quick.Scanned.the-variants.{Counts as CountsCase, Refused}
-use Rattle.outlines.specs.Admitting.{refusalOf}
+use Rattle.findings.specs.declared.searching.Scanned.the-variants.{Counts as CountsCase, Refused}
+use Rattle.findings.specs.Admitting.{refusalOf}
 use Rattle.outlines.specs.Scan.{IsScanned, LineScanned}
-use Rattle.outlines.proofs.SearchAnswers.{search-refused, search-accepted}
+use Rattle.findings.proofs.SearchAnswers.{search-refused, search-accepted}
 
 module _ (ring line : List ℕ) (k : ℕ) (words : List ℕ) where
   -- A row is given: the refusal, and the words as they were.

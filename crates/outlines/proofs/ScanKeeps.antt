@@ -15,11 +15,12 @@ use Rattle.meaning.specs.Findings.{Finding, findings, findingWords, wordsEach}
 use Rattle.meaning.specs.Looks.{quickLooks}
 use Rattle.sweep.specs.declared.sweeping.Sweep.{Sweep}
 use Rattle.sweep.specs.declared.sweeping.Swept.{Swept}
-use Rattle.outlines.specs.Admitting.{mostLine, roomAsked}
+use Rattle.findings.specs.Admitting.{mostLine, roomAsked}
 use Rattle.tally.specs.Counts.{mostCounts}
 use Rattle.sweep.specs.Verifying.{TalliedBefore, lastOf}
 use Rattle.sweep.specs.Sweep.{stateOf, foundOf, hasEnded, sweptStart, sweptLast, sweptLooks, sweptFound, LeftTo, leftState, CanSweepOn, IsSwept, IsSweptOn}
-use Rattle.outlines.specs.Scan.{CanScan, CanPut, wordsPut}
+use Rattle.findings.specs.Putting.{CanPut, wordsPut}
+use Rattle.outlines.specs.Scan.{CanScan}
 use Rattle.sweep.proofs.WindowsLeft.{left-from-le, left-start-le}
 use Rattle.sweep.specs.Sweeps.{IsSweptBy}
 use Rattle.sweep.proofs.SweepCases.{before-later}

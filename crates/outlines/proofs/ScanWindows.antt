@@ -18,11 +18,11 @@ use Rattle.meaning.specs.Looks.{tallyLooks, quickLooks}
 use Rattle.meaning.proofs.Places.{found-small}
 use Rattle.meaning.proofs.Words.{findings-length-le}
 use Rattle.meaning.proofs.ScanLoop.{ScanLoop, scan-start, scan-looks-le, scan-found-le, scan-end, scan-verified, scan-left}
-use Rattle.outlines.specs.Admitting.{roomAsked}
+use Rattle.findings.specs.Admitting.{roomAsked}
 use Rattle.sweep.specs.Sweep.{sweptStart, sweptLast, sweptLooks, sweptFound, LeftTo}
-use Rattle.outlines.specs.Scan.{wordsPut}
+use Rattle.findings.specs.Putting.{wordsPut}
 use Rattle.sweep.proofs.WindowsLeft.{left-scanned}
-use Rattle.outlines.proofs.WordsPut.{put-more, put-none, put-length}
+use Rattle.findings.proofs.WordsPut.{put-more, put-none, put-length}
 
 -- One window: left, or verified.
 pub scan-turn : (ring line : List ℕ) (k i : ℕ) (last : Option ℕ) (found : List Finding) (looks : ℕ) → ScanLoop ring line k i last found looks

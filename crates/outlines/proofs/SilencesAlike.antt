@@ -13,9 +13,9 @@ use Rattle.answers.specs.Paper.{Answer, accepted, answerPaper}
 use Rattle.book.specs.Silences.{Silence}
 use Rattle.book.specs.Reading.{readBook}
 use Rattle.outlines.specs.declared.reporting.Reported.{Reported}
-use Rattle.outlines.specs.Admitting.{refusalOf}
+use Rattle.findings.specs.Admitting.{refusalOf}
 use Rattle.outlines.specs.Report.{isHidden, shown, hidden, noReportCounts, silencesBy, admittedSilences, reportedBy, reportedWordsBy, IsReported}
-use Rattle.outlines.proofs.AdmitCases.{admitted-by}
+use Rattle.findings.proofs.AdmitCases.{admitted-by}
 use Rattle.outlines.proofs.ReportOneAnswer.{report-paper-unique}
 
 module _ (ss ts : List Silence) (cell ringNumber : ℕ) where

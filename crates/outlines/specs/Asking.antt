@@ -20,8 +20,9 @@ use Rattle.book.specs.Reading.{FieldAt, readBook}
 use Rattle.book.specs.Seeking.{seekField, seekFrom, isFor}
 use Rattle.book.specs.Calls.{soughtOf}
 use Rattle.outlines.specs.declared.reporting.Asked.{Asked}
-use Rattle.outlines.specs.Admitting.{mostLine, Admitted}
-use Rattle.outlines.specs.Scan.{wordsPut, CanScan}
+use Rattle.findings.specs.Admitting.{mostLine, Admitted}
+use Rattle.findings.specs.Putting.{wordsPut}
+use Rattle.outlines.specs.Scan.{CanScan}
 use Rattle.outlines.specs.Report.{reportedBy, reportedWordsBy}
 
 -- The address that the book is asked for a finding: cell, ring number and the finding's start.

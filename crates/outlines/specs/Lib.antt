@@ -1,9 +1,5 @@
--- Survey, scan and report. Admitting, Scan, Survey, SearchRows and Report state document 01 and what the three calls promise; Reading, Verifying, Sweep and
--- Asking are what private functions ask and promise. ReportSamples are computed.
-pub mod Admitting
+-- Scan and report. Scan and Report state document 01 and what the two calls promise; Asking is what private functions ask and promise. ReportSamples are computed.
 pub mod Scan
 pub mod Report
-pub mod Survey
-pub mod SearchRows
 pub mod Asking
 pub mod ReportSamples

@@ -20,7 +20,7 @@ use Rattle.book.specs.Silences.{Silence, names}
 use Rattle.book.specs.Reading.{readBook}
 use Rattle.outlines.specs.declared.reporting.Reported.{Reported}
 use Rattle.outlines.specs.declared.reporting.Reported.the-variants.{Counts as CountsCase, Refused}
-use Rattle.outlines.specs.Admitting.{refusalOf}
+use Rattle.findings.specs.Admitting.{refusalOf}
 
 -- A finding is hidden exactly when the book names its cell, ring number and start.
 abbrev pub isHidden : List Silence → ℕ → ℕ → Finding → Bool

@@ -1,45 +1,18 @@
 // The quick scan: the findings of a ring in a line, and the looks that finding them took.
-use crate::admitting::Verdict;
-use crate::admitting::WORDS_EACH;
-use crate::admitting::admit;
-use answers::Finding;
-use answers::Refusal;
+use findings::Counted;
+use findings::Scanned;
+use findings::Verdict;
+use findings::admit;
+use findings::put_finding;
 use sweep::LastVerified;
 use sweep::Sweep;
 use sweep::Swept;
 use sweep::sweep_on;
 use tally::double;
 use vectors::occurrences;
-ghost use mathlib.Core.Path.{_≡_};
 ghost use lib.ListN.{length};
-ghost use Rattle.outlines.specs.Admitting.{Admitted};
-ghost use Rattle.sweep.specs.Sweep.{findingOf};
-ghost use Rattle.outlines.specs.Scan.{CanPut, wordsPut, CanScan, LineScanned, IsScanned};
-
-// What survey and scan answer: "found and looks", or a refusal.
-pub enum Scanned {
-    Counts { found: usize, looks: usize },
-    Refused(Refusal),
-}
-
-// Found and looks of an accepted call.
-pub struct Counted {
-    pub found: usize,
-    pub looks: usize,
-}
-
-// A finding's three words, behind those of the findings before it.
-pub fn put_finding(words: &mut [u32], before: usize, finding: Finding)
-    requires { ⌜ CanPut (now words) before (findingOf finding) ⌝ }
-    ensures { λ _. ⌜ now (words .exit) ≡ wordsPut before (findingOf finding) (now (words .entry)) ⌝ }
-{
-    let at = WORDS_EACH * before;
-    let start = finding.start;
-    let rotation = finding.rotation;
-    words[at] = start.0 as u32;
-    words[at + 1] = rotation.0 as u32;
-    words[at + 2] = finding.distance as u32;
-}
+ghost use Rattle.findings.specs.Admitting.{Admitted};
+ghost use Rattle.outlines.specs.Scan.{CanScan, LineScanned, IsScanned};
 
 // Candidate after candidate, while a window fits in the line.
 fn scan_windows(

@@ -1,7 +1,4 @@
 // The report: the quick scan, and of its findings only those that the silence book does not name.
-use crate::admitting::Verdict;
-use crate::admitting::admit;
-use crate::quick::put_finding;
 use answers::Finding;
 use answers::Refusal;
 use book::Address;
@@ -11,6 +8,9 @@ use book::is_for;
 use book::read;
 use book::seek;
 use book::seek_on;
+use findings::Verdict;
+use findings::admit;
+use findings::put_finding;
 use sweep::LastVerified;
 use sweep::Sweep;
 use sweep::Swept;
@@ -21,8 +21,7 @@ ghost use mathlib.Core.Path.{_≡_};
 ghost use Prim.Native.Nat.{_<_, _^_};
 ghost use Rattle.book.specs.Silences.{silence};
 ghost use Rattle.book.specs.Calls.{silenceOf};
-ghost use Rattle.sweep.specs.Sweep.{findingOf};
-ghost use Rattle.outlines.specs.Scan.{CanPut};
+ghost use Rattle.findings.specs.Putting.{findingOf, CanPut};
 ghost use Rattle.outlines.specs.Report.{IsReported};
 ghost use Rattle.outlines.specs.Asking.{CanAsk, IsAsked, shownPut, CanReport, CanReportLine, LineReported};
 

@@ -13,9 +13,9 @@ use Rattle.answers.specs.Refusals.{numberOf}
 use Rattle.answers.specs.Paper.{refused}
 use Rattle.book.specs.Reading.{readBook}
 use Rattle.book.proofs.BookRows.{book-rows}
-use Rattle.outlines.specs.Admitting.{roomAsked, refusalOf}
+use Rattle.findings.specs.Admitting.{roomAsked, refusalOf}
 use Rattle.outlines.specs.Report.{silencesBy, admittedSilences}
-use Rattle.outlines.proofs.AdmitRows.{RowGiven, row-1, row-2, row-3, row-4, row-given}
+use Rattle.findings.proofs.AdmitRows.{RowGiven, row-1, row-2, row-3, row-4, row-given}
 use Rattle.request.specs.Fields.{lineField}
 use Rattle.request.specs.Input.{Request}
 use Rattle.request.specs.Answering.{IsAnswered}

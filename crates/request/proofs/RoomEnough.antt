@@ -12,7 +12,7 @@ use borrow.Author.Tests.{le-ltb, leb-true, eqb-false}
 use Rattle.answers.specs.declared.refusals.Refusal.{Refusal}
 use Rattle.answers.specs.declared.refusals.Refusal.the-variants.{Ring, Allowance, Line, FindingsRoom}
 use Rattle.book.specs.Reading.{readBook}
-use Rattle.outlines.specs.Admitting.{roomAsked, isRow1, isRow2, isRow3, isRow4, refusalOf}
+use Rattle.findings.specs.Admitting.{roomAsked, isRow1, isRow2, isRow3, isRow4, refusalOf}
 use Rattle.outlines.specs.Report.{silencesBy, admittedSilences}
 
 module _ (m k n room : ℕ) (enough : 0 < m → m ≤ n → roomAsked m n ≤ room) where

@@ -11,7 +11,7 @@ use Rattle.meaning.specs.Looks.{quickLooks}
 use Rattle.meaning.proofs.Words.{below-length-le}
 use Rattle.meaning.proofs.LookBound.{quickLooks-most}
 use Rattle.book.specs.Silences.{Silence}
-use Rattle.outlines.specs.Admitting.{Admitted}
+use Rattle.findings.specs.Admitting.{Admitted}
 use Rattle.outlines.specs.Report.{shown, ReportCounts, reportCounts}
 use Rattle.outlines.proofs.ShownExactly.{shown-iff}
 use Rattle.outlines.proofs.ShownAndHidden.{shown-hidden-length}

@@ -14,7 +14,7 @@ use lib.ListN.{length}
 use Rattle.meaning.specs.Findings.{findings, written}
 use Rattle.answers.specs.Paper.{Answer, accepted, refused}
 use Rattle.book.specs.Silences.{Silence}
-use Rattle.outlines.specs.Admitting.{roomAsked}
+use Rattle.findings.specs.Admitting.{roomAsked}
 use Rattle.outlines.specs.Report.{shown, admittedSilences, reportCounts}
 use Rattle.request.specs.Input.{Request, requestOf}
 use Rattle.request.specs.Lines.{firstLine, findingLines, lastLine, refusalLine}

@@ -14,7 +14,7 @@ use Rattle.meaning.specs.Samples.{ascii}
 use Rattle.book.specs.Numbers.{numberAt, bytesOf}
 use Rattle.book.specs.Silences.{isBelow, isSame, names}
 use Rattle.book.specs.Reading.{lengthByTag, silenceAt, isWhole, fieldBy, fieldAt, fieldsFrom, readFrom, readBook}
-use Rattle.outlines.specs.Admitting.{refusalOf}
+use Rattle.findings.specs.Admitting.{refusalOf}
 use Rattle.outlines.specs.Report.{shown, hidden, admittedSilences}
 use Rattle.request.specs.Fields.{isField, fieldEndAt}
 use Rattle.request.specs.Input.{fieldsOf, requestOf, laidDown}

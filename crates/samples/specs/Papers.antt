@@ -6,8 +6,8 @@
 use mathlib.Core.Path.{_≡_}
 use Rattle.book.specs.declared.answering.BookAnswer.{BookAnswer}
 use Rattle.book.specs.Calls.{paperOf as bookPaperOf}
-use Rattle.outlines.specs.declared.quick.Scanned.{Scanned}
-use Rattle.outlines.specs.Scan.{paperOf as searchPaperOf}
+use Rattle.findings.specs.declared.searching.Scanned.{Scanned}
+use Rattle.findings.specs.Searching.{paperOf as searchPaperOf}
 use Rattle.outlines.specs.declared.reporting.Reported.{Reported}
 use Rattle.outlines.specs.Report.{paperOf as reportPaperOf}
 use Rattle.samples.specs.declared.paper.BookPaper.{BookPaper}

@@ -21,6 +21,7 @@ use Rattle.tally.specs.Windows.{windowAt, IsWindow}
 use Rattle.tally.specs.Counts.{mostCounts, IsCounted}
 use Rattle.tally.specs.Moves.{Place, placeAt, moveOn, canMove, mostPlaces, IsMoved}
 use Rattle.tally.specs.Tallied.{Verified}
+use Rattle.tally.proofs.AfreshTallied.{counted-verified}
 use Rattle.sweep.specs.declared.reading.WindowRead.{WindowRead}
 use Rattle.sweep.specs.declared.verifying.LastVerified.{LastVerified}
 use Rattle.sweep.specs.declared.verifying.LastVerified.the-variants.{Nothing, At}
@@ -36,7 +37,7 @@ use Rattle.sweep.proofs.ReadTurns.{read-all, read-stops, read-empties, 
 use Rattle.sweep.proofs.WindowTurns.{windows-none, windows-found, windows-later}
 use Rattle.sweep.proofs.ReadingLoop.{ReadingLoop, reading-start, reading-end, reading-grows, reading-breaks, reading-left}
 use Rattle.sweep.proofs.LeavingLoop.{leaving-end, leaving-can-read, leaving-turn, leaving-stops}
-use Rattle.sweep.proofs.VerifyCases.{counted-verified, verify-first, verify-afresh, verify-moved, verify-from-lt, verify-reached}
+use Rattle.sweep.proofs.VerifyCases.{verify-first, verify-afresh, verify-moved, verify-from-lt, verify-reached}
 use Rattle.sweep.proofs.SweepCases.{sweep-can-read-on, sweep-can-verify, swept-ended, swept-none, swept-found}
 
 -- By the two cases of a test.
@@ -128,7 +129,7 @@ module _ (ring doubled line : List ℕ) (i : ℕ) (old : List ℕ) where
   afresh-by-rules last can =
       counted-verified ring line i doubled old (afreshTo doubled (windowAt (length ring) line i) old .counts) (windowAt (length ring) line i)
       (record { least = afreshTo doubled (windowAt (length ring) line i) old .least; looks = afreshTo doubled (windowAt (length ring) line i) old .looks })
-      (can .fits) (can .twice) (can .in-line) (record { is = refl }) (record { written = refl; least-is = refl; looks-are = refl })
+      (can .fits .size) (can .fits .some-edge) (can .fits .most) (can .twice) (can .in-line) (record { is = refl }) (record { written = refl; least-is = refl; looks-are = refl })
 
   -- The tally moved to a start.
   moved-by-rules : (from : ℕ) → CanVerify ring doubled line i old (lastOf (At from)) → from < i → 2 * (i - from) ≤ length ring

@@ -1,5 +1,5 @@
 -- Rule 5's cases. "With no earlier tally, or if the new start is s beyond the last verified one and 2·s > m, it is counted afresh. Otherwise it moves
--- s steps." A window counted afresh is handed out alone, and has at 0 the distances that it has in the line at its start.
+-- s steps." The two differ in the looks that they took.
 -- Assumes nothing.
 use Prim.Native.Nat.{ℕ, _+_, _-_, _*_, _≤_, _<_}
 use mathlib.Core.Path.{_≡_, refl, ap, subst, _∙_}
@@ -9,19 +9,14 @@ use mathlib.Core.Option.{Option}
 use native.Mathlib.Omega.{arith}
 use lib.ListN.{length}
 use borrow.Author.Tests.{lt-ltb, le-ltb}
-use Rattle.meaning.specs.Meanings.{distance}
 use Rattle.meaning.specs.Looks.{afreshLooks, stepLooks, tallyLooks}
 use Rattle.meaning.proofs.Cases.{le-or-lt}
-use Rattle.meaning.proofs.WindowAlone.{alone-distance}
-use Rattle.tally.specs.Windows.{IsWindow}
-use Rattle.tally.specs.Counts.{IsDoubled, IsCounted}
 use Rattle.tally.specs.Moves.{IsMoved}
-use Rattle.tally.specs.Tallied.{Tallied, Verified, IsReached}
-use Rattle.sweep.specs.Verifying.{RingFits, lastOf, TalliedBefore, CanVerify}
+use Rattle.tally.specs.Tallied.{Tallied, Verified, IsReached, TallyFits}
+use Rattle.sweep.specs.Verifying.{lastOf, TalliedBefore, CanVerify}
 use Rattle.tally.proofs.WindowEdges.{start-window, start-length}
 use Rattle.tally.specs.declared.counts.Least.{Least}
 use Rattle.tally.specs.declared.steps.Reached.{Reached}
-use Rattle.tally.proofs.AfreshTallied.{afresh-verified}
 use Rattle.tally.proofs.MovedTallied.{moved-tallied}
 use Rattle.sweep.specs.declared.verifying.LastVerified.{LastVerified}
 use Rattle.sweep.specs.declared.verifying.LastVerified.the-variants.{Nothing, At}
@@ -29,21 +24,6 @@ use Rattle.sweep.specs.declared.verifying.LastVerified.the-variants.{Not
 module _ (ring line : List ℕ) (i : ℕ) where
   abbrev m : ℕ
   m = length ring
-
-  -- A window counted afresh is verified: alone, as a line of its own, and so in the line.
-  pub counted-verified : (doubled old new edges : List ℕ) (z : Least) → RingFits ring old → IsDoubled ring doubled → i + m ≤ length line
-      → IsWindow line i m edges → IsCounted doubled edges old new z → Verified ring line i (afreshLooks m) new (z .least) (z .looks)
-  counted-verified doubled old new edges z fits twice in-line handed counted =
-      let alone = afresh-verified ring doubled edges (fits .some-edge) (fits .most) twice (start-length line i m edges handed in-line) old new z (fits .size) counted in
-      record {
-        tallied = record {
-          size = alone .tallied .size;
-          each = λ r l. alone .tallied .each r l ∙ ap (λ (xs : List ℕ). distance ring xs 0 r) (start-window line i m edges handed in-line)
-              ∙ alone-distance ring line i r;
-        };
-        least-is = alone .least-is;
-        looks-are = alone .looks-are;
-      }
 
   -- Looks that are equal count the same.
   looks-same : (counts : List ℕ) (looks looks′ least looked : ℕ) → looks ≡ looks′ → Verified ring line i looks counts least looked

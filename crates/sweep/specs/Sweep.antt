@@ -18,6 +18,7 @@ use Rattle.meaning.specs.Rules.{readWindow}
 use Rattle.meaning.specs.Looks.{tallyLooks}
 use Rattle.answers.specs.declared.places.Finding.{Finding as FindingStruct}
 use Rattle.vectors.specs.ByValue.{Occurrences}
+use Rattle.findings.specs.Putting.{findingOf}
 use Rattle.sweep.specs.declared.sweeping.Sweep.{Sweep}
 use Rattle.sweep.specs.declared.sweeping.Swept.{Swept}
 use Rattle.sweep.specs.declared.sweeping.Swept.the-variants.{Ended, NoFinding, Found}
@@ -25,11 +26,8 @@ use Rattle.sweep.specs.declared.sweeping.WindowsRead.{WindowsRead}
 use Rattle.sweep.specs.Sweeps.{mostLooks}
 use Rattle.tally.specs.Moves.{mostPlaces}
 use Rattle.tally.specs.Counts.{mostCounts, IsDoubled}
-use Rattle.sweep.specs.Verifying.{RingFits, TalliedBefore, lastOf}
-
--- The finding that a struct stands for: a line place, a ring place and a distance.
-abbrev pub findingOf : FindingStruct → Finding
-findingOf f = record { start = f .start .0; rotation = f .rotation .0; distance = f .distance }
+use Rattle.tally.specs.Tallied.{TallyFits}
+use Rattle.sweep.specs.Verifying.{TalliedBefore, lastOf}
 
 -- Rule 3: "With j edges read, the next window starts m − j + 1 further on."
 abbrev pub sweptStart : List ℕ → List ℕ → ℕ → ℕ → ℕ
@@ -100,7 +98,7 @@ pub record IsWindowsRead (ring line : List ℕ) (k from : ℕ) (r : WindowsRead)
 -- What sweeping on asks: a call within the limits, the ring's vectors and its double, a start in the line or just past it, the tally of the last verified
 -- start, and room for more looks.
 pub record CanSweepOn (ring doubled table line : List ℕ) (k : ℕ) (counts : List ℕ) (at : Sweep) : Type 0 where
-  pub fits : RingFits ring counts
+  pub fits : TallyFits ring counts
   pub allowed : k < length ring
   pub most-line : length line < mostPlaces
   pub occurs : Occurrences ring table

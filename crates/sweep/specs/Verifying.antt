@@ -1,6 +1,5 @@
 -- Rule 5, which of the two: the tally is counted afresh or moved, with the ring's own double and the last verified start's tally.
 --
---   RingFits         a ring that a tally has room for
 --   lastOf           the last verified start, if there is one
 --   TalliedBefore    what the counts hold then
 --   CanVerify        what verifying a start asks
@@ -10,16 +9,10 @@ use mathlib.Core.List.{List}
 use mathlib.Core.Option.{Option, none, some}
 use lib.ListN.{length}
 use Rattle.tally.specs.Counts.{mostCounts, IsDoubled}
-use Rattle.tally.specs.Tallied.{Tallied}
+use Rattle.tally.specs.Tallied.{Tallied, TallyFits}
 use Rattle.tally.specs.Moves.{mostPlaces}
 use Rattle.sweep.specs.declared.verifying.LastVerified.{LastVerified}
 use Rattle.sweep.specs.declared.verifying.LastVerified.the-variants.{Nothing, At}
-
--- A ring that a tally has room for.
-pub record RingFits (ring counts : List ℕ) : Type 0 where
-  pub size : length counts ≡ mostCounts
-  pub some-edge : 0 < length ring
-  pub most : length ring ≤ mostCounts
 
 -- The last verified start, if there is one.
 abbrev pub lastOf : LastVerified → Option ℕ
@@ -33,7 +26,7 @@ TalliedBefore ring line i counts (some last) = (last < i) × Tallied ring line l
 
 -- What verifying start i asks: a window in the line, and the tally of the last verified start.
 pub record CanVerify (ring doubled line : List ℕ) (i : ℕ) (counts : List ℕ) (last : Option ℕ) : Type 0 where
-  pub fits : RingFits ring counts
+  pub fits : TallyFits ring counts
   pub twice : IsDoubled ring doubled
   pub in-line : i + length ring ≤ length line
   pub most-line : length line < mostPlaces

@@ -1,5 +1,6 @@
 -- A window counted afresh over the doubled ring has its tally: the doubled ring's edge at q + r is the ring's at (r + q) mod m, rotation r's at q. So each count
--- is the distance of the window, read as a line of its own, under its rotation.
+-- is the distance of the window, read as a line of its own, under its rotation. A window that is handed out alone has at 0 the distances that it has in the
+-- line at its start.
 -- Assumes nothing.
 use Prim.Native.Nat.{ℕ, _+_, _*_, _%_, _≤_, _<_}
 use mathlib.Core.Path.{_≡_, refl, sym, ap, _∙_}
@@ -13,9 +14,12 @@ use Rattle.meaning.specs.Numbers.{count}
 use Rattle.meaning.specs.Meanings.{unequal, differs, distance}
 use Rattle.meaning.specs.Looks.{afreshLooks}
 use Rattle.meaning.proofs.Count.{count-same}
+use Rattle.meaning.proofs.WindowAlone.{alone-distance}
 use Rattle.tally.specs.declared.counts.Least.{Least}
+use Rattle.tally.specs.Windows.{IsWindow}
 use Rattle.tally.specs.Counts.{mostCounts, leastOf, differsThere, afreshCount, afreshCounts, canCount, IsDoubled, IsCounted, IsLeast}
 use Rattle.tally.specs.Tallied.{Verified}
+use Rattle.tally.proofs.WindowEdges.{start-window, start-length}
 use Rattle.tally.proofs.PlaceByPlace.{listOf-length, listOf-first-at}
 use Rattle.tally.proofs.LeastIsOne.{leastOf-is}
 use Rattle.tally.proofs.DoubledLoop.{doubled-edge, doubled-length}
@@ -62,3 +66,19 @@ module _ (ring doubled window : List ℕ) (some : 0 < length ring) (most : lengt
         least-is = rw (rw can at (counted .least-is), is, sym long) (leastOf-is (length window) (afreshCounts doubled window old) (omega (arith, long)));
         looks-are = (rw can at (counted .looks-are)) ∙ ap afreshLooks long;
       }
+
+-- A window counted afresh is verified: alone, as a line of its own, and so in the line.
+pub counted-verified : (ring line : List ℕ) (i : ℕ) (doubled old new edges : List ℕ) (z : Least) → length old ≡ mostCounts → 0 < length ring
+    → length ring ≤ mostCounts → IsDoubled ring doubled → i + length ring ≤ length line → IsWindow line i (length ring) edges
+    → IsCounted doubled edges old new z → Verified ring line i (afreshLooks (length ring)) new (z .least) (z .looks)
+counted-verified ring line i doubled old new edges z size some most twice in-line handed counted =
+    let alone = afresh-verified ring doubled edges some most twice (start-length line i (length ring) edges handed in-line) old new z size counted in
+    record {
+      tallied = record {
+        size = alone .tallied .size;
+        each = λ r l. alone .tallied .each r l ∙ ap (λ (xs : List ℕ). distance ring xs 0 r) (start-window line i (length ring) edges handed in-line)
+            ∙ alone-distance ring line i r;
+      };
+      least-is = alone .least-is;
+      looks-are = alone .looks-are;
+    }

@@ -2,6 +2,7 @@
 -- step renumbers.
 --
 --   Tallied       "the tally of one count per rotation", at a start
+--   TallyFits     a ring that a tally has room for
 --   Verified      a start's tally, its least count and the looks that it took
 --   IsReached     where a tally that was moved came to
 --   IsLowestAt    the lowest rotation whose count is the least
@@ -19,6 +20,12 @@ use Rattle.tally.specs.Counts.{mostCounts, IsLeast}
 pub record Tallied (ring line : List ℕ) (i : ℕ) (counts : List ℕ) : Type 0 where
   pub size : length counts ≡ mostCounts
   pub each : (r : ℕ) → r < length ring → getD counts r 0 ≡ distance ring line i r
+
+-- A ring that a tally has room for.
+pub record TallyFits (ring counts : List ℕ) : Type 0 where
+  pub size : length counts ≡ mostCounts
+  pub some-edge : 0 < length ring
+  pub most : length ring ≤ mostCounts
 
 -- A verified start: its tally, the least of its counts, and the looks that it took.
 pub record Verified (ring line : List ℕ) (i looks : ℕ) (counts : List ℕ) (least looked : ℕ) : Type 0 where

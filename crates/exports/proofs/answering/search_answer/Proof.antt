@@ -2,8 +2,8 @@
 -- Assumes nothing.
 use mathlib.Core.Path.{refl, ap}
 use native.Mathlib.Omega.{arith}
-use Rattle.outlines.specs.declared.quick.Scanned.{Scanned}
-use Rattle.outlines.specs.Scan.{paperOf as searchPaperOf}
+use Rattle.findings.specs.declared.searching.Scanned.{Scanned}
+use Rattle.findings.specs.Searching.{paperOf as searchPaperOf}
 use borrow.Author.Needs.{needs}
 use Rattle.exports.proofs.answering.search_answer.Statement.{statement}
 use Rattle.exports.proofs.answering.search_answer.Tie as tie

@@ -6,6 +6,7 @@ use mathlib.Core.Path.{_≡_, refl, ap}
 use native.Mathlib.Omega.{arith}
 use borrow.Author.Needs.{needs}
 use lib.ListN.{length}
+use Rattle.findings.proofs.PutCases.{words-are-put}
 use Rattle.sweep.specs.Sweep.{stateOf, foundOf, hasEnded}
 use Rattle.outlines.proofs.ScanKeeps.{keeps-swept, keeps-left, keeps-ended, keeps-less, keeps-none, keeps-can-put, keeps-put-length, keeps-put}
 use Rattle.outlines.proofs.ScanAll.{ScanAll, all-start, all-next, all-found-le, all-end}
@@ -80,15 +81,7 @@ enum-known-next-3 : tie.Need-enum-known-next-3 Inv-loop μ-loop
 enum-known-next-3 c = search needs
 
 put-finding-requires : tie.Need-put-finding-requires Inv-loop μ-loop
-put-finding-requires c κs =
-    let swept = c .before .before .before .before in
-    let at = swept .before .before .before .before in
-    let told = c .before .before .next3 .given .1 in
-    let on = keeps-swept _ _ _ _ _ _ _ (at .before .before .before .before .before .pre) _ _ _ _ _ _ (at .loop .inv .2 .keeps) _ _ (swept .sweep-on .ensures) in
-    let here = keeps-left _ _ _ _ _ _ _ (at .before .before .before .before .before .pre) _ _ _ _ _ _ (at .loop .inv .2 .keeps) _ _ (on .left-to) in
-    let candidate = on .candidate (ap hasEnded told) in
-    keeps-can-put _ _ _ _ _ _ _ (at .before .before .before .before .before .pre) _ _ _ _ _ _ here (candidate .in-line) _ _ _ (candidate .swept) (ap stateOf told)
-    _ (ap foundOf told)
+put-finding-requires c κs = search needs
 
 add-found : tie.Need-add-found Inv-loop μ-loop
 add-found c =
@@ -108,10 +101,14 @@ loop-again-3 c =
     let swept = c .before .before .before .before .before .before .before in
     let at = swept .before .before .before .before in
     let told = c .before .before .before .before .before .next3 .given .1 in
-    let put = c .before .before .put-finding .ensures in
     let on = keeps-swept _ _ _ _ _ _ _ (at .before .before .before .before .before .pre) _ _ _ _ _ _ (at .loop .inv .2 .keeps) _ _ (swept .sweep-on .ensures) in
     let here = keeps-left _ _ _ _ _ _ _ (at .before .before .before .before .before .pre) _ _ _ _ _ _ (at .loop .inv .2 .keeps) _ _ (on .left-to) in
-    let candidate = on .candidate (ap hasEnded told) in (
+    let candidate = on .candidate (ap hasEnded told) in
+    let can-put =
+    keeps-can-put _ _ _ _ _ _ _ (at .before .before .before .before .before .pre) _ _ _ _ _ _ here (candidate .in-line) _ _ _ (candidate .swept)
+    (ap stateOf told) _ (ap foundOf told)
+    in
+    let put = words-are-put _ _ _ _ can-put (c .before .before .put-finding .ensures) in (
       refl,
       keeps-put-length _ _ _ _ _ _ _ (at .before .before .before .before .before .pre) _ _ _ _ _ _ here (candidate .in-line) _ _ _ (candidate .swept)
           (ap stateOf told) _ (ap foundOf told) _ put,

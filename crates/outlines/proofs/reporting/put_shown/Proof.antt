@@ -3,6 +3,7 @@
 use mathlib.Core.Path.{_∙_}
 use borrow.Author.Needs.{needs}
 use borrow.Author.Tests.{lt-ltb, le-ltb}
+use Rattle.findings.proofs.PutCases.{words-are-put}
 use Rattle.outlines.proofs.reporting.put_shown.Statement.{statement}
 use Rattle.outlines.proofs.reporting.put_shown.Tie as tie
 
@@ -16,7 +17,8 @@ same-length c = search needs
 returns : tie.Need-returns
 returns c =
     let put = c .before .before in
-    put .put-finding .ensures ∙ simp (lt-ltb _ _ (put .before .before .if1 .taken))
+    let start = put .before .before .before .before in
+    words-are-put _ _ _ _ (start .pre) (put .put-finding .ensures) ∙ simp (lt-ltb _ _ (put .before .before .if1 .taken))
 
 -- Hidden.
 returns-2 : tie.Need-returns-2

@@ -2,8 +2,8 @@
 -- Assumes nothing.
 use mathlib.Core.Path.{sym, ap, _∙_}
 use borrow.Author.Needs.{needs}
-use Rattle.outlines.specs.Admitting.{verdictOf}
-use Rattle.outlines.proofs.AdmitCases.{admitted-by}
+use Rattle.findings.specs.Admitting.{verdictOf}
+use Rattle.findings.proofs.AdmitCases.{admitted-by}
 use Rattle.outlines.proofs.ReportAnswers.{book-accepted, book-refused, report-refused-row, report-refused-book, report-accepted}
 use Rattle.outlines.proofs.reporting.report.Statement.{statement}
 use Rattle.outlines.proofs.reporting.report.Tie as tie
@@ -31,7 +31,7 @@ report-line-requires c κs =
     let read = c .before .before .before in
     let told = read .before in
     record {
-      admitted = admitted-by _ _ _ _ (sym (told .before .before .admit .ensures) ∙ ap verdictOf (told .enum-told .given .1));
+      admitted = admitted-by _ _ _ _ (sym (told .before .before .admit .ensures .is) ∙ ap verdictOf (told .enum-told .given .1));
       book-read = book-accepted _ _ _ (read .read .ensures) (c .before .enum-told2 .given .1);
     }
 
@@ -39,14 +39,14 @@ report-line-requires c κs =
 returns : tie.Need-returns
 returns c =
     let admitted = c .before .before .before in
-    report-refused-row _ _ _ _ _ _ _ _ (sym (ap verdictOf (c .before .refusal .given .1)) ∙ admitted .admit .ensures)
+    report-refused-row _ _ _ _ _ _ _ _ (sym (ap verdictOf (c .before .refusal .given .1)) ∙ admitted .admit .ensures .is)
 
 -- A row of 5 to 7.
 returns-2 : tie.Need-returns-2
 returns-2 c =
     let read = c .before .before .before in
     let told = read .before in
-    report-refused-book _ _ _ _ _ _ _ (sym (ap verdictOf (told .enum-told .given .1)) ∙ told .before .before .admit .ensures) _
+    report-refused-book _ _ _ _ _ _ _ (sym (ap verdictOf (told .enum-told .given .1)) ∙ told .before .before .admit .ensures .is) _
     (book-refused _ _ _ (read .read .ensures) (c .before .refusal2 .given .1))
 
 same-length : tie.Need-same-length
@@ -57,7 +57,7 @@ returns-3 : tie.Need-returns-3
 returns-3 c =
     let reported = c .before .before in
     let told = reported .before .before .before .before .before in
-    report-accepted _ _ _ _ _ _ _ (sym (ap verdictOf (told .enum-told .given .1)) ∙ told .before .before .admit .ensures) _ _ _ _
+    report-accepted _ _ _ _ _ _ _ (sym (ap verdictOf (told .enum-told .given .1)) ∙ told .before .before .admit .ensures .is) _ _ _ _
     (reported .report-line .ensures)
 
 pub report-spec : {M : Type 1} → statement M

@@ -1,0 +1,48 @@
+-- Any two answers that meet a contract of this crate are equal, and the words at exit too: each contract is an equation for the whole answer. And the paper of a
+-- search determines its answer: the answer by `answer-unique` of the answers, and then its case.
+-- Assumes nothing.
+use Prim.Native.Nat.{ℕ}
+use mathlib.Core.Path.{_≡_, refl, sym, ap, _∙_}
+use mathlib.Core.List.{List}
+use mathlib.Core.Option.{Option, none, some}
+use Rattle.meaning.specs.Findings.{Finding}
+use Rattle.answers.specs.declared.refusals.Refusal.{Refusal}
+use Rattle.answers.specs.Paper.{Answer, accepted, refused}
+use Rattle.answers.proofs.OneAnswer.{answer-unique}
+use Rattle.findings.specs.declared.admitting.Verdict.{Verdict}
+use Rattle.findings.specs.declared.admitting.Verdict.the-variants.{Accepted, Refused as RefusedBy}
+use Rattle.findings.specs.declared.searching.Scanned.{Scanned}
+use Rattle.findings.specs.declared.searching.Scanned.the-variants.{Counts as CountsCase, Refused}
+use Rattle.findings.specs.Admitting.{verdictOf, IsVerdict}
+use Rattle.findings.specs.Putting.{IsPut}
+use Rattle.findings.specs.Searching.{Counts, noCounts, answerOf, paperOf}
+
+-- The verdict that a refusal comes from.
+abbrev verdictBack : Option Refusal → Verdict
+verdictBack none = Accepted
+verdictBack (some refusal) = RefusedBy refusal
+
+verdict-back : (r : Verdict) → verdictBack (verdictOf r) ≡ r
+verdict-back Accepted = refl
+verdict-back (RefusedBy refusal) = refl
+
+-- `admit`
+pub one-verdict : (m k n room : ℕ) (r r′ : Verdict) → IsVerdict m k n room r → IsVerdict m k n room r′ → r ≡ r′
+one-verdict m k n room r r′ a b = sym (verdict-back r) ∙ ap verdictBack (a .is ∙ sym (b .is)) ∙ verdict-back r′
+
+-- `put_finding`
+pub one-put : (words : List ℕ) (before : ℕ) (f : Finding) (out out′ : List ℕ) → IsPut words before f out → IsPut words before f out′ → out ≡ out′
+one-put words before f out out′ a b = a .written ∙ sym (b .written)
+
+-- The case that an answer comes from.
+abbrev answerBack : Answer Counts → Scanned
+answerBack (accepted counts) = CountsCase (counts .found) (counts .looks)
+answerBack (refused refusal) = Refused refusal
+
+answer-back : (r : Scanned) → answerBack (answerOf r) ≡ r
+answer-back (CountsCase found looks) = refl
+answer-back (Refused refusal) = refl
+
+-- The paper of a search determines its answer.
+pub paper-unique : (r r′ : Scanned) → paperOf r ≡ paperOf r′ → r ≡ r′
+paper-unique r r′ e = sym (answer-back r) ∙ ap answerBack (answer-unique noCounts (answerOf r) (answerOf r′) e) ∙ answer-back r′

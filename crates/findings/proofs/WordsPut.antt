@@ -1,0 +1,37 @@
+-- The words of one finding put behind those of the findings before it: what the area then holds is what `written` says of one finding more.
+-- Assumes nothing.
+use Prim.Native.Nat.{ℕ, suc, _+_, _*_, _≤_}
+use mathlib.Core.Path.{_≡_, refl, sym, ap, _∙_}
+use mathlib.Core.List.{List, [], _∷_, _++_}
+use native.Mathlib.Omega.{arith}
+use lib.ListN.{length, set}
+use lib.Seq.{sets}
+use Rattle.meaning.specs.Findings.{Finding, findingWords, wordsEach, wordsOf, written}
+use Rattle.meaning.proofs.Words.{words-length, words-append, written-length, written-more}
+use Rattle.findings.specs.Putting.{wordsPut}
+
+-- One finding more.
+pub put-more : (fs : List Finding) (f : Finding) (found : ℕ) (area : List ℕ) → found ≡ length fs → wordsEach * found + wordsEach ≤ length area
+    → wordsPut found f (written (wordsOf fs) area) ≡ written (wordsOf (fs ++ f ∷ [])) area
+unfolding wordsOf
+put-more fs f found area e room =
+    let at : wordsEach * found ≡ length (wordsOf fs) = omega (arith, words-length fs) in
+    ap (λ (n : ℕ). sets (written (wordsOf fs) area) n (findingWords f)) at
+    ∙ written-more (wordsOf fs) (findingWords f) area (omega (arith, words-length fs))
+    ∙ ap (λ (w : List ℕ). written w area) (sym (words-append fs (f ∷ [])))
+
+-- Nothing found, nothing written.
+pub put-none : (area : List ℕ) → area ≡ written (wordsOf []) area
+unfolding wordsOf written
+put-none area = refl
+
+-- The area keeps its length, where there is room.
+pub put-length : (fs : List Finding) (found : ℕ) (area : List ℕ) → found ≡ length fs → wordsEach * found ≤ length area → length (written (wordsOf fs) area) ≡ length area
+put-length fs found area e room = written-length (wordsOf fs) area (omega (arith, words-length fs))
+
+-- Three stores, one after the other, as code writes their places.
+pub three-stores : (words : List ℕ) (at a b c : ℕ) → set (set (set words at a) (at + 1) b) (at + 2) c ≡ sets words at (a ∷ b ∷ c ∷ [])
+three-stores words at a b c =
+    let one : at + 1 ≡ suc at = omega arith in
+    let two : at + 2 ≡ suc (suc at) = omega arith in
+    rw (one, two)

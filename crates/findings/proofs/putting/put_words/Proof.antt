@@ -1,0 +1,72 @@
+-- `findings::putting::put_words` meets its contract: three stores, one after the other, are `sets` of the finding's words.
+-- Assumes nothing.
+use Prim.Native.Nat.{_*_}
+use native.Mathlib.Omega.{arith}
+use borrow.Author.Needs.{needs}
+use lib.ListN.{length-set}
+use Rattle.findings.proofs.WordsPut.{three-stores}
+use Rattle.findings.proofs.putting.put_words.Statement.{statement}
+use Rattle.findings.proofs.putting.put_words.Tie as tie
+
+mul-at : tie.Need-mul-at
+mul-at c = search needs
+
+cast-words : tie.Need-cast-words
+cast-words c = search needs
+
+mul-words : tie.Need-mul-words
+mul-words c = search needs
+
+slice-write-words : tie.Need-slice-write-words
+slice-write-words c = search needs
+
+cast-words-2 : tie.Need-cast-words-2
+cast-words-2 c = search needs
+
+add-words : tie.Need-add-words
+add-words c = search needs
+
+mul-words-2 : tie.Need-mul-words-2
+mul-words-2 c = search needs
+
+slice-write-words-2 : tie.Need-slice-write-words-2
+slice-write-words-2 c = simp length-set (omega arith)
+
+cast-words-3 : tie.Need-cast-words-3
+cast-words-3 c = search needs
+
+add-words-2 : tie.Need-add-words-2
+add-words-2 c = search needs
+
+mul-words-3 : tie.Need-mul-words-3
+mul-words-3 c = search needs
+
+slice-write-words-3 : tie.Need-slice-write-words-3
+slice-write-words-3 c = simp length-set (omega arith)
+
+same-length : tie.Need-same-length
+same-length c = search needs
+
+returns : tie.Need-returns
+returns c =
+    let a = c .before .before .before .before .before .args in
+    three-stores (a .words .now) (3 * a .before) (a .finding .start .0) (a .finding .rotation .0) (a .finding .distance)
+
+pub put-words-spec : {M : Type 1} → statement M
+put-words-spec =
+    tie.close
+    (tie.spec
+    mul-at
+    cast-words
+    mul-words
+    slice-write-words
+    cast-words-2
+    add-words
+    mul-words-2
+    slice-write-words-2
+    cast-words-3
+    add-words-2
+    mul-words-3
+    slice-write-words-3
+    same-length
+    returns)

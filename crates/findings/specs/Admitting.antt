@@ -1,0 +1,70 @@
+-- Document 01, "What each call returns", rows 1 to 4: when survey, scan and report are refused before they look at anything.
+--
+--   mostRing, mostLine    the document's limits
+--   roomAsked             the words asked for findings
+--   refusalOf             "Order: survey and scan 1 to 4": the first row that is given, if one is
+--   Admitted              what is known of an accepted call
+--   IsVerdict             what `admit` promises
+use Prim.Native.Nat.{ℕ, _+_, _-_, _*_, _≤_, _<_}
+use mathlib.Core.Path.{_≡_}
+use mathlib.Core.Bool.{Bool, cond, _&&_, _||_}
+use mathlib.Core.Option.{Option, none, some}
+use lib.Dec.{ltb, leb, eqb}
+use Rattle.meaning.specs.Findings.{wordsEach}
+use Rattle.answers.specs.declared.refusals.Refusal.{Refusal}
+use Rattle.answers.specs.declared.refusals.Refusal.the-variants.{Ring, Allowance, Line, FindingsRoom}
+use Rattle.findings.specs.declared.admitting.Verdict.{Verdict}
+use Rattle.findings.specs.declared.admitting.Verdict.the-variants.{Accepted, Refused}
+
+-- "Ring: m edges, 1 to 256."
+abbrev pub mostRing : ℕ
+mostRing = 256
+
+-- "Line: n edges, 0 to 65,536."
+abbrev pub mostLine : ℕ
+mostLine = 65536
+
+-- "3·(n − m + 1) words": room for as many findings as there are starts.
+abbrev pub roomAsked : ℕ → ℕ → ℕ
+roomAsked m n = wordsEach * (n - m + 1)
+
+-- Row 1: "m = 0 or m > 256".
+abbrev pub isRow1 : ℕ → Bool
+isRow1 m = eqb m 0 || ltb mostRing m
+
+-- Row 2: "k ≥ m".
+abbrev pub isRow2 : ℕ → ℕ → Bool
+isRow2 m k = leb m k
+
+-- Row 3: "n > 65,536".
+abbrev pub isRow3 : ℕ → Bool
+isRow3 n = ltb mostLine n
+
+-- Row 4: "n ≥ m and fewer than 3·(n − m + 1) words are lent for findings".
+abbrev pub isRow4 : ℕ → ℕ → ℕ → Bool
+isRow4 m n room = leb m n && ltb room (roomAsked m n)
+
+-- "Order: survey and scan 1 to 4": the first of these rows that is given, if one is.
+unfoldable pub refusalOf : ℕ → ℕ → ℕ → ℕ → Option Refusal
+refusalOf m k n room =
+    cond (isRow1 m) (some Ring)
+    (cond (isRow2 m k) (some Allowance)
+    (cond (isRow3 n) (some Line)
+    (cond (isRow4 m n room) (some FindingsRoom) none)))
+
+-- What is known of an accepted call: the document's limits, and room for the findings.
+pub record Admitted (m k n room : ℕ) : Type 0 where
+  pub some-edge : 0 < m
+  pub most-ring : m ≤ mostRing
+  pub allowed : k < m
+  pub most-line : n ≤ mostLine
+  pub room-for : m ≤ n → roomAsked m n ≤ room
+
+-- The refusal that a verdict stands for.
+abbrev pub verdictOf : Verdict → Option Refusal
+verdictOf Accepted = none
+verdictOf (Refused refusal) = some refusal
+
+-- What `admit` promises: of m, k, n, the words lent for findings, and the verdict. It stands for the first row that is given, if one is.
+pub record IsVerdict (m k n room : ℕ) (r : Verdict) : Type 0 where
+  pub is : verdictOf r ≡ refusalOf m k n room

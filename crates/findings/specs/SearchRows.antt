@@ -1,0 +1,32 @@
+-- Document 01, "What each call returns", the table's rows 1 to 4 as they read for survey and scan: "given exactly when", number and place written out, in
+-- their order. The contracts go by `refusalOf` of specs/Admitting.antt; this is the same table once more in plain comparisons, and
+-- proofs/RowsOfSearching.antt shows it of any answer that is a search's.
+--
+--   SearchRows    what the table says of an answer's paper and of the words at exit
+use Prim.Native.Nat.{ℕ, _+_, _-_, _*_, _≤_, _<_}
+use mathlib.Core.Path.{_≡_}
+use mathlib.Core.Logic.{_↔_, _⊎_}
+use mathlib.Core.List.{List}
+use lib.ListN.{length}
+use Rattle.answers.specs.Paper.{Paper}
+use Rattle.findings.specs.Searching.{Counts}
+
+-- The rows of a search with m, k, n and the lent words; p is the paper of its answer, out the words at exit.
+pub record SearchRows (m k n : ℕ) (words : List ℕ) (p : Paper Counts) (out : List ℕ) : Type 0 where
+  -- "m = 0 or m > 256"
+  pub row-1 : (p .number ≡ 1) ↔ ((m ≡ 0) ⊎ (256 < m))
+  -- "k ≥ m"
+  pub row-2 : (p .number ≡ 2) ↔ ((1 ≤ m) × (m ≤ 256) × (m ≤ k))
+  -- "n > 65,536"
+  pub row-3 : (p .number ≡ 3) ↔ ((1 ≤ m) × (m ≤ 256) × (k < m) × (65536 < n))
+  -- "n ≥ m and fewer than 3·(n − m + 1) words are lent for findings"
+  pub row-4 : (p .number ≡ 4) ↔ ((1 ≤ m) × (m ≤ 256) × (k < m) × (n ≤ 65536) × (m ≤ n) × (length words < 3 * (n - m + 1)))
+  -- No row else.
+  pub number-le : p .number ≤ 4
+  -- The table's place of each: 0.
+  pub place-is : p .place ≡ 0
+  -- A refusal carries "zero in every count".
+  pub no-found : 0 < p .number → p .counts .found ≡ 0
+  pub no-looks : 0 < p .number → p .counts .looks ≡ 0
+  -- A refusal "writes nothing to any lent area".
+  pub untouched : 0 < p .number → out ≡ words

@@ -1,0 +1,59 @@
+-- Document 01, "What each call returns", what the plain survey and the quick scan share: "Survey and scan return found and looks"; findings go into the lent
+-- words. They differ in their looks alone, so both are stated over the looks.
+--
+--   Counts               found and looks
+--   searched             what a search gives: the refusal, or its counts
+--   searchedWords        the lent words at exit
+--   paperOf              document 01's number, place and counts of an answer
+use Prim.Native.Nat.{ℕ}
+use mathlib.Core.List.{List}
+use mathlib.Core.Option.{Option, none, some}
+use lib.ListN.{length}
+use Rattle.meaning.specs.Findings.{findings, wordsOf, written}
+use Rattle.answers.specs.declared.refusals.Refusal.{Refusal}
+use Rattle.answers.specs.Paper.{Answer, accepted, refused, Paper, answerPaper}
+use Rattle.findings.specs.declared.searching.Scanned.{Scanned}
+use Rattle.findings.specs.declared.searching.Scanned.the-variants.{Counts as CountsCase, Refused}
+use Rattle.findings.specs.Admitting.{refusalOf}
+
+-- "found and looks"
+pub record Counts : Type 0 where
+  pub found : ℕ
+  pub looks : ℕ
+
+-- "A refusal carries .. zero in every count."
+abbrev pub noCounts : Counts
+noCounts = record { found = 0; looks = 0 }
+
+-- The answer by the first row that is given, if one is.
+abbrev pub answerBy : {A : Type 0} → Option Refusal → A → Answer A
+answerBy none a = accepted a
+answerBy (some refusal) a = refused refusal
+
+-- The lent words at exit, by the first row that is given: a refusal "writes nothing to any lent area".
+abbrev pub wordsBy : Option Refusal → List ℕ → List ℕ → List ℕ
+wordsBy none new old = new
+wordsBy (some refusal) new old = old
+
+-- What a search with so many looks gives, with room for so many words: refusals 1 to 4, or how many findings there are and the looks.
+unfoldable pub searched : List ℕ → List ℕ → ℕ → ℕ → ℕ → Answer Counts
+searched ring line k room looks =
+    answerBy (refusalOf (length ring) k (length line) room) (record { found = length (findings ring line k); looks = looks })
+
+-- The lent words after a search: the words of the findings "by rising start", and then as they were.
+unfoldable pub searchedWords : List ℕ → List ℕ → ℕ → List ℕ → List ℕ
+searchedWords ring line k words =
+    wordsBy (refusalOf (length ring) k (length line) (length words)) (written (wordsOf (findings ring line k)) words) words
+
+-- The answer that an enum's case stands for.
+abbrev pub answerOf : Scanned → Answer Counts
+answerOf (CountsCase found looks) = accepted (record { found = found; looks = looks })
+answerOf (Refused refusal) = refused refusal
+
+-- Document 01's number, place and counts of an answer.
+abbrev pub paperOf : Scanned → Paper Counts
+paperOf r = answerPaper noCounts (answerOf r)
+
+-- Document 01's number, place and counts of what a search gives.
+abbrev pub searchPaper : List ℕ → List ℕ → ℕ → ℕ → ℕ → Paper Counts
+searchPaper ring line k room looks = answerPaper noCounts (searched ring line k room looks)

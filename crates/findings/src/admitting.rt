@@ -1,0 +1,41 @@
+// Rows 1 to 4 of document 01's table: what is refused before anything is looked at.
+use answers::Refusal;
+ghost use Rattle.findings.specs.Admitting.{IsVerdict};
+
+// "Ring: m edges, 1 to 256."
+pub const MOST_RING: usize = 256;
+// "Line: n edges, 0 to 65,536."
+pub const MOST_LINE: usize = 65536;
+// "Three 32-bit words each."
+pub const WORDS_EACH: usize = 3;
+
+// Whether a call goes on, or the first refusal that is given.
+pub enum Verdict {
+    Accepted,
+    Refused(Refusal),
+}
+
+// The first of rows 1 to 4 that is given, in their order.
+pub fn admit(m: usize, k: usize, n: usize, room: usize) -> Verdict
+    ensures { λ r. ⌜ IsVerdict m k n room r ⌝ }
+{
+    if m == 0 {
+        return Verdict::Refused(Refusal::Ring);
+    }
+    if MOST_RING < m {
+        return Verdict::Refused(Refusal::Ring);
+    }
+    if m <= k {
+        return Verdict::Refused(Refusal::Allowance);
+    }
+    if MOST_LINE < n {
+        return Verdict::Refused(Refusal::Line);
+    }
+    if n < m {
+        return Verdict::Accepted;
+    }
+    if room < WORDS_EACH * (n - m + 1) {
+        return Verdict::Refused(Refusal::FindingsRoom);
+    }
+    Verdict::Accepted
+}

@@ -1,0 +1,49 @@
+// "Findings go as three 32-bit words each (start, rotation, distance) into the lent words."
+use crate::admitting::WORDS_EACH;
+use answers::Finding;
+ghost use mathlib.Core.Path.{_≡_};
+ghost use Rattle.findings.specs.Putting.{findingOf, canPut, wordsPut, CanPut, IsPut};
+
+// The largest number that a 32-bit word holds.
+const LAST_WORD: usize = 4294967295;
+
+// Whether a finding's words can go behind those of the findings before it: there is room for one finding more, and each
+// of its three numbers is a 32-bit word. The room is divided, and nothing multiplied, so nothing overflows.
+fn can_put(room: usize, before: usize, finding: Finding) -> bool
+    ensures { λ r. ⌜ r ≡ canPut room before (findingOf finding) ⌝ }
+{
+    let start = finding.start;
+    let rotation = finding.rotation;
+    if room / WORDS_EACH <= before {
+        return false;
+    }
+    if LAST_WORD < start.0 {
+        return false;
+    }
+    if LAST_WORD < rotation.0 {
+        return false;
+    }
+    finding.distance <= LAST_WORD
+}
+
+// A finding's three words, behind those of the findings before it.
+fn put_words(words: &mut [u32], before: usize, finding: Finding)
+    requires { ⌜ CanPut (now words) before (findingOf finding) ⌝ }
+    ensures { λ _. ⌜ now (words .exit) ≡ wordsPut before (findingOf finding) (now (words .entry)) ⌝ }
+{
+    let at = WORDS_EACH * before;
+    let start = finding.start;
+    let rotation = finding.rotation;
+    words[at] = start.0 as u32;
+    words[at + 1] = rotation.0 as u32;
+    words[at + 2] = finding.distance as u32;
+}
+
+// A finding's three words put, or nothing where they cannot be.
+pub fn put_finding(words: &mut [u32], before: usize, finding: Finding)
+    ensures { λ _. ⌜ IsPut (now (words .entry)) before (findingOf finding) (now (words .exit)) ⌝ }
+{
+    if can_put(words.len(), before, finding) {
+        put_words(words, before, finding);
+    }
+}

@@ -1,0 +1,98 @@
+-- The survey's starts from i on: "the first afresh and each next by one step". The first is counted afresh; from a later one on the tally of the start before
+-- is moved, to a finding or to the last start. The tally of the start reached says whether it is a finding (`TallyFinding`).
+-- Assumes nothing.
+use Prim.Native.Nat.{ℕ, _+_, _-_, _*_, _≤_, _<_}
+use mathlib.Core.Path.{_≡_, sym, ap, _∙_}
+use mathlib.Core.List.{List, [], _∷_}
+use native.Mathlib.Numerals.{add-one}
+use native.Mathlib.Omega.{arith}
+use lib.ListN.{length}
+use Rattle.meaning.specs.Findings.{Finding}
+use Rattle.meaning.specs.Looks.{stepLooks, surveyLooksBelow}
+use Rattle.meaning.proofs.SurveyLooks.{surveyLooks-first, surveyLooks-below}
+use Rattle.answers.specs.declared.places.Finding.{Finding as FindingStruct}
+use Rattle.tally.specs.declared.counts.Least.{Least}
+use Rattle.tally.specs.declared.steps.Reached.{Reached}
+use Rattle.tally.proofs.AfreshTallied.{counted-verified}
+use Rattle.tally.proofs.LowestLoop.{lowest-at}
+use Rattle.tally.proofs.MovedTallied.{moved-tallied}
+use Rattle.survey.specs.declared.plain.Surveyed.the-variants.{NoFinding, Found}
+use Rattle.tally.specs.Windows.{IsWindow}
+use Rattle.tally.specs.Counts.{IsCounted, IsLowestWith}
+use Rattle.tally.specs.Moves.{IsMoved}
+use Rattle.tally.specs.Tallied.{IsReached}
+use Rattle.survey.specs.Survey.{CanVerifyOn, IsVerifiedOn, IsSurveyedOn}
+use Rattle.tally.proofs.TallyFinding.{least-no, least-yes}
+
+module _ (ring doubled line : List ℕ) (k i : ℕ) (old : List ℕ) (can : CanVerifyOn ring doubled line k i old) where
+  abbrev m : ℕ
+  m = length ring
+
+  abbrev n : ℕ
+  n = length line
+
+  -- The tally of the start before, moved on to the last start.
+  pub on-reached : 0 < i → (new : List ℕ) (r : Reached) → IsMoved ring line (i - 1) (n - m - (i - 1)) (k + 1) old new r
+      → IsReached ring line (i - 1) (n - m - (i - 1)) (k + 1) new r
+  on-reached after =
+      moved-tallied ring line (k + 1) (can .fits .some-edge) (can .fits .most) (i - 1) (n - m - (i - 1)) old (can .before after) (omega (arith, can .in-line))
+      (omega (arith, can .in-line)) (omega (arith, can .most-line))
+
+  -- The first start is counted afresh.
+  pub on-first : (edges counts : List ℕ) (z : Least) → i ≡ 0 → IsWindow line i m edges → IsCounted doubled edges old counts z
+      → IsVerifiedOn ring line k i counts (record { start = i; least = z .least; looks = z .looks })
+  unfolding surveyLooksBelow
+  on-first edges counts z first handed counted =
+      let v = counted-verified ring line i doubled old counts edges z (can .fits .size) (can .fits .some-edge) (can .fits .most) (can .twice) (can .in-line) handed counted in
+      record {
+        start-ge = omega arith;
+        in-line = can .in-line;
+        tallied = v .tallied;
+        least-is = v .least-is;
+        looks-are = rw first (omega (arith, v .looks-are, surveyLooks-first ring line (omega (arith, can .in-line))));
+        passed = λ j lo hi. absurd (omega arith);
+      }
+
+  -- What the starts below i and those from i to j cost: so many steps more.
+  steps-cost : (j : ℕ) → 0 < i → i ≤ j → j + m ≤ n → surveyLooksBelow ring line i + (j - (i - 1)) * stepLooks m ≡ surveyLooksBelow ring line (j + 1)
+  steps-cost j after l in-line =
+      let here : i ≡ i - 1 + 1 = omega arith in
+      let all : (i - 1) + (j - (i - 1)) ≡ j = omega arith in
+      omega (
+        arith,
+        ap (surveyLooksBelow ring line) (here ∙ add-one (i - 1)) ∙ surveyLooks-below ring line (i - 1) (omega (arith, can .in-line)),
+        ap (surveyLooksBelow ring line) (add-one j) ∙ surveyLooks-below ring line j in-line,
+        ap (λ (x : ℕ). x * stepLooks m) all,
+      )
+
+  -- From a later one on the tally is moved.
+  pub on-moved : (counts : List ℕ) (r : Reached) → 0 < i → IsReached ring line (i - 1) (n - m - (i - 1)) (k + 1) counts r → IsVerifiedOn ring line k i counts r
+  on-moved counts r after reached =
+      let in-line : r .start + m ≤ n = omega (arith, can .in-line, reached .start-le) in
+      record {
+        start-ge = omega (arith, reached .after);
+        in-line = in-line;
+        tallied = reached .verified .tallied;
+        least-is = reached .verified .least-is;
+        looks-are = rw (reached .verified .looks-are) (steps-cost (r .start) after (omega (arith, reached .after)) in-line);
+        passed = λ j lo hi. omega (arith, reached .passed j (omega arith) hi);
+      }
+
+  module _ (counts : List ℕ) (r : Reached) (v : IsVerifiedOn ring line k i counts r) where
+    -- Verified, and no finding.
+    pub on-none : k < r .least → IsSurveyedOn ring line k i (NoFinding r) counts
+    on-none far = record {
+      verified = v;
+      found-are = sym (least-no ring line k (r .start) counts (r .least) (can .fits .some-edge) (v .tallied) (v .least-is) far);
+    }
+
+    -- A finding.
+    pub on-found : (f : FindingStruct) (rotation : ℕ) → r .least ≤ k → IsLowestWith m counts (r .least) rotation
+        → f .start .0 ≡ r .start → f .rotation .0 ≡ rotation → f .distance ≡ r .least → IsSurveyedOn ring line k i (Found r f) counts
+    on-found f rotation near low fs fr fd = record {
+      verified = v;
+      found-are =
+          ap {A = Finding} (λ x. x ∷ []) (λ j. record { start = fs j; rotation = fr j; distance = fd j })
+          ∙ sym (least-yes ring line k (r .start) counts (r .least) (can .fits .some-edge) (v .tallied) (v .least-is) rotation
+          (lowest-at counts (r .least) m rotation (can .fits .most) (v .least-is) low) (v .in-line) near);
+    }

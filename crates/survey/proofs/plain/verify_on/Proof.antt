@@ -1,0 +1,57 @@
+-- `survey::plain::verify_on` meets its contract: the first start is counted afresh, and from a later one on the tally of the start before is moved
+-- (`SurveyCases`).
+-- Assumes nothing.
+use native.Mathlib.Omega.{arith}
+use borrow.Author.Needs.{needs}
+use Rattle.survey.proofs.SurveyCases.{on-first, on-reached, on-moved}
+use Rattle.survey.proofs.plain.verify_on.Statement.{statement}
+use Rattle.survey.proofs.plain.verify_on.Tie as tie
+
+window-requires : tie.Need-window-requires
+window-requires c κs = search needs
+
+count-afresh-requires : tie.Need-count-afresh-requires
+count-afresh-requires c κs = search needs
+
+sub-from : tie.Need-sub-from
+sub-from c = search needs
+
+sub-move-counts : tie.Need-sub-move-counts
+sub-move-counts c = search needs
+
+sub-move-counts-2 : tie.Need-sub-move-counts-2
+sub-move-counts-2 c = search needs
+
+add-move-counts : tie.Need-add-move-counts
+add-move-counts c = search needs
+
+move-counts-requires : tie.Need-move-counts-requires
+move-counts-requires c κs = search needs
+
+-- The first start.
+returns : tie.Need-returns
+returns c =
+    let counted = c .before in
+    let start = counted .before .before .before .before .before .before in
+    on-first _ _ _ _ _ _ (start .pre) _ _ _ (counted .before .before .if1 .taken) (counted .window .ensures) (c .count-afresh .ensures)
+
+-- A later one, and those after it.
+returns-2 : tie.Need-returns-2
+returns-2 c =
+    let start = c .before .before .before .before .before .before in
+    on-moved _ _ _ _ _ _ (start .pre) _ _ (omega (arith, c .before .before .if1 .left))
+    (on-reached _ _ _ _ _ _ (start .pre) (omega (arith, c .before .before .if1 .left)) _ _ (c .move-counts .ensures))
+
+pub verify-on-spec : {M : Type 1} → statement M
+verify-on-spec =
+    tie.close
+    (tie.spec
+    window-requires
+    count-afresh-requires
+    sub-from
+    sub-move-counts
+    sub-move-counts-2
+    add-move-counts
+    move-counts-requires
+    returns
+    returns-2)

@@ -1,0 +1,78 @@
+-- Document 01, the plain survey: it "verifies every start, the first afresh and each next by one step, at m = 1 too: 2·m·n − m·m looks for n ≥ m, else
+-- 0. It gives the same findings." Refusals, counts and words are those of every search (specs/Searching.antt of crates/findings); only the looks are its own,
+-- `surveyLooks` of crates/meaning. What a survey promises is one record, on every input, accepted or refused.
+--
+--   IsSurveyed      what `survey` promises
+--   IsVerifiedOn    starts verified, to the next finding or the last start
+--   IsSurveyedOn    what they give
+use Prim.Native.Nat.{ℕ, _+_, _-_, _≤_, _<_}
+use mathlib.Core.Path.{_≡_}
+use mathlib.Core.List.{List, [], _∷_}
+use lib.ListN.{length}
+use Rattle.meaning.specs.Meanings.{leastDistance}
+use Rattle.meaning.specs.Findings.{Finding, foundAt, findings, wordsOf, written}
+use Rattle.meaning.specs.Looks.{surveyLooksBelow, surveyLooks}
+use Rattle.tally.specs.declared.steps.Reached.{Reached}
+use Rattle.tally.specs.Counts.{mostCounts, IsDoubled, IsLeast}
+use Rattle.tally.specs.Tallied.{Tallied, TallyFits}
+use Rattle.findings.specs.declared.searching.Scanned.{Scanned}
+use Rattle.findings.specs.Admitting.{mostLine, roomAsked}
+use Rattle.findings.specs.Putting.{findingOf}
+use Rattle.findings.specs.Searching.{paperOf, searchPaper, searchedWords}
+use Rattle.survey.specs.declared.plain.Surveyed.{Surveyed}
+use Rattle.survey.specs.declared.plain.Surveyed.the-variants.{NoFinding, Found}
+
+-- What `survey` promises: of the ring, the line, the allowance, the lent words, the answer and the words at exit.
+pub record IsSurveyed (ring line : List ℕ) (k : ℕ) (words : List ℕ) (r : Scanned) (out : List ℕ) : Type 0 where
+  pub paper : paperOf r ≡ searchPaper ring line k (length words) (surveyLooks ring line)
+  pub written : out ≡ searchedWords ring line k words
+
+-- From here on: what private functions ask and promise.
+
+-- What verifying from start i on asks: a window in the line, and after the first start the tally of the start before.
+pub record CanVerifyOn (ring doubled line : List ℕ) (k i : ℕ) (counts : List ℕ) : Type 0 where
+  pub fits : TallyFits ring counts
+  pub allowed : k < length ring
+  pub twice : IsDoubled ring doubled
+  pub in-line : i + length ring ≤ length line
+  pub most-line : length line ≤ mostLine
+  pub before : 0 < i → Tallied ring line (i - 1) counts
+
+-- The starts from i on are verified, up to the one reached: the counts hold its tally, and those passed are no findings. The looks are the survey's for
+-- these starts, "the first afresh and each next by one step".
+pub record IsVerifiedOn (ring line : List ℕ) (k i : ℕ) (counts : List ℕ) (r : Reached) : Type 0 where
+  pub start-ge : i ≤ r .start
+  pub in-line : r .start + length ring ≤ length line
+  pub tallied : Tallied ring line (r .start) counts
+  pub least-is : IsLeast (length ring) counts (r .least)
+  pub looks-are : surveyLooksBelow ring line i + r .looks ≡ surveyLooksBelow ring line (r .start + 1)
+  pub passed : (j : ℕ) → i ≤ j → j < r .start → k < leastDistance ring line j
+
+-- Where the survey stands.
+abbrev pub reachedOf : Surveyed → Reached
+reachedOf (NoFinding reached) = reached
+reachedOf (Found reached f) = reached
+
+-- What was reported.
+abbrev pub foundOf : Surveyed → List Finding
+foundOf (NoFinding reached) = []
+foundOf (Found reached f) = findingOf f ∷ []
+
+-- The starts from i on are verified, up to the one reached, and that is reported if it is a finding.
+pub record IsSurveyedOn (ring line : List ℕ) (k i : ℕ) (r : Surveyed) (counts : List ℕ) : Type 0 where
+  pub verified : IsVerifiedOn ring line k i counts (reachedOf r)
+  pub found-are : foundOf r ≡ foundAt ring line k (reachedOf r .start)
+
+-- What surveying a line asks: a call within the limits, the ring's double, and room for the findings.
+pub record CanSurvey (ring doubled line : List ℕ) (k : ℕ) (counts words : List ℕ) : Type 0 where
+  pub fits : TallyFits ring counts
+  pub allowed : k < length ring
+  pub most-line : length line ≤ mostLine
+  pub twice : IsDoubled ring doubled
+  pub room-for : length ring ≤ length line → roomAsked (length ring) (length line) ≤ length words
+
+-- A line is surveyed: found, looks and the words at exit.
+pub record LineSurveyed (ring line : List ℕ) (k : ℕ) (words : List ℕ) (found looks : ℕ) (out : List ℕ) : Type 0 where
+  pub found-is : found ≡ length (findings ring line k)
+  pub looks-are : looks ≡ surveyLooks ring line
+  pub written : out ≡ written (wordsOf (findings ring line k)) words

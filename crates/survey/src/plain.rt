@@ -1,0 +1,138 @@
+// The plain survey: every start is verified, the first afresh and each next by one step.
+use answers::Finding;
+use answers::LinePlace;
+use answers::RingPlace;
+use findings::Counted;
+use findings::Scanned;
+use findings::Verdict;
+use findings::admit;
+use findings::put_finding;
+use tally::Reached;
+use tally::count_afresh;
+use tally::double;
+use tally::lowest_rotation;
+use tally::move_counts;
+use tally::window;
+ghost use lib.ListN.{length};
+ghost use Rattle.findings.specs.Admitting.{Admitted};
+ghost use Rattle.survey.specs.Survey.{CanVerifyOn, IsVerifiedOn, IsSurveyedOn, CanSurvey, LineSurveyed, IsSurveyed};
+
+// What the starts up to the one reached gave: it is verified and no finding, and the last; or it is a finding.
+pub enum Surveyed {
+    NoFinding(Reached),
+    Found(Reached, Finding),
+}
+
+// "The first afresh and each next by one step, at m = 1 too": rule 5's 2·s > m is not asked here. The tally is moved on
+// to the next finding, or to the last start, so that it is handed over once for a finding and not for each start.
+fn verify_on(
+    counts: &mut [u16; 256],
+    ring: &[u8],
+    doubled: &[u8],
+    line: &[u8],
+    k: usize,
+    i: usize,
+) -> Reached
+    requires { ⌜ CanVerifyOn (now ring) (now doubled) (now line) k i (now counts) ⌝ }
+    ensures { λ z. ⌜ IsVerifiedOn (now (ring .entry)) (now (line .entry)) k i (now (counts .exit)) z ⌝ }
+{
+    let m = ring.len();
+    if i == 0 {
+        let first = count_afresh(counts, doubled, window(line, i, m));
+        Reached {
+            start: i,
+            least: first.least,
+            looks: first.looks,
+        }
+    } else {
+        let from = i - 1;
+        move_counts(counts, ring, line, from, line.len() - m - from, k + 1)
+    }
+}
+
+// The starts from i on, to the next finding or to the last.
+fn survey_on(
+    counts: &mut [u16; 256],
+    ring: &[u8],
+    doubled: &[u8],
+    line: &[u8],
+    k: usize,
+    i: usize,
+) -> Surveyed
+    requires { ⌜ CanVerifyOn (now ring) (now doubled) (now line) k i (now counts) ⌝ }
+    ensures { λ r. ⌜ IsSurveyedOn (now (ring .entry)) (now (line .entry)) k i r (now (counts .exit)) ⌝ }
+{
+    let reached = verify_on(counts, ring, doubled, line, k, i);
+    let distance = reached.least;
+    if k < distance {
+        return Surveyed::NoFinding(reached);
+    }
+    let rotation = lowest_rotation(counts, ring.len(), distance);
+    Surveyed::Found(
+        reached,
+        Finding {
+            start: LinePlace(reached.start),
+            rotation: RingPlace(rotation),
+            distance,
+        },
+    )
+}
+
+// Finding after finding, while a start is left: its window fits in the line.
+fn survey_starts(
+    ring: &[u8],
+    doubled: &[u8],
+    line: &[u8],
+    k: usize,
+    counts: &mut [u16; 256],
+    words: &mut [u32],
+) -> Counted
+    requires { ⌜ CanSurvey (now ring) (now doubled) (now line) k (now counts) (now words) ⌝ }
+    ensures { λ z. ⌜ LineSurveyed (now (ring .entry)) (now (line .entry)) k (now (words .entry)) (z .found) (z .looks) (now (words .exit)) ⌝ }
+{
+    let m = ring.len();
+    let mut found: usize = 0;
+    let mut looks: usize = 0;
+    let mut i = 0;
+    while i + m <= line.len() {
+        match survey_on(counts, ring, doubled, line, k, i) {
+            Surveyed::NoFinding(reached) => {
+                looks += reached.looks;
+                i = reached.start + 1;
+            }
+            Surveyed::Found(reached, finding) => {
+                put_finding(words, found, finding);
+                found += 1;
+                looks += reached.looks;
+                i = reached.start + 1;
+            }
+        }
+    }
+    Counted { found, looks }
+}
+
+// The ring's double and the counts are made once for a call. Making them reads no line edge.
+fn survey_line(ring: &[u8], line: &[u8], k: usize, words: &mut [u32]) -> Counted
+    requires { ⌜ Admitted (length (now ring)) k (length (now line)) (length (now words)) ⌝ }
+    ensures { λ z. ⌜ LineSurveyed (now (ring .entry)) (now (line .entry)) k (now (words .entry)) (z .found) (z .looks) (now (words .exit)) ⌝ }
+{
+    let doubled = double(ring);
+    let mut counts = [0u16; 256];
+    survey_starts(ring, &doubled, line, k, &mut counts, words)
+}
+
+// Every start, whatever a quick scan would pass over.
+pub fn survey(ring: &[u8], line: &[u8], k: usize, words: &mut [u32]) -> Scanned
+    ensures { λ r. ⌜ IsSurveyed (now (ring .entry)) (now (line .entry)) k (now (words .entry)) r (now (words .exit)) ⌝ }
+{
+    match admit(ring.len(), k, line.len(), words.len()) {
+        Verdict::Refused(refusal) => Scanned::Refused(refusal),
+        Verdict::Accepted => {
+            let counted = survey_line(ring, line, k, words);
+            Scanned::Counts {
+                found: counted.found,
+                looks: counted.looks,
+            }
+        }
+    }
+}
