@@ -1,7 +1,7 @@
 -- The loop that changes the counts, one rotation a turn: it takes the leaving edge's comparison from the count, adds the entering edge's, both mod 2^16, and
 -- keeps the least of the counts changed so far. The least starts with the largest number of sixteen bits, which is the first count's least too.
 -- Assumes nothing.
-use Prim.Native.Nat.{ℕ, _+_, _*_, _%_, _≤_, _<_}
+use Prim.Native.Nat.{ℕ, _+_, _-_, _*_, _%_, _≤_, _<_}
 use mathlib.Core.Path.{_≡_, refl, sym, _∙_}
 use mathlib.Core.List.{List}
 use mathlib.Core.Logic.{dite}
@@ -13,9 +13,8 @@ use lib.Seq.{getD-set-same, getD-set-other}
 use Rattle.meaning.specs.Numbers.{oneIf}
 use Rattle.meaning.specs.Meanings.{unequal}
 use Rattle.meaning.specs.Looks.{stepLooks}
-use Rattle.meaning.proofs.Count.{oneIf-le}
 use Rattle.tally.specs.Counts.{RingFits, IsLeast}
-use Rattle.tally.specs.Moves.{sixteenBits, changedAt, Changed}
+use Rattle.tally.specs.Moves.{sixteenBits, changedCount, changedAt, Changed}
 use Rattle.tally.proofs.StoredBelow.{stored-below, stored-above}
 use Rattle.tally.proofs.LeastSoFar.{LeastSoFar, least-so-far-start, least-so-far-first, least-so-far-turn-less, least-so-far-turn-kept, least-so-far-same, least-so-far-end}
 
@@ -46,23 +45,17 @@ module _ (ring : List ℕ) (leaving entering : ℕ) (old : List ℕ) where
     none-yet = λ _. refl;
   }
 
-  module _ (fits : RingFits (length ring) old) (new : List ℕ) (least looks r lost won less count : ℕ)
+  module _ (fits : RingFits (length ring) old) (new : List ℕ) (least looks r lost won count : ℕ)
       (before : Changing ring leaving entering old new least looks r) (below : r < length ring)
       (lost-is : lost ≡ oneIf (unequal leaving (getD ring r 0))) (won-is : won ≡ oneIf (unequal entering (getD ring r 0)))
-      (less-is : (less + lost) % sixteenBits ≡ getD new r 0) (count-is : count ≡ (less + won) % sixteenBits) where
+      (count-is : count ≡ changedCount (getD new r 0) lost won) where
     within : r < length new
     within = omega (arith, before .size, fits .room)
 
     -- The count has lost and won its comparisons.
     changed-here : count ≡ changedAt ring leaving entering old r
     unfolding changedAt
-    changed-here =
-        omega (
-          arith,
-          before .kept r (omega arith),
-          oneIf-le (unequal leaving (getD ring r 0)),
-          oneIf-le (unequal entering (getD ring r 0)),
-        )
+    changed-here = count-is ∙ rw (before .kept r (omega arith), lost-is, won-is) refl
 
     -- A turn changes the count of rotation r, whatever is the least then.
     turned : (least′ : ℕ) → LeastSoFar (set new r count) least′ (r + 1)
@@ -93,7 +86,7 @@ module _ (ring : List ℕ) (leaving entering : ℕ) (old : List ℕ) where
 
     -- The first count is at most the number at the start.
     first-is : r ≡ 0 → least ≤ count → count ≡ least
-    first-is first kept = omega (arith, before .none-yet first, mod-lt (less + won) {m = sixteenBits} (omega arith))
+    first-is first kept = omega (arith, before .none-yet first, mod-lt (getD new r 0 + (sixteenBits - lost) + won) {m = sixteenBits} (omega arith))
 
     -- A turn whose count is not below it.
     pub changing-turn-kept : (least′ : ℕ) → least ≤ count → least′ ≡ least

@@ -5,14 +5,24 @@ use crate::counts::MOST_COUNTS;
 use crate::counts::differing;
 use crate::counts::wide;
 use crate::windows::window;
-use std::num::wrapping_add_u16;
-use std::num::wrapping_sub_u16;
 ghost use mathlib.Core.Path.{_≡_};
 ghost use Prim.Native.Nat.{_<_, _≤_};
 ghost use lib.ListN.{length};
 ghost use Rattle.meaning.specs.Looks.{stepLooks};
 ghost use Rattle.tally.specs.Counts.{RingFits, IsLeast};
-ghost use Rattle.tally.specs.Moves.{Changed, Renumbered, IsStepped, CanMove, IsMovedOn};
+ghost use Rattle.tally.specs.Moves.{changedCount, Changed, Renumbered, IsStepped, CanMove, IsMovedOn};
+
+// How many numbers a count of sixteen bits can be.
+const SIXTEEN_BITS: u32 = 65536;
+
+// A count that has lost one comparison and won another. One that has nothing to lose wraps: the sum is taken in more bits,
+// of which the compiler keeps sixteen.
+fn changed(count: u16, lost: u16, won: u16) -> u16
+    ensures { λ r. ⌜ r ≡ changedCount count lost won ⌝ }
+{
+    let sum = count as u32 + (SIXTEEN_BITS - lost as u32) + won as u32;
+    (sum % SIXTEEN_BITS) as u16
+}
 
 // The leaving and the entering edge, each against every ring edge. Rotation r at this start stands over the ring as the
 // next rotation does at the next start, so both meet the ring's edge at r. Counts that are no tally may wrap.
@@ -31,7 +41,7 @@ fn change(counts: &mut [u16; MOST_COUNTS], ring: &[u8], leaving: u8, entering: u
         looks += 1; // one look, at the leaving edge
         let won = differing(entering, edge);
         looks += 1; // one look, at the entering edge
-        let count = wrapping_add_u16(wrapping_sub_u16(counts[r], lost), won);
+        let count = changed(counts[r], lost, won);
         counts[r] = count;
         if count < least {
             least = count;

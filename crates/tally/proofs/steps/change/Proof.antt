@@ -33,17 +33,14 @@ differing-requires-2 c κs = search needs
 add-looks-2 : tie.Need-add-looks-2 Inv-loop μ-loop
 add-looks-2 c = search needs
 
-mul-wrapping-sub-u16 : tie.Need-mul-wrapping-sub-u16 Inv-loop μ-loop
-mul-wrapping-sub-u16 c = search needs
+mul-changed : tie.Need-mul-changed Inv-loop μ-loop
+mul-changed c = search needs
 
-element-copy-out-wrapping-sub-u16 : tie.Need-element-copy-out-wrapping-sub-u16 Inv-loop μ-loop
-element-copy-out-wrapping-sub-u16 c = search needs
+element-copy-out-changed : tie.Need-element-copy-out-changed Inv-loop μ-loop
+element-copy-out-changed c = search needs
 
-wrapping-sub-u16-requires : tie.Need-wrapping-sub-u16-requires Inv-loop μ-loop
-wrapping-sub-u16-requires c κs = search needs
-
-wrapping-add-u16-requires : tie.Need-wrapping-add-u16-requires Inv-loop μ-loop
-wrapping-add-u16-requires c κs = search needs
+changed-requires : tie.Need-changed-requires Inv-loop μ-loop
+changed-requires c κs = search needs
 
 mul-counts : tie.Need-mul-counts Inv-loop μ-loop
 mul-counts c = search needs
@@ -60,19 +57,18 @@ loop-less c = search needs
 -- The least is the count just changed, or stays.
 loop-again : tie.Need-loop-again Inv-loop μ-loop
 loop-again c =
-    let added = c .before in
-    let less = added .before in
-    let won = less .before .before in
+    let changed = c .before in
+    let won = changed .before .before in
     let lost = won .before in
     let turn = lost .before .before in
     let fits = turn .before .before .before .pre in
     ⊎-elim
     (λ lower.
-    changing-turn-less _ _ _ _ fits _ _ _ _ _ _ _ _ (turn .before .loop .inv) (turn .loop-test .taken)
-    (lost .differing .ensures) (won .differing2 .ensures) (less .wrapping-sub-u16 .ensures) (added .wrapping-add-u16 .ensures) _ (lower .0 .taken) (lower .1))
+    changing-turn-less _ _ _ _ fits _ _ _ _ _ _ _ (turn .before .loop .inv) (turn .loop-test .taken)
+    (lost .differing .ensures) (won .differing2 .ensures) (changed .changed .ensures) _ (lower .0 .taken) (lower .1))
     (λ kept.
-    changing-turn-kept _ _ _ _ fits _ _ _ _ _ _ _ _ (turn .before .loop .inv) (turn .loop-test .taken)
-    (lost .differing .ensures) (won .differing2 .ensures) (less .wrapping-sub-u16 .ensures) (added .wrapping-add-u16 .ensures) _ (kept .0 .left) (kept .1))
+    changing-turn-kept _ _ _ _ fits _ _ _ _ _ _ _ (turn .before .loop .inv) (turn .loop-test .taken)
+    (lost .differing .ensures) (won .differing2 .ensures) (changed .changed .ensures) _ (kept .0 .left) (kept .1))
     (c .if1 .came)
 
 wide-requires : tie.Need-wide-requires Inv-loop μ-loop
@@ -95,10 +91,9 @@ change-spec =
     add-looks
     differing-requires-2
     add-looks-2
-    mul-wrapping-sub-u16
-    element-copy-out-wrapping-sub-u16
-    wrapping-sub-u16-requires
-    wrapping-add-u16-requires
+    mul-changed
+    element-copy-out-changed
+    changed-requires
     mul-counts
     element-write-counts
     add-r
