@@ -6,12 +6,12 @@ use mathlib.Core.Path.{_≡_, sym, ap, _∙_}
 use mathlib.Core.List.{List, _++_, append-assoc}
 use native.Mathlib.Omega.{arith}
 use lib.ListN.{length, length-append}
-use Rattle.book.specs.Numbers.{bytesOf}
-use Rattle.book.specs.Silences.{Silence}
-use Rattle.book.specs.Layout.{silenceTag, valueOf, fieldOf}
+use Rattle.silences.specs.Numbers.{bytesOf}
+use Rattle.silences.specs.Silences.{Silence}
+use Rattle.silences.specs.Layout.{silenceTag, valueOf, fieldOf}
 use Rattle.book.specs.Putting.{writtenAt, IsPut}
-use Rattle.book.proofs.NumberBytes.{bytesOf-length}
-use Rattle.book.proofs.FieldBytes.{fieldOf-is}
+use Rattle.silences.proofs.NumberBytes.{bytesOf-length}
+use Rattle.silences.proofs.FieldBytes.{fieldOf-is}
 use Rattle.book.proofs.WrittenAt.{writtenAt-append}
 
 -- Bytes are put, and then more just past them: both are put.

@@ -10,11 +10,11 @@ use mathlib.Core.List.{List, _++_}
 use native.Mathlib.Omega.{arith}
 use lib.ListN.{length, drop, length-append}
 use Rattle.meaning.specs.Findings.{written}
-use Rattle.book.specs.Silences.{Silence}
-use Rattle.book.specs.Layout.{fieldOf, layout}
-use Rattle.book.specs.Packing.{silencesOf, recordWords}
+use Rattle.silences.specs.Silences.{Silence}
+use Rattle.silences.specs.Layout.{fieldOf, layout}
+use Rattle.silences.specs.Packing.{silencesOf, recordWords}
 use Rattle.book.specs.Putting.{writtenAt, IsPut}
-use Rattle.book.proofs.WordsOfSilences.{silenceOfWords, silencesOf-step, silencesOf-end}
+use Rattle.silences.proofs.WordsOfSilences.{silenceOfWords, silencesOf-step, silencesOf-end}
 use Rattle.book.proofs.WrittenAt.{writtenAt-zero, writtenAt-none, writtenAt-append}
 
 -- The layout of the silences of the words from `at` on.

@@ -14,16 +14,16 @@ use lib.ListN.{length, drop, length-append}
 use lib.Seq.{append-snoc}
 use Rattle.answers.specs.declared.refusals.Refusal.the-variants.{NotAbove, RingNumber}
 use Rattle.answers.specs.Paper.{accepted, refused}
-use Rattle.book.specs.Silences.{Silence, isAbove}
-use Rattle.book.specs.Layout.{fieldOf, layout}
-use Rattle.book.specs.Packing.{silencesOf, recordWords, mostRingNumber, packRecords}
-use Rattle.book.specs.Rows.{AllRingNumbers}
+use Rattle.silences.specs.Silences.{Silence, isAbove}
+use Rattle.silences.specs.Layout.{fieldOf, layout}
+use Rattle.silences.specs.Packing.{silencesOf, recordWords, mostRingNumber, packRecords}
+use Rattle.silences.specs.Rows.{AllRingNumbers}
 use Rattle.book.specs.Judging.{sized, sizesOf}
-use Rattle.book.proofs.FieldBytes.{field-length}
-use Rattle.book.proofs.WordsOfSilences.{silenceOfWords, silencesOf-step, silencesOf-end}
-use Rattle.book.proofs.AscendingAfter.{AscendingAfter, lastAfter, lastAfter-end, ascends-more}
-use Rattle.book.proofs.LayoutRead.{layout-append}
-use Rattle.book.proofs.RecordsPacked.{RecordStands, packed-all, stopped-ring, stopped-order, ring-numbers-more, packs-as-is}
+use Rattle.silences.proofs.FieldBytes.{field-length}
+use Rattle.silences.proofs.WordsOfSilences.{silenceOfWords, silencesOf-step, silencesOf-end}
+use Rattle.silences.proofs.AscendingAfter.{AscendingAfter, lastAfter, lastAfter-end, ascends-more}
+use Rattle.silences.proofs.LayoutRead.{layout-append}
+use Rattle.silences.proofs.RecordsPacked.{RecordStands, packed-all, stopped-ring, stopped-order, ring-numbers-more, packs-as-is}
 
 -- What the loop keeps. The two bounds are for the sums to fit: a record has three words, and its field fewer than five bytes for each of them.
 pub record JudgedTo (words : List ℕ) (last : Option Silence) (records bytes at : ℕ) : Type 0 where

@@ -9,9 +9,9 @@ use mathlib.Core.Path.{_≡_, refl, sym, ap, _∙_}
 use mathlib.Core.List.{List}
 use native.Mathlib.Omega.{arith}
 use lib.ListN.{length, set, length-set}
-use Rattle.book.specs.Numbers.{bytesOf}
+use Rattle.silences.specs.Numbers.{bytesOf}
 use Rattle.book.specs.Putting.{writtenAt, IsPut}
-use Rattle.book.proofs.NumberBytes.{bytesOf-length}
+use Rattle.silences.proofs.NumberBytes.{bytesOf-length}
 use Rattle.book.proofs.WrittenAt.{writtenAt-none, writtenAt-last}
 
 -- What the loop keeps.

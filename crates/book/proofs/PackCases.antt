@@ -12,16 +12,16 @@ use Rattle.answers.specs.declared.refusals.Refusal.the-variants.{WordCount, Out
 use Rattle.answers.specs.Paper.{Answer, accepted, refused}
 use Rattle.meaning.specs.Findings.{written}
 use Rattle.book.specs.declared.answering.BookAnswer.the-variants.{Records, Refused}
-use Rattle.book.specs.Silences.{Silence}
-use Rattle.book.specs.Layout.{layout}
-use Rattle.book.specs.Packing.{silencesOf, inRoom, areaAtExit, packed}
-use Rattle.book.specs.Rows.{HasWordCount, IsPackable}
+use Rattle.silences.specs.Silences.{Silence}
+use Rattle.silences.specs.Layout.{layout}
+use Rattle.silences.specs.Packing.{silencesOf, inRoom, areaAtExit, packed}
+use Rattle.silences.specs.Rows.{HasWordCount, IsPackable}
 use Rattle.book.specs.Calls.{paperOf, recordsPaper, IsPacked}
 use Rattle.book.specs.Judging.{Sizes, sizes, sizesOf}
-use Rattle.book.proofs.AnswerCases.{accepted-not-refused, accepted-unique}
-use Rattle.book.proofs.AreaAtExit.{area-refused}
-use Rattle.book.proofs.RecordRows.{packedRecords}
-use Rattle.book.proofs.PackRows.{packed-counted, packable, packed-8-iff, packed-10-iff, packed-accepted-iff}
+use Rattle.silences.proofs.AnswerCases.{accepted-not-refused, accepted-unique}
+use Rattle.silences.proofs.AreaAtExit.{area-refused}
+use Rattle.silences.proofs.RecordRows.{packedRecords}
+use Rattle.silences.proofs.PackRows.{packed-counted, packable, packed-8-iff, packed-10-iff, packed-accepted-iff}
 
 -- the refusal of an answer that has no sizes
 sizes-refused : (a : Answer (List Silence)) {r : Refusal} → refused r ≡ sizesOf a → a ≡ refused r

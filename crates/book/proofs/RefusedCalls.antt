@@ -7,11 +7,11 @@ use mathlib.Core.List.{List}
 use lib.ListN.{length}
 use Rattle.answers.specs.declared.refusals.Refusal.{Refusal}
 use Rattle.book.specs.declared.answering.BookAnswer.the-variants.{Refused}
-use Rattle.book.specs.Layout.{layout}
-use Rattle.book.specs.Packing.{wordsOfSilences, packed, unpacked}
+use Rattle.silences.specs.Layout.{layout}
+use Rattle.silences.specs.Packing.{wordsOfSilences, packed, unpacked}
 use Rattle.book.specs.Calls.{IsPacked, IsUnpacked}
 use Rattle.book.proofs.RowNumbers.{row-iff}
-use Rattle.book.proofs.AreaAtExit.{area-refused}
+use Rattle.silences.proofs.AreaAtExit.{area-refused}
 
 module _ (from area out : List ℕ) (refusal : Refusal) where
   -- A refused packing leaves the bytes lent to it as they were.

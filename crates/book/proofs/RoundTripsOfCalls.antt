@@ -10,15 +10,15 @@ use lib.ListN.{length, take}
 use Rattle.answers.specs.Paper.{accepted}
 use Rattle.book.specs.declared.answering.BookAnswer.{BookAnswer}
 use Rattle.book.specs.declared.answering.BookAnswer.the-variants.{Records}
-use Rattle.book.specs.Silences.{Silence}
-use Rattle.book.specs.Layout.{layout}
-use Rattle.book.specs.Packing.{wordsOfSilences, packed, unpacked}
-use Rattle.book.specs.Books.{IsBytes, IsWords}
+use Rattle.silences.specs.Silences.{Silence}
+use Rattle.silences.specs.Layout.{layout}
+use Rattle.silences.specs.Packing.{wordsOfSilences, packed, unpacked}
+use Rattle.silences.specs.Books.{IsBytes, IsWords}
 use Rattle.book.specs.Calls.{IsPacked, IsUnpacked}
-use Rattle.book.proofs.LayoutRead.{layout-length}
-use Rattle.book.proofs.WordsOfSilences.{words-length}
+use Rattle.silences.proofs.LayoutRead.{layout-length}
+use Rattle.silences.proofs.WordsOfSilences.{words-length}
 use Rattle.book.proofs.RowNumbers.{records-iff}
-use Rattle.book.proofs.AreaAtExit.{area-front}
+use Rattle.silences.proofs.AreaAtExit.{area-front}
 use Rattle.book.proofs.RoundTrips.{packed-unpacked, packed-words-are, unpacked-packed, unpacked-layout-is}
 
 module _ (words area : List ℕ) (n : ℕ) (out : List ℕ) (w : IsWords words) (pack : IsPacked words area (Records n) out) where

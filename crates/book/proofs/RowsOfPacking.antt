@@ -12,13 +12,13 @@ use Rattle.answers.specs.declared.refusals.Refusal.the-variants.{NotAbove, Word
 use Rattle.answers.specs.Paper.{Answer, accepted}
 use Rattle.book.specs.declared.answering.BookAnswer.{BookAnswer}
 use Rattle.book.specs.declared.answering.BookAnswer.the-variants.{Records}
-use Rattle.book.specs.Silences.{Silence}
-use Rattle.book.specs.Packing.{silencesOf, packed}
-use Rattle.book.specs.Rows.{HasWordCount, IsRingFault, IsRecordFault, IsPackable}
+use Rattle.silences.specs.Silences.{Silence}
+use Rattle.silences.specs.Packing.{silencesOf, packed}
+use Rattle.silences.specs.Rows.{HasWordCount, IsRingFault, IsRecordFault, IsPackable}
 use Rattle.book.specs.Calls.{paperOf, IsPacked}
-use Rattle.book.proofs.LayoutRead.{layout-length}
+use Rattle.silences.proofs.LayoutRead.{layout-length}
 use Rattle.book.proofs.RowNumbers.{row-iff, row-number-iff, row-place-is, records-iff}
-use Rattle.book.proofs.PackRows.{packed-8-iff, packed-9-iff, packed-7-iff, packed-10-iff, packed-accepted-iff}
+use Rattle.silences.proofs.PackRows.{packed-8-iff, packed-9-iff, packed-7-iff, packed-10-iff, packed-accepted-iff}
 
 module _ (words area : List ℕ) (r : BookAnswer) (out : List ℕ) (meets : IsPacked words area r out) where
   -- what the definition gives

@@ -14,17 +14,17 @@ use Rattle.answers.specs.Refusals.{numberOf}
 use Rattle.answers.specs.Paper.{Answer, accepted, refused}
 use Rattle.book.specs.declared.answering.BookAnswer.{BookAnswer}
 use Rattle.book.specs.declared.answering.BookAnswer.the-variants.{Records}
-use Rattle.book.specs.Silences.{Silence}
-use Rattle.book.specs.Reading.{readBook}
-use Rattle.book.specs.Packing.{wordsOfSilences, unpacked}
-use Rattle.book.specs.Books.{IsBytes, IsBook}
-use Rattle.book.specs.Rows.{IsFieldFault, IsOrderFault}
+use Rattle.silences.specs.Silences.{Silence}
+use Rattle.silences.specs.Reading.{readBook}
+use Rattle.silences.specs.Packing.{wordsOfSilences, unpacked}
+use Rattle.silences.specs.Books.{IsBytes, IsBook}
+use Rattle.silences.specs.Rows.{IsFieldFault, IsOrderFault}
 use Rattle.book.specs.Calls.{paperOf, IsUnpacked}
-use Rattle.book.proofs.AcceptedIsLayout.{accepted-iff}
-use Rattle.book.proofs.WordsOfSilences.{words-length}
+use Rattle.silences.proofs.AcceptedIsLayout.{accepted-iff}
+use Rattle.silences.proofs.WordsOfSilences.{words-length}
 use Rattle.book.proofs.RowNumbers.{row-iff, row-number-iff, row-place-is, records-iff}
-use Rattle.book.proofs.BookRows.{book-rows, book-row-5-iff, book-row-6-iff, book-row-7-iff}
-use Rattle.book.proofs.RoomRows.{in-room-accepted-iff, in-room-row-iff, in-room-10-iff}
+use Rattle.silences.proofs.BookRows.{book-rows, book-row-5-iff, book-row-6-iff, book-row-7-iff}
+use Rattle.silences.proofs.RoomRows.{in-room-accepted-iff, in-room-row-iff, in-room-10-iff}
 
 module _ (book : List ℕ) (room : ℕ) where
   -- Unpacking is accepted exactly when reading is, with room for three words each.

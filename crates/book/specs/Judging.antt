@@ -5,8 +5,8 @@ use lib.ListN.{length}
 use Rattle.answers.specs.Paper.{Answer, accepted, refused}
 use Rattle.book.specs.declared.judging.Judged.{Judged}
 use Rattle.book.specs.declared.judging.Judged.the-variants.{Accepted, Refused}
-use Rattle.book.specs.Silences.{Silence}
-use Rattle.book.specs.Layout.{layout}
+use Rattle.silences.specs.Silences.{Silence}
+use Rattle.silences.specs.Layout.{layout}
 
 -- The sizes of an output: its records, and the bytes of their fields.
 pub record Sizes : Type 0 where

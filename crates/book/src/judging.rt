@@ -1,18 +1,16 @@
 // What packing asks of the words before it writes a byte: rows 9 and 7, record by record, and the sizes of the output.
-use crate::answering::Address;
-use crate::order::Last;
-use crate::order::is_above;
-use crate::putting::FIELD_LENGTH;
+use crate::records::FIELD_LENGTH;
+use crate::records::RECORD_WORDS;
 use answers::Refusal;
+use silences::Address;
+use silences::Last;
+use silences::is_above;
 ghost use mathlib.Core.Path.{_≡_};
 ghost use mathlib.Core.Option.{none};
 ghost use Prim.Native.Nat.{_≤_};
 ghost use lib.ListN.{length};
-ghost use Rattle.book.specs.Packing.{silencesOf, mostWords, packRecords};
+ghost use Rattle.silences.specs.Packing.{silencesOf, mostWords, packRecords};
 ghost use Rattle.book.specs.Judging.{judgedOf, sizesOf};
-
-// The words of a record: cell, ring number, start.
-pub const RECORD_WORDS: usize = 3;
 
 // "a ring number to pack is above 65,535": the largest ring number.
 const MOST_RING_NUMBER: u32 = 65535;

@@ -1,9 +1,9 @@
 // Packing: words to a book. First every refusal, then every byte, so that a refusal writes nothing.
 use crate::answering::BookAnswer;
 use crate::judging::Judged;
-use crate::judging::RECORD_WORDS;
 use crate::judging::judge;
 use crate::putting::put_fields;
+use crate::records::RECORD_WORDS;
 use answers::Refusal;
 ghost use Rattle.book.specs.Calls.{IsPacked};
 

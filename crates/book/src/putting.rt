@@ -1,34 +1,21 @@
 // Writing a book's bytes, number after number and field after field.
-use crate::judging::RECORD_WORDS;
+use crate::records::RECORD_WORDS;
+use silences::CELL_BYTES;
+use silences::LENGTH_BYTES;
+use silences::RING_NUMBER_BYTES;
+use silences::SILENCE_LENGTH;
+use silences::SILENCE_TAG;
+use silences::START_BYTES;
+use silences::TAG_BYTES;
 ghost use mathlib.Core.Path.{_≡_};
 ghost use Prim.Native.Nat.{_+_, _≤_};
 ghost use lib.ListN.{length};
 ghost use Rattle.meaning.specs.Findings.{written};
-ghost use Rattle.book.specs.Numbers.{bytesOf};
-ghost use Rattle.book.specs.Silences.{silence};
-ghost use Rattle.book.specs.Layout.{fieldOf, layout};
-ghost use Rattle.book.specs.Packing.{silencesOf};
+ghost use Rattle.silences.specs.Numbers.{bytesOf};
+ghost use Rattle.silences.specs.Silences.{silence};
+ghost use Rattle.silences.specs.Layout.{fieldOf, layout};
+ghost use Rattle.silences.specs.Packing.{silencesOf};
 ghost use Rattle.book.specs.Putting.{IsPut};
-
-// "tag 21 hex"
-const SILENCE_TAG: u32 = 0x21;
-
-// "one-byte tag, two-byte length, value"
-const TAG_BYTES: usize = 1;
-
-const LENGTH_BYTES: usize = 2;
-
-// "cell (4 bytes), ring number (2), start (4)"
-const CELL_BYTES: usize = 4;
-
-const RING_NUMBER_BYTES: usize = 2;
-
-const START_BYTES: usize = 4;
-
-const VALUE_LENGTH: usize = CELL_BYTES + RING_NUMBER_BYTES + START_BYTES;
-
-// The bytes of a silence's whole field.
-pub const FIELD_LENGTH: usize = TAG_BYTES + LENGTH_BYTES + VALUE_LENGTH;
 
 // Writes a number into `count` bytes from `at` on, high byte first, and answers the byte offset just past them. It goes
 // from the last byte to the first: the last is the number mod 256, and the others are what is left of it.
@@ -51,8 +38,8 @@ fn put_field(out: &mut [u8], at: usize, cell: u32, ring_number: u32, start: u32)
     requires { ⌜ at + length (fieldOf (silence cell «ring_number» start)) ≤ length (now out) ⌝ }
     ensures { λ r. ⌜ IsPut at (fieldOf (silence cell «ring_number» start)) (now (out .entry)) r (now (out .exit)) ⌝ }
 {
-    let length_at = put_number(out, at, TAG_BYTES, SILENCE_TAG);
-    let value_at = put_number(out, length_at, LENGTH_BYTES, VALUE_LENGTH as u32);
+    let length_at = put_number(out, at, TAG_BYTES, SILENCE_TAG as u32);
+    let value_at = put_number(out, length_at, LENGTH_BYTES, SILENCE_LENGTH as u32);
     let ring_number_at = put_number(out, value_at, CELL_BYTES, cell);
     let start_at = put_number(out, ring_number_at, RING_NUMBER_BYTES, ring_number);
     put_number(out, start_at, START_BYTES, start)

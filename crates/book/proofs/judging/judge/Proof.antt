@@ -5,8 +5,8 @@ use mathlib.Core.Path.{sym, _∙_}
 use native.Mathlib.Omega.{arith}
 use lib.ListN.{length}
 use borrow.Author.Tests.{not-true, not-false}
-use Rattle.book.specs.Calls.{lastOf}
-use Rattle.book.proofs.FieldBytes.{field-length}
+use Rattle.silences.specs.Addresses.{lastOf}
+use Rattle.silences.proofs.FieldBytes.{field-length}
 use Rattle.book.proofs.JudgeLoop.{JudgedTo, judge-start, judge-ring-number, judge-not-above, judge-turn, judge-end}
 use Rattle.book.proofs.judging.judge.Statement.{statement}
 use Rattle.book.proofs.judging.judge.Tie as tie

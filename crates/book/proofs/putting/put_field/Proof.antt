@@ -2,8 +2,8 @@
 -- Assumes nothing.
 use native.Mathlib.Omega.{arith}
 use borrow.Author.Needs.{needs}
-use Rattle.book.specs.Silences.{Silence, silence}
-use Rattle.book.proofs.FieldBytes.{field-length}
+use Rattle.silences.specs.Silences.{Silence, silence}
+use Rattle.silences.proofs.FieldBytes.{field-length}
 use Rattle.book.proofs.FieldPut.{number-next, field-put}
 use Rattle.book.proofs.putting.put_field.Statement.{statement}
 use Rattle.book.proofs.putting.put_field.Tie as tie
@@ -12,12 +12,15 @@ use Rattle.book.proofs.putting.put_field.Tie as tie
 here : tie.Start → Silence
 here c = silence (c .args .cell) (c .args .ring-number) (c .args .start)
 
+cast-put-number : tie.Need-cast-put-number
+cast-put-number c = search needs
+
 put-number-requires : tie.Need-put-number-requires
 unfolding here
 put-number-requires c κs = omega (arith, field-length (here (c .before .before)))
 
-cast-put-number : tie.Need-cast-put-number
-cast-put-number c = search needs
+cast-put-number-2 : tie.Need-cast-put-number-2
+cast-put-number-2 c = search needs
 
 put-number-requires-2 : tie.Need-put-number-requires-2
 unfolding here
@@ -93,8 +96,9 @@ pub put-field-spec : {M : Type 1} → statement M
 put-field-spec =
     tie.close
     (tie.spec
-    put-number-requires
     cast-put-number
+    put-number-requires
+    cast-put-number-2
     put-number-requires-2
     put-number-requires-3
     put-number-requires-4
