@@ -17,7 +17,6 @@ pub mod RowsOfReading
 pub mod RowsOfUnpacking
 pub mod RowsOfPacking
 pub mod RefusedCalls
-pub mod RoundTrips
 pub mod RoundTripsOfCalls
 -- what each function's proof cites: loops, and the cases of a call
 pub mod ReadLoop

@@ -19,7 +19,7 @@ use Rattle.silences.proofs.LayoutRead.{layout-length}
 use Rattle.silences.proofs.WordsOfSilences.{words-length}
 use Rattle.book.proofs.RowNumbers.{records-iff}
 use Rattle.silences.proofs.AreaAtExit.{area-front}
-use Rattle.book.proofs.RoundTrips.{packed-unpacked, packed-words-are, unpacked-packed, unpacked-layout-is}
+use Rattle.silences.proofs.RoundTrips.{packed-unpacked, packed-words-are, unpacked-packed, unpacked-layout-is}
 
 module _ (words area : List ℕ) (n : ℕ) (out : List ℕ) (w : IsWords words) (pack : IsPacked words area (Records n) out) where
   -- the silences that were packed

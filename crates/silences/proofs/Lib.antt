@@ -1,5 +1,5 @@
 -- Laws behind silences: what the definitions of a silence and of a book come to, and what the functions' proofs cite. Read AcceptedIsLayout, NamesIff, ZeroIsOrdinary,
--- BookRows, PackRows and OneAnswer first: they are the theorems, and their heads name what they rest on. Below each group stands on those before it.
+-- BookRows, PackRows, RoundTrips and OneAnswer first: they are the theorems, and their heads name what they rest on. Below each group stands on those before it.
 
 -- answers, and the order of silences
 pub mod AnswerCases
@@ -20,14 +20,16 @@ pub mod ReadFrom
 pub mod FieldsRead
 pub mod LayoutRead
 pub mod AcceptedIsLayout
--- the rows of the table, of the definitions, and the areas at exit
+-- the rows of the table, of the definitions, the areas at exit and the round trips
 pub mod WordsOfSilences
 pub mod BookRows
 pub mod RoomRows
 pub mod RecordsPacked
 pub mod RecordRows
 pub mod PackRows
+pub mod UnpackRows
 pub mod AreaAtExit
+pub mod RoundTrips
 -- what the functions' proofs cite, and that each of them has one answer
 pub mod NumberLoop
 pub mod OneAnswer

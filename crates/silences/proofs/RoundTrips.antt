@@ -7,15 +7,15 @@ use mathlib.Core.List.{List}
 use native.Mathlib.Omega.{arith}
 use lib.ListN.{length}
 use Rattle.answers.specs.Paper.{accepted}
 use Rattle.silences.specs.Silences.{Silence, Ascending}
 use Rattle.silences.specs.Layout.{layout}
 use Rattle.silences.specs.Packing.{wordsOfSilences, silencesOf, packed, unpacked}
 use Rattle.silences.specs.Books.{IsBytes, IsWords, IsBook}
 use Rattle.silences.specs.Rows.{AllRingNumbers, IsPackable}
 use Rattle.silences.proofs.AcceptedIsLayout.{book-accepted, accepted-iff}
 use Rattle.silences.proofs.WordsOfSilences.{words-length, silences-of-words, words-of-silences, silences-length, silences-in-range, in-range-rings}
-use Rattle.book.proofs.RowsOfUnpacking.{unpacked-accepted-iff}
+use Rattle.silences.proofs.UnpackRows.{unpacked-accepted-iff}
 use Rattle.silences.proofs.PackRows.{packed-accepted-iff}
 
 -- Words that can be packed are the words of the book that is laid out.
 pub packable-book : (words : List ℕ) → IsWords words → IsPackable words → IsBook (silencesOf words) (layout (silencesOf words))
