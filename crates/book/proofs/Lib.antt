@@ -1,5 +1,5 @@
--- Laws behind the calls on a book: what each call's answer comes to, and what the functions' proofs cite. Read RoundTripsOfCalls, SeekNames, SoughtRising, OneAnswer
--- and the three RowsOf first: they are the theorems, and their heads name what they rest on; the laws of a book's definitions stand in the crate silences. Below
+-- Laws behind the calls on a book: what each call's answer comes to, and what the functions' proofs cite. Read SeekNames, SoughtRising, OneAnswer and the
+-- two RowsOf first: they are the theorems, and their heads name what they rest on; the laws of a book's definitions stand in the crate silences. Below
 -- each group stands on those before it.
 
 -- answers, and the book that is accepted
@@ -11,21 +11,13 @@ pub mod SeekNames
 pub mod SeekRising
 pub mod SoughtRising
 pub mod SoughtCases
--- the rows of each call, and the round trips
+-- the rows of each call
 pub mod RowNumbers
 pub mod RowsOfReading
 pub mod RowsOfUnpacking
-pub mod RowsOfPacking
 pub mod RefusedCalls
-pub mod RoundTripsOfCalls
 -- what each function's proof cites: loops, and the cases of a call
 pub mod ReadLoop
 pub mod SeekLoop
 pub mod UnpackLoop
 pub mod UnpackCases
-pub mod WrittenAt
-pub mod NumberPut
-pub mod FieldPut
-pub mod FieldsLoop
-pub mod JudgeLoop
-pub mod PackCases

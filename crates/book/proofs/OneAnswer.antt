@@ -12,7 +12,7 @@ use Rattle.book.specs.declared.answering.BookAnswer.{BookAnswer}
 use Rattle.book.specs.declared.answering.BookAnswer.the-variants.{Records, Refused}
 use Rattle.silences.specs.declared.addresses.Address.{Address}
 use Rattle.silences.specs.declared.addresses.Sought.{Sought}
-use Rattle.book.specs.Calls.{answerOf, paperOf, IsPacked, IsUnpacked, IsRead, IsSought, IsSoughtOn, IsAskedFor}
+use Rattle.book.specs.Calls.{answerOf, paperOf, IsUnpacked, IsRead, IsSought, IsSoughtOn, IsAskedFor}
 
 -- the case that an answer comes from
 abbrev answerBack : Answer ℕ → BookAnswer
@@ -26,11 +26,6 @@ answer-back (Refused refusal) = refl
 -- The paper determines the answer.
 pub paper-unique : (r r′ : BookAnswer) → paperOf r ≡ paperOf r′ → r ≡ r′
 paper-unique r r′ e = sym (answer-back r) ∙ ap answerBack (answer-unique 0 (answerOf r) (answerOf r′) e) ∙ answer-back r′
-
--- Any two answers of `pack` are equal, and any two areas at exit.
-pub pack-unique : (words area : List ℕ) (r r′ : BookAnswer) (out out′ : List ℕ) → IsPacked words area r out → IsPacked words area r′ out′
-    → (r ≡ r′) × (out ≡ out′)
-pack-unique words area r r′ out out′ p p′ = (paper-unique r r′ (p .paper ∙ sym (p′ .paper)), p .written ∙ sym (p′ .written))
 
 -- Any two answers of `unpack` are equal, and any two areas at exit.
 pub unpack-unique : (book area : List ℕ) (r r′ : BookAnswer) (out out′ : List ℕ) → IsUnpacked book area r out → IsUnpacked book area r′ out′

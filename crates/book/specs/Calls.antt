@@ -11,10 +11,9 @@ use Rattle.book.specs.declared.answering.BookAnswer.the-variants.{Record
 use Rattle.silences.specs.declared.addresses.Address.{Address}
 use Rattle.silences.specs.declared.addresses.Sought.{Sought}
 use Rattle.silences.specs.Silences.{Silence}
-use Rattle.silences.specs.Layout.{layout}
 use Rattle.silences.specs.Reading.{readBook}
 use Rattle.silences.specs.Addresses.{silenceOf, soughtOf}
-use Rattle.silences.specs.Packing.{wordsOfSilences, packed, unpacked, areaAtExit}
+use Rattle.silences.specs.Packing.{wordsOfSilences, unpacked, areaAtExit}
 use Rattle.book.specs.Seeking.{seekField, seekFrom, isFor}
 
 -- The answer that an enum's case stands for.
@@ -34,11 +33,6 @@ recordsOf (refused refusal) = refused refusal
 -- Document 01's number, place and number of records of what a definition gives.
 abbrev pub recordsPaper : Answer (List Silence) → Paper ℕ
 recordsPaper a = answerPaper 0 (recordsOf a)
-
--- What `pack` promises: of the words, the area lent for the book, the answer and the area at exit.
-pub record IsPacked (words area : List ℕ) (r : BookAnswer) (out : List ℕ) : Type 0 where
-  pub paper : paperOf r ≡ recordsPaper (packed words (length area))
-  pub written : out ≡ areaAtExit layout (packed words (length area)) area
 
 -- What `unpack` promises: of the book, the area lent for the words, the answer and the area at exit.
 pub record IsUnpacked (book area : List ℕ) (r : BookAnswer) (out : List ℕ) : Type 0 where

@@ -1,9 +1,9 @@
 // Unpacking a book into words: three for each record, cell, ring number and start.
 use crate::answering::BookAnswer;
 use crate::reading::read;
-use crate::records::RECORD_WORDS;
 use answers::Refusal;
 use silences::Address;
+use silences::RECORD_WORDS;
 use silences::Sought;
 use silences::field_at;
 ghost use mathlib.Core.Path.{_≡_};

@@ -1,4 +1,4 @@
-// The bytes of a silence's field, part by part.
+// The bytes of a silence's field, part by part, and the words of a record.
 
 // "one-byte tag, two-byte length, value"
 pub const TAG_BYTES: usize = 1;
@@ -20,3 +20,6 @@ pub const START_BYTES: usize = 4;
 
 // "length 10": the bytes of a silence's value.
 pub const SILENCE_LENGTH: usize = CELL_BYTES + RING_NUMBER_BYTES + START_BYTES;
+
+// The words of a record: cell, ring number, start.
+pub const RECORD_WORDS: usize = 3;

@@ -13,6 +13,7 @@ pub use fields::field_at;
 pub use lengths::CELL_BYTES;
 pub use lengths::HEAD_LENGTH;
 pub use lengths::LENGTH_BYTES;
+pub use lengths::RECORD_WORDS;
 pub use lengths::RING_NUMBER_BYTES;
 pub use lengths::SILENCE_LENGTH;
 pub use lengths::SILENCE_TAG;
