@@ -1,4 +1,4 @@
--- `book::judging::judge` meets its contract. Its loop keeps `JudgedTo`; the words left fall.
+-- `packing::judging::judge` meets its contract. Its loop keeps `JudgedTo`; the words left fall.
 -- Assumes nothing.
 use Prim.Native.Nat.{_-_}
 use mathlib.Core.Path.{sym, _∙_}

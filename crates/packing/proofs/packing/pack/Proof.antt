@@ -1,4 +1,4 @@
--- `book::packing::pack` meets its contract: each return is one case of packing (`PackCases`), and what is judged of the records is what `judge` ensures.
+-- `packing::packing::pack` meets its contract: each return is one case of packing (`PackCases`), and what is judged of the records is what `judge` ensures.
 -- Assumes nothing.
 use mathlib.Core.Logic.{inl, inr}
 use mathlib.Core.Path.{sym, ap, _∙_}

@@ -1,4 +1,4 @@
--- `book::putting::put_field` meets its contract: each number begins where the one before it ends, and all five are the field (`field-put`).
+-- `packing::putting::put_field` meets its contract: each number begins where the one before it ends, and all five are the field (`field-put`).
 -- Assumes nothing.
 use native.Mathlib.Omega.{arith}
 use borrow.Author.Needs.{needs}

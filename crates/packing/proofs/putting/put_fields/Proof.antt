@@ -1,4 +1,4 @@
--- `book::putting::put_fields` meets its contract. Its loop keeps `PutFields`; the words left fall.
+-- `packing::putting::put_fields` meets its contract. Its loop keeps `PutFields`; the words left fall.
 -- Assumes nothing.
 use Prim.Native.Nat.{_-_}
 use native.Mathlib.Omega.{arith}

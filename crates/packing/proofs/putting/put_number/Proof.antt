@@ -1,4 +1,4 @@
--- `book::putting::put_number` meets its contract. Its loop keeps `PutNumber`; the bytes left fall.
+-- `packing::putting::put_number` meets its contract. Its loop keeps `PutNumber`; the bytes left fall.
 -- Assumes nothing.
 use native.Mathlib.Omega.{arith}
 use Rattle.packing.proofs.NumberPut.{PutNumber, put-number-start, put-number-turn, put-number-end}
