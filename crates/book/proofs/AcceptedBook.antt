@@ -11,12 +11,12 @@ use Rattle.answers.specs.declared.refusals.Refusal.{Refusal}
 use Rattle.answers.specs.Paper.{Answer, accepted, refused}
 use Rattle.answers.proofs.OneAnswer.{answer-unique}
 use Rattle.book.specs.declared.answering.BookAnswer.{BookAnswer}
-use Rattle.book.specs.Silences.{Silence}
-use Rattle.book.specs.Reading.{mostBytes, readFrom, readBook}
+use Rattle.silences.specs.Silences.{Silence}
+use Rattle.silences.specs.Reading.{mostBytes, readFrom, readBook}
 use Rattle.book.specs.Calls.{answerOf, recordsOf, IsRead}
-use Rattle.book.proofs.AnswerCases.{accepted-not-refused}
-use Rattle.book.proofs.FieldsRead.{read-all, reads-as-is, read-length-le}
-use Rattle.book.proofs.AcceptedIsLayout.{IsReadWhole, accepted-whole-iff}
+use Rattle.silences.proofs.AnswerCases.{accepted-not-refused}
+use Rattle.silences.proofs.FieldsRead.{read-all, reads-as-is, read-length-le}
+use Rattle.silences.proofs.AcceptedIsLayout.{IsReadWhole, accepted-whole-iff}
 
 -- What `read` answers is how many records reading gives, or its refusal: the paper determines it.
 pub read-answer-is : (book : List ℕ) (r answer : BookAnswer) → IsRead book r → r ≡ answer → recordsOf (readBook book) ≡ answerOf answer

@@ -1,5 +1,5 @@
 -- Any two answers of a call that meet its contract are equal, and so are the lent areas at exit: a law for each of the calls. The paper determines
--- the answer (`answer-unique` of the answers) and the answer its case; what a case of `Sought` stands for is read back by `soughtBack`.
+-- the answer (`answer-unique` of the answers) and the answer its case; a field determines what was sought (`sought-unique` of the silences).
 -- Assumes nothing.
 use Prim.Native.Nat.{ℕ}
 use mathlib.Core.Path.{_≡_, refl, sym, ap, _∙_}
@@ -7,13 +7,12 @@ use mathlib.Core.Bool.{Bool}
 use mathlib.Core.List.{List}
 use Rattle.answers.specs.Paper.{Answer, accepted, refused}
 use Rattle.answers.proofs.OneAnswer.{answer-unique}
+use Rattle.silences.proofs.OneAnswer.{sought-unique}
 use Rattle.book.specs.declared.answering.BookAnswer.{BookAnswer}
 use Rattle.book.specs.declared.answering.BookAnswer.the-variants.{Records, Refused}
-use Rattle.book.specs.declared.answering.Address.{Address}
-use Rattle.book.specs.declared.answering.Sought.{Sought}
-use Rattle.book.specs.declared.answering.Sought.the-variants.{Field, Nothing}
-use Rattle.book.specs.Reading.{FieldAt, whole, faulty}
-use Rattle.book.specs.Calls.{answerOf, paperOf, soughtOf, IsPacked, IsUnpacked, IsRead, IsSought, IsSoughtOn, IsAskedFor}
+use Rattle.silences.specs.declared.addresses.Address.{Address}
+use Rattle.silences.specs.declared.addresses.Sought.{Sought}
+use Rattle.book.specs.Calls.{answerOf, paperOf, IsUnpacked, IsRead, IsSought, IsSoughtOn, IsAskedFor}
 
 -- the case that an answer comes from
 abbrev answerBack : Answer ℕ → BookAnswer
@@ -27,24 +26,6 @@ answer-back (Refused refusal) = refl
 -- The paper determines the answer.
 pub paper-unique : (r r′ : BookAnswer) → paperOf r ≡ paperOf r′ → r ≡ r′
 paper-unique r r′ e = sym (answer-back r) ∙ ap answerBack (answer-unique 0 (answerOf r) (answerOf r′) e) ∙ answer-back r′
-
--- the case that a field comes from
-abbrev soughtBack : FieldAt → Sought
-soughtBack (whole s next) = Field (record { cell = s .cell; «ring_number» = s .ringNumber; start = s .start }) next
-soughtBack faulty = Nothing
-
-sought-back : (r : Sought) → soughtBack (soughtOf r) ≡ r
-sought-back (Field address next) = refl
-sought-back Nothing = refl
-
--- The field determines what was sought.
-pub sought-unique : (r r′ : Sought) → soughtOf r ≡ soughtOf r′ → r ≡ r′
-sought-unique r r′ e = sym (sought-back r) ∙ ap soughtBack e ∙ sought-back r′
-
--- Any two answers of `pack` are equal, and any two areas at exit.
-pub pack-unique : (words area : List ℕ) (r r′ : BookAnswer) (out out′ : List ℕ) → IsPacked words area r out → IsPacked words area r′ out′
-    → (r ≡ r′) × (out ≡ out′)
-pack-unique words area r r′ out out′ p p′ = (paper-unique r r′ (p .paper ∙ sym (p′ .paper)), p .written ∙ sym (p′ .written))
 
 -- Any two answers of `unpack` are equal, and any two areas at exit.
 pub unpack-unique : (book area : List ℕ) (r r′ : BookAnswer) (out out′ : List ℕ) → IsUnpacked book area r out → IsUnpacked book area r′ out′

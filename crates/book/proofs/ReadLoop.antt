@@ -10,12 +10,12 @@ use native.Mathlib.Omega.{arith}
 use lib.ListN.{length, length-append}
 use Rattle.answers.specs.declared.refusals.Refusal.the-variants.{Field, NotAbove}
 use Rattle.answers.specs.Paper.{Answer, accepted, refused}
-use Rattle.book.specs.Silences.{Silence, isAbove}
-use Rattle.book.specs.Reading.{whole, faulty, fieldAt, readFrom}
+use Rattle.silences.specs.Silences.{Silence, isAbove}
+use Rattle.silences.specs.Reading.{whole, faulty, fieldAt, readFrom}
 use Rattle.book.specs.Calls.{recordsOf}
-use Rattle.book.proofs.FieldEnds.{field-ends}
-use Rattle.book.proofs.AscendingAfter.{lastAfter, lastAfter-end}
-use Rattle.book.proofs.FieldsRead.{FieldsRead, none-read, ReadsAs, read-all, stopped-faulty, stopped-order, read-more, reads-as-is}
+use Rattle.silences.proofs.FieldEnds.{field-ends}
+use Rattle.silences.proofs.AscendingAfter.{lastAfter, lastAfter-end}
+use Rattle.silences.proofs.FieldsRead.{FieldsRead, none-read, ReadsAs, read-all, stopped-faulty, stopped-order, read-more, reads-as-is}
 
 -- Before the field at `at`, after so many records, the last of them `last`.
 pub record ReadOn (book : List ℕ) (at records : ℕ) (last : Option Silence) : Type 0 where

@@ -1,4 +1,4 @@
--- A packing or unpacking that is refused "writes nothing to any lent area", for any answer that meets the contract: the answer's number and place say which
+-- An unpacking that is refused "writes nothing to any lent area", for any answer that meets the contract: the answer's number and place say which
 -- refusal the definition gives (`row-iff`), and there the area at exit is the area lent. (That it counts nothing needs no law: a refused answer has no count.)
 -- Assumes nothing.
 use Prim.Native.Nat.{ℕ}
@@ -7,20 +7,12 @@ use mathlib.Core.List.{List}
 use lib.ListN.{length}
 use Rattle.answers.specs.declared.refusals.Refusal.{Refusal}
 use Rattle.book.specs.declared.answering.BookAnswer.the-variants.{Refused}
-use Rattle.book.specs.Layout.{layout}
-use Rattle.book.specs.Packing.{wordsOfSilences, packed, unpacked}
-use Rattle.book.specs.Calls.{IsPacked, IsUnpacked}
+use Rattle.silences.specs.Packing.{wordsOfSilences, unpacked}
+use Rattle.book.specs.Calls.{IsUnpacked}
 use Rattle.book.proofs.RowNumbers.{row-iff}
-use Rattle.book.proofs.AreaAtExit.{area-refused}
+use Rattle.silences.proofs.AreaAtExit.{area-refused}
 
 module _ (from area out : List ℕ) (refusal : Refusal) where
-  -- A refused packing leaves the bytes lent to it as they were.
-  pub pack-refused-area : IsPacked from area (Refused refusal) out → out ≡ area
-  pack-refused-area meets =
-      meets .written
-      ∙ area-refused layout area (packed from (length area)) refusal
-      (row-iff (packed from (length area)) (Refused refusal) (meets .paper) refusal .0 (refl, refl))
-
   -- A refused unpacking leaves the words lent to it as they were.
   pub unpack-refused-area : IsUnpacked from area (Refused refusal) out → out ≡ area
   unpack-refused-area meets =

@@ -14,7 +14,7 @@ use Rattle.answers.specs.Paper.{Answer, accepted, refused, Paper}
 use Rattle.answers.proofs.OneAnswer.{refusal-unique, number-in}
 use Rattle.book.specs.declared.answering.BookAnswer.{BookAnswer}
 use Rattle.book.specs.declared.answering.BookAnswer.the-variants.{Records}
-use Rattle.book.specs.Silences.{Silence}
+use Rattle.silences.specs.Silences.{Silence}
 use Rattle.book.specs.Calls.{paperOf, recordsPaper}
 use Rattle.book.proofs.OneAnswer.{paper-unique}
 

@@ -11,14 +11,14 @@ use Rattle.answers.specs.declared.refusals.Refusal.the-variants.{BookLength, Fi
 use Rattle.answers.specs.Paper.{accepted}
 use Rattle.book.specs.declared.answering.BookAnswer.{BookAnswer}
 use Rattle.book.specs.declared.answering.BookAnswer.the-variants.{Records}
-use Rattle.book.specs.Silences.{Silence}
-use Rattle.book.specs.Reading.{readBook}
-use Rattle.book.specs.Books.{IsBytes, IsBook}
-use Rattle.book.specs.Rows.{IsFieldFault, IsOrderFault}
+use Rattle.silences.specs.Silences.{Silence}
+use Rattle.silences.specs.Reading.{readBook}
+use Rattle.silences.specs.Books.{IsBytes, IsBook}
+use Rattle.silences.specs.Rows.{IsFieldFault, IsOrderFault}
 use Rattle.book.specs.Calls.{paperOf, IsRead}
-use Rattle.book.proofs.AcceptedIsLayout.{accepted-iff}
+use Rattle.silences.proofs.AcceptedIsLayout.{accepted-iff}
 use Rattle.book.proofs.RowNumbers.{row-iff, row-number-iff, row-place-is, records-iff}
-use Rattle.book.proofs.BookRows.{book-row-5-iff, book-row-6-iff, book-row-7-iff}
+use Rattle.silences.proofs.BookRows.{book-row-5-iff, book-row-6-iff, book-row-7-iff}
 
 module _ (book : List ℕ) (r : BookAnswer) (meets : IsRead book r) where
   -- Row 5: "book longer than 13,000 bytes".

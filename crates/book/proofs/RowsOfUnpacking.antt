@@ -1,5 +1,5 @@
 -- The rows of `unpack`, for any answer that meets its contract: rows 5, 6, 7 and 10 of document 01's table as an iff each, number and place written out,
--- and that it gives so many records exactly for the book of so many silences with room for their words. From BookRows and RoomRows, through the numbers
+-- and that it gives so many records exactly for the book of so many silences with room for their words. From BookRows and UnpackRows, through the numbers
 -- of RowNumbers.
 -- Assumes nothing.
 use Prim.Native.Nat.{ℕ, _*_, _≤_, _<_}
@@ -8,40 +8,20 @@ use mathlib.Core.Path.{_≡_}
 use mathlib.Core.List.{List}
 use native.Mathlib.Omega.{arith}
 use lib.ListN.{length}
-use Rattle.answers.specs.declared.refusals.Refusal.{Refusal}
 use Rattle.answers.specs.declared.refusals.Refusal.the-variants.{BookLength, Field, NotAbove, OutputRoom}
-use Rattle.answers.specs.Refusals.{numberOf}
-use Rattle.answers.specs.Paper.{Answer, accepted, refused}
+use Rattle.answers.specs.Paper.{Answer, accepted}
 use Rattle.book.specs.declared.answering.BookAnswer.{BookAnswer}
 use Rattle.book.specs.declared.answering.BookAnswer.the-variants.{Records}
-use Rattle.book.specs.Silences.{Silence}
-use Rattle.book.specs.Reading.{readBook}
-use Rattle.book.specs.Packing.{wordsOfSilences, unpacked}
-use Rattle.book.specs.Books.{IsBytes, IsBook}
-use Rattle.book.specs.Rows.{IsFieldFault, IsOrderFault}
+use Rattle.silences.specs.Silences.{Silence}
+use Rattle.silences.specs.Packing.{unpacked}
+use Rattle.silences.specs.Books.{IsBytes, IsBook}
+use Rattle.silences.specs.Rows.{IsFieldFault, IsOrderFault}
 use Rattle.book.specs.Calls.{paperOf, IsUnpacked}
-use Rattle.book.proofs.AcceptedIsLayout.{accepted-iff}
-use Rattle.book.proofs.WordsOfSilences.{words-length}
+use Rattle.silences.proofs.AcceptedIsLayout.{accepted-iff}
+use Rattle.silences.proofs.WordsOfSilences.{words-length}
 use Rattle.book.proofs.RowNumbers.{row-iff, row-number-iff, row-place-is, records-iff}
-use Rattle.book.proofs.BookRows.{book-rows, book-row-5-iff, book-row-6-iff, book-row-7-iff}
-use Rattle.book.proofs.RoomRows.{in-room-accepted-iff, in-room-row-iff, in-room-10-iff}
-
-module _ (book : List ℕ) (room : ℕ) where
-  -- Unpacking is accepted exactly when reading is, with room for three words each.
-  pub unpacked-accepted-iff : (ss : List Silence)
-      → (unpacked book room ≡ accepted ss) ↔ ((readBook book ≡ accepted ss) × (length (wordsOfSilences ss) ≤ room))
-  unfolding unpacked
-  unpacked-accepted-iff ss = in-room-accepted-iff wordsOfSilences room (readBook book) ss
-
-  -- rows 5, 6 and 7 are reading's
-  unpacked-row-iff : (q : Refusal) → (numberOf q ≡ 10 → ⊥) → (unpacked book room ≡ refused q) ↔ (readBook book ≡ refused q)
-  unfolding unpacked
-  unpacked-row-iff q other = in-room-row-iff wordsOfSilences room (readBook book) q other
-
-  -- row 10 is given for a book that is accepted, with too little room
-  unpacked-10-iff : (unpacked book room ≡ refused OutputRoom) ↔ ((ss : List Silence) × (readBook book ≡ accepted ss) × (room < length (wordsOfSilences ss)))
-  unfolding unpacked
-  unpacked-10-iff = in-room-10-iff wordsOfSilences room (readBook book) (λ e. omega (arith, book-rows book OutputRoom e))
+use Rattle.silences.proofs.BookRows.{book-row-5-iff, book-row-6-iff, book-row-7-iff}
+use Rattle.silences.proofs.UnpackRows.{unpacked-accepted-iff, unpacked-row-iff, unpacked-10-iff}
 
 module _ (book area : List ℕ) (r : BookAnswer) (out : List ℕ) (meets : IsUnpacked book area r out) where
   -- what the definition gives

@@ -7,11 +7,11 @@ use mathlib.Core.Bool.{Bool, true, false, cond}
 use mathlib.Core.List.{List}
 use native.Mathlib.Omega.{arith}
 use lib.ListN.{length}
-use Rattle.book.specs.Silences.{Silence, isBelow}
-use Rattle.book.specs.Reading.{FieldAt, whole, faulty, fieldAt}
+use Rattle.silences.specs.Silences.{Silence, isBelow}
+use Rattle.silences.specs.Reading.{FieldAt, whole, faulty, fieldAt}
 use Rattle.book.specs.Seeking.{seekField, seekFields, seekFrom}
-use Rattle.book.proofs.FieldEnds.{field-ends}
-use Rattle.book.proofs.FieldInduction.{GoesOnPast, count-step}
+use Rattle.silences.proofs.FieldEnds.{field-ends}
+use Rattle.silences.proofs.FieldInduction.{GoesOnPast, count-step}
 
 -- one step of seeking
 abbrev seekStep : Silence → ℕ → FieldAt → (Silence → ℕ → FieldAt) → FieldAt

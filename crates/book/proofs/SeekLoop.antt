@@ -7,10 +7,10 @@ use mathlib.Core.Bool.{true, false}
 use mathlib.Core.List.{List}
 use native.Mathlib.Omega.{arith}
 use lib.ListN.{length}
-use Rattle.book.specs.Silences.{Silence, isBelow}
-use Rattle.book.specs.Reading.{whole, faulty, fieldAt}
+use Rattle.silences.specs.Silences.{Silence, isBelow}
+use Rattle.silences.specs.Reading.{whole, faulty, fieldAt}
 use Rattle.book.specs.Seeking.{seekFrom}
-use Rattle.book.proofs.FieldEnds.{field-ends}
+use Rattle.silences.proofs.FieldEnds.{field-ends}
 use Rattle.book.proofs.SeekFrom.{seekFrom-faulty, seekFrom-below, seekFrom-found}
 
 -- What is sought from `from` on is what is sought from `at` on.

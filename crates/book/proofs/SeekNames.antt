@@ -11,20 +11,20 @@ use native.Mathlib.Nat.{zero-add}
 use native.Mathlib.Omega.{arith}
 use lib.ListN.{length, length-append}
 use Rattle.answers.specs.Paper.{accepted}
-use Rattle.book.specs.Silences.{Silence, silence, isBelow, Below, isSame, names, Names}
-use Rattle.book.specs.Layout.{fieldOf, layout}
-use Rattle.book.specs.Reading.{FieldAt, whole, faulty, fieldAt, readBook}
+use Rattle.silences.specs.Silences.{Silence, silence, isBelow, Below, isSame, names, Names}
+use Rattle.silences.specs.Layout.{fieldOf, layout}
+use Rattle.silences.specs.Reading.{FieldAt, whole, faulty, fieldAt, readBook}
 use Rattle.book.specs.Seeking.{seekField, seekFrom, isFor}
-use Rattle.book.proofs.SilenceOrder.{isBelow-iff}
-use Rattle.book.proofs.StrictOrder.{below-trans, above-of-not, below-not-same}
-use Rattle.book.proofs.NamesIff.{names-iff}
+use Rattle.silences.proofs.SilenceOrder.{isBelow-iff}
+use Rattle.silences.proofs.StrictOrder.{below-trans, above-of-not, below-not-same}
+use Rattle.silences.proofs.NamesIff.{names-iff}
 use Rattle.book.proofs.SeekFrom.{seekFrom-step, seekFrom-faulty}
-use Rattle.book.proofs.FieldTest.{field-cut-off}
-use Rattle.book.proofs.FieldBytes.{field-next-is}
-use Rattle.book.proofs.AscendingAfter.{AscendingAfter, lastAfter}
-use Rattle.book.proofs.FieldsRead.{FieldsRead, none-read, one-read}
-use Rattle.book.proofs.LayoutRead.{read-ascends}
-use Rattle.book.proofs.AcceptedIsLayout.{IsReadWhole, accepted-whole-iff}
+use Rattle.silences.proofs.FieldTest.{field-cut-off}
+use Rattle.silences.proofs.FieldBytes.{field-next-is}
+use Rattle.silences.proofs.AscendingAfter.{AscendingAfter, lastAfter}
+use Rattle.silences.proofs.FieldsRead.{FieldsRead, none-read, one-read}
+use Rattle.silences.proofs.LayoutRead.{read-ascends}
+use Rattle.silences.proofs.AcceptedIsLayout.{IsReadWhole, accepted-whole-iff}
 
 -- Whether a list of silences names an address.
 abbrev pub namesAddress : List Silence → Silence → Bool
@@ -111,3 +111,7 @@ seek-all-names book ss address e =
 pub seek-iff : (book : List ℕ) (ss : List Silence) (cell ringNumber start : ℕ) → readBook book ≡ accepted ss
     → (isFor (silence cell ringNumber start) (seekFrom book (silence cell ringNumber start) 0) ≡ true) ↔ Names ss cell ringNumber start
 seek-iff book ss cell ringNumber start e = rw (seek-all-names book ss (silence cell ringNumber start) e) (names-iff cell ringNumber start ss)
+
+-- In the empty book nothing is sought, from any offset.
+pub empty-seek : (address : Silence) (at : ℕ) → seekFrom [] address at ≡ faulty
+empty-seek address at = seekFrom-faulty [] address at (field-past [] at (omega arith))

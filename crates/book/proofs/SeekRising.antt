@@ -9,13 +9,13 @@ use mathlib.Core.List.{List}
 use native.Mathlib.Omega.{arith}
 use lib.ListN.{length}
 use Rattle.answers.specs.Paper.{accepted}
-use Rattle.book.specs.Silences.{Silence, isBelow, Below}
-use Rattle.book.specs.Reading.{FieldAt, whole, faulty, fieldAt, readBook}
+use Rattle.silences.specs.Silences.{Silence, isBelow, Below}
+use Rattle.silences.specs.Reading.{FieldAt, whole, faulty, fieldAt, readBook}
 use Rattle.book.specs.Seeking.{seekField, seekFrom, isFor}
-use Rattle.book.proofs.SilenceOrder.{isBelow-iff}
-use Rattle.book.proofs.StrictOrder.{below-not-below}
-use Rattle.book.proofs.FieldEnds.{faulty-not-whole, whole-next-unique, field-ends}
-use Rattle.book.proofs.FieldInduction.{field-induction}
+use Rattle.silences.proofs.SilenceOrder.{isBelow-iff}
+use Rattle.silences.proofs.StrictOrder.{below-not-below}
+use Rattle.silences.proofs.FieldEnds.{faulty-not-whole, whole-next-unique, field-ends}
+use Rattle.silences.proofs.FieldInduction.{field-induction}
 use Rattle.book.proofs.SeekFrom.{seekFrom-faulty, seekFrom-below, seekFrom-found}
 use Rattle.book.proofs.SeekNames.{namesAddress, seek-at, seek-all-names}
 

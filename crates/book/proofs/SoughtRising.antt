@@ -7,14 +7,15 @@ use mathlib.Core.Path.{_≡_, sym, subst}
 use mathlib.Core.Bool.{true, false}
 use mathlib.Core.List.{List}
 use Rattle.answers.specs.Paper.{accepted}
-use Rattle.book.specs.declared.answering.Address.{Address}
-use Rattle.book.specs.declared.answering.Sought.{Sought}
-use Rattle.book.specs.declared.answering.Sought.the-variants.{Field, Nothing}
-use Rattle.book.specs.Silences.{Silence, isBelow, Below, names}
-use Rattle.book.specs.Reading.{readBook}
+use Rattle.silences.specs.declared.addresses.Address.{Address}
+use Rattle.silences.specs.declared.addresses.Sought.{Sought}
+use Rattle.silences.specs.declared.addresses.Sought.the-variants.{Field, Nothing}
+use Rattle.silences.specs.Silences.{Silence, isBelow, Below, names}
+use Rattle.silences.specs.Reading.{readBook}
 use Rattle.book.specs.Seeking.{isFor}
-use Rattle.book.specs.Calls.{silenceOf, soughtOf, IsSought, IsSoughtOn}
-use Rattle.book.proofs.StrictOrder.{start-not-below}
+use Rattle.silences.specs.Addresses.{silenceOf, soughtOf}
+use Rattle.book.specs.Calls.{IsSought, IsSoughtOn}
+use Rattle.silences.proofs.StrictOrder.{start-not-below}
 use Rattle.book.proofs.SeekRising.{Seeking, seeking-turn, seeking-turn-none, seeking-turn-kept, seeking-turn-on, seeking-names}
 
 -- The next address asked is for the same cell and ring number, and its start is not lower.

@@ -10,14 +10,14 @@ use Rattle.answers.specs.declared.refusals.Refusal.{Refusal}
 use Rattle.answers.specs.declared.refusals.Refusal.the-variants.{OutputRoom}
 use Rattle.answers.specs.Paper.{Answer, accepted, refused, answerPaper}
 use Rattle.book.specs.declared.answering.BookAnswer.the-variants.{Records, Refused}
-use Rattle.book.specs.Silences.{Silence}
-use Rattle.book.specs.Reading.{readBook}
-use Rattle.book.specs.Packing.{wordsOfSilences, recordWords, inRoom, areaAtExit, unpacked}
+use Rattle.silences.specs.Silences.{Silence}
+use Rattle.silences.specs.Reading.{readBook}
+use Rattle.silences.specs.Packing.{wordsOfSilences, recordWords, inRoom, areaAtExit, unpacked}
 use Rattle.book.specs.Calls.{recordsOf, recordsPaper, IsUnpacked}
-use Rattle.book.proofs.WordsOfSilences.{words-length}
+use Rattle.silences.proofs.WordsOfSilences.{words-length}
 use Rattle.book.proofs.AcceptedBook.{HasRecords, has-records, has-refusal}
-use Rattle.book.proofs.AreaAtExit.{area-refused}
-use Rattle.book.proofs.RoomRows.{in-room, in-less-room}
+use Rattle.silences.proofs.AreaAtExit.{area-refused}
+use Rattle.silences.proofs.RoomRows.{in-room, in-less-room}
 
 module _ (book area : List ℕ) where
   -- a refusal, and nothing written

@@ -11,14 +11,14 @@ use lib.Seq.{sets}
 use Rattle.meaning.specs.Findings.{written}
 use Rattle.meaning.proofs.Words.{written-length, written-more}
 use Rattle.answers.specs.Paper.{Answer, accepted}
-use Rattle.book.specs.Silences.{Silence}
-use Rattle.book.specs.Reading.{whole, faulty, fieldAt, readBook}
-use Rattle.book.specs.Packing.{silenceWords, wordsOfSilences, recordWords, areaAtExit}
+use Rattle.silences.specs.Silences.{Silence}
+use Rattle.silences.specs.Reading.{whole, faulty, fieldAt, readBook}
+use Rattle.silences.specs.Packing.{silenceWords, wordsOfSilences, recordWords, areaAtExit}
 use Rattle.book.specs.Calls.{recordsOf}
-use Rattle.book.proofs.WordsOfSilences.{words-length, words-more}
-use Rattle.book.proofs.FieldEnds.{faulty-not-whole, whole-silence-unique, whole-next-unique}
-use Rattle.book.proofs.FieldsRead.{FieldsRead, none-read, one-read}
-use Rattle.book.proofs.AcceptedIsLayout.{IsReadWhole, accepted-whole-iff}
+use Rattle.silences.proofs.WordsOfSilences.{words-length, words-more}
+use Rattle.silences.proofs.FieldEnds.{faulty-not-whole, whole-silence-unique, whole-next-unique}
+use Rattle.silences.proofs.FieldsRead.{FieldsRead, none-read, one-read}
+use Rattle.silences.proofs.AcceptedIsLayout.{IsReadWhole, accepted-whole-iff}
 use Rattle.book.proofs.AcceptedBook.{HasRecords, has-records}
 
 -- the first of the fields that are read

@@ -4,20 +4,16 @@ use Prim.Native.Nat.{ℕ}
 use mathlib.Core.Path.{_≡_}
 use mathlib.Core.Bool.{Bool}
 use mathlib.Core.List.{List}
-use mathlib.Core.Option.{Option, none, some}
 use lib.ListN.{length}
 use Rattle.answers.specs.Paper.{Answer, accepted, refused, Paper, answerPaper}
 use Rattle.book.specs.declared.answering.BookAnswer.{BookAnswer}
 use Rattle.book.specs.declared.answering.BookAnswer.the-variants.{Records, Refused}
-use Rattle.book.specs.declared.answering.Address.{Address}
-use Rattle.book.specs.declared.answering.Sought.{Sought}
-use Rattle.book.specs.declared.answering.Sought.the-variants.{Field, Nothing}
-use Rattle.book.specs.declared.order.Last.{Last}
-use Rattle.book.specs.declared.order.Last.the-variants.{NoRecord, Record}
-use Rattle.book.specs.Silences.{Silence, silence}
-use Rattle.book.specs.Layout.{layout}
-use Rattle.book.specs.Reading.{FieldAt, whole, faulty, readBook}
-use Rattle.book.specs.Packing.{wordsOfSilences, packed, unpacked, areaAtExit}
+use Rattle.silences.specs.declared.addresses.Address.{Address}
+use Rattle.silences.specs.declared.addresses.Sought.{Sought}
+use Rattle.silences.specs.Silences.{Silence}
+use Rattle.silences.specs.Reading.{readBook}
+use Rattle.silences.specs.Addresses.{silenceOf, soughtOf}
+use Rattle.silences.specs.Packing.{wordsOfSilences, unpacked, areaAtExit}
 use Rattle.book.specs.Seeking.{seekField, seekFrom, isFor}
 
 -- The answer that an enum's case stands for.
@@ -38,11 +34,6 @@ recordsOf (refused refusal) = refused refusal
 abbrev pub recordsPaper : Answer (List Silence) → Paper ℕ
 recordsPaper a = answerPaper 0 (recordsOf a)
 
--- What `pack` promises: of the words, the area lent for the book, the answer and the area at exit.
-pub record IsPacked (words area : List ℕ) (r : BookAnswer) (out : List ℕ) : Type 0 where
-  pub paper : paperOf r ≡ recordsPaper (packed words (length area))
-  pub written : out ≡ areaAtExit layout (packed words (length area)) area
-
 -- What `unpack` promises: of the book, the area lent for the words, the answer and the area at exit.
 pub record IsUnpacked (book area : List ℕ) (r : BookAnswer) (out : List ℕ) : Type 0 where
   pub paper : paperOf r ≡ recordsPaper (unpacked book (length area))
@@ -51,20 +42,6 @@ pub record IsUnpacked (book area : List ℕ) (r : BookAnswer) (out : List ℕ) :
 -- What `read` promises of the book and the answer.
 pub record IsRead (book : List ℕ) (r : BookAnswer) : Type 0 where
   pub paper : paperOf r ≡ recordsPaper (readBook book)
-
--- The silence that an address stands for: its cell, ring number and start.
-abbrev pub silenceOf : Address → Silence
-silenceOf a = silence (a .cell) (a .«ring_number») (a .start)
-
--- The silence before a record that an enum's case stands for; the first record has none.
-abbrev pub lastOf : Last → Option Silence
-lastOf NoRecord = none
-lastOf (Record address) = some (silenceOf address)
-
--- The field that an enum's case stands for.
-abbrev pub soughtOf : Sought → FieldAt
-soughtOf (Field address next) = whole (silenceOf address) next
-soughtOf Nothing = faulty
 
 -- What `seek` promises: of the book, the byte offset to begin at, the address (cell, ring number, start) and the answer.
 pub record IsSought (book : List ℕ) (from : ℕ) (address : Address) (r : Sought) : Type 0 where

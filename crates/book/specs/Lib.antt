@@ -1,14 +1,5 @@
--- The silence book. Numbers to Seeking, Books and Rows state document 01; Calls is what the public calls promise, Judging and Putting what private
--- functions do. Samples are computed.
-pub mod Numbers
-pub mod Silences
-pub mod Layout
-pub mod Reading
-pub mod Packing
+-- The calls on the silence book but packing, which is the crate packing. Seeking says what seeking an address gives; Calls is what the public calls
+-- promise. What a book is, and what reading, packing and unpacking give, stands in the crate silences. Samples are computed.
 pub mod Seeking
 pub mod Calls
 pub mod Samples
-pub mod Books
-pub mod Rows
-pub mod Judging
-pub mod Putting

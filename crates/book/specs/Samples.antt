@@ -1,79 +1,19 @@
--- Document 01's samples of books, computed: the book of the report program's example, and what stands at the edges of rows 6, 7, 9 and 10.
-use Prim.Native.Nat.{ℕ}
+-- Seeking in the book of the report program's example, computed.
 use mathlib.Core.Path.{_≡_, refl}
 use mathlib.Core.Bool.{true, false}
-use mathlib.Core.List.{List, [], _∷_, _++_}
-use lib.ListN.{replicate}
-use Rattle.answers.specs.declared.refusals.Refusal.the-variants.{BookLength, Field, NotAbove, WordCount, RingNumber, OutputRoom}
-use Rattle.answers.specs.Paper.{accepted, refused}
-use Rattle.meaning.specs.Findings.{written}
-use Rattle.book.specs.Numbers.{bytesOf, numberAt}
-use Rattle.book.specs.Silences.{silence, isBelow, isSame, names}
-use Rattle.book.specs.Layout.{valueOf, fieldOf, layout}
-use Rattle.book.specs.Reading.{whole, faulty, lengthByTag, silenceAt, isWhole, fieldBy, fieldAt, fieldsFrom, readFrom, readBook}
-use Rattle.book.specs.Packing.{silencesOf, wordsOfSilences, isWordCount, packRecords, packed, unpacked, areaAtExit}
+use Rattle.silences.specs.Numbers.{numberAt}
+use Rattle.silences.specs.Silences.{silence, isBelow, isSame}
+use Rattle.silences.specs.Reading.{whole, faulty, lengthByTag, silenceAt, isWhole, fieldBy, fieldAt}
+use Rattle.silences.specs.Samples.{example}
 use Rattle.book.specs.Seeking.{seekFields, seekFrom, isFor}
 
--- The book of the report program's example: "21 00 0A 00 00 00 07 00 02 00 00 00 01".
-unfoldable pub example : List ℕ
-example = 0x21 ∷ 0x00 ∷ 0x0a ∷ 0x00 ∷ 0x00 ∷ 0x00 ∷ 0x07 ∷ 0x00 ∷ 0x02 ∷ 0x00 ∷ 0x00 ∷ 0x00 ∷ 0x01 ∷ []
-
--- It is the layout of the one silence (7, 2, 1), and is read as that.
-example-right : (layout (silence 7 2 1 ∷ []) ≡ example) × (readBook example ≡ accepted (silence 7 2 1 ∷ []))
-unfolding example bytesOf valueOf fieldOf layout readBook readFrom fieldsFrom fieldAt fieldBy lengthByTag isWhole silenceAt numberAt isBelow
-example-right = (refl, refl)
-
--- "An empty book is valid."
-pub empty-book : readBook [] ≡ accepted []
-unfolding readBook readFrom fieldsFrom
-empty-book = refl
-
--- 13,001 bytes are row 5, whatever they are; 13,000 are not.
-row-5 : (readBook (replicate 13001 0x21) ≡ refused BookLength) × (readBook (replicate 13000 0x21) ≡ refused (Field 0))
-unfolding readBook readFrom fieldsFrom fieldAt fieldBy lengthByTag isWhole silenceAt numberAt
-row-5 = (refl, refl)
-
--- Equal neighbours, and a lower one after a higher: row 7 at the later one, byte 13. A field cut off: row 6 at byte 13. Another length, or another tag: row 6 at
--- its first byte. Each byte of a number counts.
-rows-6-7 : (readBook (example ++ example) ≡ refused (NotAbove 13))
-    × (readBook (example ++ layout (silence 7 1 9 ∷ [])) ≡ refused (NotAbove 13))
-    × (readBook (example ++ 0x21 ∷ []) ≡ refused (Field 13))
-    × (readBook (0x21 ∷ 0x00 ∷ 0x0b ∷ example) ≡ refused (Field 0))
-    × (readBook (0x22 ∷ example) ≡ refused (Field 0))
-    × (readBook (layout (silence 0x01020304 0x0506 0x0708090a ∷ [])) ≡ accepted (silence 0x01020304 0x0506 0x0708090a ∷ []))
-unfolding example bytesOf valueOf fieldOf layout readBook readFrom fieldsFrom fieldAt fieldBy lengthByTag isWhole silenceAt numberAt isBelow
-rows-6-7 = (refl, refl, refl, refl, refl, refl)
-
--- The words (7, 2, 1) packed into 15 bytes: the example, and two bytes as they were. One byte short: row 10, and nothing is written.
-packed-right : (packed (7 ∷ 2 ∷ 1 ∷ []) 15 ≡ accepted (silence 7 2 1 ∷ []))
-    × (areaAtExit layout (accepted (silence 7 2 1 ∷ [])) (replicate 13 0x60 ++ 0x61 ∷ 0x62 ∷ []) ≡ example ++ 0x61 ∷ 0x62 ∷ [])
-    × (packed (7 ∷ 2 ∷ 1 ∷ []) 12 ≡ refused OutputRoom)
-    × (areaAtExit layout (refused OutputRoom) (0x61 ∷ []) ≡ 0x61 ∷ [])
-unfolding written example bytesOf valueOf fieldOf layout packed packRecords silencesOf isWordCount isBelow
-packed-right = (refl, refl, refl, refl)
-
--- Four words: row 8. A ring number of 65,536 in record 1: row 9 there, before row 7. Equal neighbours: row 7 at record 1. Before row 10, each of them.
-rows-8-9-7 : (packed (7 ∷ 2 ∷ 1 ∷ 7 ∷ []) 0 ≡ refused WordCount)
-    × (packed (7 ∷ 2 ∷ 1 ∷ 6 ∷ 65536 ∷ 1 ∷ []) 0 ≡ refused (RingNumber 1))
-    × (packed (7 ∷ 2 ∷ 1 ∷ 7 ∷ 2 ∷ 1 ∷ []) 0 ≡ refused (NotAbove 1))
-unfolding bytesOf valueOf fieldOf layout packed packRecords silencesOf isWordCount isBelow
-rows-8-9-7 = (refl, refl, refl)
-
--- The example unpacked: its three words, with room for three and not for two.
-unpacked-right : (unpacked example 3 ≡ accepted (silence 7 2 1 ∷ [])) × (wordsOfSilences (silence 7 2 1 ∷ []) ≡ 7 ∷ 2 ∷ 1 ∷ []) × (unpacked example 2 ≡ refused OutputRoom)
-unfolding example unpacked wordsOfSilences readBook readFrom fieldsFrom fieldAt fieldBy lengthByTag isWhole silenceAt numberAt isBelow
-unpacked-right = (refl, refl, refl)
-
 -- The example asked for start 0, 1 and 2 of cell 7, ring 2: its field is sought for the first two and is for start 1 only; for start 2 it is passed. From
--- its middle no field stands. It names nothing in cell 0.
+-- its middle no field stands.
 sought-right : (seekFrom example (silence 7 2 0) 0 ≡ whole (silence 7 2 1) 13)
     × (seekFrom example (silence 7 2 1) 0 ≡ whole (silence 7 2 1) 13)
     × (seekFrom example (silence 7 2 2) 0 ≡ faulty)
     × (seekFrom example (silence 7 2 0) 5 ≡ faulty)
     × (isFor (silence 7 2 0) (whole (silence 7 2 1) 13) ≡ false)
     × (isFor (silence 7 2 1) (whole (silence 7 2 1) 13) ≡ true)
-    × (names (silence 7 2 1 ∷ []) 7 2 1 ≡ true)
-    × (names (silence 7 2 1 ∷ []) 0 2 1 ≡ false)
-    × (names (silence 0 2 1 ∷ []) 7 2 1 ≡ false)
-unfolding example seekFrom seekFields fieldAt fieldBy lengthByTag isWhole silenceAt numberAt isBelow isSame names
-sought-right = (refl, refl, refl, refl, refl, refl, refl, refl, refl)
+unfolding example seekFrom seekFields fieldAt fieldBy lengthByTag isWhole silenceAt numberAt isBelow isSame
+sought-right = (refl, refl, refl, refl, refl, refl)

@@ -10,8 +10,8 @@ use Prim.Native.Nat.{ℕ, zero, suc, _-_}
 use mathlib.Core.Bool.{Bool, false, cond}
 use mathlib.Core.List.{List}
 use lib.ListN.{length}
-use Rattle.book.specs.Silences.{Silence, isBelow, isSame}
-use Rattle.book.specs.Reading.{FieldAt, whole, faulty, fieldAt}
+use Rattle.silences.specs.Silences.{Silence, isBelow, isSame}
+use Rattle.silences.specs.Reading.{FieldAt, whole, faulty, fieldAt}
 
 -- A field that is below the address is passed; any other is the one sought; where no whole field stands there is none.
 abbrev pub seekField : Silence → FieldAt → (ℕ → FieldAt) → FieldAt

@@ -1,13 +1,13 @@
 // Reading a book: how many records it has, or what is wrong with it.
 use crate::answering::BookAnswer;
-use crate::answering::Sought;
-use crate::fields::field_at;
-use crate::order::Last;
-use crate::order::is_above;
 use answers::Refusal;
+use silences::Last;
+use silences::Sought;
+use silences::field_at;
+use silences::is_above;
 ghost use mathlib.Core.Path.{_≡_};
 ghost use mathlib.Core.Option.{none};
-ghost use Rattle.book.specs.Reading.{readFrom};
+ghost use Rattle.silences.specs.Reading.{readFrom};
 ghost use Rattle.book.specs.Calls.{answerOf, recordsOf, IsRead};
 
 // "book longer than 13,000 bytes": the most bytes that a book has.

@@ -1,9 +1,9 @@
 // Seeking an address in a book.
-use crate::answering::Address;
-use crate::answering::Sought;
-use crate::fields::field_at;
-use crate::order::is_below;
-use crate::order::is_same;
+use silences::Address;
+use silences::Sought;
+use silences::field_at;
+use silences::is_below;
+use silences::is_same;
 ghost use Rattle.book.specs.Calls.{IsSought, IsSoughtOn, IsAskedFor};
 
 // The first field at or after byte offset `from` that is not below the address. Whoever asks with rising addresses goes

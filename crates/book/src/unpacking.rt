@@ -1,21 +1,20 @@
 // Unpacking a book into words: three for each record, cell, ring number and start.
-use crate::answering::Address;
 use crate::answering::BookAnswer;
-use crate::answering::Sought;
-use crate::fields::field_at;
 use crate::reading::read;
 use answers::Refusal;
+use silences::Address;
+use silences::RECORD_WORDS;
+use silences::Sought;
+use silences::field_at;
 ghost use mathlib.Core.Path.{_≡_};
 ghost use Prim.Native.Nat.{_+_, _*_, _≤_};
 ghost use lib.ListN.{length};
 ghost use lib.Seq.{sets};
 ghost use Rattle.answers.specs.Paper.{accepted};
-ghost use Rattle.book.specs.Reading.{readBook};
-ghost use Rattle.book.specs.Packing.{silenceWords, wordsOfSilences, recordWords, areaAtExit};
-ghost use Rattle.book.specs.Calls.{silenceOf, recordsOf, IsUnpacked};
-
-// The words of a record: cell, ring number, start.
-const RECORD_WORDS: usize = 3;
+ghost use Rattle.silences.specs.Reading.{readBook};
+ghost use Rattle.silences.specs.Packing.{silenceWords, wordsOfSilences, recordWords, areaAtExit};
+ghost use Rattle.silences.specs.Addresses.{silenceOf};
+ghost use Rattle.book.specs.Calls.{recordsOf, IsUnpacked};
 
 // The words of one record, from place `to` on.
 fn put_record(words: &mut [u32], to: usize, address: Address)

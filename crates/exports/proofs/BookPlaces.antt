@@ -13,18 +13,18 @@ use lib.ListN.{length, length-append}
 use Rattle.meaning.proofs.Cases.{le-or-lt}
 use Rattle.answers.specs.declared.refusals.Refusal.the-variants.{OutputRoom}
 use Rattle.answers.specs.Paper.{Answer, accepted, refused}
-use Rattle.book.specs.Silences.{Silence}
-use Rattle.book.specs.Layout.{layout}
-use Rattle.book.specs.Reading.{readBook}
-use Rattle.book.specs.Packing.{wordsOfSilences, silencesOf, packed, unpacked, inRoom}
+use Rattle.silences.specs.Silences.{Silence}
+use Rattle.silences.specs.Layout.{layout}
+use Rattle.silences.specs.Reading.{readBook}
+use Rattle.silences.specs.Packing.{wordsOfSilences, silencesOf, packed, unpacked, inRoom}
 use Rattle.book.specs.Calls.{recordsPaper}
-use Rattle.book.proofs.ReadFrom.{readBook-long, readBook-fields}
-use Rattle.book.proofs.FieldEnds.{field-ends}
-use Rattle.book.proofs.FieldsRead.{ReadsAs, read-all, stopped-faulty, stopped-order, reads-as}
-use Rattle.book.proofs.WordsOfSilences.{silences-length}
-use Rattle.book.proofs.RecordsPacked.{RecordStands, PacksAs, packed-all, stopped-ring, stopped-order as stopped-above, packs-as}
-use Rattle.book.proofs.RecordRows.{packedRecords}
-use Rattle.book.proofs.PackRows.{packed-counted, packed-uncounted, word-count-cases}
+use Rattle.silences.proofs.ReadFrom.{readBook-long, readBook-fields}
+use Rattle.silences.proofs.FieldEnds.{field-ends}
+use Rattle.silences.proofs.FieldsRead.{ReadsAs, read-all, stopped-faulty, stopped-order, reads-as}
+use Rattle.silences.proofs.WordsOfSilences.{silences-length}
+use Rattle.silences.proofs.RecordsPacked.{RecordStands, PacksAs, packed-all, stopped-ring, stopped-order as stopped-above, packs-as}
+use Rattle.silences.proofs.RecordRows.{packedRecords}
+use Rattle.silences.proofs.PackRows.{packed-counted, packed-uncounted, word-count-cases}
 
 module _ (book : List ℕ) where
   -- where reading stops

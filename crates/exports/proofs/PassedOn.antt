@@ -9,7 +9,8 @@ use lib.ListN.{length}
 use Rattle.meaning.specs.Looks.{quickLooks, surveyLooks}
 use Rattle.answers.specs.Paper.{Paper}
 use Rattle.book.specs.declared.answering.BookAnswer.{BookAnswer}
-use Rattle.book.specs.Calls.{paperOf as bookPaperOf, IsPacked, IsUnpacked}
+use Rattle.book.specs.Calls.{paperOf as bookPaperOf, IsUnpacked}
+use Rattle.packing.specs.Calls.{IsPacked}
 use Rattle.findings.specs.declared.searching.Scanned.{Scanned}
 use Rattle.outlines.specs.declared.reporting.Reported.{Reported}
 use Rattle.findings.specs.Searching.{Counts, paperOf as searchPaperOf}

@@ -9,8 +9,8 @@ use lib.ListN.{length}
 use Rattle.meaning.specs.Findings.{findings}
 use Rattle.answers.specs.declared.refusals.Refusal.{Refusal}
 use Rattle.answers.specs.Paper.{Answer, accepted, refused, answerPaper}
-use Rattle.book.specs.Silences.{Silence}
-use Rattle.book.specs.Reading.{readBook}
+use Rattle.silences.specs.Silences.{Silence}
+use Rattle.silences.specs.Reading.{readBook}
 use Rattle.book.specs.Calls.{recordsPaper}
 use Rattle.findings.specs.Admitting.{refusalOf}
 use Rattle.findings.specs.Searching.{Counts, noCounts, answerBy, searched, searchPaper}

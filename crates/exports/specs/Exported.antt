@@ -12,8 +12,8 @@ use mathlib.Core.List.{List}
 use lib.ListN.{length}
 use Rattle.meaning.specs.Looks.{quickLooks, surveyLooks}
 use Rattle.answers.specs.Paper.{Paper, answerPaper}
-use Rattle.book.specs.Layout.{layout}
-use Rattle.book.specs.Packing.{wordsOfSilences, packed, unpacked, areaAtExit}
+use Rattle.silences.specs.Layout.{layout}
+use Rattle.silences.specs.Packing.{wordsOfSilences, packed, unpacked, areaAtExit}
 use Rattle.book.specs.Calls.{recordsPaper}
 use Rattle.findings.specs.Searching.{Counts, searchPaper, searchedWords}
 use Rattle.outlines.specs.Report.{ReportCounts, noReportCounts, admittedSilences, reportedBy, reportedWordsBy}

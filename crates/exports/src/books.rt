@@ -1,8 +1,8 @@
 // The silence book, for C.
 use crate::answering::Answer;
 use crate::answering::book_answer;
-use book::pack;
 use book::unpack;
+use packing::pack;
 ghost use Rattle.exports.specs.Exported.{IsPackExported, IsUnpackExported};
 
 #[no_mangle]

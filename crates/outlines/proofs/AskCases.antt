@@ -5,10 +5,11 @@ use mathlib.Core.Path.{_≡_, refl, ap, _∙_}
 use mathlib.Core.Bool.{Bool, true, false, cond}
 use mathlib.Core.List.{List}
 use Rattle.meaning.specs.Findings.{Finding}
-use Rattle.book.specs.declared.answering.Address.{Address}
-use Rattle.book.specs.declared.answering.Sought.{Sought}
+use Rattle.silences.specs.declared.addresses.Address.{Address}
+use Rattle.silences.specs.declared.addresses.Sought.{Sought}
 use Rattle.book.specs.Seeking.{isFor}
-use Rattle.book.specs.Calls.{silenceOf, soughtOf, IsSoughtOn, IsAskedFor}
+use Rattle.silences.specs.Addresses.{silenceOf, soughtOf}
+use Rattle.book.specs.Calls.{IsSoughtOn, IsAskedFor}
 use Rattle.outlines.specs.declared.reporting.Asked.{Asked}
 use Rattle.outlines.specs.Asking.{addressOf, heldFor, hides, IsAsked}
 

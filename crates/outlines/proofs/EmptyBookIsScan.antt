@@ -11,9 +11,9 @@ use Rattle.meaning.specs.Looks.{quickLooks}
 use Rattle.answers.specs.declared.refusals.Refusal.{Refusal}
 use Rattle.answers.specs.Paper.{Answer, accepted, refused, answerPaper}
 use Rattle.answers.proofs.OneAnswer.{answer-unique}
-use Rattle.book.specs.Silences.{names}
-use Rattle.book.specs.Samples.{empty-book}
-use Rattle.book.specs.Reading.{readBook}
+use Rattle.silences.specs.Silences.{names}
+use Rattle.silences.specs.Samples.{empty-book}
+use Rattle.silences.specs.Reading.{readBook}
 use Rattle.findings.specs.declared.searching.Scanned.{Scanned}
 use Rattle.findings.specs.declared.searching.Scanned.the-variants.{Counts as ScanCase, Refused as ScanRefused}
 use Rattle.outlines.specs.declared.reporting.Reported.{Reported}

@@ -6,11 +6,12 @@ use mathlib.Core.Path.{_≡_, refl, sym, subst}
 use mathlib.Core.List.{List}
 use native.Mathlib.Omega.{arith}
 use Rattle.meaning.specs.Findings.{Finding}
-use Rattle.book.specs.declared.answering.Address.{Address}
-use Rattle.book.specs.declared.answering.Sought.{Sought}
-use Rattle.book.specs.Silences.{Silence, silence}
-use Rattle.book.specs.Calls.{silenceOf, soughtOf, IsSought}
-use Rattle.book.proofs.StrictOrder.{start-not-below}
+use Rattle.silences.specs.declared.addresses.Address.{Address}
+use Rattle.silences.specs.declared.addresses.Sought.{Sought}
+use Rattle.silences.specs.Silences.{Silence, silence}
+use Rattle.silences.specs.Addresses.{silenceOf, soughtOf}
+use Rattle.book.specs.Calls.{IsSought}
+use Rattle.silences.proofs.StrictOrder.{start-not-below}
 use Rattle.book.proofs.SeekRising.{Seeking, seeking-turn, seeking-names}
 use Rattle.book.proofs.SoughtRising.{sought-start}
 use Rattle.outlines.specs.Report.{isHidden}

@@ -10,9 +10,9 @@ use lib.ListN.{length}
 use Rattle.meaning.specs.Findings.{Finding, IsFinding, findings}
 use Rattle.meaning.proofs.Rising.{Rising, rising-from, findings-rising}
 use Rattle.answers.specs.Paper.{accepted}
-use Rattle.book.specs.Silences.{Silence, silence, isSame, names}
-use Rattle.book.specs.Reading.{readBook}
-use Rattle.book.proofs.SilenceOrder.{isSame-iff}
+use Rattle.silences.specs.Silences.{Silence, silence, isSame, names}
+use Rattle.silences.specs.Reading.{readBook}
+use Rattle.silences.proofs.SilenceOrder.{isSame-iff}
 use Rattle.outlines.specs.declared.reporting.Reported.{Reported}
 use Rattle.outlines.specs.Report.{isHidden, hidden, IsReported}
 use Rattle.outlines.proofs.SilencesAlike.{NamesAlike, hidden-same, reports-same}

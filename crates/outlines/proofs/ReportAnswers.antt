@@ -11,8 +11,8 @@ use Rattle.answers.specs.declared.refusals.Refusal.{Refusal}
 use Rattle.answers.specs.Paper.{Answer, accepted, refused, answerPaper}
 use Rattle.book.specs.declared.answering.BookAnswer.{BookAnswer}
 use Rattle.book.specs.declared.answering.BookAnswer.the-variants.{Records, Refused as BookRefused}
-use Rattle.book.specs.Silences.{Silence}
-use Rattle.book.specs.Reading.{readBook}
+use Rattle.silences.specs.Silences.{Silence}
+use Rattle.silences.specs.Reading.{readBook}
 use Rattle.book.specs.Calls.{recordsOf, IsRead}
 use Rattle.book.proofs.AcceptedBook.{HasRecords, has-records, read-answer-is}
 use Rattle.outlines.specs.declared.reporting.Reported.the-variants.{Counts as CountsCase, Refused}

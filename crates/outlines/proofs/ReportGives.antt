@@ -15,10 +15,10 @@ use Rattle.answers.specs.declared.refusals.Refusal.{Refusal}
 use Rattle.answers.specs.Refusals.{numberOf}
 use Rattle.answers.specs.Paper.{Answer, accepted, refused, Paper, answerPaper}
 use Rattle.answers.proofs.OneAnswer.{number-in}
-use Rattle.book.specs.Silences.{Silence}
-use Rattle.book.specs.Reading.{readBook}
-use Rattle.book.specs.Books.{IsBytes, IsBook}
-use Rattle.book.proofs.AcceptedIsLayout.{accepted-iff}
+use Rattle.silences.specs.Silences.{Silence}
+use Rattle.silences.specs.Reading.{readBook}
+use Rattle.silences.specs.Books.{IsBytes, IsBook}
+use Rattle.silences.proofs.AcceptedIsLayout.{accepted-iff}
 use Rattle.outlines.specs.declared.reporting.Reported.{Reported}
 use Rattle.outlines.specs.declared.reporting.Reported.the-variants.{Counts as CountsCase, Refused}
 use Rattle.findings.specs.Admitting.{refusalOf, Admitted}

@@ -11,9 +11,10 @@ use Rattle.meaning.specs.Findings.{Finding, findings, wordsOf, written}
 use Rattle.meaning.proofs.Words.{below-length-le}
 use Rattle.meaning.proofs.ScanLoop.{scan-found-le}
 use Rattle.answers.specs.Paper.{accepted}
-use Rattle.book.specs.declared.answering.Address.{Address}
-use Rattle.book.specs.Silences.{Silence, silence}
-use Rattle.book.specs.Calls.{silenceOf, IsSought}
+use Rattle.silences.specs.declared.addresses.Address.{Address}
+use Rattle.silences.specs.Silences.{Silence, silence}
+use Rattle.silences.specs.Addresses.{silenceOf}
+use Rattle.book.specs.Calls.{IsSought}
 use Rattle.sweep.specs.declared.sweeping.Sweep.{Sweep}
 use Rattle.outlines.specs.declared.reporting.Asked.{Asked}
 use Rattle.findings.specs.Admitting.{mostLine}

@@ -13,11 +13,11 @@ use Rattle.answers.specs.Refusals.{numberOf, placeOf}
 use Rattle.answers.specs.Paper.{Answer, accepted, refused, Paper, answerPaper}
 use Rattle.book.specs.declared.answering.BookAnswer.{BookAnswer}
 use Rattle.book.specs.declared.answering.BookAnswer.the-variants.{Records, Refused as BookRefused}
-use Rattle.book.specs.Silences.{Silence}
-use Rattle.book.specs.Reading.{readBook}
+use Rattle.silences.specs.Silences.{Silence}
+use Rattle.silences.specs.Reading.{readBook}
 use Rattle.book.specs.Calls.{recordsPaper, paperOf as bookPaperOf}
 use Rattle.book.proofs.RowNumbers.{HasNoPlace, row-iff, row-number-iff, row-place-is}
-use Rattle.book.proofs.BookRows.{book-rows}
+use Rattle.silences.proofs.BookRows.{book-rows}
 use Rattle.outlines.specs.declared.reporting.Reported.{Reported}
 use Rattle.findings.specs.Admitting.{refusalOf, Admitted}
 use Rattle.outlines.specs.Report.{ReportCounts, noReportCounts, silencesBy, admittedSilences, reportedBy, paperOf, IsReported}

@@ -8,9 +8,9 @@ use mathlib.Core.List.{List}
 use native.Mathlib.Omega.{arith}
 use lib.ListN.{length}
 use Rattle.answers.specs.declared.refusals.Refusal.the-variants.{Ring, Allowance, Line, FindingsRoom, BookLength, Field, NotAbove}
-use Rattle.book.specs.Books.{IsBytes}
-use Rattle.book.specs.Rows.{IsFieldFault, IsOrderFault}
-use Rattle.book.proofs.BookRows.{book-row-5-iff, book-row-6-iff, book-row-7-iff}
+use Rattle.silences.specs.Books.{IsBytes}
+use Rattle.silences.specs.Rows.{IsFieldFault, IsOrderFault}
+use Rattle.silences.proofs.BookRows.{book-row-5-iff, book-row-6-iff, book-row-7-iff}
 use Rattle.outlines.specs.declared.reporting.Reported.{Reported}
 use Rattle.findings.specs.Admitting.{Admitted}
 use Rattle.outlines.specs.Report.{paperOf, IsReported}

@@ -11,8 +11,8 @@ use lib.ListN.{length, length-append}
 use borrow.Author.Tests.{lt-ltb, le-ltb}
 use Rattle.meaning.specs.Findings.{Finding}
 use Rattle.meaning.proofs.Cases.{by-test}
-use Rattle.book.specs.Silences.{Silence}
-use Rattle.book.specs.Calls.{soughtOf}
+use Rattle.silences.specs.Silences.{Silence}
+use Rattle.silences.specs.Addresses.{soughtOf}
 use Rattle.sweep.specs.declared.sweeping.Sweep.{Sweep}
 use Rattle.sweep.specs.declared.sweeping.Swept.{Swept}
 use Rattle.outlines.specs.declared.reporting.Asked.{Asked}

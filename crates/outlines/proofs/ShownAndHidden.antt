@@ -8,7 +8,7 @@ use mathlib.Core.List.{List, [], _∷_, List·Memᴰ}
 use native.Mathlib.Omega.{arith}
 use lib.ListN.{length}
 use Rattle.meaning.specs.Findings.{Finding}
-use Rattle.book.specs.Silences.{Silence}
+use Rattle.silences.specs.Silences.{Silence}
 use Rattle.outlines.specs.Report.{isHidden, shown, hidden}
 use Rattle.outlines.proofs.ShownExactly.{shown-mem-iff, hidden-mem-iff}
 

@@ -10,8 +10,8 @@ use lib.ListN.{length}
 use Rattle.meaning.specs.Findings.{Finding, IsFinding, findings}
 use Rattle.meaning.proofs.Cases.{by-test}
 use Rattle.meaning.proofs.FoundExactly.{findings-iff}
-use Rattle.book.specs.Silences.{Silence, Names}
-use Rattle.book.proofs.NamesIff.{names-iff}
+use Rattle.silences.specs.Silences.{Silence, Names}
+use Rattle.silences.proofs.NamesIff.{names-iff}
 use Rattle.outlines.specs.Report.{isHidden, shown, hidden}
 
 module _ (silences : List Silence) (cell ringNumber : ℕ) where

@@ -10,7 +10,7 @@ use Rattle.meaning.specs.Findings.{Finding, findings, wordsEach, wordsOf, writt
 use Rattle.meaning.proofs.Cases.{by-test}
 use Rattle.meaning.proofs.Rising.{Rising, findings-rising}
 use Rattle.meaning.proofs.Words.{words-length, written-rest}
-use Rattle.book.specs.Silences.{Silence}
+use Rattle.silences.specs.Silences.{Silence}
 use Rattle.outlines.specs.Report.{isHidden, shown, hidden}
 use Rattle.outlines.proofs.ShownAndHidden.{shown-hidden-length}
 use Rattle.outlines.proofs.ReportGives.{IsGiven}

@@ -10,8 +10,8 @@ use Rattle.meaning.specs.Findings.{Finding, IsFinding, findings}
 use Rattle.meaning.proofs.FoundExactly.{findings-iff}
 use Rattle.answers.specs.declared.refusals.Refusal.{Refusal}
 use Rattle.answers.specs.Paper.{Answer, accepted, answerPaper}
-use Rattle.book.specs.Silences.{Silence}
-use Rattle.book.specs.Reading.{readBook}
+use Rattle.silences.specs.Silences.{Silence}
+use Rattle.silences.specs.Reading.{readBook}
 use Rattle.outlines.specs.declared.reporting.Reported.{Reported}
 use Rattle.findings.specs.Admitting.{refusalOf}
 use Rattle.outlines.specs.Report.{isHidden, shown, hidden, noReportCounts, silencesBy, admittedSilences, reportedBy, reportedWordsBy, IsReported}

@@ -15,10 +15,10 @@ use lib.Dec.{ltb}
 use lib.ListN.{length}
 use Rattle.meaning.specs.Findings.{Finding}
 use Rattle.answers.specs.Paper.{accepted}
-use Rattle.book.specs.Silences.{Silence, silence}
-use Rattle.book.specs.Reading.{FieldAt, readBook}
+use Rattle.silences.specs.Silences.{Silence, silence}
+use Rattle.silences.specs.Reading.{FieldAt, readBook}
 use Rattle.book.specs.Seeking.{seekField, seekFrom, isFor}
-use Rattle.book.specs.Calls.{soughtOf}
+use Rattle.silences.specs.Addresses.{soughtOf}
 use Rattle.outlines.specs.declared.reporting.Asked.{Asked}
 use Rattle.findings.specs.Admitting.{mostLine, Admitted}
 use Rattle.findings.specs.Putting.{wordsPut}

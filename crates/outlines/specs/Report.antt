@@ -16,8 +16,8 @@ use Rattle.meaning.specs.Findings.{Finding, findings, wordsOf, written}
 use Rattle.meaning.specs.Looks.{quickLooks}
 use Rattle.answers.specs.declared.refusals.Refusal.{Refusal}
 use Rattle.answers.specs.Paper.{Answer, accepted, refused, Paper, answerPaper}
-use Rattle.book.specs.Silences.{Silence, names}
-use Rattle.book.specs.Reading.{readBook}
+use Rattle.silences.specs.Silences.{Silence, names}
+use Rattle.silences.specs.Reading.{readBook}
 use Rattle.outlines.specs.declared.reporting.Reported.{Reported}
 use Rattle.outlines.specs.declared.reporting.Reported.the-variants.{Counts as CountsCase, Refused}
 use Rattle.findings.specs.Admitting.{refusalOf}

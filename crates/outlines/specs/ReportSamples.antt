@@ -13,7 +13,7 @@ use Rattle.meaning.specs.Rules.{readEdge, readLeft, readWindow, windowsFrom, ca
 use Rattle.meaning.specs.Looks.{readLooks, tallyLooks, verifyLooks}
 use Rattle.meaning.specs.Samples.{ascii, finding}
 use Rattle.answers.specs.Paper.{accepted}
-use Rattle.book.specs.Silences.{Silence, silence, isSame, names}
+use Rattle.silences.specs.Silences.{Silence, silence, isSame, names}
 use Rattle.outlines.specs.Report.{shown, hidden, reportedBy, reportedWordsBy}
 
 -- P2's ring.

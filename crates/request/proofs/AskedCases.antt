@@ -12,8 +12,8 @@ use lib.ListN.{length, getD}
 use borrow.Author.Tests.{lt-ltb, le-ltb, leb-true, eqb-true}
 use Rattle.meaning.proofs.Cases.{and-true}
 use Rattle.answers.specs.declared.refusals.Refusal.the-variants.{Input}
-use Rattle.book.specs.Numbers.{numberAt}
-use Rattle.book.specs.Reading.{headLength}
+use Rattle.silences.specs.Numbers.{numberAt}
+use Rattle.silences.specs.Reading.{headLength}
 use Rattle.request.specs.declared.fields.FieldEnd.{FieldEnd}
 use Rattle.request.specs.declared.fields.FieldEnd.the-variants.{At, NoField}
 use Rattle.request.specs.declared.asking.Asked.the-variants.{Parts as PartsCase, Refused}

@@ -8,8 +8,8 @@ use lib.ListN.{length, drop, length-append, length-drop}
 use lib.Seq.{take-all}
 use Rattle.meaning.specs.Findings.{written}
 use Rattle.answers.specs.declared.refusals.Refusal.{Refusal}
-use Rattle.book.specs.Putting.{IsPut}
-use Rattle.book.proofs.WrittenAt.{writtenAt-zero}
+use Rattle.silences.specs.Putting.{IsPut}
+use Rattle.silences.proofs.WrittenAt.{writtenAt-zero}
 use Rattle.request.specs.declared.asking.Asked.{Asked}
 use Rattle.request.specs.declared.asking.Asked.the-variants.{Parts as PartsCase, Refused}
 use Rattle.request.specs.declared.asking.Parts.{Parts}

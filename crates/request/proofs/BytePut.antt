@@ -1,13 +1,12 @@
--- One byte stored is one byte put, and puts one after the other are one put (`put-append` of the book). So a writer's text is what its pieces make together.
+-- One byte stored is one byte put, and puts one after the other are one put (`put-append` of the silences). So a writer's text is what its pieces make together.
 -- Assumes nothing.
 use Prim.Native.Nat.{ℕ, _+_, _≤_, _<_}
 use mathlib.Core.Path.{_≡_, refl, sym, ap, _∙_}
 use mathlib.Core.List.{List, [], _∷_, _++_}
 use native.Mathlib.Omega.{arith}
 use lib.ListN.{length, set, length-append}
-use Rattle.book.specs.Putting.{writtenAt, IsPut}
-use Rattle.book.proofs.WrittenAt.{writtenAt-none, writtenAt-last}
-use Rattle.book.proofs.FieldPut.{put-append}
+use Rattle.silences.specs.Putting.{writtenAt, IsPut}
+use Rattle.silences.proofs.WrittenAt.{writtenAt-none, writtenAt-last, put-append}
 
 -- A byte stored.
 pub byte-put : (at byte : ℕ) (area : List ℕ) → at < length area → IsPut at (byte ∷ []) area (at + 1) (set area at byte)

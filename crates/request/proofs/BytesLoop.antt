@@ -7,8 +7,8 @@ use native.Mathlib.Numerals.{add-one}
 use native.Mathlib.Omega.{arith}
 use lib.ListN.{length, take, getD, set, length-append, length-set}
 use lib.Seq.{take-suc, take-all, length-take-le}
-use Rattle.book.specs.Putting.{IsPut}
-use Rattle.book.proofs.WrittenAt.{writtenAt-none}
+use Rattle.silences.specs.Putting.{IsPut}
+use Rattle.silences.proofs.WrittenAt.{writtenAt-none}
 use Rattle.request.proofs.BytePut.{put-byte, put-same}
 
 -- What the loop keeps.

@@ -5,7 +5,7 @@ use mathlib.Core.Path.{_≡_, sym, ap}
 use mathlib.Core.List.{List, [], _∷_}
 use native.Mathlib.Omega.{arith}
 use lib.ListN.{length, set, length-append}
-use Rattle.book.specs.Putting.{IsPut}
+use Rattle.silences.specs.Putting.{IsPut}
 use Rattle.request.specs.Decimal.{digit, decimal}
 use Rattle.request.proofs.DecimalDigits.{decimal-one, decimal-more}
 use Rattle.request.proofs.BytePut.{byte-put, put-byte, put-same}

@@ -9,11 +9,11 @@ use native.Mathlib.Omega.{arith}
 use native.Mathlib.Numerals.{add-one}
 use lib.ListN.{length, getD, take, drop, length-append, length-take, length-drop, take-append-drop}
 use lib.Seq.{drop-cons, drop-drop, getD-drop, take-append-seam, drop-append-seam}
-use Rattle.book.specs.Numbers.{bytesOf, numberAt}
-use Rattle.book.specs.Layout.{field}
-use Rattle.book.specs.Reading.{headLength, fieldEnd}
-use Rattle.book.specs.Books.{IsBytes}
-use Rattle.book.proofs.NumberBytes.{bytesOf-length, number-of-bytes, bytes-of-number}
+use Rattle.silences.specs.Numbers.{bytesOf, numberAt}
+use Rattle.silences.specs.Layout.{field}
+use Rattle.silences.specs.Reading.{headLength, fieldEnd}
+use Rattle.silences.specs.Books.{IsBytes}
+use Rattle.silences.proofs.NumberBytes.{bytesOf-length, number-of-bytes, bytes-of-number}
 use Rattle.request.specs.Fields.{FieldKind, longAt, fieldEndAt, between}
 use Rattle.request.proofs.FieldEnds.{field-stands}
 use Rattle.request.proofs.AskedCases.{Stands}

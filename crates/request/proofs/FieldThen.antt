@@ -10,7 +10,7 @@ use native.Mathlib.Omega.{arith}
 use Rattle.answers.specs.declared.refusals.Refusal.{Refusal}
 use Rattle.answers.specs.declared.refusals.Refusal.the-variants.{Input}
 use Rattle.answers.specs.Paper.{Answer, accepted, refused}
-use Rattle.book.specs.Reading.{headLength}
+use Rattle.silences.specs.Reading.{headLength}
 use Rattle.request.specs.Fields.{FieldKind, fieldEndAt}
 use Rattle.request.specs.Input.{Request, endThen, fieldThen}
 use Rattle.request.proofs.AskedCases.{Stands, stands-by}

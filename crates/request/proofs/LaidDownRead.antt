@@ -7,10 +7,10 @@ use mathlib.Core.List.{List, _++_}
 use native.Mathlib.Omega.{arith}
 use lib.ListN.{length, drop}
 use Rattle.answers.specs.Paper.{accepted}
-use Rattle.book.specs.Numbers.{bytesOf}
-use Rattle.book.specs.Layout.{field}
-use Rattle.book.specs.Reading.{fieldEnd}
-use Rattle.book.proofs.NumberBytes.{bytesOf-length}
+use Rattle.silences.specs.Numbers.{bytesOf}
+use Rattle.silences.specs.Layout.{field}
+use Rattle.silences.specs.Reading.{fieldEnd}
+use Rattle.silences.proofs.NumberBytes.{bytesOf-length}
 use Rattle.request.specs.Fields.{cellField, ringNumberField, allowanceField, ringField, lineField}
 use Rattle.request.specs.Input.{Request, requestOf, laidDown, CanLayDown}
 use Rattle.request.proofs.AskedCases.{FiveStand, stands-by, asked-parts}

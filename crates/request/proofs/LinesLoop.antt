@@ -10,8 +10,8 @@ use mathlib.Core.List.{List, [], _++_}
 use native.Mathlib.Omega.{arith}
 use lib.ListN.{length, drop, length-append}
 use Rattle.meaning.specs.Findings.{wordsEach}
-use Rattle.book.specs.Putting.{writtenAt, IsPut}
-use Rattle.book.proofs.WrittenAt.{writtenAt-none, writtenAt-append}
+use Rattle.silences.specs.Putting.{writtenAt, IsPut}
+use Rattle.silences.proofs.WrittenAt.{writtenAt-none, writtenAt-append}
 use Rattle.request.specs.Lines.{findingLine, findingLines}
 use Rattle.request.specs.Writing.{findingsOf}
 use Rattle.request.proofs.WordsOfFindings.{findingOfWords, findingsOf-step, findingsOf-end}

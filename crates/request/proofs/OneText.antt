@@ -11,8 +11,8 @@ use Rattle.answers.specs.declared.refusals.Refusal.{Refusal}
 use Rattle.answers.specs.declared.refusals.Refusal.the-variants.{Ring, Allowance, Line, FindingsRoom}
 use Rattle.answers.specs.Refusals.{numberOf}
 use Rattle.answers.specs.Paper.{refused}
-use Rattle.book.specs.Reading.{readBook}
-use Rattle.book.proofs.BookRows.{book-rows}
+use Rattle.silences.specs.Reading.{readBook}
+use Rattle.silences.proofs.BookRows.{book-rows}
 use Rattle.findings.specs.Admitting.{roomAsked, refusalOf}
 use Rattle.outlines.specs.Report.{silencesBy, admittedSilences}
 use Rattle.findings.proofs.AdmitRows.{RowGiven, row-1, row-2, row-3, row-4, row-given}

@@ -6,8 +6,8 @@ use mathlib.Core.Path.{_≡_}
 use mathlib.Core.List.{List, _++_}
 use native.Mathlib.Omega.{arith}
 use lib.ListN.{length, length-append}
-use Rattle.book.specs.Putting.{IsPut}
-use Rattle.book.proofs.FieldPut.{put-append}
+use Rattle.silences.specs.Putting.{IsPut}
+use Rattle.silences.proofs.WrittenAt.{put-append}
 
 -- Room for the first.
 pub first-room : (at : ℕ) (a b area : List ℕ) → at + length (a ++ b) ≤ length area → at + length a ≤ length area

@@ -12,11 +12,11 @@ use lib.ListN.{length, take, drop, length-take}
 use borrow.Author.Tests.{ltb-false}
 use Rattle.answers.specs.declared.refusals.Refusal.the-variants.{Input}
 use Rattle.answers.specs.Paper.{accepted, refused}
-use Rattle.book.specs.Numbers.{bytesOf, numberAt}
-use Rattle.book.specs.Layout.{field}
-use Rattle.book.specs.Reading.{headLength}
-use Rattle.book.specs.Books.{IsBytes}
-use Rattle.book.proofs.NumberBytes.{numberAt-lt, bytes-of-number}
+use Rattle.silences.specs.Numbers.{bytesOf, numberAt}
+use Rattle.silences.specs.Layout.{field}
+use Rattle.silences.specs.Reading.{headLength}
+use Rattle.silences.specs.Books.{IsBytes}
+use Rattle.silences.proofs.NumberBytes.{numberAt-lt, bytes-of-number}
 use Rattle.request.specs.Fields.{FieldKind, cellField, ringNumberField, allowanceField, ringField, lineField, between}
 use Rattle.request.specs.Input.{Request, mostInput, fieldsOf, requestOf, laidDown, CanLayDown}
 use Rattle.request.proofs.AskedCases.{Stands}

@@ -11,7 +11,7 @@ use Rattle.meaning.specs.Findings.{Finding, findings, wordsEach, wordsOf, writt
 use Rattle.meaning.proofs.Words.{words-length}
 use Rattle.answers.specs.declared.refusals.Refusal.{Refusal}
 use Rattle.answers.specs.Paper.{Answer}
-use Rattle.book.specs.Silences.{Silence}
+use Rattle.silences.specs.Silences.{Silence}
 use Rattle.outlines.specs.declared.reporting.Reported.{Reported}
 use Rattle.outlines.specs.declared.reporting.Reported.the-variants.{Counts as CountsCase, Refused}
 use Rattle.outlines.specs.Report.{shown, hidden, ReportCounts, reportCounts, admittedSilences, paperOf, IsReported}

@@ -9,7 +9,7 @@ use mathlib.Core.List.{List, _++_}
 use native.Mathlib.Omega.{arith}
 use lib.ListN.{length, take}
 use Rattle.meaning.specs.Findings.{wordsEach}
-use Rattle.book.specs.Putting.{IsPut}
+use Rattle.silences.specs.Putting.{IsPut}
 use Rattle.request.specs.Input.{Request}
 use Rattle.request.specs.Lines.{firstLine, findingLines, lastLine}
 use Rattle.request.specs.Answering.{requestText}

@@ -11,7 +11,7 @@ use lib.ListN.{length}
 use borrow.Author.Tests.{le-ltb, leb-true, eqb-false}
 use Rattle.answers.specs.declared.refusals.Refusal.{Refusal}
 use Rattle.answers.specs.declared.refusals.Refusal.the-variants.{Ring, Allowance, Line, FindingsRoom}
-use Rattle.book.specs.Reading.{readBook}
+use Rattle.silences.specs.Reading.{readBook}
 use Rattle.findings.specs.Admitting.{roomAsked, isRow1, isRow2, isRow3, isRow4, refusalOf}
 use Rattle.outlines.specs.Report.{silencesBy, admittedSilences}
 

@@ -10,7 +10,7 @@ use Rattle.meaning.specs.Findings.{Finding, findings}
 use Rattle.meaning.specs.Looks.{quickLooks}
 use Rattle.meaning.proofs.Words.{below-length-le}
 use Rattle.meaning.proofs.LookBound.{quickLooks-most}
-use Rattle.book.specs.Silences.{Silence}
+use Rattle.silences.specs.Silences.{Silence}
 use Rattle.findings.specs.Admitting.{Admitted}
 use Rattle.outlines.specs.Report.{shown, ReportCounts, reportCounts}
 use Rattle.outlines.proofs.ShownExactly.{shown-iff}

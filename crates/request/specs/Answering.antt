@@ -13,7 +13,7 @@ use mathlib.Core.List.{List, _++_}
 use lib.ListN.{length}
 use Rattle.meaning.specs.Findings.{findings, written}
 use Rattle.answers.specs.Paper.{Answer, accepted, refused}
-use Rattle.book.specs.Silences.{Silence}
+use Rattle.silences.specs.Silences.{Silence}
 use Rattle.findings.specs.Admitting.{roomAsked}
 use Rattle.outlines.specs.Report.{shown, admittedSilences, reportCounts}
 use Rattle.request.specs.Input.{Request, requestOf}

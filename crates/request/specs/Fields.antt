@@ -12,8 +12,8 @@ use mathlib.Core.List.{List}
 use mathlib.Core.Option.{Option, none, some}
 use lib.Dec.{leb, eqb}
 use lib.ListN.{length, getD, take, drop}
-use Rattle.book.specs.Numbers.{numberAt}
-use Rattle.book.specs.Reading.{fieldEnd}
+use Rattle.silences.specs.Numbers.{numberAt}
+use Rattle.silences.specs.Reading.{fieldEnd}
 
 -- A kind of field: its tag, and the least and the most bytes that its value has.
 pub record FieldKind : Type 0 where

@@ -16,9 +16,9 @@ use lib.Dec.{ltb}
 use lib.ListN.{length, drop}
 use Rattle.answers.specs.declared.refusals.Refusal.the-variants.{Input}
 use Rattle.answers.specs.Paper.{Answer, accepted, refused}
-use Rattle.book.specs.Numbers.{numberAt, bytesOf}
-use Rattle.book.specs.Layout.{field}
-use Rattle.book.specs.Reading.{headLength}
+use Rattle.silences.specs.Numbers.{numberAt, bytesOf}
+use Rattle.silences.specs.Layout.{field}
+use Rattle.silences.specs.Reading.{headLength}
 use Rattle.request.specs.Fields.{FieldKind, cellField, ringNumberField, allowanceField, ringField, lineField, fieldEndAt, between}
 
 -- What the program is asked: the report of a cell, a ring number, a ring, a line, an allowance and a book.

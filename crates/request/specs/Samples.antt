@@ -11,9 +11,9 @@ use Rattle.meaning.specs.Stretch.{begins, fits}
 use Rattle.meaning.specs.Rules.{readEdge, readLeft, readWindow, windowsFrom, candidatesOf}
 use Rattle.meaning.specs.Looks.{readLooks, tallyLooks, verifyLooks}
 use Rattle.meaning.specs.Samples.{ascii}
-use Rattle.book.specs.Numbers.{numberAt, bytesOf}
-use Rattle.book.specs.Silences.{isBelow, isSame, names}
-use Rattle.book.specs.Reading.{lengthByTag, silenceAt, isWhole, fieldBy, fieldAt, fieldsFrom, readFrom, readBook}
+use Rattle.silences.specs.Numbers.{numberAt, bytesOf}
+use Rattle.silences.specs.Silences.{isBelow, isSame, names}
+use Rattle.silences.specs.Reading.{lengthByTag, silenceAt, isWhole, fieldBy, fieldAt, fieldsFrom, readFrom, readBook}
 use Rattle.findings.specs.Admitting.{refusalOf}
 use Rattle.outlines.specs.Report.{shown, hidden, admittedSilences}
 use Rattle.request.specs.Fields.{isField, fieldEndAt}

@@ -9,7 +9,7 @@ use crate::refusing::put_refusal;
 use outlines::Reported;
 use outlines::report;
 ghost use lib.ListN.{length};
-ghost use Rattle.book.specs.Putting.{IsPut};
+ghost use Rattle.silences.specs.Putting.{IsPut};
 ghost use Rattle.request.specs.Answering.{requestText, IsAnswered};
 ghost use Rattle.request.specs.Writing.{request, CanAnswer};
 

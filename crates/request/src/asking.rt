@@ -1,9 +1,9 @@
 // What the program is asked: the five fields in their order, and then the book.
 use crate::fields::FieldEnd;
-use crate::fields::HEAD_LENGTH;
 use crate::fields::field_end;
-use crate::fields::number_at;
 use answers::Refusal;
+use silences::HEAD_LENGTH;
+use silences::number_at;
 ghost use Rattle.request.specs.Parsing.{IsAsked};
 
 // "It reads at most 32,768 bytes of standard input".

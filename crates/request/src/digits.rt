@@ -1,7 +1,7 @@
 // Numbers as decimal digits.
 ghost use Prim.Native.Nat.{_+_, _≤_};
 ghost use lib.ListN.{length};
-ghost use Rattle.book.specs.Putting.{IsPut};
+ghost use Rattle.silences.specs.Putting.{IsPut};
 ghost use Rattle.request.specs.Decimal.{decimal};
 
 // The byte of the digit 0.

@@ -1,39 +1,16 @@
 // One field of the program's input: "one-byte tag, two-byte length, value; numbers high byte first".
-ghost use mathlib.Core.Path.{_≡_};
-ghost use Prim.Native.Nat.{_+_, _≤_, _<_, _^_};
+use silences::HEAD_LENGTH;
+use silences::LENGTH_BYTES;
+use silences::TAG_BYTES;
+use silences::number_at;
+ghost use Prim.Native.Nat.{_≤_};
 ghost use lib.ListN.{length};
-ghost use Rattle.book.specs.Numbers.{numberAt};
 ghost use Rattle.request.specs.Parsing.{IsEnd};
-
-// "one-byte tag, two-byte length": the bytes of a field before its value.
-pub const HEAD_LENGTH: usize = 3;
 
 // Where a field ends: the byte offset just past it. Or no field of its kind stands there.
 pub enum FieldEnd {
     At(usize),
     NoField,
-}
-
-// A byte as a number of 32 bits.
-fn wide(x: u8) -> u32
-    ensures { λ r. ⌜ r ≡ x ⌝ }
-{
-    x as u32
-}
-
-// The number in the `count` bytes from byte offset `at`.
-pub fn number_at(input: &[u8], at: usize, count: usize) -> u32
-    requires { ⌜ (count ≤ 4) × (at + count ≤ length (now input)) ⌝ }
-    ensures is { λ r. ⌜ r ≡ numberAt count (now (input .entry)) at ⌝ }
-    ensures lt { λ r. ⌜ r < 256 ^ count ⌝ }
-{
-    let mut number: u32 = 0;
-    let mut done: usize = 0;
-    while done < count {
-        number = number * 256 + wide(input[at + done]);
-        done += 1;
-    }
-    number
 }
 
 // The field at byte offset `at`: it has this tag, its value has `least` to `most` bytes, and it is not cut.
@@ -47,7 +24,7 @@ pub fn field_end(input: &[u8], at: usize, tag: u8, least: usize, most: usize) ->
     if input[at] != tag {
         return FieldEnd::NoField;
     }
-    let long = number_at(input, at + 1, 2) as usize;
+    let long = number_at(input, at + TAG_BYTES, LENGTH_BYTES) as usize;
     if long < least {
         return FieldEnd::NoField;
     }

@@ -2,7 +2,7 @@
 use crate::digits::put_decimal;
 ghost use Prim.Native.Nat.{_+_, _≤_};
 ghost use lib.ListN.{length};
-ghost use Rattle.book.specs.Putting.{IsPut};
+ghost use Rattle.silences.specs.Putting.{IsPut};
 ghost use Rattle.request.specs.Lines.{firstLine, lastLine, refusalWords, findingLine, findingLines};
 ghost use Rattle.request.specs.Writing.{numbered, named, findingOf, findingsOf, countsOf};
 

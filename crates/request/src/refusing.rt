@@ -5,7 +5,7 @@ use answers::number_of;
 use answers::place_of;
 ghost use Prim.Native.Nat.{_≤_};
 ghost use lib.ListN.{length};
-ghost use Rattle.book.specs.Putting.{IsPut};
+ghost use Rattle.silences.specs.Putting.{IsPut};
 ghost use Rattle.request.specs.Lines.{refusalLine};
 ghost use Rattle.request.specs.Writing.{mostText};
 

@@ -14,7 +14,7 @@ fn pack_words(row: &[u8], words: &[u32]) {
     let room = table::number_or(row, 3, AMPLE);
     let mut bytes = area::ample_bytes();
     let lent: &mut [u8] = &mut bytes;
-    let answer = book::pack(words, area::lend_bytes(lent, room));
+    let answer = packing::pack(words, area::lend_bytes(lent, room));
     let mut seen = area::ample();
     area::spread(lent, &mut seen);
     paper::print_book(answer);

@@ -5,8 +5,8 @@ use crate::area;
 use crate::books;
 use crate::printing;
 use crate::table;
-use book::Address;
-use book::Sought;
+use silences::Address;
+use silences::Sought;
 
 // The address that a field gives: cell, ring number, start.
 fn address(field: &[u8]) -> Address {

@@ -4,7 +4,7 @@ use mathlib.Core.Path.{sym, ap, _∙_}
 use native.Mathlib.Omega.{arith}
 use Rattle.answers.specs.Paper.{answerPaper}
 use Rattle.book.specs.Calls.{recordsOf, recordsPaper}
-use Rattle.book.proofs.ReadFrom.{readBook-long, readBook-fields}
+use Rattle.silences.proofs.ReadFrom.{readBook-long, readBook-fields}
 use Rattle.book.proofs.reading.read.Statement.{statement}
 use Rattle.book.proofs.reading.read.Tie as tie
 

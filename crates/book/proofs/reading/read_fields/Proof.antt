@@ -7,7 +7,7 @@ use native.Mathlib.Omega.{arith}
 use borrow.Author.Needs.{needs}
 use borrow.Author.Tests.{not-true, not-false}
 use lib.ListN.{length}
-use Rattle.book.specs.Calls.{lastOf}
+use Rattle.silences.specs.Addresses.{lastOf}
 use Rattle.book.proofs.ReadLoop.{ReadOn, read-start, read-end, read-faulty, read-not-above, read-turn, read-lt}
 use Rattle.book.proofs.reading.read_fields.Statement.{statement}
 use Rattle.book.proofs.reading.read_fields.Tie as tie

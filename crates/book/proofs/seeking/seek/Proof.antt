@@ -6,7 +6,7 @@ use mathlib.Core.Path.{sym, _∙_}
 use borrow.Author.Needs.{needs}
 use borrow.Author.Tests.{not-true, not-false}
 use lib.ListN.{length}
-use Rattle.book.specs.Calls.{silenceOf}
+use Rattle.silences.specs.Addresses.{silenceOf}
 use Rattle.book.proofs.SeekLoop.{SeekOn, seek-start, seek-nothing, seek-end, seek-turn, seek-lt}
 use Rattle.book.proofs.seeking.seek.Statement.{statement}
 use Rattle.book.proofs.seeking.seek.Tie as tie

@@ -3,6 +3,7 @@
 -- Assumes nothing.
 use native.Mathlib.Omega.{arith}
 use borrow.Author.Needs.{needs}
+use Rattle.silences.proofs.NumberWithin.{number-read}
 use Rattle.request.proofs.AskedCases.{FiveStand, stands, stands-not, asked-longer, asked-cell-no, asked-ring-number-no, asked-allowance-no, asked-ring-no, asked-line-no, asked-parts}
 use Rattle.request.proofs.asking.read_request.Statement.{statement}
 use Rattle.request.proofs.asking.read_request.Tie as tie
@@ -135,13 +136,13 @@ five-stand c = record {
 }
 
 number-at-requires : tie.Need-number-at-requires
-number-at-requires c κs = let five = five-stand c in omega arith
+number-at-requires c κs = tt
 
 add-number-at : tie.Need-add-number-at
 add-number-at c = let five = five-stand (c .before) in omega arith
 
 number-at-requires-2 : tie.Need-number-at-requires-2
-number-at-requires-2 c κs = let five = five-stand (c .before) in omega arith
+number-at-requires-2 c κs = tt
 
 cast-t22 : tie.Need-cast-t22
 cast-t22 c = search needs
@@ -150,7 +151,7 @@ add-number-at-2 : tie.Need-add-number-at-2
 add-number-at-2 c = let five = five-stand (c .before .before) in omega arith
 
 number-at-requires-3 : tie.Need-number-at-requires-3
-number-at-requires-3 c κs = let five = five-stand (c .before .before) in omega arith
+number-at-requires-3 c κs = tt
 
 cast-t25 : tie.Need-cast-t25
 cast-t25 c = search needs
@@ -165,8 +166,11 @@ add-t27 c = let five = five-stand (c .before .before .before) in omega arith
 returns-7 : tie.Need-returns-7
 returns-7 c =
     let at-line = c .before .before .before in
-    asked-parts (at-cell at-line .before .before .before .before .if1 .left) (five-stand at-line) (c .before .before .number-at .ensures .0)
-    (c .before .number-at2 .ensures .0) (c .number-at3 .ensures .0)
+    let five = five-stand at-line in
+    asked-parts (at-cell at-line .before .before .before .before .if1 .left) five
+    (number-read (c .before .before .number-at .ensures) (omega arith) (omega arith))
+    (number-read (c .before .number-at2 .ensures) (omega arith) (omega arith))
+    (number-read (c .number-at3 .ensures) (omega arith) (omega arith))
 
 pub read-request-spec : {M : Type 1} → statement M
 read-request-spec =

@@ -2,6 +2,7 @@
 -- Assumes nothing.
 use native.Mathlib.Omega.{arith}
 use borrow.Author.Needs.{needs}
+use Rattle.silences.proofs.NumberWithin.{number-read}
 use Rattle.request.proofs.FieldEnds.{field-cut, tag-no, field-short, field-long, field-stands}
 use Rattle.request.proofs.fields.field_end.Statement.{statement}
 use Rattle.request.proofs.fields.field_end.Tie as tie
@@ -24,18 +25,18 @@ add-number-at : tie.Need-add-number-at
 add-number-at c = search needs
 
 number-at-requires : tie.Need-number-at-requires
-number-at-requires c κs = search needs
+number-at-requires c κs = tt
 
 cast-long : tie.Need-cast-long
 cast-long c = search needs
 
 -- too short
 returns-3 : tie.Need-returns-3
-returns-3 c = record { is = field-short _ _ _ (omega arith) }
+returns-3 c = record { is = field-short _ _ _ (omega (arith, number-read (c .before .number-at .ensures) (omega arith) (omega arith))) }
 
 -- too long
 returns-4 : tie.Need-returns-4
-returns-4 c = record { is = field-long _ _ _ (omega arith) }
+returns-4 c = record { is = field-long _ _ _ (omega (arith, number-read (c .before .before .number-at .ensures) (omega arith) (omega arith))) }
 
 sub-if5 : tie.Need-sub-if5
 sub-if5 c = search needs
@@ -45,7 +46,7 @@ sub-if5-2 c = search needs
 
 -- cut in its value
 returns-5 : tie.Need-returns-5
-returns-5 c = record { is = field-cut _ _ _ (omega arith) }
+returns-5 c = record { is = field-cut _ _ _ (omega (arith, number-read (c .before .before .before .number-at .ensures) (omega arith) (omega arith))) }
 
 add-t7 : tie.Need-add-t7
 add-t7 c = search needs
@@ -55,7 +56,9 @@ add-t8 c = search needs
 
 -- whole
 returns-6 : tie.Need-returns-6
-returns-6 c = record { is = field-stands _ _ _ _ (omega arith) (c .before .before .before .before .if2 .left) (omega arith) (omega arith) (omega arith) }
+returns-6 c =
+    let long-is = number-read (c .before .before .before .number-at .ensures) (omega arith) (omega arith) in
+    record { is = field-stands _ _ _ _ (omega arith) (c .before .before .before .before .if2 .left) (omega arith) (omega arith) (omega arith) }
 
 pub field-end-spec : {M : Type 1} → statement M
 field-end-spec =

@@ -1,0 +1,45 @@
+-- A field is put by putting its numbers one after the other: tag, length, cell, ring number, start. Each begins where the one before it ends, and together they are
+-- the field's bytes (`fieldOf-is`).
+-- Assumes nothing.
+use Prim.Native.Nat.{ℕ, _+_, _≤_}
+use mathlib.Core.Path.{_≡_, sym, ap, _∙_}
+use mathlib.Core.List.{List, _++_, append-assoc}
+use native.Mathlib.Omega.{arith}
+use lib.ListN.{length, length-append}
+use Rattle.silences.specs.Numbers.{bytesOf}
+use Rattle.silences.specs.Silences.{Silence}
+use Rattle.silences.specs.Layout.{silenceTag, valueOf, fieldOf}
+use Rattle.silences.specs.Putting.{IsPut}
+use Rattle.silences.proofs.NumberBytes.{bytesOf-length}
+use Rattle.silences.proofs.FieldBytes.{fieldOf-is}
+use Rattle.silences.proofs.WrittenAt.{put-append}
+
+-- A number is put in its count of bytes.
+pub number-next : {at next : ℕ} {area out : List ℕ} (count number : ℕ) → IsPut at (bytesOf count number) area next out → next ≡ at + count
+number-next {at} count number is-put = is-put .next-is ∙ ap (λ (n : ℕ). at + n) (bytesOf-length count number)
+
+module _ (s : Silence) where
+  -- a field is its numbers, each in its bytes
+  field-numbers : bytesOf 1 silenceTag ++ bytesOf 2 10 ++ bytesOf 4 (s .cell) ++ bytesOf 2 (s .ringNumber) ++ bytesOf 4 (s .start) ≡ fieldOf s
+  unfolding bytesOf valueOf
+  field-numbers =
+      let head : List ℕ = bytesOf 1 silenceTag ++ bytesOf 2 10 in
+      let address : List ℕ = bytesOf 4 (s .cell) ++ bytesOf 2 (s .ringNumber) in
+      ap (λ (l : List ℕ). l ++ bytesOf 4 (s .start)) (append-assoc head (bytesOf 4 (s .cell)) (bytesOf 2 (s .ringNumber)))
+      ∙ append-assoc head address (bytesOf 4 (s .start))
+      ∙ sym (fieldOf-is s)
+
+  -- Its numbers put one after the other, it is put.
+  pub field-put : {at length-at value-at ring-at start-at next : ℕ} {area a b c d out : List ℕ} → at + length (fieldOf s) ≤ length area
+      → IsPut at (bytesOf 1 silenceTag) area length-at a → IsPut length-at (bytesOf 2 10) a value-at b → IsPut value-at (bytesOf 4 (s .cell)) b ring-at c
+      → IsPut ring-at (bytesOf 2 (s .ringNumber)) c start-at d → IsPut start-at (bytesOf 4 (s .start)) d next out → IsPut at (fieldOf s) area next out
+  field-put {at} {area = area} {out = out} room tag long cell ring start =
+      let head : List ℕ = bytesOf 1 silenceTag ++ bytesOf 2 10 in
+      let to-cell : List ℕ = head ++ bytesOf 4 (s .cell) in
+      let to-ring : List ℕ = to-cell ++ bytesOf 2 (s .ringNumber) in
+      let all : at + length (to-ring ++ bytesOf 4 (s .start)) ≤ length area = omega (arith, room, ap length field-numbers) in
+      let ring-room : at + length to-ring ≤ length area = omega (arith, length-append to-ring (bytesOf 4 (s .start))) in
+      let cell-room : at + length to-cell ≤ length area = omega (arith, length-append to-cell (bytesOf 2 (s .ringNumber))) in
+      let head-room : at + length head ≤ length area = omega (arith, length-append head (bytesOf 4 (s .cell))) in
+      let tag-room : at + length (bytesOf 1 silenceTag) ≤ length area = omega (arith, length-append (bytesOf 1 silenceTag) (bytesOf 2 10)) in
+      rw field-numbers at (put-append ring-room (put-append cell-room (put-append head-room (put-append tag-room tag long) cell) ring) start)

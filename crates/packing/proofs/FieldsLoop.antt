@@ -1,0 +1,75 @@
+-- The loop that writes the fields. Before each turn the silences of the words from `at` on are to be written yet: their layout, written from `to` on over what the
+-- area holds now, gives the whole layout over the area as it was. A turn puts the first of their fields (`writtenAt-append`).
+-- Assumes nothing.
+--
+--   words, area    the words, and the area as it was at the start
+--   at, to, out    the word to read next, the byte offset to write next, the area now
+use Prim.Native.Nat.{ℕ, _+_, _≤_, _<_}
+use mathlib.Core.Path.{_≡_, refl, sym, ap, _∙_}
+use mathlib.Core.List.{List, _++_}
+use native.Mathlib.Omega.{arith}
+use lib.ListN.{length, drop, length-append}
+use Rattle.meaning.specs.Findings.{written}
+use Rattle.silences.specs.Silences.{Silence}
+use Rattle.silences.specs.Layout.{fieldOf, layout}
+use Rattle.silences.specs.Packing.{silencesOf, recordWords}
+use Rattle.silences.specs.Putting.{writtenAt, IsPut}
+use Rattle.silences.proofs.WordsOfSilences.{silenceOfWords, silencesOf-step, silencesOf-end}
+use Rattle.silences.proofs.WrittenAt.{writtenAt-zero, writtenAt-none, writtenAt-append}
+
+-- The layout of the silences of the words from `at` on.
+abbrev pub layoutFrom : List ℕ → ℕ → List ℕ
+layoutFrom words at = layout (silencesOf (drop at words))
+
+-- What the loop keeps.
+pub record PutFields (words area : List ℕ) (at to : ℕ) (out : List ℕ) : Type 0 where
+  pub at-le : at ≤ length words
+  pub length-is : length out ≡ length area
+  pub room : to + length (layoutFrom words at) ≤ length area
+  pub whole-is : writtenAt to (layoutFrom words at) out ≡ written (layout (silencesOf words)) area
+
+module _ (words area : List ℕ) where
+  -- At the start all fields are left.
+  pub fields-start : length (layout (silencesOf words)) ≤ length area → PutFields words area 0 0 area
+  fields-start h = record { at-le = omega arith; length-is = refl; room = omega arith; whole-is = writtenAt-zero (layout (silencesOf words)) area }
+
+  module _ {at to : ℕ} {out : List ℕ} (now : PutFields words area at to out) where
+    -- The layout from a record on is its field, and the layout from the next one on.
+    layout-step : at + recordWords ≤ length words → layoutFrom words at ≡ fieldOf (silenceOfWords words at) ++ layoutFrom words (at + recordWords)
+    unfolding layout
+    layout-step h = ap layout (silencesOf-step words at h)
+
+    -- There is room for the next field.
+    pub fields-room : at + recordWords ≤ length words → to + length (fieldOf (silenceOfWords words at)) ≤ length out
+    fields-room h =
+        omega (
+          arith,
+          now .room,
+          now .length-is,
+          ap length (layout-step h),
+          length-append (fieldOf (silenceOfWords words at)) (layoutFrom words (at + recordWords)),
+        )
+
+    -- A turn puts the next field.
+    pub fields-turn : {next : ℕ} {put : List ℕ} → at + recordWords ≤ length words → length put ≡ length out
+        → IsPut to (fieldOf (silenceOfWords words at)) out next put → PutFields words area (at + recordWords) next put
+    fields-turn {next} {put} h same is-put =
+        let here : List ℕ = fieldOf (silenceOfWords words at) in
+        let rest : List ℕ = layoutFrom words (at + recordWords) in
+        record {
+          at-le = h;
+          length-is = same ∙ now .length-is;
+          room = omega (arith, now .room, is-put .next-is, ap length (layout-step h), length-append here rest);
+          whole-is = (λ i. writtenAt (is-put .next-is i) rest (is-put .area-is i))
+              ∙ writtenAt-append to here rest out (fields-room h)
+              ∙ ap (λ (l : List ℕ). writtenAt to l out) (sym (layout-step h))
+              ∙ now .whole-is;
+        }
+
+    -- At the end no field is left: the whole layout is written.
+    pub fields-end : length words < at + recordWords → out ≡ written (layout (silencesOf words)) area
+    unfolding layout
+    fields-end h =
+        sym (writtenAt-none to out)
+        ∙ ap (λ (ss : List Silence). writtenAt to (layout ss) out) (sym (silencesOf-end words at h))
+        ∙ now .whole-is

@@ -1,0 +1,119 @@
+-- The loop that judges the records. Before each turn the records before `at` are passed: they ascend, no ring number is above 65,535, and their number and the bytes of
+-- their fields are counted. Where a record is refused, or none is left, the walk so far is the whole one (`packs-as-is`).
+-- Assumes nothing.
+--
+--   words                        the words to pack
+--   last, records, bytes, at     the record before the next one, the records and bytes passed, the word to read next
+use Prim.Native.Nat.{ℕ, _+_, _*_, _≤_, _<_}
+use mathlib.Core.Path.{_≡_, refl, sym, ap, subst, _∙_}
+use mathlib.Core.Bool.{true, false}
+use mathlib.Core.List.{List, [], _∷_, _++_, append-nil}
+use mathlib.Core.Option.{Option, none, some}
+use native.Mathlib.Omega.{arith}
+use lib.ListN.{length, drop, length-append}
+use lib.Seq.{append-snoc}
+use Rattle.answers.specs.declared.refusals.Refusal.the-variants.{NotAbove, RingNumber}
+use Rattle.answers.specs.Paper.{accepted, refused}
+use Rattle.silences.specs.Silences.{Silence, isAbove}
+use Rattle.silences.specs.Layout.{fieldOf, layout}
+use Rattle.silences.specs.Packing.{silencesOf, recordWords, mostRingNumber, packRecords}
+use Rattle.silences.specs.Rows.{AllRingNumbers}
+use Rattle.packing.specs.Judging.{sized, sizesOf}
+use Rattle.silences.proofs.FieldBytes.{field-length}
+use Rattle.silences.proofs.WordsOfSilences.{silenceOfWords, silencesOf-step, silencesOf-end}
+use Rattle.silences.proofs.AscendingAfter.{AscendingAfter, lastAfter, lastAfter-end, ascends-more}
+use Rattle.silences.proofs.LayoutRead.{layout-append}
+use Rattle.silences.proofs.RecordsPacked.{RecordStands, packed-all, stopped-ring, stopped-order, ring-numbers-more, packs-as-is}
+
+-- What the loop keeps. The two bounds are for the sums to fit: a record has three words, and its field fewer than five bytes for each of them.
+pub record JudgedTo (words : List ℕ) (last : Option Silence) (records bytes at : ℕ) : Type 0 where
+  pub at-le : at ≤ length words
+  pub records-le : records ≤ at
+  pub bytes-le : bytes ≤ 5 * at
+  pub passed : List Silence
+  pub all-are : silencesOf words ≡ passed ++ silencesOf (drop at words)
+  pub ring-numbers : AllRingNumbers passed
+  pub ascends : AscendingAfter none passed
+  pub last-is : last ≡ lastAfter none passed
+  pub records-is : records ≡ length passed
+  pub bytes-is : bytes ≡ length (layout passed)
+
+module _ (words : List ℕ) where
+  -- At the start no record is passed.
+  pub judge-start : JudgedTo words none 0 0 0
+  unfolding layout
+  judge-start =
+      record {
+        at-le = omega arith;
+        records-le = omega arith;
+        bytes-le = omega arith;
+        passed = [];
+        all-are = refl;
+        ring-numbers = tt;
+        ascends = tt;
+        last-is = refl;
+        records-is = refl;
+        bytes-is = refl;
+      }
+
+  module _ {last : Option Silence} {records bytes at : ℕ} (now : JudgedTo words last records bytes at) where
+    module _ (h : at + recordWords ≤ length words) where
+      -- this record is the next of them
+      all-from : silencesOf words ≡ now .passed ++ silenceOfWords words at ∷ silencesOf (drop (at + recordWords) words)
+      all-from = now .all-are ∙ ap (λ (l : List Silence). now .passed ++ l) (silencesOf-step words at h)
+
+      -- and stands after those passed
+      stands-here : RecordStands none 0 (silencesOf words) (now .passed) records (silenceOfWords words at)
+      stands-here =
+          record {
+            later = silencesOf (drop (at + recordWords) words);
+            records-are = all-from;
+            number-is = omega (arith, now .records-is);
+            ring-numbers = now .ring-numbers;
+            ascends = now .ascends;
+          }
+
+      -- Row 9 at this record.
+      pub judge-ring-number : mostRingNumber < silenceOfWords words at .ringNumber → refused (RingNumber records) ≡ sizesOf (packRecords none 0 (silencesOf words))
+      judge-ring-number high = sym (ap sizesOf (packs-as-is (stopped-ring stands-here high)))
+
+      module _ (low : silenceOfWords words at .ringNumber ≤ mostRingNumber) where
+        -- Row 7 at this record.
+        pub judge-not-above : isAbove last (silenceOfWords words at) ≡ false → refused (NotAbove records) ≡ sizesOf (packRecords none 0 (silencesOf words))
+        judge-not-above e =
+            sym (ap sizesOf (packs-as-is (stopped-order stands-here low (subst (λ (l : Option Silence). isAbove l (silenceOfWords words at) ≡ false) (now .last-is) e))))
+
+        -- A turn takes this record.
+        pub judge-turn : {field : ℕ} → isAbove last (silenceOfWords words at) ≡ true → length (fieldOf (silenceOfWords words at)) ≡ field
+            → JudgedTo words (some (silenceOfWords words at)) (records + 1) (bytes + field) (at + recordWords)
+        unfolding layout
+        judge-turn {field} e long =
+            let here : Silence = silenceOfWords words at in
+            let others : List Silence = silencesOf (drop (at + recordWords) words) in
+            record {
+              at-le = h;
+              records-le = omega (arith, now .records-le);
+              bytes-le = omega (arith, now .bytes-le, field-length here);
+              passed = now .passed ++ here ∷ [];
+              all-are = all-from ∙ sym (append-snoc (now .passed) here others);
+              ring-numbers = ring-numbers-more (now .passed) here (now .ring-numbers) low;
+              ascends = ascends-more none (now .passed) here (now .ascends) (subst (λ (l : Option Silence). isAbove l here ≡ true) (now .last-is) e);
+              last-is = sym (lastAfter-end none (now .passed) here);
+              records-is = omega (arith, now .records-is, length-append (now .passed) (here ∷ []));
+              bytes-is =
+                  omega (
+                    arith,
+                    now .bytes-is,
+                    ap length (layout-append (now .passed) (here ∷ [])),
+                    length-append (layout (now .passed)) (fieldOf here ++ []),
+                    length-append (fieldOf here) [],
+                  );
+            }
+
+    -- At the end no record is left: the sizes are those of all.
+    pub judge-end : length words < at + recordWords → accepted (sized records bytes) ≡ sizesOf (packRecords none 0 (silencesOf words))
+    judge-end h =
+        let all : silencesOf words ≡ now .passed =
+        now .all-are ∙ ap (λ (l : List Silence). now .passed ++ l) (silencesOf-end words at h) ∙ append-nil (now .passed) in
+        (λ i. accepted (sized (now .records-is i) (now .bytes-is i)))
+        ∙ sym (ap sizesOf (ap (packRecords none 0) all ∙ packs-as-is (packed-all (now .ring-numbers) (now .ascends))))

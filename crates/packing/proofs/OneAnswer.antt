@@ -1,0 +1,14 @@
+-- Any two answers of `pack` that meet its contract are equal, and so are the lent areas at exit: the paper determines the answer (`paper-unique` of the
+-- book).
+-- Assumes nothing.
+use Prim.Native.Nat.{ℕ}
+use mathlib.Core.Path.{_≡_, sym, _∙_}
+use mathlib.Core.List.{List}
+use Rattle.book.specs.declared.answering.BookAnswer.{BookAnswer}
+use Rattle.book.proofs.OneAnswer.{paper-unique}
+use Rattle.packing.specs.Calls.{IsPacked}
+
+-- Any two answers of `pack` are equal, and any two areas at exit.
+pub pack-unique : (words area : List ℕ) (r r′ : BookAnswer) (out out′ : List ℕ) → IsPacked words area r out → IsPacked words area r′ out′
+    → (r ≡ r′) × (out ≡ out′)
+pack-unique words area r r′ out out′ p p′ = (paper-unique r r′ (p .paper ∙ sym (p′ .paper)), p .written ∙ sym (p′ .written))

@@ -1,0 +1,111 @@
+-- `packing::judging::judge` meets its contract. Its loop keeps `JudgedTo`; the words left fall.
+-- Assumes nothing.
+use Prim.Native.Nat.{_-_}
+use mathlib.Core.Path.{sym, _∙_}
+use native.Mathlib.Omega.{arith}
+use lib.ListN.{length}
+use borrow.Author.Tests.{not-true, not-false}
+use Rattle.silences.specs.Addresses.{lastOf}
+use Rattle.silences.proofs.FieldBytes.{field-length}
+use Rattle.packing.proofs.JudgeLoop.{JudgedTo, judge-start, judge-ring-number, judge-not-above, judge-turn, judge-end}
+use Rattle.packing.proofs.judging.judge.Statement.{statement}
+use Rattle.packing.proofs.judging.judge.Tie as tie
+
+abbrev Inv-loop : tie.InvT-loop
+Inv-loop words last₀ records₀ bytes₀ at₀ last records bytes at = JudgedTo words (lastOf last) records bytes at
+
+abbrev μ-loop : tie.MeasureT-loop
+μ-loop words last₀ records₀ bytes₀ at₀ last records bytes at = length words - at
+
+loop-holds : tie.Need-loop-holds Inv-loop μ-loop
+loop-holds c = judge-start _
+
+sub-loop : tie.Need-sub-loop Inv-loop μ-loop
+sub-loop c = omega arith
+
+mul-cell : tie.Need-mul-cell Inv-loop μ-loop
+mul-cell c = omega arith
+
+shared-slice-read-cell : tie.Need-shared-slice-read-cell Inv-loop μ-loop
+shared-slice-read-cell c = omega arith
+
+add-ring-number : tie.Need-add-ring-number Inv-loop μ-loop
+add-ring-number c = omega arith
+
+mul-ring-number : tie.Need-mul-ring-number Inv-loop μ-loop
+mul-ring-number c = omega arith
+
+shared-slice-read-ring-number : tie.Need-shared-slice-read-ring-number Inv-loop μ-loop
+shared-slice-read-ring-number c = omega arith
+
+add-start : tie.Need-add-start Inv-loop μ-loop
+add-start c = omega arith
+
+mul-start : tie.Need-mul-start Inv-loop μ-loop
+mul-start c = omega arith
+
+shared-slice-read-start : tie.Need-shared-slice-read-start Inv-loop μ-loop
+shared-slice-read-start c = omega arith
+
+returns : tie.Need-returns Inv-loop μ-loop
+returns c =
+    let at-loop = c .before .before .before .before .before in
+    judge-ring-number _ (at-loop .loop .inv) (omega arith) (c .if1 .taken)
+
+cast-t18 : tie.Need-cast-t18 Inv-loop μ-loop
+cast-t18 c = omega arith
+
+is-above-requires : tie.Need-is-above-requires Inv-loop μ-loop
+is-above-requires c κs = tt
+
+returns-2 : tie.Need-returns-2 Inv-loop μ-loop
+returns-2 c =
+    let at-loop = c .before .before .before .before .before .before .before in
+    judge-not-above _ (at-loop .loop .inv) (omega arith) (c .before .before .if1 .left) (sym (c .before .is-above .ensures) ∙ not-true _ (c .if2 .taken))
+
+add-records : tie.Need-add-records Inv-loop μ-loop
+add-records c = omega arith
+
+add-bytes : tie.Need-add-bytes Inv-loop μ-loop
+add-bytes c = omega arith
+
+add-at : tie.Need-add-at Inv-loop μ-loop
+add-at c = omega arith
+
+loop-less : tie.Need-loop-less Inv-loop μ-loop
+loop-less c = omega arith
+
+loop-again : tie.Need-loop-again Inv-loop μ-loop
+loop-again c =
+    let at-loop = c .before .before .before .before .before .before .before in
+    judge-turn _ (at-loop .loop .inv) (omega arith) (c .before .before .if1 .left) (sym (c .before .is-above .ensures) ∙ not-false _ (c .if2 .left)) (field-length _)
+
+returns-3 : tie.Need-returns-3 Inv-loop μ-loop
+returns-3 c = judge-end _ (c .before .loop .inv) (omega arith)
+
+pub judge-spec : {M : Type 1} → statement M
+judge-spec =
+    tie.close
+    (tie.spec
+    Inv-loop
+    μ-loop
+    loop-holds
+    sub-loop
+    mul-cell
+    shared-slice-read-cell
+    add-ring-number
+    mul-ring-number
+    shared-slice-read-ring-number
+    add-start
+    mul-start
+    shared-slice-read-start
+    returns
+    cast-t18
+    is-above-requires
+    returns-2
+    add-records
+    add-bytes
+    add-at
+    loop-less
+    loop-again
+    returns-3)

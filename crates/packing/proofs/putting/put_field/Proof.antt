@@ -1,0 +1,107 @@
+-- `packing::putting::put_field` meets its contract: each number begins where the one before it ends, and all five are the field (`field-put`).
+-- Assumes nothing.
+use native.Mathlib.Omega.{arith}
+use borrow.Author.Needs.{needs}
+use Rattle.silences.specs.Silences.{Silence, silence}
+use Rattle.silences.proofs.FieldBytes.{field-length}
+use Rattle.packing.proofs.FieldPut.{number-next, field-put}
+use Rattle.packing.proofs.putting.put_field.Statement.{statement}
+use Rattle.packing.proofs.putting.put_field.Tie as tie
+
+-- the silence whose field is put
+here : tie.Start → Silence
+here c = silence (c .args .cell) (c .args .ring-number) (c .args .start)
+
+cast-put-number : tie.Need-cast-put-number
+cast-put-number c = search needs
+
+put-number-requires : tie.Need-put-number-requires
+unfolding here
+put-number-requires c κs = omega (arith, field-length (here (c .before .before)))
+
+cast-put-number-2 : tie.Need-cast-put-number-2
+cast-put-number-2 c = search needs
+
+put-number-requires-2 : tie.Need-put-number-requires-2
+unfolding here
+put-number-requires-2 c κs =
+    let at-tag = c .before .before .before in
+    let at-entry = at-tag .before .before .before in
+    omega (
+      arith,
+      field-length (here at-entry),
+      number-next 1 _ (at-tag .put-number .ensures),
+    )
+
+put-number-requires-3 : tie.Need-put-number-requires-3
+unfolding here
+put-number-requires-3 c κs =
+    let at-length = c .before .before .before in
+    let at-tag = at-length .before .before .before .before in
+    let at-entry = at-tag .before .before .before in
+    omega (
+      arith,
+      field-length (here at-entry),
+      number-next 1 _ (at-tag .put-number .ensures),
+      number-next 2 _ (at-length .put-number2 .ensures),
+    )
+
+put-number-requires-4 : tie.Need-put-number-requires-4
+unfolding here
+put-number-requires-4 c κs =
+    let at-cell = c .before .before .before in
+    let at-length = at-cell .before .before .before .before in
+    let at-tag = at-length .before .before .before .before in
+    let at-entry = at-tag .before .before .before in
+    omega (
+      arith,
+      field-length (here at-entry),
+      number-next 1 _ (at-tag .put-number .ensures),
+      number-next 2 _ (at-length .put-number2 .ensures),
+      number-next 4 _ (at-cell .put-number3 .ensures),
+    )
+
+put-number-requires-5 : tie.Need-put-number-requires-5
+unfolding here
+put-number-requires-5 c κs =
+    let at-ring-number = c .before .before .before in
+    let at-cell = at-ring-number .before .before .before .before in
+    let at-length = at-cell .before .before .before .before in
+    let at-tag = at-length .before .before .before .before in
+    let at-entry = at-tag .before .before .before in
+    omega (
+      arith,
+      field-length (here at-entry),
+      number-next 1 _ (at-tag .put-number .ensures),
+      number-next 2 _ (at-length .put-number2 .ensures),
+      number-next 4 _ (at-cell .put-number3 .ensures),
+      number-next 2 _ (at-ring-number .put-number4 .ensures),
+    )
+
+same-length : tie.Need-same-length
+same-length c = search needs
+
+returns : tie.Need-returns
+unfolding here
+returns c =
+    let at-start = c .before .before in
+    let at-ring-number = at-start .before .before .before .before in
+    let at-cell = at-ring-number .before .before .before .before in
+    let at-length = at-cell .before .before .before .before in
+    let at-tag = at-length .before .before .before .before in
+    let at-entry = at-tag .before .before .before in
+    field-put (here at-entry) (at-entry .pre) (at-tag .put-number .ensures) (at-length .put-number2 .ensures) (at-cell .put-number3 .ensures) (at-ring-number .put-number4 .ensures) (at-start .put-number5 .ensures)
+
+pub put-field-spec : {M : Type 1} → statement M
+put-field-spec =
+    tie.close
+    (tie.spec
+    cast-put-number
+    put-number-requires
+    cast-put-number-2
+    put-number-requires-2
+    put-number-requires-3
+    put-number-requires-4
+    put-number-requires-5
+    same-length
+    returns)

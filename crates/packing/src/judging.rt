@@ -1,0 +1,57 @@
+// What packing asks of the words before it writes a byte: rows 9 and 7, record by record, and the sizes of the output.
+use crate::records::FIELD_LENGTH;
+use answers::Refusal;
+use silences::Address;
+use silences::Last;
+use silences::RECORD_WORDS;
+use silences::is_above;
+ghost use mathlib.Core.Path.{_≡_};
+ghost use mathlib.Core.Option.{none};
+ghost use Prim.Native.Nat.{_≤_};
+ghost use lib.ListN.{length};
+ghost use Rattle.silences.specs.Packing.{silencesOf, mostWords, packRecords};
+ghost use Rattle.packing.specs.Judging.{judgedOf, sizesOf};
+
+// "a ring number to pack is above 65,535": the largest ring number.
+const MOST_RING_NUMBER: u32 = 65535;
+
+// What judging the records found: how many records and bytes the output has, or the first refusal.
+pub enum Judged {
+    Accepted { records: usize, bytes: usize },
+    Refused(Refusal),
+}
+
+// Each record "9 before 7", and the bytes of its field. One or two words at the end are no record.
+pub fn judge(words: &[u32]) -> Judged
+    requires { ⌜ length (now words) ≤ mostWords ⌝ }
+    ensures { λ r. ⌜ judgedOf r ≡ sizesOf (packRecords none 0 (silencesOf (now (words .entry)))) ⌝ }
+{
+    let mut last = Last::NoRecord;
+    let mut records: usize = 0;
+    let mut bytes: usize = 0;
+    let mut at: usize = 0;
+    while RECORD_WORDS <= words.len() - at {
+        let cell = words[at];
+        let ring_number = words[at + 1];
+        let start = words[at + 2];
+        if MOST_RING_NUMBER < ring_number {
+            return Judged::Refused(Refusal::RingNumber(records));
+        }
+        let here = Address {
+            cell: cell,
+            ring_number: ring_number as u16,
+            start: start,
+        };
+        if !is_above(last, here) {
+            return Judged::Refused(Refusal::NotAbove(records));
+        }
+        last = Last::Record(here);
+        records += 1;
+        bytes += FIELD_LENGTH;
+        at += RECORD_WORDS;
+    }
+    Judged::Accepted {
+        records: records,
+        bytes: bytes,
+    }
+}

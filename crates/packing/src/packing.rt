@@ -1,0 +1,33 @@
+// Packing: words to a book. First every refusal, then every byte, so that a refusal writes nothing.
+use crate::judging::Judged;
+use crate::judging::judge;
+use crate::putting::put_fields;
+use answers::Refusal;
+use book::BookAnswer;
+use silences::RECORD_WORDS;
+ghost use Rattle.packing.specs.Calls.{IsPacked};
+
+// "words to pack aren't a multiple of 3, or exceed 3,000": the most words that are packed.
+const MOST_WORDS: usize = 3000;
+
+// Packs silences, three words each (cell, ring number, start), into a book, and answers the number of records.
+pub fn pack(words: &[u32], out: &mut [u8]) -> BookAnswer
+    ensures { λ r. ⌜ IsPacked (now (words .entry)) (now (out .entry)) r (now (out .exit)) ⌝ }
+{
+    if words.len() % RECORD_WORDS != 0 {
+        return BookAnswer::Refused(Refusal::WordCount);
+    }
+    if MOST_WORDS < words.len() {
+        return BookAnswer::Refused(Refusal::WordCount);
+    }
+    match judge(words) {
+        Judged::Accepted { records, bytes } => {
+            if out.len() < bytes {
+                return BookAnswer::Refused(Refusal::OutputRoom);
+            }
+            put_fields(words, out);
+            BookAnswer::Records(records)
+        }
+        Judged::Refused(refusal) => BookAnswer::Refused(refusal),
+    }
+}

@@ -1,0 +1,59 @@
+// Writing a book's bytes, number after number and field after field.
+use silences::CELL_BYTES;
+use silences::LENGTH_BYTES;
+use silences::RECORD_WORDS;
+use silences::RING_NUMBER_BYTES;
+use silences::SILENCE_LENGTH;
+use silences::SILENCE_TAG;
+use silences::START_BYTES;
+use silences::TAG_BYTES;
+ghost use mathlib.Core.Path.{_≡_};
+ghost use Prim.Native.Nat.{_+_, _≤_};
+ghost use lib.ListN.{length};
+ghost use Rattle.meaning.specs.Findings.{written};
+ghost use Rattle.silences.specs.Numbers.{bytesOf};
+ghost use Rattle.silences.specs.Silences.{silence};
+ghost use Rattle.silences.specs.Layout.{fieldOf, layout};
+ghost use Rattle.silences.specs.Packing.{silencesOf};
+ghost use Rattle.silences.specs.Putting.{IsPut};
+
+// Writes a number into `count` bytes from `at` on, high byte first, and answers the byte offset just past them. It goes
+// from the last byte to the first: the last is the number mod 256, and the others are what is left of it.
+fn put_number(out: &mut [u8], at: usize, count: usize, number: u32) -> usize
+    requires { ⌜ at + count ≤ length (now out) ⌝ }
+    ensures { λ r. ⌜ IsPut at (bytesOf count number) (now (out .entry)) r (now (out .exit)) ⌝ }
+{
+    let mut rest = number;
+    let mut left = count;
+    while 0 < left {
+        out[at + (left - 1)] = (rest % 256) as u8;
+        rest = rest / 256;
+        left -= 1;
+    }
+    at + count
+}
+
+// Writes a silence's field from `at` on: "one-byte tag, two-byte length, value". Answers the byte offset just past it.
+fn put_field(out: &mut [u8], at: usize, cell: u32, ring_number: u32, start: u32) -> usize
+    requires { ⌜ at + length (fieldOf (silence cell «ring_number» start)) ≤ length (now out) ⌝ }
+    ensures { λ r. ⌜ IsPut at (fieldOf (silence cell «ring_number» start)) (now (out .entry)) r (now (out .exit)) ⌝ }
+{
+    let length_at = put_number(out, at, TAG_BYTES, SILENCE_TAG as u32);
+    let value_at = put_number(out, length_at, LENGTH_BYTES, SILENCE_LENGTH as u32);
+    let ring_number_at = put_number(out, value_at, CELL_BYTES, cell);
+    let start_at = put_number(out, ring_number_at, RING_NUMBER_BYTES, ring_number);
+    put_number(out, start_at, START_BYTES, start)
+}
+
+// Writes the field of each silence of the words, one after the other from the area's first byte on.
+pub fn put_fields(words: &[u32], out: &mut [u8])
+    requires { ⌜ length (layout (silencesOf (now words))) ≤ length (now out) ⌝ }
+    ensures { λ _. ⌜ now (out .exit) ≡ written (layout (silencesOf (now (words .entry)))) (now (out .entry)) ⌝ }
+{
+    let mut at: usize = 0;
+    let mut to: usize = 0;
+    while RECORD_WORDS <= words.len() - at {
+        to = put_field(out, to, words[at], words[at + 1], words[at + 2]);
+        at += RECORD_WORDS;
+    }
+}

@@ -1,0 +1,73 @@
+-- A book is accepted exactly when it is the layout of a strictly ascending list of at most 1,000 silences in range. Reading stops at the end
+-- (`ReadsAs`), so the whole book is the layout of what was read; and a layout is read to its end. 13,000 bytes are 1,000 fields.
+-- Assumes nothing.
+use Prim.Native.Nat.{ℕ, _≤_}
+use mathlib.Core.Logic.{⊎-elim, _↔_}
+use mathlib.Core.Path.{_≡_, sym, ap, _∙_}
+use mathlib.Core.List.{List}
+use mathlib.Core.Option.{none}
+use native.Mathlib.Omega.{arith}
+use lib.ListN.{length}
+use lib.Seq.{take-all}
+use Rattle.meaning.proofs.Cases.{le-or-lt}
+use Rattle.answers.specs.Paper.{accepted}
+use Rattle.silences.specs.Silences.{Silence}
+use Rattle.silences.specs.Layout.{layout}
+use Rattle.silences.specs.Reading.{mostBytes, readBook}
+use Rattle.silences.specs.Books.{IsBytes, IsBook}
+use Rattle.silences.specs.Rows.{IsFineBefore}
+use Rattle.silences.proofs.AnswerCases.{accepted-not-refused}
+use Rattle.silences.proofs.ReadFrom.{readBook-long, readBook-fields}
+use Rattle.silences.proofs.FieldsRead.{FieldsRead, ReadsAs, read-all, reads-as, reads-as-is}
+use Rattle.silences.proofs.LayoutRead.{layout-length, read-fine, fine-read}
+
+-- How a book was accepted: it is no longer than 13,000 bytes, and its fields were read to its end.
+pub record IsReadWhole (ss : List Silence) (book : List ℕ) : Type 0 where
+  pub book-le : length book ≤ mostBytes
+  pub stop : ℕ
+  pub fields : FieldsRead book none 0 ss stop
+  pub stop-ge : length book ≤ stop
+
+-- fields that were read as far as the end
+whole-of-walk : (book : List ℕ) (ss : List Silence) → length book ≤ mostBytes → ReadsAs book none 0 (accepted ss) → IsReadWhole ss book
+whole-of-walk book ss h (read-all {stop = stop} f l) = record { book-le = h; stop = stop; fields = f; stop-ge = l }
+
+-- A book is accepted exactly when its fields were read to its end.
+pub accepted-whole-iff : (book : List ℕ) (ss : List Silence) → (readBook book ≡ accepted ss) ↔ IsReadWhole ss book
+accepted-whole-iff book ss = (
+  λ e. ⊎-elim
+      (λ h. whole-of-walk book ss h (reads-as book none 0 (accepted ss) (sym (readBook-fields book h) ∙ e)))
+      (λ h. absurd (accepted-not-refused e (readBook-long book h)))
+      (le-or-lt (length book) mostBytes),
+  λ w. readBook-fields book (w .book-le) ∙ reads-as-is book (read-all (w .fields) (w .stop-ge)),
+)
+
+-- what was read to the end is the book of its silences
+whole-book : (book : List ℕ) (ss : List Silence) → IsBytes book → IsReadWhole ss book → IsBook ss book
+whole-book book ss bytes w =
+    let fine : IsFineBefore book (w .stop) ss = read-fine book bytes (w .fields) in
+    let laid-out : book ≡ layout ss = sym (take-all (w .stop) book (w .stop-ge)) ∙ fine .laid-out in
+    record {
+      laid-out = laid-out;
+      in-range = fine .in-range;
+      ascending = fine .ascending;
+      length-le = omega (arith, ap length laid-out, layout-length ss, w .book-le);
+    }
+
+-- The book of silences is accepted, and gives them.
+pub book-accepted : (book : List ℕ) (ss : List Silence) → IsBook ss book → readBook book ≡ accepted ss
+book-accepted book ss b =
+    let long : length book ≡ length (layout ss) = ap length (b .laid-out) in
+    let fine : IsFineBefore book (length book) ss =
+    record { laid-out = take-all (length book) book (omega arith) ∙ b .laid-out; offset-is = long; in-range = b .in-range; ascending = b .ascending } in
+    accepted-whole-iff book ss .1
+    (record {
+      book-le = omega (arith, layout-length ss, b .length-le);
+      stop = length book;
+      fields = fine-read book ss (length book) fine;
+      stop-ge = omega arith;
+    })
+
+-- A book is accepted, and gives these silences, exactly when it is their layout, they ascend strictly, are in range, and are at most 1,000.
+pub accepted-iff : (book : List ℕ) (ss : List Silence) → IsBytes book → (readBook book ≡ accepted ss) ↔ IsBook ss book
+accepted-iff book ss bytes = (λ e. whole-book book ss bytes (accepted-whole-iff book ss .0 e), book-accepted book ss)

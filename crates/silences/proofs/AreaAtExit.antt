@@ -1,0 +1,29 @@
+-- The lent area at exit, of packing and unpacking at once: where the call was accepted its front is the output, and "room beyond their output" is as it was; where
+-- it was refused nothing is written.
+-- Assumes nothing.
+use Prim.Native.Nat.{ℕ, _+_}
+use mathlib.Core.Path.{_≡_, ap, _∙_}
+use mathlib.Core.List.{List}
+use lib.ListN.{length, getD, take, drop}
+use lib.Seq.{take-at}
+use Rattle.meaning.specs.Findings.{written}
+use Rattle.meaning.proofs.Words.{written-rest}
+use Rattle.answers.specs.declared.refusals.Refusal.{Refusal}
+use Rattle.answers.specs.Paper.{Answer, accepted, refused}
+use Rattle.silences.specs.Silences.{Silence}
+use Rattle.silences.specs.Packing.{areaAtExit}
+
+module _ (output : List Silence → List ℕ) (area : List ℕ) (a : Answer (List Silence)) where
+  -- After a call that was accepted the front of the area is its output.
+  pub area-front : (ss : List Silence) (n : ℕ) → a ≡ accepted ss → length (output ss) ≡ n → take n (areaAtExit output a area) ≡ output ss
+  unfolding written
+  area-front ss n e l = ap (λ (b : Answer (List Silence)). take n (areaAtExit output b area)) e ∙ take-at (output ss) (drop (length (output ss)) area) n l
+
+  -- And beyond it every element is as it was: calls "leave room beyond their output unwritten".
+  pub area-rest : (ss : List Silence) (j : ℕ) → a ≡ accepted ss
+      → getD (areaAtExit output a area) (length (output ss) + j) 0 ≡ getD area (length (output ss) + j) 0
+  area-rest ss j e = ap (λ (b : Answer (List Silence)). getD (areaAtExit output b area) (length (output ss) + j) 0) e ∙ written-rest (output ss) area j
+
+  -- A refusal "writes nothing to any lent area".
+  pub area-refused : (r : Refusal) → a ≡ refused r → areaAtExit output a area ≡ area
+  area-refused r e = ap (λ (b : Answer (List Silence)). areaAtExit output b area) e

@@ -1,0 +1,51 @@
+-- Along a book's fields: each whole field takes some of the bytes that are left, and past the last byte none stands (`field-ends`). So what holds at a byte
+-- offset whenever it holds just past the whole field there holds at every offset (`field-induction`); and a definition that goes from field to field and counts
+-- down the bytes left never runs out of them, so that it has an equation without the count (`count-step`).
+-- Assumes nothing.
+use Prim.Native.Nat.{ℕ, zero, suc, _-_, _≤_, _<_}
+use mathlib.Core.Path.{_≡_, sym, _∙_}
+use mathlib.Core.List.{List}
+use native.Mathlib.Omega.{arith}
+use lib.ListN.{length}
+use Rattle.silences.specs.Silences.{Silence}
+use Rattle.silences.specs.Reading.{FieldAt, whole, fieldAt}
+use Rattle.silences.proofs.FieldEnds.{field-ends}
+
+module _ (book : List ℕ) (P : ℕ → Type 0) (turn : (at : ℕ) → ((s : Silence) (next : ℕ) → fieldAt book at ≡ whole s next → P next) → P at) where
+  -- over at most so many bytes
+  over-bytes : (left at : ℕ) → length book - at ≤ left → P at
+  over-bytes zero at h = turn at (λ s next e. absurd (let ends : (at < next) × (next ≤ length book) = field-ends book at s next e in omega arith))
+  over-bytes (suc left) at h = turn at (λ s next e. let ends : (at < next) × (next ≤ length book) = field-ends book at s next e in over-bytes left next (omega arith))
+
+  -- What holds at an offset whenever it holds past the field there, holds at every offset.
+  pub field-induction : (at : ℕ) → P at
+  field-induction at = over-bytes (length book - at) at (omega arith)
+
+-- A value at an offset depends on what comes after only past a whole field.
+abbrev pub GoesOnPast : {X B : Type 0} → (X → ℕ → FieldAt → (X → ℕ → B) → B) → Type 0
+GoesOnPast {X} {B} step =
+    (x : X) (at : ℕ) (f : FieldAt) (rest rest′ : X → ℕ → B) → ((y : X) (s : Silence) (next : ℕ) → f ≡ whole s next → rest y next ≡ rest′ y next)
+    → step x at f rest ≡ step x at f rest′
+
+-- For what is counted by `values`: at an offset a step at the field there, and, once no byte is left, the same for every count.
+module _ {X B : Type 0} (book : List ℕ) (step : X → ℕ → FieldAt → (X → ℕ → B) → B) (values : ℕ → X → ℕ → B)
+    (goes-on : GoesOnPast step)
+    (turn : (left : ℕ) (x : X) (at : ℕ) → values (suc left) x at ≡ step x at (fieldAt book at) (values left))
+    (ends : (left : ℕ) (x : X) (at : ℕ) → length book ≤ at → values left x at ≡ values zero x at) where
+  -- two counts that are large enough give the same
+  counts-same : (left left′ : ℕ) (x : X) (at : ℕ) → length book - at ≤ left → length book - at ≤ left′ → values left x at ≡ values left′ x at
+  counts-same zero left′ x at h h′ = sym (ends left′ x at (omega arith))
+  counts-same (suc left) zero x at h h′ = ends (suc left) x at (omega arith)
+  counts-same (suc left) (suc left′) x at h h′ =
+      turn left x at
+      ∙ goes-on x at (fieldAt book at) (values left) (values left′)
+      (λ y s next e. let within : (at < next) × (next ≤ length book) = field-ends book at s next e in counts-same left left′ y next (omega arith) (omega arith))
+      ∙ sym (turn left′ x at)
+
+  -- Counting the bytes left, the value at an offset is a step there, and then the values past the field.
+  pub count-step : (x : X) (at : ℕ) → values (length book - at) x at ≡ step x at (fieldAt book at) (λ y next. values (length book - next) y next)
+  count-step x at =
+      counts-same (length book - at) (suc (length book - at)) x at (omega arith) (omega arith)
+      ∙ turn (length book - at) x at
+      ∙ goes-on x at (fieldAt book at) (values (length book - at)) (λ y next. values (length book - next) y next)
+      (λ y s next e. let within : (at < next) × (next ≤ length book) = field-ends book at s next e in counts-same (length book - at) (length book - next) y next (omega arith) (omega arith))

@@ -1,0 +1,37 @@
+-- Laws behind silences: what the definitions of a silence and of a book come to, and what the functions' proofs cite. Read AcceptedIsLayout, NamesIff, ZeroIsOrdinary,
+-- BookRows, PackRows, RoundTrips and OneAnswer first: they are the theorems, and their heads name what they rest on. Below each group stands on those before it.
+
+-- answers, and the order of silences
+pub mod AnswerCases
+pub mod SilenceOrder
+pub mod StrictOrder
+pub mod AscendingAfter
+pub mod NamesIff
+pub mod ZeroIsOrdinary
+-- one field: its numbers, where it ends, what row 6 says of it, its bytes and its silence
+pub mod NumberBytes
+pub mod NumberWithin
+pub mod FieldEnds
+pub mod FieldTest
+pub mod FieldBytes
+pub mod FieldInduction
+-- reading: its equations, the walk from field to field, and that a book is accepted exactly when it is a layout
+pub mod ReadFrom
+pub mod FieldsRead
+pub mod LayoutRead
+pub mod AcceptedIsLayout
+-- the rows of the table, of the definitions, the areas at exit and the round trips
+pub mod WordsOfSilences
+pub mod BookRows
+pub mod RoomRows
+pub mod RecordsPacked
+pub mod RecordRows
+pub mod PackRows
+pub mod UnpackRows
+pub mod AreaAtExit
+pub mod RoundTrips
+-- bytes written from an offset on
+pub mod WrittenAt
+-- what the functions' proofs cite, and that each of them has one answer
+pub mod NumberLoop
+pub mod OneAnswer

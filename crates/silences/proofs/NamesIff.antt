@@ -1,0 +1,54 @@
+-- A list of silences names an address, by the test, exactly when one of its silences is that cell, ring number and start. Silence by silence: the
+-- first one is the address, or the rest names it.
+-- Assumes nothing.
+use Prim.Native.Nat.{ℕ}
+use mathlib.Core.Logic.{_↔_}
+use mathlib.Core.Path.{_≡_, refl, sym, ap, _∙_}
+use mathlib.Core.Bool.{Bool, true, false, _||_, or-true, false≢true}
+use mathlib.Core.List.{List, [], _∷_, List·Memᴰ, List·Memᴰ·head, List·Memᴰ·tail}
+use Rattle.silences.specs.Silences.{Silence, silence, isSame, names, Names}
+use Rattle.silences.proofs.SilenceOrder.{isSame-iff}
+
+module _ (cell ringNumber start : ℕ) where
+  -- the address asked for
+  address : Silence
+  address = silence cell ringNumber start
+
+  -- one silence more at the front
+  names-tail : (s : Silence) (ss : List Silence) → Names ss cell ringNumber start → Names (s ∷ ss) cell ringNumber start
+  names-tail s ss n =
+      record { named = n .named; among = List·Memᴰ·tail (n .among); cell-is = n .cell-is; ring-number-is = n .ring-number-is; start-is = n .start-is }
+
+  -- the first silence is the address
+  names-head : (s : Silence) (ss : List Silence) → s ≡ address → Names (s ∷ ss) cell ringNumber start
+  unfolding address
+  names-head s ss e =
+      record {
+        named = s;
+        among = List·Memᴰ·head refl;
+        cell-is = ap (λ (t : Silence). t .cell) e;
+        ring-number-is = ap (λ (t : Silence). t .ringNumber) e;
+        start-is = ap (λ (t : Silence). t .start) e;
+      }
+
+  -- what the test finds named is named
+  names-yes : (ss : List Silence) → names ss cell ringNumber start ≡ true → Names ss cell ringNumber start
+  unfolding names address
+  names-yes [] e = absurd (false≢true e)
+  names-yes (s ∷ ss) e = go (isSame s address) refl (names-yes ss) e
+    where
+      go : (t : Bool) → isSame s address ≡ t → (names ss cell ringNumber start ≡ true → Names ss cell ringNumber start)
+          → (t || names ss cell ringNumber start) ≡ true → Names (s ∷ ss) cell ringNumber start
+      go true h more e′ = names-head s ss (isSame-iff s address .0 h)
+      go false h more e′ = names-tail s ss (more e′)
+
+  -- a silence that stands in the list, and is the address, is found
+  names-of : {s : Silence} {ss : List Silence} → List·Memᴰ s ss → s ≡ address → names ss cell ringNumber start ≡ true
+  unfolding names address
+  names-of (List·Memᴰ·head {x = x} {xs = xs} e) is = ap (λ (t : Bool). t || names xs cell ringNumber start) (ap (λ (t : Silence). isSame t address) (sym e ∙ is) ∙ isSame-iff address address .1 refl)
+  names-of (List·Memᴰ·tail {x = x} {xs = xs} m) is = ap (λ (t : Bool). isSame x address || t) (names-of m is) ∙ or-true (isSame x address)
+
+  -- The test is the proposition.
+  pub names-iff : (ss : List Silence) → (names ss cell ringNumber start ≡ true) ↔ Names ss cell ringNumber start
+  unfolding address
+  names-iff ss = (names-yes ss, λ n. names-of (n .among) (λ i. record { cell = n .cell-is i; ringNumber = n .ring-number-is i; start = n .start-is i }))

@@ -1,0 +1,49 @@
+-- Any two answers of a function on silences that meet its contract are equal: a law for each. Where the contract is an equation with the answer itself,
+-- both answers are its other side; what a case of `Sought` stands for is read back by `soughtBack`.
+-- Assumes nothing.
+use Prim.Native.Nat.{ℕ}
+use mathlib.Core.Path.{_≡_, refl, sym, ap, _∙_}
+use mathlib.Core.Bool.{Bool}
+use mathlib.Core.List.{List}
+use Rattle.silences.specs.declared.addresses.Address.{Address}
+use Rattle.silences.specs.declared.addresses.Sought.{Sought}
+use Rattle.silences.specs.declared.addresses.Sought.the-variants.{Field, Nothing}
+use Rattle.silences.specs.declared.order.Last.{Last}
+use Rattle.silences.specs.Numbers.{IsNumberRead}
+use Rattle.silences.specs.Silences.{isBelow, isSame, isAbove}
+use Rattle.silences.specs.Reading.{FieldAt, whole, faulty, fieldAt}
+use Rattle.silences.specs.Addresses.{silenceOf, lastOf, soughtOf}
+
+-- the case that a field comes from
+abbrev soughtBack : FieldAt → Sought
+soughtBack (whole s next) = Field (record { cell = s .cell; «ring_number» = s .ringNumber; start = s .start }) next
+soughtBack faulty = Nothing
+
+sought-back : (r : Sought) → soughtBack (soughtOf r) ≡ r
+sought-back (Field address next) = refl
+sought-back Nothing = refl
+
+-- The field determines what was sought.
+pub sought-unique : (r r′ : Sought) → soughtOf r ≡ soughtOf r′ → r ≡ r′
+sought-unique r r′ e = sym (sought-back r) ∙ ap soughtBack e ∙ sought-back r′
+
+-- Any two answers of `field_at` are equal.
+pub field-at-unique : (book : List ℕ) (at : ℕ) (r r′ : Sought) → soughtOf r ≡ fieldAt book at → soughtOf r′ ≡ fieldAt book at → r ≡ r′
+field-at-unique book at r r′ p p′ = sought-unique r r′ (p ∙ sym p′)
+
+-- Any two answers of `number_at` are equal.
+pub number-at-unique : (bytes : List ℕ) (at count r r′ : ℕ) → IsNumberRead bytes at count r → IsNumberRead bytes at count r′ → r ≡ r′
+number-at-unique bytes at count r r′ p p′ = p .is ∙ sym (p′ .is)
+
+-- Any two answers of `is_below` are equal.
+pub is-below-unique : (a b : Address) (r r′ : Bool) → r ≡ isBelow (silenceOf a) (silenceOf b) → r′ ≡ isBelow (silenceOf a) (silenceOf b) → r ≡ r′
+is-below-unique a b r r′ p p′ = p ∙ sym p′
+
+-- Any two answers of `is_same` are equal.
+pub is-same-unique : (a b : Address) (r r′ : Bool) → r ≡ isSame (silenceOf a) (silenceOf b) → r′ ≡ isSame (silenceOf a) (silenceOf b) → r ≡ r′
+is-same-unique a b r r′ p p′ = p ∙ sym p′
+
+-- Any two answers of `is_above` are equal.
+pub is-above-unique : (last : Last) (address : Address) (r r′ : Bool) → r ≡ isAbove (lastOf last) (silenceOf address) → r′ ≡ isAbove (lastOf last) (silenceOf address)
+    → r ≡ r′
+is-above-unique last address r r′ p p′ = p ∙ sym p′

@@ -1,0 +1,81 @@
+-- The two equations of `readFrom`: at the end nothing is read, before it one field and then the rest. Its count of bytes left never runs out before the end
+-- (`count-step`), so nothing after this file looks at it. Then the same by what the field is, and of a whole book: row 5 comes before all others.
+-- Assumes nothing.
+use Prim.Native.Nat.{ℕ, zero, suc, _-_, _≤_, _<_}
+use mathlib.Core.Path.{_≡_, refl, ap, _∙_}
+use mathlib.Core.Bool.{Bool, true, false, cond}
+use mathlib.Core.List.{List, []}
+use mathlib.Core.Option.{Option, none, some}
+use native.Mathlib.Omega.{arith}
+use lib.Dec.{leb}
+use lib.ListN.{length}
+use borrow.Author.Tests.{lt-ltb, le-ltb, le-leb, lt-leb}
+use Rattle.answers.specs.declared.refusals.Refusal.the-variants.{BookLength, Field, NotAbove}
+use Rattle.answers.specs.Paper.{Answer, accepted, refused}
+use Rattle.silences.specs.Silences.{Silence, isAbove}
+use Rattle.silences.specs.Reading.{FieldAt, whole, faulty, fieldAt, before, readField, fieldsFrom, readFrom, mostBytes, readBook}
+use Rattle.silences.proofs.FieldEnds.{field-ends}
+use Rattle.silences.proofs.FieldInduction.{GoesOnPast, count-step}
+
+module _ (book : List ℕ) where
+  -- one step of reading
+  abbrev readStep : Option Silence → ℕ → FieldAt → (Option Silence → ℕ → Answer (List Silence)) → Answer (List Silence)
+  readStep last at f rest =
+      let here : Answer (List Silence) = readField last at f rest in
+      cond (leb (length book) at) (accepted []) here
+
+  -- reading goes on only past a whole field
+  read-goes-on : GoesOnPast readStep
+  read-goes-on last at faulty rest rest′ h = refl
+  read-goes-on last at (whole s next) rest rest′ h =
+      ap (λ (a : Answer (List Silence)). cond (leb (length book) at) (accepted []) (cond (isAbove last s) (before s a) (refused (NotAbove at)))) (h (some s) s next refl)
+
+  -- at the end nothing is read, whatever the count
+  fields-end : (left : ℕ) (last : Option Silence) (at : ℕ) → length book ≤ at → fieldsFrom left book last at ≡ accepted []
+  unfolding fieldsFrom
+  fields-end zero last at h = refl
+  fields-end (suc left) last at h = rw (le-leb (length book) at h)
+
+  module _ (last : Option Silence) (at : ℕ) where
+    -- At the book's end, and past it, nothing is read.
+    pub readFrom-end : length book ≤ at → readFrom book last at ≡ accepted []
+    unfolding readFrom
+    readFrom-end h = fields-end (length book - at) last at h
+
+    -- Before it the field at `at` is read, and then the rest from just past it.
+    pub readFrom-step : at < length book → readFrom book last at ≡ readField last at (fieldAt book at) (readFrom book)
+    unfolding readFrom fieldsFrom
+    readFrom-step h =
+        count-step book readStep (λ left l i. fieldsFrom left book l i) read-goes-on (λ left l i. refl) fields-end last at
+        ∙ ap (λ (t : Bool). cond t (accepted []) (readField last at (fieldAt book at) (readFrom book))) (lt-leb (length book) at h)
+
+    -- Row 6: a faulty field.
+    pub readFrom-faulty : at < length book → fieldAt book at ≡ faulty → readFrom book last at ≡ refused (Field at)
+    readFrom-faulty h e = readFrom-step h ∙ ap (λ (f : FieldAt). readField last at f (readFrom book)) e
+
+    module _ {s : Silence} {next : ℕ} (e : fieldAt book at ≡ whole s next) where
+      -- a whole field, by its order
+      read-whole : (t : Bool) → isAbove last s ≡ t → readFrom book last at ≡ cond t (before s (readFrom book (some s) next)) (refused (NotAbove at))
+      read-whole t above =
+          let ends : (at < next) × (next ≤ length book) = field-ends book at s next e in
+          readFrom-step (omega arith)
+          ∙ ap (λ (f : FieldAt). readField last at f (readFrom book)) e
+          ∙ ap (λ (u : Bool). cond u (before s (readFrom book (some s) next)) (refused (NotAbove at))) above
+
+      -- Row 7: a whole field whose record is not above the last.
+      pub readFrom-not-above : isAbove last s ≡ false → readFrom book last at ≡ refused (NotAbove at)
+      readFrom-not-above above = read-whole false above
+
+      -- One that is above it is read, and then the rest.
+      pub readFrom-above : isAbove last s ≡ true → readFrom book last at ≡ before s (readFrom book (some s) next)
+      readFrom-above above = read-whole true above
+
+  -- A book longer than 13,000 bytes is refused by row 5.
+  pub readBook-long : mostBytes < length book → readBook book ≡ refused BookLength
+  unfolding readBook
+  readBook-long long = rw (lt-ltb mostBytes (length book) long)
+
+  -- Any other is read field by field.
+  pub readBook-fields : length book ≤ mostBytes → readBook book ≡ readFrom book none 0
+  unfolding readBook
+  readBook-fields short = rw (le-ltb mostBytes (length book) short)

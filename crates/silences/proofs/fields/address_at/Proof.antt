@@ -1,0 +1,43 @@
+-- `silences::fields::address_at` meets its contract: the three numbers are those of the value; the ring number's two bytes fit sixteen bits.
+-- Assumes nothing.
+use native.Mathlib.Omega.{arith}
+use Rattle.silences.proofs.NumberWithin.{number-read}
+use Rattle.silences.proofs.FieldTest.{silence-read}
+use Rattle.silences.proofs.fields.address_at.Statement.{statement}
+use Rattle.silences.proofs.fields.address_at.Tie as tie
+
+add-ring-number-at : tie.Need-add-ring-number-at
+add-ring-number-at c = omega arith
+
+add-start-at : tie.Need-add-start-at
+add-start-at c = omega arith
+
+number-at-requires : tie.Need-number-at-requires
+number-at-requires c κs = tt
+
+number-at-requires-2 : tie.Need-number-at-requires-2
+number-at-requires-2 c κs = tt
+
+cast-ring-number : tie.Need-cast-ring-number
+cast-ring-number c = omega arith
+
+number-at-requires-3 : tie.Need-number-at-requires-3
+number-at-requires-3 c κs = tt
+
+returns : tie.Need-returns
+returns c =
+    silence-read _ _ _ _ _ (number-read (c .before .before .number-at .ensures) (omega arith) (omega arith))
+    (number-read (c .before .number-at2 .ensures) (omega arith) (omega arith))
+    (number-read (c .number-at3 .ensures) (omega arith) (omega arith))
+
+pub address-at-spec : {M : Type 1} → statement M
+address-at-spec =
+    tie.close
+    (tie.spec
+    add-ring-number-at
+    add-start-at
+    number-at-requires
+    number-at-requires-2
+    cast-ring-number
+    number-at-requires-3
+    returns)

@@ -1,0 +1,76 @@
+-- `silences::fields::field_at` meets its contract: each return is one case of what stands at a byte offset.
+-- Assumes nothing.
+use mathlib.Core.Path.{sym, _∙_}
+use native.Mathlib.Omega.{arith}
+use Rattle.silences.proofs.NumberWithin.{number-read}
+use Rattle.silences.proofs.FieldTest.{field-tag-no, field-length-no, field-cut-off, field-is-whole}
+use Rattle.silences.proofs.fields.field_at.Statement.{statement}
+use Rattle.silences.proofs.fields.field_at.Tie as tie
+
+-- past the book's end
+returns : tie.Need-returns
+returns c = sym (field-cut-off _ _ (omega arith))
+
+shared-slice-read-if2 : tie.Need-shared-slice-read-if2
+shared-slice-read-if2 c = omega arith
+
+-- another tag
+returns-2 : tie.Need-returns-2
+returns-2 c = sym (field-tag-no _ _ (c .if2 .taken))
+
+sub-if3 : tie.Need-sub-if3
+sub-if3 c = omega arith
+
+add-if3 : tie.Need-add-if3
+add-if3 c = omega arith
+
+-- cut off
+returns-3 : tie.Need-returns-3
+returns-3 c = sym (field-cut-off _ _ (omega arith))
+
+add-number-at : tie.Need-add-number-at
+add-number-at c = omega arith
+
+number-at-requires : tie.Need-number-at-requires
+number-at-requires c κs = tt
+
+cast-long : tie.Need-cast-long
+cast-long c = omega arith
+
+-- another length
+returns-4 : tie.Need-returns-4
+returns-4 c = sym (field-length-no _ _ (λ e. c .if4 .taken (number-read (c .before .number-at .ensures) (omega arith) (omega arith) ∙ e)))
+
+add-value : tie.Need-add-value
+add-value c = omega arith
+
+add-next : tie.Need-add-next
+add-next c = omega arith
+
+address-at-requires : tie.Need-address-at-requires
+address-at-requires c κs = omega arith
+
+-- a whole field
+returns-5 : tie.Need-returns-5
+returns-5 c =
+    sym (field-is-whole _ _ (c .address-at .ensures) (omega arith) (c .before .before .before .before .if2 .left)
+    (sym (number-read (c .before .before .number-at .ensures) (omega arith) (omega arith)) ∙ c .before .if4 .left) (omega arith))
+
+pub field-at-spec : {M : Type 1} → statement M
+field-at-spec =
+    tie.close
+    (tie.spec
+    returns
+    shared-slice-read-if2
+    returns-2
+    sub-if3
+    add-if3
+    returns-3
+    add-number-at
+    number-at-requires
+    cast-long
+    returns-4
+    add-value
+    add-next
+    address-at-requires
+    returns-5)

@@ -1,0 +1,58 @@
+// One field of a book: what stands at a byte offset. The next offset comes from the field itself.
+use crate::addresses::Address;
+use crate::addresses::Sought;
+use crate::lengths::CELL_BYTES;
+use crate::lengths::HEAD_LENGTH;
+use crate::lengths::LENGTH_BYTES;
+use crate::lengths::RING_NUMBER_BYTES;
+use crate::lengths::SILENCE_LENGTH;
+use crate::lengths::SILENCE_TAG;
+use crate::lengths::START_BYTES;
+use crate::lengths::TAG_BYTES;
+use crate::numbers::number_at;
+ghost use mathlib.Core.Path.{_≡_};
+ghost use Prim.Native.Nat.{_+_, _≤_};
+ghost use lib.ListN.{length};
+ghost use Rattle.silences.specs.Reading.{silenceAt, fieldAt};
+ghost use Rattle.silences.specs.Addresses.{silenceOf, soughtOf};
+
+// "cell (4 bytes), ring number (2), start (4)": the address whose value begins at byte offset `at`.
+fn address_at(book: &[u8], at: usize) -> Address
+    requires { ⌜ at + 10 ≤ length (now book) ⌝ }
+    ensures { λ r. ⌜ silenceOf r ≡ silenceAt (now (book .entry)) at ⌝ }
+{
+    let ring_number_at = at + CELL_BYTES;
+    let start_at = ring_number_at + RING_NUMBER_BYTES;
+    let cell = number_at(book, at, CELL_BYTES);
+    let ring_number = number_at(book, ring_number_at, RING_NUMBER_BYTES) as u16;
+    let start = number_at(book, start_at, START_BYTES);
+    Address {
+        cell,
+        ring_number,
+        start,
+    }
+}
+
+// The field at byte offset `at`, as seeking answers it: nothing where no whole field of a silence stands. The offset may
+// lie past the book's end, so it is compared with the length before anything is added to it.
+pub fn field_at(book: &[u8], at: usize) -> Sought
+    ensures { λ r. ⌜ soughtOf r ≡ fieldAt (now (book .entry)) at ⌝ }
+{
+    if book.len() <= at {
+        return Sought::Nothing;
+    }
+    if book[at] != SILENCE_TAG {
+        return Sought::Nothing;
+    }
+    if book.len() - at < HEAD_LENGTH + SILENCE_LENGTH {
+        return Sought::Nothing;
+    }
+    let long = number_at(book, at + TAG_BYTES, LENGTH_BYTES) as usize;
+    if long != SILENCE_LENGTH {
+        return Sought::Nothing;
+    }
+    let value = at + HEAD_LENGTH;
+    let next = value + long;
+    let address = address_at(book, value);
+    Sought::Field { address, next }
+}

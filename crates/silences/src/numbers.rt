@@ -1,0 +1,36 @@
+// Numbers of a few bytes, "high byte first".
+ghost use mathlib.Core.Path.{_≡_};
+ghost use Rattle.silences.specs.Numbers.{IsNumberRead};
+
+// The most bytes of a number: it fits 32 bits.
+const MOST_NUMBER_BYTES: usize = 4;
+
+// A byte as a number of 32 bits.
+fn wide(x: u8) -> u32
+    ensures { λ r. ⌜ r ≡ x ⌝ }
+{
+    x as u32
+}
+
+// The number in the `count` bytes from byte offset `at`; 0 where they are more than four, or do not all lie within the
+// bytes. Offset and count may be any, so they are compared with the length before anything is added to them.
+pub fn number_at(bytes: &[u8], at: usize, count: usize) -> u32
+    ensures { λ r. ⌜ IsNumberRead (now (bytes .entry)) at count r ⌝ }
+{
+    if MOST_NUMBER_BYTES < count {
+        return 0;
+    }
+    if bytes.len() < count {
+        return 0;
+    }
+    if bytes.len() - count < at {
+        return 0;
+    }
+    let mut number: u32 = 0;
+    let mut done: usize = 0;
+    while done < count {
+        number = number * 256 + wide(bytes[at + done]);
+        done += 1;
+    }
+    number
+}

@@ -1,0 +1,53 @@
+// The order of silences.
+use crate::addresses::Address;
+ghost use mathlib.Core.Path.{_≡_};
+ghost use Rattle.silences.specs.Silences.{isBelow, isSame, isAbove};
+ghost use Rattle.silences.specs.Addresses.{silenceOf, lastOf};
+
+// Whether one address is below another: "by cell, then ring number, then start".
+pub fn is_below(a: Address, b: Address) -> bool
+    ensures { λ r. ⌜ r ≡ isBelow (silenceOf a) (silenceOf b) ⌝ }
+{
+    if a.cell < b.cell {
+        return true;
+    }
+    if b.cell < a.cell {
+        return false;
+    }
+    if a.ring_number < b.ring_number {
+        return true;
+    }
+    if b.ring_number < a.ring_number {
+        return false;
+    }
+    a.start < b.start
+}
+
+// Whether two addresses are the same. "Zero is an ordinary cell, ring number and start": all three are compared.
+pub fn is_same(a: Address, b: Address) -> bool
+    ensures { λ r. ⌜ r ≡ isSame (silenceOf a) (silenceOf b) ⌝ }
+{
+    if a.cell != b.cell {
+        return false;
+    }
+    if a.ring_number != b.ring_number {
+        return false;
+    }
+    a.start == b.start
+}
+
+// The record before another, which has to be below it. The first record has none.
+pub enum Last {
+    NoRecord,
+    Record(Address),
+}
+
+// Whether a record is above the one before it.
+pub fn is_above(last: Last, address: Address) -> bool
+    ensures { λ r. ⌜ r ≡ isAbove (lastOf last) (silenceOf address) ⌝ }
+{
+    match last {
+        Last::NoRecord => true,
+        Last::Record(before) => is_below(before, address),
+    }
+}
