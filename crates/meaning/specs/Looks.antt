@@ -1,5 +1,5 @@
 -- Document 01: looks. "Looks are the sum over rules 1 and 5"; and the looks of the plain survey. Rule 5, "Verifying works on a tally: the tally of
--- one count per rotation is kept and moved along the line", is stated here by what it costs; what the counts hold is `Tallied` of crates/outlines.
+-- one count per rotation is kept and moved along the line", is stated here by what it costs; what the counts hold is `Tallied` of crates/tally.
 -- Assumes nothing.
 use Prim.Native.Nat.{ℕ, zero, suc, _+_, _-_, _*_}
 use mathlib.Core.Bool.{Bool, cond}

@@ -1,5 +1,5 @@
 -- Document 01, "Rules of the quick scan", rules 1 to 4. (Rule 5 decides no finding: what verifying costs stands in Looks, and what a tally holds
--- with the counts themselves, in crates/outlines.) The stretch and the count of breaks begin anew at each window.
+-- with the counts themselves, in crates/tally.) The stretch and the count of breaks begin anew at each window.
 -- The recursion `windowsFrom` carries a number that only bounds how many windows there can be. Read in its place the two equations of
 -- proofs/WindowSteps over `windowsAt`, the windows from a place on (`windows-start`): `windows-step`, that a window in the line is read and
 -- followed by those from the next one on, and `windows-end`.

@@ -8,7 +8,9 @@ use sweep::LastVerified;
 use sweep::Sweep;
 use sweep::Swept;
 use sweep::sweep_on;
+use tally::MOST_COUNTS;
 use tally::double;
+use vectors::TABLE_WORDS;
 use vectors::occurrences;
 ghost use lib.ListN.{length};
 ghost use Rattle.findings.specs.Admitting.{Admitted};
@@ -18,10 +20,10 @@ ghost use Rattle.outlines.specs.Scan.{CanScan, LineScanned, IsScanned};
 fn scan_windows(
     ring: &[u8],
     doubled: &[u8],
-    table: &[u64; 1024],
+    table: &[u64; TABLE_WORDS],
     line: &[u8],
     k: usize,
-    counts: &mut [u16; 256],
+    counts: &mut [u16; MOST_COUNTS],
     words: &mut [u32],
 ) -> Counted
     requires { ⌜ CanScan (now ring) (now doubled) (now table) (now line) k (now counts) (now words) ⌝ }
@@ -60,10 +62,10 @@ fn scan_line(ring: &[u8], line: &[u8], k: usize, words: &mut [u32]) -> Counted
     requires { ⌜ Admitted (length (now ring)) k (length (now line)) (length (now words)) ⌝ }
     ensures { λ z. ⌜ LineScanned (now (ring .entry)) (now (line .entry)) k (now (words .entry)) (z .found) (z .looks) (now (words .exit)) ⌝ }
 {
-    let mut table = [0u64; 1024];
+    let mut table = [0u64; TABLE_WORDS];
     occurrences(ring, &mut table);
     let doubled = double(ring);
-    let mut counts = [0u16; 256];
+    let mut counts = [0u16; MOST_COUNTS];
     scan_windows(ring, &doubled, &table, line, k, &mut counts, words)
 }
 

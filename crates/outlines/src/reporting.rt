@@ -15,7 +15,9 @@ use sweep::LastVerified;
 use sweep::Sweep;
 use sweep::Swept;
 use sweep::sweep_on;
+use tally::MOST_COUNTS;
 use tally::double;
+use vectors::TABLE_WORDS;
 use vectors::occurrences;
 ghost use mathlib.Core.Path.{_≡_};
 ghost use Prim.Native.Nat.{_<_, _^_};
@@ -43,7 +45,7 @@ pub struct ReportCounted {
 }
 
 // What the book was asked so far: how many findings are shown and how many hidden, and the field that is held for the
-// last start asked. Starts rise, so no field of the book is read twice.
+// last start asked. Starts rise, so what was passed over is not read again.
 pub struct Asked {
     pub shown: usize,
     pub hidden: usize,
@@ -105,11 +107,11 @@ fn report_windows(
     ring_number: u16,
     ring: &[u8],
     doubled: &[u8],
-    table: &[u64; 1024],
+    table: &[u64; TABLE_WORDS],
     line: &[u8],
     k: usize,
     book: &[u8],
-    counts: &mut [u16; 256],
+    counts: &mut [u16; MOST_COUNTS],
     words: &mut [u32],
 ) -> ReportCounted
     requires { ⌜ CanReport (now ring) (now doubled) (now table) (now line) k (now book) (now counts) (now words) ⌝ }
@@ -164,10 +166,10 @@ fn report_line(
     requires { ⌜ CanReportLine (now ring) (now line) k (now book) (now words) ⌝ }
     ensures { λ z. ⌜ LineReported cell «ring_number» (now (ring .entry)) (now (line .entry)) k (now (book .entry)) (now (words .entry)) (z .found) (z .hidden) (z .looks) (now (words .exit)) ⌝ }
 {
-    let mut table = [0u64; 1024];
+    let mut table = [0u64; TABLE_WORDS];
     occurrences(ring, &mut table);
     let doubled = double(ring);
-    let mut counts = [0u16; 256];
+    let mut counts = [0u16; MOST_COUNTS];
     report_windows(
         cell,
         ring_number,

@@ -7,6 +7,7 @@ use findings::Scanned;
 use findings::Verdict;
 use findings::admit;
 use findings::put_finding;
+use tally::MOST_COUNTS;
 use tally::Reached;
 use tally::count_afresh;
 use tally::double;
@@ -26,7 +27,7 @@ pub enum Surveyed {
 // "The first afresh and each next by one step, at m = 1 too": rule 5's 2·s > m is not asked here. The tally is moved on
 // to the next finding, or to the last start, so that it is handed over once for a finding and not for each start.
 fn verify_on(
-    counts: &mut [u16; 256],
+    counts: &mut [u16; MOST_COUNTS],
     ring: &[u8],
     doubled: &[u8],
     line: &[u8],
@@ -52,7 +53,7 @@ fn verify_on(
 
 // The starts from i on, to the next finding or to the last.
 fn survey_on(
-    counts: &mut [u16; 256],
+    counts: &mut [u16; MOST_COUNTS],
     ring: &[u8],
     doubled: &[u8],
     line: &[u8],
@@ -84,7 +85,7 @@ fn survey_starts(
     doubled: &[u8],
     line: &[u8],
     k: usize,
-    counts: &mut [u16; 256],
+    counts: &mut [u16; MOST_COUNTS],
     words: &mut [u32],
 ) -> Counted
     requires { ⌜ CanSurvey (now ring) (now doubled) (now line) k (now counts) (now words) ⌝ }
@@ -117,7 +118,7 @@ fn survey_line(ring: &[u8], line: &[u8], k: usize, words: &mut [u32]) -> Counted
     ensures { λ z. ⌜ LineSurveyed (now (ring .entry)) (now (line .entry)) k (now (words .entry)) (z .found) (z .looks) (now (words .exit)) ⌝ }
 {
     let doubled = double(ring);
-    let mut counts = [0u16; 256];
+    let mut counts = [0u16; MOST_COUNTS];
     survey_starts(ring, &doubled, line, k, &mut counts, words)
 }
 

@@ -1,5 +1,6 @@
 // Rules 1 to 3: one window is read from its last edge towards its first. In place of the stretch a vector of one bit for
 // each rotation is held: bit r is set exactly when the stretch is the beginning of rotation r (source document 003).
+use vectors::TABLE_WORDS;
 use vectors::first_bits;
 use vectors::grown;
 use vectors::no_bit;
@@ -19,7 +20,7 @@ pub struct WindowRead {
 
 // Rule 2 and 3, with the held vector in its first `words` words. At break k + 1 the window is left; the test stands at
 // the break, since nowhere else the count of breaks changes.
-fn read_words(window: &[u8], table: &[u64; 1024], k: usize, words: usize) -> WindowRead
+fn read_words(window: &[u8], table: &[u64; TABLE_WORDS], k: usize, words: usize) -> WindowRead
     ensures { λ z. ⌜ z ≡ readWith (now (table .entry)) (now (window .entry)) k words ⌝ }
 {
     let m = window.len();
@@ -55,7 +56,7 @@ fn read_words(window: &[u8], table: &[u64; 1024], k: usize, words: usize) -> Win
 }
 
 // The window read with as few words as its m bits need: a literal count lets the compiler make straight code of each.
-pub fn read_window(window: &[u8], table: &[u64; 1024], k: usize) -> WindowRead
+pub fn read_window(window: &[u8], table: &[u64; TABLE_WORDS], k: usize) -> WindowRead
     requires { ⌜ (0 < length (now window)) × (length (now window) ≤ mostCounts) ⌝ }
     ensures { λ z. ⌜ z ≡ readBy (now (table .entry)) (now (window .entry)) k ⌝ }
 {

@@ -6,18 +6,15 @@ use crate::verifying::verify;
 use answers::Finding;
 use answers::LinePlace;
 use answers::RingPlace;
+use tally::MOST_COUNTS;
+use tally::MOST_PLACES;
 use tally::lowest_rotation;
 use tally::window;
+use vectors::TABLE_WORDS;
 ghost use mathlib.Core.Path.{_≡_};
 ghost use lib.ListN.{length};
 ghost use Rattle.sweep.specs.Reads.{CanReadWindows, windowsBy};
 ghost use Rattle.sweep.specs.Sweeps.{canSweep, CanSweep, IsSweptTo, IsSweptBy};
-
-// "Ring: m edges, 1 to 256."
-const MOST_RING: usize = 256;
-
-// A line place goes out as one word of 32 bits, so no line has more places.
-const MOST_PLACES: usize = 4294967296;
 
 // More looks than any sweep takes: those of the next windows are added without a look being lost.
 const MOST_LOOKS: usize = 4611686018427387904;
@@ -49,7 +46,13 @@ pub struct WindowsRead {
 // Rules 1 to 3, window after window, to the next candidate. The next window starts past the edge where the one before was
 // left, since every start up to there differs in over k places. Most windows are left after a few reads, so nothing
 // else is done between them.
-fn read_windows(m: usize, table: &[u64; 1024], line: &[u8], k: usize, from: usize) -> WindowsRead
+fn read_windows(
+    m: usize,
+    table: &[u64; TABLE_WORDS],
+    line: &[u8],
+    k: usize,
+    from: usize,
+) -> WindowsRead
     requires { ⌜ CanReadWindows m (now line) from ⌝ }
     ensures { λ z. ⌜ z ≡ windowsBy m (now (table .entry)) (now (line .entry)) k from ⌝ }
 {
@@ -82,10 +85,10 @@ fn to_candidate(
     at: Sweep,
     ring: &[u8],
     doubled: &[u8],
-    table: &[u64; 1024],
+    table: &[u64; TABLE_WORDS],
     line: &[u8],
     k: usize,
-    counts: &mut [u16; 256],
+    counts: &mut [u16; MOST_COUNTS],
 ) -> Swept
     requires { ⌜ CanSweep (length (now ring)) (length (now line)) at ⌝ }
     ensures { λ r. ⌜ IsSweptTo (now (ring .entry)) (now (doubled .entry)) (now (table .entry)) (now (line .entry)) k at (now (counts .entry)) (now (counts .exit)) r ⌝ }
@@ -124,13 +127,13 @@ fn to_candidate(
 
 // Whether a sweep can go on from a start with so many looks: a ring within the limit, a line that has places for its
 // starts, a start in the line or just past it, and room for more looks.
-fn can_sweep(m: usize, n: usize, start: usize, looks: usize) -> bool
-    ensures { λ r. ⌜ r ≡ canSweep m n start looks ⌝ }
+fn can_sweep(m: usize, n: usize, start: usize, taken: usize) -> bool
+    ensures { λ r. ⌜ r ≡ canSweep m n start taken ⌝ }
 {
     if m == 0 {
         return false;
     }
-    if MOST_RING < m {
+    if MOST_COUNTS < m {
         return false;
     }
     if MOST_PLACES <= n {
@@ -139,7 +142,7 @@ fn can_sweep(m: usize, n: usize, start: usize, looks: usize) -> bool
     if n + 1 < start {
         return false;
     }
-    looks <= MOST_LOOKS
+    taken <= MOST_LOOKS
 }
 
 // On to the next candidate, from anywhere; where the sweep cannot go on it stays where it is, and no count changes.
@@ -147,10 +150,10 @@ pub fn sweep_on(
     at: Sweep,
     ring: &[u8],
     doubled: &[u8],
-    table: &[u64; 1024],
+    table: &[u64; TABLE_WORDS],
     line: &[u8],
     k: usize,
-    counts: &mut [u16; 256],
+    counts: &mut [u16; MOST_COUNTS],
 ) -> Swept
     ensures { λ r. ⌜ IsSweptBy (now (ring .entry)) (now (doubled .entry)) (now (table .entry)) (now (line .entry)) k at (now (counts .entry)) (now (counts .exit)) r ⌝ }
 {

@@ -1,5 +1,6 @@
 // Rule 5: the tally is kept, and moved along the line from one verified start to the next.
 use tally::Least;
+use tally::MOST_COUNTS;
 use tally::count_afresh;
 use tally::move_counts;
 use tally::window;
@@ -16,7 +17,7 @@ pub enum LastVerified {
 // Rule 5: "With no earlier tally, or if the new start is s beyond the last verified one and 2·s > m, it is counted
 // afresh. Otherwise it moves s steps." A start that is not beyond the last verified one is counted afresh too.
 pub fn verify(
-    counts: &mut [u16; 256],
+    counts: &mut [u16; MOST_COUNTS],
     ring: &[u8],
     doubled: &[u8],
     line: &[u8],

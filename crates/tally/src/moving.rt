@@ -6,7 +6,7 @@ ghost use mathlib.Core.Path.{_≡_};
 ghost use Rattle.tally.specs.Moves.{canMove, CanMove, IsMovedOn, IsMoved};
 
 // A line place goes out as one word of 32 bits, so no line has more places.
-const MOST_PLACES: usize = 4294967296;
+pub const MOST_PLACES: usize = 4294967296;
 
 // One count for each rotation.
 pub struct Tally {

@@ -10,3 +10,4 @@ pub use held::grown;
 pub use held::no_bit;
 pub use table::occurrences;
 pub use table::vector_of;
+pub use widths::TABLE_WORDS;
