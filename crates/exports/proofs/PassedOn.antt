@@ -13,10 +13,10 @@ use Rattle.book.specs.Calls.{paperOf as bookPaperOf, IsUnpacked}
 use Rattle.packing.specs.Calls.{IsPacked}
 use Rattle.findings.specs.declared.searching.Scanned.{Scanned}
 use Rattle.outlines.specs.declared.reporting.Reported.{Reported}
-use Rattle.findings.specs.Searching.{Counts, paperOf as searchPaperOf}
+use Rattle.findings.specs.Searching.{paperOf as searchPaperOf}
 use Rattle.outlines.specs.Scan.{IsScanned}
 use Rattle.survey.specs.Survey.{IsSurveyed}
-use Rattle.outlines.specs.Report.{ReportCounts, paperOf as reportPaperOf, IsReported}
+use Rattle.outlines.specs.Report.{paperOf as reportPaperOf, IsReported}
 use Rattle.exports.specs.declared.answering.Answer.{Answer}
 use Rattle.exports.specs.Exported.{paperOf, searchCounts, recordCounts, counted, IsSurveyExported, IsScanExported, IsReportExported, IsPackExported, IsUnpackExported}
 use Rattle.exports.proofs.BookPlaces.{packed-place-le, unpacked-place-le}

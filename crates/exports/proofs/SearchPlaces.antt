@@ -1,7 +1,7 @@
 -- The place of a refusal fits 32 bits, for survey, scan and report: rows 1 to 4 have place 0, and the report's others are the book's.
 -- Assumes nothing.
 use Prim.Native.Nat.{ℕ, _≤_}
-use mathlib.Core.Path.{_≡_, refl}
+use mathlib.Core.Path.{refl}
 use mathlib.Core.List.{List}
 use mathlib.Core.Option.{Option}
 use native.Mathlib.Omega.{arith}

@@ -9,13 +9,8 @@ use Rattle.meaning.proofs.Cases.{le-or-lt}
 use Rattle.answers.specs.declared.refusals.Refusal.{Refusal}
 use Rattle.answers.specs.declared.refusals.Refusal.the-variants.{Ring, Allowance, Line, FindingsRoom}
 use Rattle.answers.specs.Refusals.{numberOf}
-use Rattle.findings.specs.Admitting.{refusalOf, Admitted}
+use Rattle.findings.specs.Admitting.{IsRing, refusalOf, Admitted}
 use Rattle.findings.proofs.AdmitCases.{row1-empty, row1-long, row2-is, row3-is, row4-is, short-accepted, room-accepted, admitted-by}
-
--- "Ring: m edges, 1 to 256": row 1 is not given.
-pub record IsRing (m : ℕ) : Type 0 where
-  pub some-edge : 0 < m
-  pub most : m ≤ 256
 
 -- The first of rows 1 to 4 that is given, or that none is.
 pub data RowGiven (m k n room : ℕ) : Option Refusal → Type 0 where

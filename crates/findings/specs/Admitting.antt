@@ -52,6 +52,11 @@ refusalOf m k n room =
     (cond (isRow3 n) (some Line)
     (cond (isRow4 m n room) (some FindingsRoom) none)))
 
+-- "Ring: m edges, 1 to 256": row 1 is not given.
+pub record IsRing (m : ℕ) : Type 0 where
+  pub some-edge : 0 < m
+  pub most : m ≤ 256
+
 -- What is known of an accepted call: the document's limits, and room for the findings.
 pub record Admitted (m k n room : ℕ) : Type 0 where
   pub some-edge : 0 < m

@@ -4,8 +4,10 @@
 --   Counts               found and looks
 --   searched             what a search gives: the refusal, or its counts
 --   searchedWords        the lent words at exit
+--   LineSearched         a line searched, once a call is accepted
 --   paperOf              document 01's number, place and counts of an answer
 use Prim.Native.Nat.{ℕ}
+use mathlib.Core.Path.{_≡_}
 use mathlib.Core.List.{List}
 use mathlib.Core.Option.{Option, none, some}
 use lib.ListN.{length}
@@ -44,6 +46,12 @@ searched ring line k room looks =
 unfoldable pub searchedWords : List ℕ → List ℕ → ℕ → List ℕ → List ℕ
 searchedWords ring line k words =
     wordsBy (refusalOf (length ring) k (length line) (length words)) (written (wordsOf (findings ring line k)) words) words
+
+-- A line is searched, with so many looks: found, looks and the words at exit.
+pub record LineSearched (ring line : List ℕ) (k asked : ℕ) (words : List ℕ) (found looks : ℕ) (out : List ℕ) : Type 0 where
+  pub found-is : found ≡ length (findings ring line k)
+  pub looks-are : looks ≡ asked
+  pub written : out ≡ written (wordsOf (findings ring line k)) words
 
 -- The answer that an enum's case stands for.
 abbrev pub answerOf : Scanned → Answer Counts

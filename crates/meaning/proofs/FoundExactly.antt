@@ -5,13 +5,13 @@
 use Prim.Native.Nat.{ℕ, zero, suc, _+_, _≤_, _<_}
 use mathlib.Core.Path.{_≡_, refl, sym, ap, _∙_, subst}
 use mathlib.Core.Logic.{_↔_, ⊎-elim}
-use mathlib.Core.List.{List, [], _∷_, _++_, List·Memᴰ, List·Memᴰ·head, List·Memᴰ·not-nil, List·Memᴰ·append-cases, Memᴰ·append-left, Memᴰ·append-right, Memᴰ·cast}
+use mathlib.Core.List.{List, List·Memᴰ, List·Memᴰ·head, List·Memᴰ·not-nil, List·Memᴰ·append-cases, Memᴰ·append-left, Memᴰ·append-right, Memᴰ·cast}
 use native.Mathlib.Nat.{eq-or-lt-of-le, le-of-suc-le-suc}
 use native.Mathlib.Omega.{arith}
 use lib.ListN.{length}
 use Rattle.meaning.specs.Meanings.{IsStart, distance, lowestRotation, leastDistance}
 use Rattle.meaning.specs.Findings.{Finding, IsFinding, findingAt, foundAt, findingsBelow, findings}
-use Rattle.meaning.proofs.Lowest.{IsLowest, lowest-unique}
+use Rattle.meaning.proofs.Lowest.{lowest-unique}
 use Rattle.meaning.proofs.Places.{lowestRotation-is, found-yes, found-mem}
 
 module _ (ring line : List ℕ) (k : ℕ) where

@@ -15,7 +15,7 @@ use Rattle.meaning.specs.Rules.{Reading, readWindow, nextStart, candidat
 use Rattle.meaning.proofs.Places.{found-no-start}
 use Rattle.meaning.proofs.WindowRead.{window-read, candidate-yes, candidate-no}
 use Rattle.meaning.proofs.NothingLost.{nothing-lost}
-use Rattle.meaning.proofs.WindowSteps.{windowsAt, windows-start, windows-induct}
+use Rattle.meaning.proofs.WindowSteps.{windows-start, windows-induct}
 
 module _ (ring line : List ℕ) (k : ℕ) where
   -- Places without a finding add nothing to the findings below.

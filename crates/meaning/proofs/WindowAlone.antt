@@ -1,15 +1,14 @@
 -- A window read by itself: handed out as a list, it has at start 0 the distances and the reading that it has in the line at its start. Both
 -- look at its m edges only.
 -- Assumes nothing.
-use Prim.Native.Nat.{ℕ, zero, suc, _+_, _≤_, _<_}
-use mathlib.Core.Path.{_≡_, refl, ap, _∙_}
+use Prim.Native.Nat.{ℕ, zero, suc, _≤_, _<_}
+use mathlib.Core.Path.{_≡_, refl, ap}
 use mathlib.Core.Bool.{Bool, true, false, not, cond, true≢false, false≢true}
 use mathlib.Core.List.{List, [], _∷_}
 use native.Mathlib.Nat.{zero-add}
 use native.Mathlib.Omega.{arith}
 use lib.Dec.{ltb, eqb}
 use lib.ListN.{length}
-use Rattle.meaning.specs.Numbers.{count}
 use Rattle.meaning.specs.Meanings.{window, windowEdge, rotationEdge, differs, distance}
 use Rattle.meaning.specs.Stretch.{fits}
 use Rattle.meaning.specs.Rules.{Reading, unread, readEdge, readLeft, readWindow}

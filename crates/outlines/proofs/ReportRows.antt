@@ -14,7 +14,8 @@ use Rattle.silences.proofs.BookRows.{book-row-5-iff, book-row-6-iff, book-row-7
 use Rattle.outlines.specs.declared.reporting.Reported.{Reported}
 use Rattle.findings.specs.Admitting.{Admitted}
 use Rattle.outlines.specs.Report.{paperOf, IsReported}
-use Rattle.findings.proofs.AdmitRows.{IsRing, row-1-iff, row-2-iff, row-3-iff, row-4-iff}
+use Rattle.findings.specs.Admitting.{IsRing}
+use Rattle.findings.proofs.AdmitRows.{row-1-iff, row-2-iff, row-3-iff, row-4-iff}
 use Rattle.outlines.proofs.ReportRefusals.{early-row-iff, book-row-iff, report-refusal-iff, report-number-iff, report-place-is}
 
 module _ (cell ringNumber : ℕ) (ring line : List ℕ) (k : ℕ) (book words : List ℕ) (r : Reported) (out : List ℕ)

@@ -2,7 +2,7 @@
 -- and looked at is right is `ScanLoop` of crates/meaning, whose turn is `scan-turn` here: a window left or verified. Windows left one after the other are
 -- `left-scanned`.
 -- Assumes nothing.
-use Prim.Native.Nat.{ℕ, _+_, _-_, _*_, _≤_, _<_}
+use Prim.Native.Nat.{ℕ, _+_, _*_, _≤_, _<_}
 use mathlib.Core.Path.{_≡_, refl, ap, _∙_}
 use mathlib.Core.Bool.{Bool, true, false, cond}
 use mathlib.Core.List.{List, [], _∷_, _++_, append-nil}

@@ -7,14 +7,13 @@ use Prim.Native.Nat.{ℕ, _≤_, _<_}
 use mathlib.Core.Path.{_≡_}
 use mathlib.Core.List.{List}
 use lib.ListN.{length}
-use Rattle.meaning.specs.Findings.{findings, wordsOf, written}
 use Rattle.meaning.specs.Looks.{quickLooks}
 use Rattle.vectors.specs.ByValue.{Occurrences}
 use Rattle.tally.specs.Counts.{IsDoubled}
 use Rattle.tally.specs.Tallied.{TallyFits}
 use Rattle.findings.specs.declared.searching.Scanned.{Scanned}
 use Rattle.findings.specs.Admitting.{mostLine, roomAsked}
-use Rattle.findings.specs.Searching.{paperOf, searchPaper, searchedWords}
+use Rattle.findings.specs.Searching.{LineSearched, paperOf, searchPaper, searchedWords}
 
 -- What `scan` promises: of the ring, the line, the allowance, the lent words, the answer and the words at exit.
 pub record IsScanned (ring line : List ℕ) (k : ℕ) (words : List ℕ) (r : Scanned) (out : List ℕ) : Type 0 where
@@ -30,8 +29,6 @@ pub record CanScan (ring doubled table line : List ℕ) (k : ℕ) (counts words 
   pub twice : IsDoubled ring doubled
   pub room-for : length ring ≤ length line → roomAsked (length ring) (length line) ≤ length words
 
--- A line is scanned: found, looks and the words at exit.
-pub record LineScanned (ring line : List ℕ) (k : ℕ) (words : List ℕ) (found looks : ℕ) (out : List ℕ) : Type 0 where
-  pub found-is : found ≡ length (findings ring line k)
-  pub looks-are : looks ≡ quickLooks ring line k
-  pub written : out ≡ written (wordsOf (findings ring line k)) words
+-- A line is scanned.
+abbrev pub LineScanned : List ℕ → List ℕ → ℕ → List ℕ → ℕ → ℕ → List ℕ → Type 0
+LineScanned ring line k words found looks out = LineSearched ring line k (quickLooks ring line k) words found looks out

@@ -3,7 +3,6 @@
 use Prim.Native.Nat.{ℕ}
 use mathlib.Core.Path.{_≡_, ap}
 use mathlib.Core.List.{List}
-use Rattle.answers.specs.declared.refusals.Refusal.the-variants.{Input}
 use Rattle.request.specs.Input.{Request, laidDown, CanLayDown}
 use Rattle.request.specs.RowEleven.{IsInputFault}
 use Rattle.request.specs.Lines.{refusalWords}

@@ -10,15 +10,15 @@ use mathlib.Core.Path.{_≡_}
 use mathlib.Core.List.{List, [], _∷_}
 use lib.ListN.{length}
 use Rattle.meaning.specs.Meanings.{leastDistance}
-use Rattle.meaning.specs.Findings.{Finding, foundAt, findings, wordsOf, written}
+use Rattle.meaning.specs.Findings.{Finding, foundAt}
 use Rattle.meaning.specs.Looks.{surveyLooksBelow, surveyLooks}
 use Rattle.tally.specs.declared.steps.Reached.{Reached}
-use Rattle.tally.specs.Counts.{mostCounts, IsDoubled, IsLeast}
+use Rattle.tally.specs.Counts.{IsDoubled, IsLeast}
 use Rattle.tally.specs.Tallied.{Tallied, TallyFits}
 use Rattle.findings.specs.declared.searching.Scanned.{Scanned}
 use Rattle.findings.specs.Admitting.{mostLine, roomAsked}
 use Rattle.findings.specs.Putting.{findingOf}
-use Rattle.findings.specs.Searching.{paperOf, searchPaper, searchedWords}
+use Rattle.findings.specs.Searching.{LineSearched, paperOf, searchPaper, searchedWords}
 use Rattle.survey.specs.declared.plain.Surveyed.{Surveyed}
 use Rattle.survey.specs.declared.plain.Surveyed.the-variants.{NoFinding, Found}
 
@@ -71,8 +71,6 @@ pub record CanSurvey (ring doubled line : List ℕ) (k : ℕ) (counts words : Li
   pub twice : IsDoubled ring doubled
   pub room-for : length ring ≤ length line → roomAsked (length ring) (length line) ≤ length words
 
--- A line is surveyed: found, looks and the words at exit.
-pub record LineSurveyed (ring line : List ℕ) (k : ℕ) (words : List ℕ) (found looks : ℕ) (out : List ℕ) : Type 0 where
-  pub found-is : found ≡ length (findings ring line k)
-  pub looks-are : looks ≡ surveyLooks ring line
-  pub written : out ≡ written (wordsOf (findings ring line k)) words
+-- A line is surveyed.
+abbrev pub LineSurveyed : List ℕ → List ℕ → ℕ → List ℕ → ℕ → ℕ → List ℕ → Type 0
+LineSurveyed ring line k words found looks out = LineSearched ring line k (surveyLooks ring line) words found looks out

@@ -1,7 +1,7 @@
 -- Windows read to the next candidate by the rules: every window so far was left (`LeftTo`). A window is read as a line of its own
 -- (`alone-reading`); it is left at break k + 1, and the next one starts later, or it is the candidate.
 -- Assumes nothing.
-use Prim.Native.Nat.{ℕ, _+_, _-_, _*_, _≤_, _<_}
+use Prim.Native.Nat.{ℕ, _+_, _≤_, _<_}
 use mathlib.Core.Path.{_≡_, refl, sym, ap, _∙_}
 use mathlib.Core.Bool.{true, false, true≢false}
 use mathlib.Core.List.{List}

@@ -13,8 +13,8 @@ use lib.ListN.{length, getD}
 use Rattle.meaning.specs.Numbers.{someBelow}
 use Rattle.meaning.specs.Meanings.{windowEdge}
 use Rattle.meaning.proofs.Some.{some-yes, some-by}
-use Rattle.meaning.proofs.WindowLoop.{Bits, AllSet, GrownBy, WindowLoop, window-start, window-end, window-left, turn-grows, turn-breaks}
-use Rattle.vectors.specs.Bits.{wordCount, isSet, firstBits, noBit}
+use Rattle.meaning.proofs.WindowLoop.{AllSet, GrownBy, WindowLoop, window-start, window-end, window-left, turn-grows, turn-breaks}
+use Rattle.vectors.specs.Bits.{isSet, firstBits, noBit}
 use Rattle.vectors.specs.Holding.{vectorAt}
 use Rattle.vectors.specs.ByValue.{vectorWords, HeldVector, grownWords}
 use Rattle.vectors.proofs.HeldVectors.{first-held, first-set, no-bit-iff, no-bit-no, GrownByEdge, grown-by-edge}

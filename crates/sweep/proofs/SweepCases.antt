@@ -1,7 +1,7 @@
 -- The sweep to the next candidate, by its three cases: no window is in the line any more; the candidate is verified and no finding; a finding. The windows
 -- up to it are left; the rest is what the tally says of its start.
 -- Assumes nothing.
-use Prim.Native.Nat.{ℕ, _+_, _-_, _*_, _≤_, _<_}
+use Prim.Native.Nat.{ℕ, _+_, _≤_, _<_}
 use mathlib.Core.Path.{_≡_, refl, sym, ap, _∙_}
 use mathlib.Core.Bool.{true, false, true≢false}
 use mathlib.Core.List.{List, [], _∷_}

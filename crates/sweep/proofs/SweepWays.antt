@@ -3,8 +3,8 @@
 -- the contract.
 -- Assumes nothing.
 use Prim.Native.Nat.{ℕ, _+_, _-_, _*_, _≤_, _<_}
-use mathlib.Core.Path.{_≡_, refl, sym, ap, _∙_}
-use mathlib.Core.Bool.{Bool, true, false, cond, _&&_}
+use mathlib.Core.Path.{_≡_, refl, ap}
+use mathlib.Core.Bool.{Bool, true, false, _&&_}
 use mathlib.Core.List.{List}
 use native.Mathlib.Omega.{arith}
 use lib.Dec.{ltb, leb}
@@ -14,14 +14,13 @@ use Rattle.meaning.proofs.Cases.{and-true, not-passed}
 use Rattle.tally.specs.Counts.{mostCounts, IsLowestWith}
 use Rattle.tally.specs.Moves.{mostPlaces}
 use Rattle.tally.specs.declared.counts.Least.{Least}
-use Rattle.answers.specs.declared.places.Finding.{Finding as FindingStruct}
 use Rattle.sweep.specs.declared.verifying.LastVerified.the-variants.{At}
 use Rattle.sweep.specs.declared.sweeping.Sweep.{Sweep}
 use Rattle.sweep.specs.declared.sweeping.Swept.{Swept}
 use Rattle.sweep.specs.declared.sweeping.Swept.the-variants.{Ended, NoFinding, Found}
 use Rattle.sweep.specs.declared.sweeping.WindowsRead.{WindowsRead}
 use Rattle.sweep.specs.Reads.{windowsBy, CanReadWindows}
-use Rattle.sweep.specs.Sweeps.{TallyTo, tallyBy, SweptTo, sweepBy, mostLooks, canSweep, CanSweep, IsTallied, IsSweptTo, IsSweptBy}
+use Rattle.sweep.specs.Sweeps.{TallyTo, sweepBy, mostLooks, canSweep, CanSweep, IsTallied, IsSweptTo, IsSweptBy}
 use Rattle.sweep.proofs.WindowTurns.{WindowsGo, windows-within}
 use Rattle.sweep.proofs.TallyWays.{mostTally, tally-looks}
 

@@ -9,17 +9,17 @@ use mathlib.Core.List.{List}
 use mathlib.Core.Logic.{dite}
 use native.Mathlib.Decide.{decLt, decLe}
 use native.Mathlib.Omega.{arith}
-use lib.Dec.{ltb, leb}
+use lib.Dec.{ltb}
 use lib.ListN.{length, getD}
-use borrow.Author.Tests.{lt-ltb, le-ltb, le-leb, lt-leb, ltb-true, ltb-false}
+use borrow.Author.Tests.{lt-ltb, le-leb, lt-leb, ltb-true, ltb-false}
 use Rattle.meaning.specs.Looks.{afreshLooks, tallyLooks}
 use Rattle.meaning.proofs.Cases.{by-test}
 use Rattle.vectors.specs.Bits.{wordCount, firstBits, noBit}
 use Rattle.vectors.specs.Holding.{vectorAt}
 use Rattle.vectors.specs.ByValue.{vectorWords, grownWords}
 use Rattle.tally.specs.Windows.{windowAt, IsWindow}
-use Rattle.tally.specs.Counts.{mostCounts, IsCounted}
-use Rattle.tally.specs.Moves.{Place, placeAt, moveOn, canMove, mostPlaces, IsMoved}
+use Rattle.tally.specs.Counts.{mostCounts}
+use Rattle.tally.specs.Moves.{Place, placeAt, moveOn, canMove, mostPlaces}
 use Rattle.tally.specs.Tallied.{Verified}
 use Rattle.tally.proofs.AfreshTallied.{counted-verified}
 use Rattle.sweep.specs.declared.reading.WindowRead.{WindowRead}

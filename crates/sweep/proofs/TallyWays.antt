@@ -1,20 +1,19 @@
 -- A start verified, by its four ways: with no earlier tally, not beyond the last verified start, far beyond it, and moved. Each is a case of `tallyBy`; none takes
 -- more looks than a fresh count of the longest ring.
 -- Assumes nothing.
-use Prim.Native.Nat.{ℕ, zero, suc, _+_, _-_, _*_, _≤_, _<_}
-use mathlib.Core.Path.{_≡_, refl, sym, ap, _∙_}
-use mathlib.Core.Bool.{Bool, true, false, cond, _&&_}
+use Prim.Native.Nat.{ℕ, _-_, _*_, _≤_, _<_}
+use mathlib.Core.Path.{_≡_, ap, _∙_}
+use mathlib.Core.Bool.{_&&_}
 use mathlib.Core.List.{List}
 use native.Mathlib.Nat.{mul-le-mul, mul-le-mul-right}
 use native.Mathlib.Omega.{arith}
 use lib.Dec.{ltb, leb}
 use lib.ListN.{length}
-use borrow.Author.Tests.{lt-ltb, le-ltb, le-leb, lt-leb, ltb-false, ltb-true, leb-true}
-use Rattle.meaning.specs.Looks.{stepLooks}
+use borrow.Author.Tests.{lt-ltb, le-ltb, le-leb, lt-leb, ltb-false, leb-true}
 use Rattle.meaning.proofs.Cases.{by-test, and-true}
 use Rattle.tally.specs.Windows.{windowAt, IsWindow}
 use Rattle.tally.specs.Counts.{mostCounts, canCount, IsCounted}
-use Rattle.tally.specs.Moves.{Place, placeOf, placeAt, moveOn, canMove, IsMoved}
+use Rattle.tally.specs.Moves.{Place, placeAt, canMove, IsMoved}
 use Rattle.tally.specs.declared.counts.Least.{Least}
 use Rattle.tally.specs.declared.steps.Reached.{Reached}
 use Rattle.tally.proofs.MoveLoop.{move-looks-le}

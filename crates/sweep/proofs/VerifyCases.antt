@@ -5,17 +5,14 @@ use Prim.Native.Nat.{ℕ, _+_, _-_, _*_, _≤_, _<_}
 use mathlib.Core.Path.{_≡_, refl, ap, subst, _∙_}
 use mathlib.Core.Logic.{⊎-elim}
 use mathlib.Core.List.{List}
-use mathlib.Core.Option.{Option}
 use native.Mathlib.Omega.{arith}
 use lib.ListN.{length}
 use borrow.Author.Tests.{lt-ltb, le-ltb}
 use Rattle.meaning.specs.Looks.{afreshLooks, stepLooks, tallyLooks}
 use Rattle.meaning.proofs.Cases.{le-or-lt}
 use Rattle.tally.specs.Moves.{IsMoved}
-use Rattle.tally.specs.Tallied.{Tallied, Verified, IsReached, TallyFits}
+use Rattle.tally.specs.Tallied.{Tallied, Verified, IsReached}
 use Rattle.sweep.specs.Verifying.{lastOf, TalliedBefore, CanVerify}
-use Rattle.tally.proofs.WindowEdges.{start-window, start-length}
-use Rattle.tally.specs.declared.counts.Least.{Least}
 use Rattle.tally.specs.declared.steps.Reached.{Reached}
 use Rattle.tally.proofs.MovedTallied.{moved-tallied}
 use Rattle.sweep.specs.declared.verifying.LastVerified.{LastVerified}

@@ -3,17 +3,16 @@
 -- Assumes nothing.
 use Prim.Native.Nat.{ℕ, zero, suc, _+_, _-_, _*_, _≤_, _<_}
 use mathlib.Core.Path.{_≡_, refl, sym, ap, _∙_}
-use mathlib.Core.Bool.{Bool, true, false, cond, true≢false}
+use mathlib.Core.Bool.{Bool, true, false, cond}
 use mathlib.Core.List.{List}
 use native.Mathlib.Omega.{arith}
 use lib.Dec.{leb}
 use lib.ListN.{length}
-use borrow.Author.Tests.{le-leb, lt-leb, leb-true, leb-false}
+use borrow.Author.Tests.{le-leb, lt-leb, leb-true}
 use Rattle.meaning.proofs.Cases.{by-test}
 use Rattle.vectors.specs.Bits.{wordCount}
 use Rattle.tally.specs.Windows.{windowAt, IsWindow}
 use Rattle.tally.specs.Counts.{mostCounts}
-use Rattle.tally.specs.Moves.{mostPlaces}
 use Rattle.tally.proofs.WindowEdges.{start-length}
 use Rattle.sweep.specs.declared.reading.WindowRead.{WindowRead}
 use Rattle.sweep.specs.declared.sweeping.WindowsRead.{WindowsRead}

@@ -10,13 +10,12 @@ use Prim.Native.Nat.{ℕ, _+_, _-_, _≤_, _<_}
 use mathlib.Core.Path.{_≡_}
 use mathlib.Core.Bool.{Bool, true, false, cond}
 use mathlib.Core.List.{List, [], _∷_}
-use mathlib.Core.Option.{Option, none, some}
+use mathlib.Core.Option.{Option, some}
 use lib.Dec.{leb}
 use lib.ListN.{length}
 use Rattle.meaning.specs.Findings.{Finding, foundAt}
 use Rattle.meaning.specs.Rules.{readWindow}
 use Rattle.meaning.specs.Looks.{tallyLooks}
-use Rattle.answers.specs.declared.places.Finding.{Finding as FindingStruct}
 use Rattle.vectors.specs.ByValue.{Occurrences}
 use Rattle.findings.specs.Putting.{findingOf}
 use Rattle.sweep.specs.declared.sweeping.Sweep.{Sweep}
@@ -33,7 +32,8 @@ use Rattle.sweep.specs.Verifying.{TalliedBefore, lastOf}
 abbrev pub sweptStart : List ℕ → List ℕ → ℕ → ℕ → ℕ
 sweptStart ring line k i = i + (length ring - readWindow ring line k i .read + 1)
 
--- Rule 4: a window with at most k breaks is a candidate; every candidate is verified and becomes the last verified start.
+-- Rule 4: "A window with all m edges read and at most k breaks is a candidate." One with at most k breaks has all its edges read, so the breaks tell. Every
+-- candidate is verified, and is then the last verified start.
 abbrev pub sweptLast : List ℕ → List ℕ → ℕ → ℕ → Option ℕ → Option ℕ
 sweptLast ring line k i last = cond (leb (readWindow ring line k i .breaks) k) (some i) last
 

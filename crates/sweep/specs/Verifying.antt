@@ -4,11 +4,10 @@
 --   TalliedBefore    what the counts hold then
 --   CanVerify        what verifying a start asks
 use Prim.Native.Nat.{ℕ, _+_, _≤_, _<_}
-use mathlib.Core.Path.{_≡_}
 use mathlib.Core.List.{List}
 use mathlib.Core.Option.{Option, none, some}
 use lib.ListN.{length}
-use Rattle.tally.specs.Counts.{mostCounts, IsDoubled}
+use Rattle.tally.specs.Counts.{IsDoubled}
 use Rattle.tally.specs.Tallied.{Tallied, TallyFits}
 use Rattle.tally.specs.Moves.{mostPlaces}
 use Rattle.sweep.specs.declared.verifying.LastVerified.{LastVerified}

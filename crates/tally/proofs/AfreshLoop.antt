@@ -15,8 +15,7 @@ use Rattle.answers.specs.Places.{lastPlace, IsRingPlace}
 use Rattle.answers.specs.declared.places.RingPlace.{RingPlace}
 use Rattle.answers.specs.declared.places.LinePlace.{LinePlace}
 use Rattle.answers.proofs.PlacesUndo.{ring-place-is}
-use Rattle.tally.specs.declared.counts.Least.{Least}
-use Rattle.tally.specs.Counts.{mostCounts, differsThere, afreshCount, afreshCounts, RingFits, CanCount, Cleared, EdgeCounted, IsLeast, IsCountedAfresh}
+use Rattle.tally.specs.Counts.{mostCounts, differsThere, afreshCount, afreshCounts, CanCount, Cleared, EdgeCounted, IsLeast, IsCountedAfresh}
 use Rattle.tally.proofs.PlaceByPlace.{listOf-first}
 use Rattle.tally.proofs.LeastIsOne.{leastOf-only}
 

@@ -2,9 +2,9 @@
 -- is the distance of the window, read as a line of its own, under its rotation. A window that is handed out alone has at 0 the distances that it has in the
 -- line at its start.
 -- Assumes nothing.
-use Prim.Native.Nat.{ℕ, _+_, _*_, _%_, _≤_, _<_}
+use Prim.Native.Nat.{ℕ, _+_, _*_, _≤_, _<_}
 use mathlib.Core.Path.{_≡_, refl, sym, ap, _∙_}
-use mathlib.Core.Bool.{Bool, true, cond}
+use mathlib.Core.Bool.{true}
 use mathlib.Core.List.{List}
 use native.Mathlib.Nat.{zero-add, add-comm}
 use native.Mathlib.Omega.{arith}
@@ -17,7 +17,7 @@ use Rattle.meaning.proofs.Count.{count-same}
 use Rattle.meaning.proofs.WindowAlone.{alone-distance}
 use Rattle.tally.specs.declared.counts.Least.{Least}
 use Rattle.tally.specs.Windows.{IsWindow}
-use Rattle.tally.specs.Counts.{mostCounts, leastOf, differsThere, afreshCount, afreshCounts, canCount, IsDoubled, IsCounted, IsLeast}
+use Rattle.tally.specs.Counts.{mostCounts, differsThere, afreshCount, afreshCounts, canCount, IsDoubled, IsCounted}
 use Rattle.tally.specs.Tallied.{Verified}
 use Rattle.tally.proofs.WindowEdges.{start-window, start-length}
 use Rattle.tally.proofs.PlaceByPlace.{listOf-length, listOf-first-at}

@@ -1,7 +1,7 @@
 -- The loop that changes the counts, one rotation a turn: it takes the leaving edge's comparison from the count, adds the entering edge's, both mod 2^16, and
 -- keeps the least of the counts changed so far. The least starts with the largest number of sixteen bits, which is the first count's least too.
 -- Assumes nothing.
-use Prim.Native.Nat.{ℕ, _+_, _-_, _*_, _%_, _≤_, _<_}
+use Prim.Native.Nat.{ℕ, _+_, _-_, _*_, _≤_, _<_}
 use mathlib.Core.Path.{_≡_, refl, sym, _∙_}
 use mathlib.Core.List.{List}
 use mathlib.Core.Logic.{dite}

@@ -3,7 +3,6 @@
 -- Assumes nothing.
 use Prim.Native.Nat.{ℕ, zero, suc, _+_, _-_, _≤_, _<_, min}
 use mathlib.Core.Path.{_≡_, refl, sym, ap, _∙_}
-use mathlib.Core.Bool.{Bool, true, false, cond}
 use mathlib.Core.List.{List}
 use mathlib.Core.Logic.{dite}
 use native.Mathlib.Decide.{ℕ-discrete}
@@ -12,7 +11,7 @@ use lib.Dec.{eqb}
 use lib.ListN.{getD}
 use borrow.Author.Tests.{eq-eqb, ne-eqb, eqb-true, eqb-false}
 use Rattle.meaning.proofs.Cases.{by-test}
-use Rattle.tally.specs.Counts.{mostCounts, lowestFrom, lowestWith, IsLowestWith, IsLeast}
+use Rattle.tally.specs.Counts.{mostCounts, lowestFrom, IsLowestWith, IsLeast}
 use Rattle.tally.specs.Tallied.{IsLowestAt}
 
 module _ (counts : List ℕ) (least : ℕ) where

@@ -3,7 +3,6 @@
 use Prim.Native.Nat.{ℕ}
 use mathlib.Core.Path.{_≡_, sym, ap, _∙_}
 use mathlib.Core.List.{List}
-use lib.ListN.{length}
 use Rattle.tally.specs.declared.counts.Least.{Least}
 use Rattle.tally.specs.declared.steps.Reached.{Reached}
 use Rattle.tally.specs.Windows.{IsWindow}

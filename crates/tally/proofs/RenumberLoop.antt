@@ -9,7 +9,7 @@ use native.Mathlib.Decide.{ℕ-discrete}
 use native.Mathlib.Omega.{arith}
 use lib.ListN.{length, getD, set, length-set}
 use lib.Seq.{getD-set-same, getD-set-other}
-use Rattle.tally.specs.Moves.{earlier, Renumbered}
+use Rattle.tally.specs.Moves.{Renumbered}
 use Rattle.tally.proofs.NextRotation.{earlier-first, earlier-later}
 
 -- Before a turn at r: the counts from r on, but for the last, stand under the next number; up to r they are the old ones.

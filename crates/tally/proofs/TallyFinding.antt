@@ -2,13 +2,13 @@
 -- So a start is a finding exactly when its least count is at most k, and this is what it carries.
 -- Assumes nothing.
 use Prim.Native.Nat.{ℕ, _+_, _≤_, _<_}
-use mathlib.Core.Path.{_≡_, refl, sym, ap, _∙_}
+use mathlib.Core.Path.{_≡_, sym, ap, _∙_}
 use mathlib.Core.List.{List, [], _∷_}
 use native.Mathlib.Omega.{arith}
 use lib.ListN.{length, getD}
 use Rattle.meaning.specs.Meanings.{distance, lowestRotation, leastDistance}
-use Rattle.meaning.specs.Findings.{Finding, findingAt, foundAt}
-use Rattle.meaning.proofs.Lowest.{IsLowest, lowest-unique}
+use Rattle.meaning.specs.Findings.{Finding, foundAt}
+use Rattle.meaning.proofs.Lowest.{lowest-unique}
 use Rattle.meaning.proofs.Places.{lowestRotation-is, found-yes, found-no}
 use Rattle.tally.specs.Counts.{IsLeast}
 use Rattle.tally.specs.Tallied.{Tallied, IsLowestAt}

@@ -1,7 +1,6 @@
 -- `findings::putting::can_put` meets its contract: each return is one case of the test.
 -- Assumes nothing.
 use native.Mathlib.Omega.{arith}
-use borrow.Author.Needs.{needs}
 use Rattle.findings.proofs.PutCases.{can-not-put, same-distance}
 use Rattle.findings.proofs.putting.can_put.Statement.{statement}
 use Rattle.findings.proofs.putting.can_put.Tie as tie

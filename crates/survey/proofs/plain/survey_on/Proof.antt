@@ -1,7 +1,6 @@
 -- `survey::plain::survey_on` meets its contract: its two returns are the two cases of the start reached (`SurveyCases`).
 -- Assumes nothing.
 use mathlib.Core.Path.{refl}
-use native.Mathlib.Omega.{arith}
 use borrow.Author.Needs.{needs}
 use Rattle.survey.proofs.SurveyCases.{on-none, on-found}
 use Rattle.survey.proofs.plain.survey_on.Statement.{statement}

@@ -1,6 +1,5 @@
 -- `sweep::reading::read_window` meets its contract: up to 64, 128, 192 and 256 bits need 1, 2, 3 and 4 words.
 -- Assumes nothing.
-use mathlib.Core.Path.{_≡_, ap, _∙_}
 use native.Mathlib.Omega.{arith}
 use borrow.Author.Needs.{needs}
 use Rattle.sweep.proofs.ReadTurns.{fewest-words}

@@ -1,7 +1,6 @@
 -- `tally::afresh::double` meets its contract: its loop is `Doubling`, and m - p falls.
 -- Assumes nothing.
 use Prim.Native.Nat.{_-_}
-use native.Mathlib.Omega.{arith}
 use borrow.Author.Needs.{needs}
 use Rattle.tally.proofs.DoubledLoop.{Doubling, not-doubled, doubling-start, doubling-turn, doubling-end}
 use Rattle.tally.proofs.afresh.double.Statement.{statement}

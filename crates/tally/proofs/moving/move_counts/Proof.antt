@@ -1,7 +1,6 @@
 -- `tally::moving::move_counts` meets its contract: its two ways are the two cases of the test (`MoveCases`).
 -- Assumes nothing.
 use mathlib.Core.Path.{_∙_, sym}
-use native.Mathlib.Omega.{arith}
 use borrow.Author.Needs.{needs}
 use borrow.Author.Tests.{not-true, not-false}
 use Rattle.tally.proofs.MoveCases.{can-move, moved-yes, moved-no}

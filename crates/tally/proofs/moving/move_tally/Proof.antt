@@ -2,7 +2,7 @@
 -- opened and its one field is taken out in memory; the counts are lent to `move_along` for a lifetime that is made for the call, and come back as that left
 -- them; the field is put back, and the borrow is closed at the new tally. All that the proof knows of `move_along` is that it meets its contract.
 -- Assumes nothing.
-use mathlib.Core.Path.{_≡_, refl, sym}
+use mathlib.Core.Path.{refl, sym}
 use Prim.Native.Nat.{ℕ, _<_, _^_, _+_}
 use mathlib.Core.List.{[], _∷_, List, map, map-id}
 use lib.ListN.{length}

@@ -2,7 +2,7 @@
 -- lent to `move_tally` for a lifetime that is made for the call, and comes back as that left it; it is copied into the result. All that the proof knows
 -- of `move_tally` is that it meets its contract.
 -- Assumes nothing.
-use mathlib.Core.Path.{_≡_, refl}
+use mathlib.Core.Path.{refl}
 use Prim.Native.Nat.{ℕ, _<_, _^_}
 use mathlib.Core.List.{[], _∷_, List}
 use lib.ListN.{length}
