@@ -26,10 +26,6 @@ around-is m x h = simp (ne-eqb m 0 (λ e. omega arith))
 pub around-lt : (m x : ℕ) → 0 < m → around m x < m
 around-lt m x h = omega (arith, around-is m x h, mod-lt x h)
 
--- a number below m stays
-pub around-small : (m x : ℕ) → x < m → around m x ≡ x
-around-small m x h = around-is m x (omega arith) ∙ mod-eq-of-lt h
-
 module _ (m a b : ℕ) (h : 0 < m) where
   -- the two parts, added where the sum stays below m
   pub around-sum-lt : a % m < m - b % m → a % m + b % m ≡ around m (a + b)

@@ -4,7 +4,6 @@
 use Prim.Native.Nat.{ℕ, _≤_}
 use mathlib.Core.Path.{_≡_, refl, sym, ap, _∙_}
 use mathlib.Core.List.{List}
-use mathlib.Core.Option.{none}
 use native.Mathlib.Omega.{arith}
 use lib.ListN.{length}
 use Rattle.answers.specs.declared.refusals.Refusal.{Refusal}
@@ -12,10 +11,10 @@ use Rattle.answers.specs.Paper.{Answer, accepted, refused}
 use Rattle.answers.proofs.OneAnswer.{answer-unique}
 use Rattle.book.specs.declared.answering.BookAnswer.{BookAnswer}
 use Rattle.silences.specs.Silences.{Silence}
-use Rattle.silences.specs.Reading.{mostBytes, readFrom, readBook}
+use Rattle.silences.specs.Reading.{mostBytes, readBook}
 use Rattle.book.specs.Calls.{answerOf, recordsOf, IsRead}
 use Rattle.silences.proofs.AnswerCases.{accepted-not-refused}
-use Rattle.silences.proofs.FieldsRead.{read-all, reads-as-is, read-length-le}
+use Rattle.silences.proofs.FieldsRead.{read-length-le}
 use Rattle.silences.proofs.AcceptedIsLayout.{IsReadWhole, accepted-whole-iff}
 
 -- What `read` answers is how many records reading gives, or its refusal: the paper determines it.
@@ -39,12 +38,6 @@ has-refusal (accepted ss) r e = absurd (accepted-not-refused refl e)
 has-refusal (refused q) r e = cc
 
 module _ (book : List ℕ) where
-  -- An accepted book has at most 13,000 bytes, and its silences are what its fields give.
-  pub readBook-accepted : (ss : List Silence) → readBook book ≡ accepted ss → (length book ≤ mostBytes) × (readFrom book none 0 ≡ accepted ss)
-  readBook-accepted ss e =
-      let w : IsReadWhole ss book = accepted-whole-iff book ss .0 e in
-      (w .book-le, reads-as-is book (read-all (w .fields) (w .stop-ge)))
-
   -- It has no more records than that.
   pub records-le : (records : ℕ) → recordsOf (readBook book) ≡ accepted records → records ≤ mostBytes
   records-le records e =

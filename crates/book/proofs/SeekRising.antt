@@ -2,49 +2,21 @@
 -- first byte would, on any bytes (`seek-again`). A field that was passed for the last address is below the next one too. So a caller holds one field
 -- (`Seeking`), seeks on from just past it where it is below the next address, and reads no field twice.
 -- Assumes nothing.
-use Prim.Native.Nat.{ℕ, _≤_, _<_}
+use Prim.Native.Nat.{ℕ}
 use mathlib.Core.Path.{_≡_, refl, sym, ap, subst, _∙_}
 use mathlib.Core.Bool.{Bool, true, false, cond}
 use mathlib.Core.List.{List}
-use native.Mathlib.Omega.{arith}
-use lib.ListN.{length}
 use Rattle.answers.specs.Paper.{accepted}
 use Rattle.silences.specs.Silences.{Silence, isBelow, Below}
 use Rattle.silences.specs.Reading.{FieldAt, whole, faulty, fieldAt, readBook}
 use Rattle.book.specs.Seeking.{seekField, seekFrom, isFor}
 use Rattle.silences.proofs.SilenceOrder.{isBelow-iff}
 use Rattle.silences.proofs.StrictOrder.{below-not-below}
-use Rattle.silences.proofs.FieldEnds.{faulty-not-whole, whole-next-unique, field-ends}
 use Rattle.silences.proofs.FieldInduction.{field-induction}
 use Rattle.book.proofs.SeekFrom.{seekFrom-faulty, seekFrom-below, seekFrom-found}
 use Rattle.book.proofs.SeekNames.{namesAddress, seek-at, seek-all-names}
 
 module _ (book : List ℕ) where
-  -- The field that is sought lies past the offset asked from, and ends within the book.
-  pub seek-ends : (address : Silence) (at : ℕ) (s : Silence) (next : ℕ) → seekFrom book address at ≡ whole s next → (at < next) × (next ≤ length book)
-  seek-ends address = field-induction book Ends turn
-    where
-      Ends : ℕ → Type 0
-      Ends at = (s : Silence) (next : ℕ) → seekFrom book address at ≡ whole s next → (at < next) × (next ≤ length book)
-
-      turn : (at : ℕ) → ((t : Silence) (past : ℕ) → fieldAt book at ≡ whole t past → Ends past) → Ends at
-      turn at on s next e = by-field (fieldAt book at) refl
-        where
-          by-order : (t : Silence) (past : ℕ) → fieldAt book at ≡ whole t past → (below : Bool) → isBelow t address ≡ below
-              → (at < next) × (next ≤ length book)
-          by-order t past f true b =
-              let later : (past < next) × (next ≤ length book) = on t past f s next (sym (seekFrom-below book address at f b) ∙ e) in
-              let ends : (at < past) × (past ≤ length book) = field-ends book at t past f in
-              (omega arith, omega arith)
-          by-order t past f false b =
-              let same : past ≡ next = whole-next-unique (sym (seekFrom-found book address at f b) ∙ e) in
-              let ends : (at < past) × (past ≤ length book) = field-ends book at t past f in
-              (omega arith, omega arith)
-
-          by-field : (f : FieldAt) → fieldAt book at ≡ f → (at < next) × (next ≤ length book)
-          by-field faulty f = absurd (faulty-not-whole (sym (seekFrom-faulty book address at f) ∙ e))
-          by-field (whole t past) f = by-order t past f (isBelow t address) refl
-
   -- What is held for one address, asked for another that is not below it, is what seeking that other gives.
   pub seek-again : (a b : Silence) → (Below b a → ⊥) → (at : ℕ) → seekField b (seekFrom book a at) (seekFrom book b) ≡ seekFrom book b at
   seek-again a b not-below = field-induction book (λ (at : ℕ). seekField b (seekFrom book a at) (seekFrom book b) ≡ seekFrom book b at) turn

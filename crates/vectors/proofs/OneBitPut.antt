@@ -2,7 +2,7 @@
 -- every other bit as it was; every other word is kept.
 -- Assumes nothing.
 use mathlib.Core.Path.{_≡_, refl, sym, _∙_}
-use mathlib.Core.Bool.{true, _||_, or-false, or-true}
+use mathlib.Core.Bool.{_||_, or-false}
 use mathlib.Core.List.{List}
 use mathlib.Core.Logic.{dite}
 use Prim.Native.Nat.{ℕ, _*_, _/_, _%_, _^_, _<_}
@@ -11,7 +11,7 @@ use native.Mathlib.Decide.{ℕ-discrete}
 use native.Mathlib.Omega.{arith}
 use lib.ListN.{length, getD, length-set}
 use lib.Dec.{eqb}
-use Rattle.vectors.specs.Bits.{wordBits, bit, isSet, putWord, putBit, Put}
+use Rattle.vectors.specs.Bits.{wordBits, bit, putWord, putBit, Put}
 use Rattle.vectors.proofs.WordBits.{bit-mod, bit-lone-there, bit-lone-else}
 use Rattle.vectors.proofs.VectorBits.{isSet-word, isSet-set-same, isSet-set-other, test-or}
 
@@ -41,10 +41,6 @@ put-is ws i b bit-b h =
           ∙ sym (isSet-word ws l (i / wordBits) (l % wordBits) same refl)))
           (isSet-set-other ws (i / wordBits) new l);
     }
-
--- With 1 put in, the bit is set.
-pub put-one : (old new : List ℕ) (i : ℕ) → Put old i 1 new → isSet new i ≡ true
-put-one old new i put = put .there ∙ or-true (isSet old i)
 
 -- The vector with one bit put in has as many words.
 pub put-length : (ws : List ℕ) (i b : ℕ) → length (putBit ws i b) ≡ length ws

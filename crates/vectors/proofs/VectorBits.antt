@@ -3,9 +3,9 @@
 -- The width 64 stands in proofs only as `wordBits`, which `omega` reads for `/` and `%`.
 -- Assumes nothing.
 use mathlib.Core.Path.{_≡_, refl, sym, _∙_}
-use mathlib.Core.Bool.{true, false, _&&_, _||_}
+use mathlib.Core.Bool.{false, _&&_, _||_}
 use mathlib.Core.List.{List}
-use mathlib.Core.Logic.{dite, _↔_}
+use mathlib.Core.Logic.{dite}
 use Prim.Native.Nat.{ℕ, _+_, _*_, _/_, _%_, _^_, _≤_, _<_, min, max}
 use native.Mathlib.Nat.{min-eq-right, max-eq-left, zero-min, zero-max}
 use native.Mathlib.Decide.{decLt, ℕ-discrete}
@@ -83,11 +83,6 @@ bit-of-test x y i j e = dite (ℕ-discrete (bit x i) 1)
     (λ not-one. dite (ℕ-discrete (bit y j) 1)
     (λ one. absurd (not-one (eqb-true (bit x i) 1 (e ∙ eq-eqb (bit y j) 1 one))))
     (λ neither. omega (arith, not-one, neither, bit-lt x i, bit-lt y j)))
-
--- Bit i of a vector is set exactly when bit i mod 64 of word i / 64 is 1.
-pub isSet-iff : (ws : List ℕ) (i : ℕ) → (isSet ws i ≡ true) ↔ (bit (getD ws (i / wordBits) 0) (i % wordBits) ≡ 1)
-unfolding isSet
-isSet-iff ws i = (eqb-true (bit (getD ws (i / wordBits) 0) (i % wordBits)) 1, eq-eqb (bit (getD ws (i / wordBits) 0) (i % wordBits)) 1)
 
 -- Two vectors of one word count with the same bits are equal.
 pub vector-unique : (xs ys : List ℕ) → Vector xs → Vector ys → length xs ≡ length ys → ((i : ℕ) → isSet xs i ≡ isSet ys i) → xs ≡ ys
