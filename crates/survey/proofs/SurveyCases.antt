@@ -12,15 +12,14 @@ use Rattle.meaning.specs.Looks.{stepLooks, surveyLooksBelow}
 use Rattle.meaning.proofs.SurveyLooks.{surveyLooks-first, surveyLooks-below}
 use Rattle.answers.specs.declared.places.Finding.{Finding as FindingStruct}
 use Rattle.tally.specs.declared.counts.Least.{Least}
-use Rattle.tally.specs.declared.steps.Reached.{Reached}
+use Rattle.moves.specs.declared.steps.Reached.{Reached}
 use Rattle.tally.proofs.AfreshTallied.{counted-verified}
 use Rattle.tally.proofs.LowestLoop.{lowest-at}
-use Rattle.tally.proofs.MovedTallied.{moved-tallied}
+use Rattle.moves.proofs.MovedTallied.{moved-tallied}
 use Rattle.survey.specs.declared.plain.Surveyed.the-variants.{NoFinding, Found}
 use Rattle.tally.specs.Windows.{IsWindow}
 use Rattle.tally.specs.Counts.{IsCounted, IsLowestWith}
-use Rattle.tally.specs.Moves.{IsMoved}
-use Rattle.tally.specs.Tallied.{IsReached}
+use Rattle.moves.specs.Moves.{IsMoved, IsReached}
 use Rattle.survey.specs.Survey.{CanVerifyOn, IsVerifiedOn, IsSurveyedOn}
 use Rattle.tally.proofs.TallyFinding.{least-no, least-yes}
 

@@ -16,7 +16,7 @@ use Rattle.meaning.proofs.Places.{found-no, found-small}
 use Rattle.meaning.proofs.QuickFindsAll.{below-same}
 use Rattle.meaning.proofs.Words.{below-length-le, findings-below}
 use Rattle.meaning.proofs.SurveyLooks.{surveyLooks-below, surveyLooks-end}
-use Rattle.tally.specs.declared.steps.Reached.{Reached}
+use Rattle.moves.specs.declared.steps.Reached.{Reached}
 use Rattle.survey.specs.declared.plain.Surveyed.{Surveyed}
 use Rattle.findings.specs.Admitting.{mostLine}
 use Rattle.tally.specs.Counts.{mostCounts}

@@ -12,7 +12,7 @@ use lib.ListN.{length}
 use Rattle.meaning.specs.Meanings.{leastDistance}
 use Rattle.meaning.specs.Findings.{Finding, foundAt}
 use Rattle.meaning.specs.Looks.{surveyLooksBelow, surveyLooks}
-use Rattle.tally.specs.declared.steps.Reached.{Reached}
+use Rattle.moves.specs.declared.steps.Reached.{Reached}
 use Rattle.tally.specs.Counts.{IsDoubled, IsLeast}
 use Rattle.tally.specs.Tallied.{Tallied, TallyFits}
 use Rattle.findings.specs.declared.searching.Scanned.{Scanned}

@@ -12,7 +12,7 @@ use lib.ListN.{length}
 use borrow.Author.Tests.{lt-ltb, le-ltb, le-leb, ltb-true, leb-true}
 use Rattle.meaning.proofs.Cases.{and-true, not-passed}
 use Rattle.tally.specs.Counts.{mostCounts, IsLowestWith}
-use Rattle.tally.specs.Moves.{mostPlaces}
+use Rattle.moves.specs.Moves.{mostPlaces}
 use Rattle.tally.specs.declared.counts.Least.{Least}
 use Rattle.sweep.specs.declared.verifying.LastVerified.the-variants.{At}
 use Rattle.sweep.specs.declared.sweeping.Sweep.{Sweep}

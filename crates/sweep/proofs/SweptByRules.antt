@@ -19,7 +19,7 @@ use Rattle.vectors.specs.Holding.{vectorAt}
 use Rattle.vectors.specs.ByValue.{vectorWords, grownWords}
 use Rattle.tally.specs.Windows.{windowAt, IsWindow}
 use Rattle.tally.specs.Counts.{mostCounts}
-use Rattle.tally.specs.Moves.{Place, placeAt, moveOn, canMove, mostPlaces}
+use Rattle.moves.specs.Moves.{Place, placeAt, moveOn, canMove, mostPlaces}
 use Rattle.tally.specs.Tallied.{Verified}
 use Rattle.tally.proofs.AfreshTallied.{counted-verified}
 use Rattle.sweep.specs.declared.reading.WindowRead.{WindowRead}

@@ -13,10 +13,10 @@ use borrow.Author.Tests.{lt-ltb, le-ltb, le-leb, lt-leb, ltb-false, leb-true}
 use Rattle.meaning.proofs.Cases.{by-test, and-true}
 use Rattle.tally.specs.Windows.{windowAt, IsWindow}
 use Rattle.tally.specs.Counts.{mostCounts, canCount, IsCounted}
-use Rattle.tally.specs.Moves.{Place, placeAt, canMove, IsMoved}
+use Rattle.moves.specs.Moves.{Place, placeAt, canMove, IsMoved}
 use Rattle.tally.specs.declared.counts.Least.{Least}
-use Rattle.tally.specs.declared.steps.Reached.{Reached}
-use Rattle.tally.proofs.MoveLoop.{move-looks-le}
+use Rattle.moves.specs.declared.steps.Reached.{Reached}
+use Rattle.moves.proofs.MoveLoop.{move-looks-le}
 use Rattle.sweep.specs.declared.verifying.LastVerified.{LastVerified}
 use Rattle.sweep.specs.declared.verifying.LastVerified.the-variants.{Nothing, At}
 use Rattle.sweep.specs.Sweeps.{TallyTo, afreshTo, movedTo, tallyBy, IsTallied}

@@ -10,11 +10,11 @@ use lib.ListN.{length}
 use borrow.Author.Tests.{lt-ltb, le-ltb}
 use Rattle.meaning.specs.Looks.{afreshLooks, stepLooks, tallyLooks}
 use Rattle.meaning.proofs.Cases.{le-or-lt}
-use Rattle.tally.specs.Moves.{IsMoved}
-use Rattle.tally.specs.Tallied.{Tallied, Verified, IsReached}
+use Rattle.moves.specs.Moves.{IsMoved, IsReached}
+use Rattle.tally.specs.Tallied.{Tallied, Verified}
 use Rattle.sweep.specs.Verifying.{lastOf, TalliedBefore, CanVerify}
-use Rattle.tally.specs.declared.steps.Reached.{Reached}
-use Rattle.tally.proofs.MovedTallied.{moved-tallied}
+use Rattle.moves.specs.declared.steps.Reached.{Reached}
+use Rattle.moves.proofs.MovedTallied.{moved-tallied}
 use Rattle.sweep.specs.declared.verifying.LastVerified.{LastVerified}
 use Rattle.sweep.specs.declared.verifying.LastVerified.the-variants.{Nothing, At}
 

@@ -13,7 +13,7 @@ use Rattle.vectors.specs.Holding.{vectorAt}
 use Rattle.vectors.specs.ByValue.{vectorWords, grownWords}
 use Rattle.tally.specs.Windows.{windowAt}
 use Rattle.tally.specs.Counts.{mostCounts}
-use Rattle.tally.specs.Moves.{mostPlaces}
+use Rattle.moves.specs.Moves.{mostPlaces}
 use Rattle.sweep.specs.declared.reading.WindowRead.{WindowRead}
 use Rattle.sweep.specs.declared.sweeping.WindowsRead.{WindowsRead}
 

@@ -23,7 +23,7 @@ use Rattle.sweep.specs.declared.sweeping.Swept.{Swept}
 use Rattle.sweep.specs.declared.sweeping.Swept.the-variants.{Ended, NoFinding, Found}
 use Rattle.sweep.specs.declared.sweeping.WindowsRead.{WindowsRead}
 use Rattle.sweep.specs.Sweeps.{mostLooks}
-use Rattle.tally.specs.Moves.{mostPlaces}
+use Rattle.moves.specs.Moves.{mostPlaces}
 use Rattle.tally.specs.Counts.{mostCounts, IsDoubled}
 use Rattle.tally.specs.Tallied.{TallyFits}
 use Rattle.sweep.specs.Verifying.{TalliedBefore, lastOf}

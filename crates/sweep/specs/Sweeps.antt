@@ -15,7 +15,7 @@ use Rattle.meaning.specs.Looks.{afreshLooks}
 use Rattle.answers.specs.declared.places.Finding.{Finding as FindingStruct}
 use Rattle.tally.specs.Windows.{windowAt}
 use Rattle.tally.specs.Counts.{mostCounts, leastOf, afreshCounts, canCount, lowestWith}
-use Rattle.tally.specs.Moves.{Place, placeAt, moveOn, canMove, mostPlaces}
+use Rattle.moves.specs.Moves.{Place, placeAt, moveOn, canMove, mostPlaces}
 use Rattle.tally.specs.declared.counts.Least.{Least}
 use Rattle.sweep.specs.declared.verifying.LastVerified.{LastVerified}
 use Rattle.sweep.specs.declared.verifying.LastVerified.the-variants.{Nothing, At}

@@ -9,7 +9,7 @@ use mathlib.Core.Option.{Option, none, some}
 use lib.ListN.{length}
 use Rattle.tally.specs.Counts.{IsDoubled}
 use Rattle.tally.specs.Tallied.{Tallied, TallyFits}
-use Rattle.tally.specs.Moves.{mostPlaces}
+use Rattle.moves.specs.Moves.{mostPlaces}
 use Rattle.sweep.specs.declared.verifying.LastVerified.{LastVerified}
 use Rattle.sweep.specs.declared.verifying.LastVerified.the-variants.{Nothing, At}
 

@@ -1,11 +1,11 @@
 // Rule 5: the tally is kept, and moved along the line from one verified start to the next.
+use moves::move_counts;
 use tally::Least;
 use tally::MOST_COUNTS;
 use tally::count_afresh;
-use tally::move_counts;
 use tally::window;
 ghost use Prim.Native.Nat.{_≤_};
-ghost use Rattle.tally.specs.Moves.{mostPlaces};
+ghost use Rattle.moves.specs.Moves.{mostPlaces};
 ghost use Rattle.sweep.specs.Sweeps.{IsTallied};
 
 // The last verified start, if there is one.

@@ -13,17 +13,8 @@ pub mod DoubledLoop
 pub mod EdgeLoop
 pub mod AfreshLoop
 pub mod CountCases
--- The tally moved a step at a time.
-pub mod NextRotation
-pub mod ChangeLoop
-pub mod RenumberLoop
-pub mod StepIsOne
-pub mod MoveLoop
-pub mod MoveCases
 -- What the counts hold at a start, and what a start's tally says of it.
 pub mod TallyFinding
 pub mod AfreshTallied
-pub mod StepTallied
-pub mod MovedTallied
 -- Any two answers that meet a contract are equal.
 pub mod OneAnswer

@@ -6,7 +6,7 @@
 --   doubledRing     the ring twice, end to end: each rotation is a part of it, so no place has to be taken mod m
 --   afreshCount     how many edges of a window differ from a rotation's
 --   afreshCounts    the counts after that: one for each rotation, the others kept
---   IsDoubled, IsCounted, IsLowestWith    what `double`, `count_afresh` and `lowest_rotation` promise
+--   IsComparison, IsDoubled, IsCounted, IsLowestWith    what `differing`, `double`, `count_afresh` and `lowest_rotation` promise
 -- Assumes nothing.
 use Prim.Native.Nat.{ℕ, zero, suc, _+_, _*_, _%_, _≤_, _<_, min}
 use mathlib.Core.Path.{_≡_}
@@ -67,6 +67,10 @@ afreshCounts doubled window old =
 -- Whether a window of m edges can be counted: one edge at least, no more than there are counts, and a ring of m edges twice.
 unfoldable pub canCount : ℕ → ℕ → ℕ → Bool
 canCount m room long = (ltb 0 m && leb m mostCounts) && (leb m room && leb (2 * m) long)
+
+-- What `differing` promises: one comparison counts 1 where the two edges differ.
+pub record IsComparison (a b r : ℕ) : Type 0 where
+  pub is : r ≡ oneIf (unequal a b)
 
 -- What `double` promises.
 pub record IsDoubled (ring doubled : List ℕ) : Type 0 where

@@ -4,16 +4,13 @@
 --   Tallied       "the tally of one count per rotation", at a start
 --   TallyFits     a ring that a tally has room for
 --   Verified      a start's tally, its least count and the looks that it took
---   IsReached     where a tally that was moved came to
 --   IsLowestAt    the lowest rotation whose count is the least
 -- Assumes nothing.
-use Prim.Native.Nat.{ℕ, _+_, _-_, _*_, _≤_, _<_}
+use Prim.Native.Nat.{ℕ, _≤_, _<_}
 use mathlib.Core.Path.{_≡_}
 use mathlib.Core.List.{List}
 use lib.ListN.{length, getD}
-use Rattle.meaning.specs.Meanings.{distance, leastDistance}
-use Rattle.meaning.specs.Looks.{stepLooks}
-use Rattle.tally.specs.declared.steps.Reached.{Reached}
+use Rattle.meaning.specs.Meanings.{distance}
 use Rattle.tally.specs.Counts.{mostCounts, IsLeast}
 
 -- "The tally of one count per rotation": the count of rotation r is the distance of the start under r.
@@ -32,14 +29,6 @@ pub record Verified (ring line : List ℕ) (i looks : ℕ) (counts : List ℕ) (
   pub tallied : Tallied ring line i counts
   pub least-is : IsLeast (length ring) counts least
   pub looks-are : looked ≡ looks
-
--- Where a tally moved from start `from` came to: so many steps on, or sooner, at the first start on the way whose least count is below `below`.
-pub record IsReached (ring line : List ℕ) (from steps below : ℕ) (counts : List ℕ) (r : Reached) : Type 0 where
-  pub after : from < r .start
-  pub start-le : r .start ≤ from + steps
-  pub verified : Verified ring line (r .start) ((r .start - from) * stepLooks (length ring)) counts (r .least) (r .looks)
-  pub passed : (j : ℕ) → from < j → j < r .start → below ≤ leastDistance ring line j
-  pub stopped : r .start < from + steps → r .least < below
 
 -- The lowest rotation whose count is the least.
 pub record IsLowestAt (m : ℕ) (counts : List ℕ) (least r : ℕ) : Type 0 where

@@ -2,9 +2,7 @@
 ghost use mathlib.Core.Path.{_≡_};
 ghost use Prim.Native.Nat.{_<_, _≤_, _^_, min};
 ghost use lib.ListN.{length};
-ghost use Rattle.meaning.specs.Numbers.{oneIf};
-ghost use Rattle.meaning.specs.Meanings.{unequal};
-ghost use Rattle.tally.specs.Counts.{mostCounts, RingFits, Cleared, IsLeast, IsLowestWith};
+ghost use Rattle.tally.specs.Counts.{mostCounts, IsComparison, RingFits, Cleared, IsLeast, IsLowestWith};
 
 // One count for each rotation of the longest ring.
 pub const MOST_COUNTS: usize = 256;
@@ -17,7 +15,7 @@ pub struct Least {
 
 // One comparison: 1 where the two edges differ.
 pub fn differing(a: u8, b: u8) -> u16
-    ensures { λ r. ⌜ r ≡ oneIf (unequal a b) ⌝ }
+    ensures { λ r. ⌜ IsComparison a b r ⌝ }
 {
     if a == b { 0 } else { 1 }
 }

@@ -35,7 +35,7 @@ add-counts : tie.Need-add-counts Inv-loop μ-loop
 add-counts c =
     let turn = c .before .before .before in
     let pre = turn .before .before .before .pre in
-    omega (arith, counting-edge-le _ _ _ _ _ _ _ _ _ _ (turn .before .loop .inv) (pre .2 _ (turn .loop-test .taken)) (c .differing .ensures))
+    omega (arith, counting-edge-le _ _ _ _ _ _ _ _ _ _ (turn .before .loop .inv) (pre .2 _ (turn .loop-test .taken)) (c .differing .ensures .is))
 
 mul-counts-2 : tie.Need-mul-counts-2 Inv-loop μ-loop
 mul-counts-2 c = search needs
@@ -56,7 +56,7 @@ loop-again : tie.Need-loop-again Inv-loop μ-loop
 loop-again c =
     let turn = c .before .before .before in
     let pre = turn .before .before .before .pre in
-    counting-edge-turn _ _ _ _ _ _ _ _ _ (turn .before .loop .inv) (turn .loop-test .taken) (pre .0 .fits .room) (c .differing .ensures)
+    counting-edge-turn _ _ _ _ _ _ _ _ _ (turn .before .loop .inv) (turn .loop-test .taken) (pre .0 .fits .room) (c .differing .ensures .is)
 
 returns : tie.Need-returns Inv-loop μ-loop
 returns c = counting-edge-end _ _ _ _ _ _ _ _ (c .before .loop .inv) (c .loop-test .left)

@@ -6,11 +6,11 @@ use Rattle.tally.proofs.counts.differing.Tie as tie
 
 -- The edges are equal.
 returns : tie.Need-returns
-returns c = simp (eq-eqb _ _ (c .if1 .taken))
+returns c = record { is = simp (eq-eqb _ _ (c .if1 .taken)) }
 
 -- They differ.
 returns-2 : tie.Need-returns-2
-returns-2 c = simp (ne-eqb _ _ (c .if1 .left))
+returns-2 c = record { is = simp (ne-eqb _ _ (c .if1 .left)) }
 
 pub differing-spec : {M : Type 1} → statement M
 differing-spec = tie.close (tie.spec returns returns-2)

@@ -1,0 +1,12 @@
+-- Laws behind the tally moved along the line, one module for each idea. In the order in which they build on each other.
+pub mod NextRotation
+pub mod ChangeLoop
+pub mod RenumberLoop
+pub mod StepIsOne
+pub mod MoveLoop
+pub mod MoveCases
+-- What the counts hold at the start reached.
+pub mod StepTallied
+pub mod MovedTallied
+-- Any two answers are equal.
+pub mod OneAnswer

@@ -1,0 +1,134 @@
+-- The loop that moves the counts along the line: what is still to be moved from start i on comes to the same place as the whole way (`Moving`). The leaving
+-- edge is the first of the window at i, the entering edge the last of the window at i + 1, so a turn is `stepOn`; it ends the way where the least
+-- count is below `below`. The looks so far are at most 512 for each step, so none are lost.
+-- Assumes nothing.
+use Prim.Native.Nat.{ℕ, zero, suc, _+_, _-_, _*_, _≤_, _<_}
+use mathlib.Core.Path.{_≡_, refl, sym, ap, _∙_}
+use mathlib.Core.List.{List}
+use native.Mathlib.Nat.{add-mul}
+use native.Mathlib.Omega.{arith}
+use lib.Dec.{ltb}
+use lib.ListN.{length, getD}
+use borrow.Author.Tests.{lt-ltb, le-ltb}
+use Rattle.meaning.specs.Meanings.{windowEdge}
+use Rattle.meaning.proofs.Cases.{by-test}
+use Rattle.meaning.specs.Looks.{stepLooks}
+use Rattle.tally.specs.declared.counts.Least.{Least}
+use Rattle.tally.specs.Windows.{IsWindow}
+use Rattle.tally.specs.Counts.{mostCounts, leastOf, RingFits}
+use Rattle.moves.specs.Moves.{steppedCounts, Place, placeAt, stepOn, moveOn, CanMove, IsStepped, IsMovedOn}
+use Rattle.tally.proofs.PlaceByPlace.{listOf-length}
+use Rattle.tally.proofs.WindowEdges.{start-edge}
+
+module _ (ring line : List ℕ) (below : ℕ) where
+  -- No step is left.
+  pub move-none : (at : Place) → moveOn ring line below 0 at ≡ at
+  unfolding moveOn
+  move-none at = refl
+
+  -- A step whose least count is below the bound ends the way.
+  pub move-stops : (left : ℕ) (at : Place) → stepOn ring line at .least < below → moveOn ring line below (suc left) at ≡ stepOn ring line at
+  unfolding moveOn
+  move-stops left at near = rw (lt-ltb (stepOn ring line at .least) below near) refl
+
+  -- Any other goes on.
+  pub move-goes-on : (left : ℕ) (at : Place) → below ≤ stepOn ring line at .least
+      → moveOn ring line below (suc left) at ≡ moveOn ring line below left (stepOn ring line at)
+  unfolding moveOn
+  move-goes-on left at far = rw (le-ltb (stepOn ring line at .least) below far) refl
+
+-- Before the turn at start i.
+pub record Moving (ring line : List ℕ) (from steps below : ℕ) (old counts : List ℕ) (least looks i : ℕ) : Type 0 where
+  pub from-le : from ≤ i
+  pub start-le : i ≤ from + steps
+  pub size : length counts ≡ length old
+  pub looks-le : looks ≤ (i - from) * stepLooks mostCounts
+  pub still : moveOn ring line below (from + steps - i) (record { start = i; counts = counts; least = least; looks = looks })
+      ≡ moveOn ring line below steps (placeAt from old)
+
+module _ (ring line : List ℕ) (from steps below : ℕ) (old : List ℕ) (can : CanMove ring line from steps old) where
+  abbrev m : ℕ
+  m = length ring
+
+  -- Before the first turn all steps are left.
+  pub moving-start : Moving ring line from steps below old old 0 0 from
+  moving-start =
+      let all : from + steps - from ≡ steps = omega arith in
+      record { from-le = omega arith; start-le = omega arith; size = refl; looks-le = omega arith; still = rw all refl }
+
+  module _ (counts : List ℕ) (least looks i : ℕ) (before : Moving ring line from steps below old counts least looks i) where
+    -- The counts still have room for the ring.
+    pub moving-fits : RingFits m counts
+    moving-fits = record { some-edge = can .fits .some-edge; most = can .fits .most; room = omega (arith, before .size, can .fits .room) }
+
+    abbrev here-at : Place
+    here-at = record { start = i; counts = counts; least = least; looks = looks }
+
+    module _ (goes-on : i < from + steps) (here next new : List ℕ) (z : Least) (here-is : IsWindow line i m here) (next-is : IsWindow line (i + 1) m next)
+        (stepped : IsStepped ring (getD here 0 0) (getD next (m - 1) 0) counts new z) where
+      leaves : getD here 0 0 ≡ windowEdge line i 0
+      leaves = start-edge line i m here here-is (omega (arith, can .in-line)) 0 (can .fits .some-edge)
+
+      enters : getD next (m - 1) 0 ≡ windowEdge line (i + 1) (m - 1)
+      enters = start-edge line (i + 1) m next next-is (omega (arith, can .in-line)) (m - 1) (omega (arith, can .fits .some-edge))
+
+      new-is : new ≡ steppedCounts ring (windowEdge line i 0) (windowEdge line (i + 1) (m - 1)) counts
+      new-is =
+          stepped .written ∙ ap (λ (e : ℕ). steppedCounts ring e (getD next (m - 1) 0) counts) leaves
+          ∙ ap (λ (e : ℕ). steppedCounts ring (windowEdge line i 0) e counts) enters
+
+      abbrev there : Place
+      there = record { start = i + 1; counts = new; least = z .least; looks = looks + z .looks }
+
+      -- The turn is one step.
+      step-is : stepOn ring line here-at ≡ there
+      unfolding stepOn
+      step-is = λ j. record {
+        start = i + 1;
+        counts = sym new-is j;
+        least = (ap (leastOf m) (sym new-is) ∙ sym (stepped .least-is)) j;
+        looks = ap (λ (n : ℕ). looks + n) (sym (stepped .looks-are)) j;
+      }
+
+      one-less : from + steps - i ≡ suc (from + steps - (i + 1))
+      one-less = omega arith
+
+      least-of-step : stepOn ring line here-at .least ≡ z .least
+      least-of-step = ap (λ (p : Place). p .least) step-is
+
+      -- It ends the way.
+      pub moving-stops : z .least < below → IsMovedOn ring line from steps below old new (record { start = i + 1; least = z .least; looks = looks + z .looks })
+      moving-stops near = record {
+        is = sym step-is ∙ sym (move-stops ring line below (from + steps - (i + 1)) here-at (omega (arith, least-of-step)))
+            ∙ ap (λ (n : ℕ). moveOn ring line below n here-at) (sym one-less) ∙ before .still;
+      }
+
+      -- Or it goes on.
+      pub moving-turn : below ≤ z .least → Moving ring line from steps below old new (z .least) (looks + z .looks) (i + 1)
+      unfolding steppedCounts
+      moving-turn far = record {
+        from-le = omega (arith, before .from-le);
+        start-le = omega arith;
+        size = ap length (stepped .written) ∙ listOf-length (length counts) _ ∙ before .size;
+        looks-le = omega (arith, before .looks-le, before .from-le, stepped .looks-are, can .fits .most);
+        still = ap (moveOn ring line below (from + steps - (i + 1))) (sym step-is)
+            ∙ sym (move-goes-on ring line below (from + steps - (i + 1)) here-at (omega (arith, least-of-step)))
+            ∙ ap (λ (n : ℕ). moveOn ring line below n here-at) (sym one-less) ∙ before .still;
+      }
+
+    -- After the last turn no step is left.
+    pub moving-end : from + steps ≤ i → IsMovedOn ring line from steps below old counts (record { start = i; least = least; looks = looks })
+    moving-end done =
+        let none : from + steps - i ≡ 0 = omega arith in
+        record {
+          is = sym (move-none ring line below here-at) ∙ ap (λ (n : ℕ). moveOn ring line below n here-at) (sym none) ∙ before .still;
+        }
+
+-- So many steps take at most so many looks.
+pub move-looks-le : (ring line : List ℕ) (below left : ℕ) (at : Place) → moveOn ring line below left at .looks ≤ at .looks + left * stepLooks (length ring)
+unfolding moveOn stepOn
+move-looks-le ring line below zero at = omega arith
+move-looks-le ring line below (suc left) at =
+    by-test (λ (p : Place). p .looks ≤ at .looks + suc left * stepLooks (length ring)) (ltb (stepOn ring line at .least) below)
+    (λ _. omega (arith, add-mul 1 left (stepLooks (length ring))))
+    (λ _. omega (arith, move-looks-le ring line below left (stepOn ring line at), add-mul 1 left (stepLooks (length ring))))

@@ -1,0 +1,141 @@
+-- The tally moved along the line: by induction on the steps that are left, each place on the way has its start's tally, its least count is that start's least
+-- distance, and every start passed has one that is not below the bound.
+-- Assumes nothing.
+use Prim.Native.Nat.{ℕ, zero, suc, _+_, _-_, _*_, _≤_, _<_}
+use mathlib.Core.Path.{_≡_, refl, _∙_}
+use mathlib.Core.Bool.{true}
+use mathlib.Core.List.{List}
+use mathlib.Core.Logic.{dite}
+use native.Mathlib.Nat.{add-mul, zero-mul}
+use native.Mathlib.Decide.{decLt, ℕ-discrete}
+use native.Mathlib.Omega.{arith}
+use lib.ListN.{length}
+use borrow.Author.Tests.{lt-ltb, le-leb}
+use Rattle.meaning.specs.Meanings.{leastDistance}
+use Rattle.meaning.specs.Looks.{stepLooks}
+use Rattle.moves.specs.declared.steps.Reached.{Reached}
+use Rattle.tally.specs.Counts.{mostCounts, IsLeast}
+use Rattle.moves.specs.Moves.{Place, placeAt, placeOf, stepOn, moveOn, canMove, mostPlaces, IsMoved, IsReached}
+use Rattle.tally.specs.Tallied.{Tallied}
+use Rattle.tally.proofs.LeastIsOne.{leastOf-is}
+use Rattle.moves.proofs.MoveLoop.{move-none, move-stops, move-goes-on}
+use Rattle.moves.proofs.StepTallied.{tallied-step}
+use Rattle.tally.proofs.TallyFinding.{least-is}
+
+module _ (ring line : List ℕ) (below : ℕ) (some : 0 < length ring) (most : length ring ≤ mostCounts) where
+  abbrev m : ℕ
+  m = length ring
+
+  -- From one place the tally came to another, in at most so many steps.
+  record CameTo (at : Place) (left : ℕ) (to : Place) : Type 0 where
+    pub start-le : to .start ≤ at .start + left
+    pub at-le : at .start ≤ to .start
+    pub tallied : Tallied ring line (to .start) (to .counts)
+    pub least-kept : IsLeast m (at .counts) (at .least) → IsLeast m (to .counts) (to .least)
+    pub least-found : 0 < left → IsLeast m (to .counts) (to .least)
+    pub looks-are : to .looks ≡ at .looks + (to .start - at .start) * stepLooks m
+    pub passed : (j : ℕ) → at .start < j → j < to .start → below ≤ leastDistance ring line j
+    pub stopped : to .start < at .start + left → to .least < below
+    pub some-step : 0 < left → at .start < to .start
+
+  -- No step.
+  came-none : (at : Place) → Tallied ring line (at .start) (at .counts) → CameTo at 0 at
+  came-none at tallied =
+      let none : at .start - at .start ≡ 0 = omega arith in
+      record {
+        start-le = omega arith;
+        at-le = omega arith;
+        tallied = tallied;
+        least-kept = λ is. is;
+        least-found = λ l. absurd (omega arith);
+        looks-are = rw none (omega (arith, zero-mul (stepLooks m)));
+        passed = λ j l h. absurd (omega arith);
+        stopped = λ l. absurd (omega arith);
+        some-step = λ l. absurd (omega arith);
+      }
+
+  module _ (at : Place) (tallied : Tallied ring line (at .start) (at .counts)) where
+    abbrev next : Place
+    next = stepOn ring line at
+
+    next-start : next .start ≡ at .start + 1
+    unfolding stepOn
+    next-start = refl
+
+    next-looks : next .looks ≡ at .looks + stepLooks m
+    unfolding stepOn
+    next-looks = refl
+
+    next-tallied : Tallied ring line (next .start) (next .counts)
+    unfolding stepOn
+    next-tallied = tallied-step ring line (at .start) (at .counts) most tallied
+
+    next-least : IsLeast m (next .counts) (next .least)
+    unfolding stepOn
+    next-least = leastOf-is m (next .counts) some
+
+    -- One step.
+    came-one : (left : ℕ) → next .least < below → CameTo at (suc left) next
+    came-one left near =
+        let one : next .start - at .start ≡ 1 = omega (arith, next-start) in
+        record {
+          start-le = omega (arith, next-start);
+          at-le = omega (arith, next-start);
+          tallied = next-tallied;
+          least-kept = λ _. next-least;
+          least-found = λ _. next-least;
+          looks-are = rw one (omega (arith, next-looks));
+          passed = λ j l h. absurd (omega (arith, next-start));
+          stopped = λ _. near;
+          some-step = λ _. omega (arith, next-start);
+        }
+
+    -- One step and on from there.
+    came-on : (left : ℕ) (to : Place) → below ≤ next .least → CameTo next left to → CameTo at (suc left) to
+    came-on left to far on =
+        let more : to .start - at .start ≡ 1 + (to .start - next .start) = omega (arith, next-start, on .at-le) in
+        record {
+          start-le = omega (arith, next-start, on .start-le);
+          at-le = omega (arith, next-start, on .at-le);
+          tallied = on .tallied;
+          least-kept = λ _. on .least-kept next-least;
+          least-found = λ _. on .least-kept next-least;
+          looks-are = rw more (omega (arith, on .looks-are, next-looks, add-mul 1 (to .start - next .start) (stepLooks m)));
+          passed = λ j l h. dite (ℕ-discrete j (next .start))
+              (λ here. rw here (omega (arith, far, least-is ring line 0 (next .start) (next .counts) (next .least) some next-tallied next-least)))
+              (λ past. on .passed j (omega (arith, past, next-start)) h);
+          stopped = λ l. on .stopped (omega (arith, next-start));
+          some-step = λ _. omega (arith, next-start, on .at-le);
+        }
+
+  -- So many steps, or fewer.
+  came : (left : ℕ) (at : Place) → Tallied ring line (at .start) (at .counts) → CameTo at left (moveOn ring line below left at)
+  came zero at tallied = rw (move-none ring line below at) (came-none at tallied)
+  came (suc left) at tallied = dite (decLt (stepOn ring line at .least) below)
+      (λ near. rw (move-stops ring line below left at near) (came-one at tallied left near))
+      (λ far.
+      rw (move-goes-on ring line below left at (omega (arith, far)))
+      (came-on at tallied left (moveOn ring line below left (stepOn ring line at)) (omega (arith, far))
+      (came left (stepOn ring line at) (next-tallied at tallied))))
+
+  module _ (from steps : ℕ) (old : List ℕ) (tallied : Tallied ring line from old) (some-step : 0 < steps) (in-line : from + steps + m ≤ length line)
+      (most-line : length line ≤ mostPlaces) where
+    -- The test passes.
+    can-be : canMove m (length old) (length line) from steps ≡ true
+    unfolding canMove
+    can-be =
+        rw (tallied .size)
+        (rw (lt-ltb 0 m some, le-leb m mostCounts most, le-leb (length line) mostPlaces most-line, le-leb (from + steps + m) (length line) in-line) refl)
+
+    -- The tally moved from a start is the tally of the start that it came to.
+    pub moved-tallied : (new : List ℕ) (r : Reached) → IsMoved ring line from steps below old new r → IsReached ring line from steps below new r
+    moved-tallied new r moved =
+        let is : placeOf r new ≡ moveOn ring line below steps (placeAt from old) = rw can-be at (moved .is) in
+        let to : CameTo (placeAt from old) steps (placeOf r new) = rw is (came steps (placeAt from old) tallied) in
+        record {
+          after = to .some-step some-step;
+          start-le = to .start-le;
+          verified = record { tallied = to .tallied; least-is = to .least-found some-step; looks-are = to .looks-are ∙ omega arith };
+          passed = to .passed;
+          stopped = to .stopped;
+        }

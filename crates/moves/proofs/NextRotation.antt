@@ -1,0 +1,43 @@
+-- The next rotation's number, (r + 1) mod m, and the one before: every number below m is the next of one below m, of m − 1 where it is 0 and else of the one
+-- before it.
+-- Assumes nothing.
+use Prim.Native.Nat.{ℕ, _+_, _-_, _%_, _<_}
+use mathlib.Core.Path.{_≡_, refl, sym, subst, _∙_, ap}
+use mathlib.Core.Logic.{dite}
+use native.Mathlib.Nat.{mod-eq-of-lt, mod-self}
+use native.Mathlib.Decide.{ℕ-discrete, decLt}
+use native.Mathlib.Omega.{arith}
+use borrow.Author.Tests.{eq-eqb, ne-eqb}
+use Rattle.moves.specs.Moves.{earlier}
+
+-- What holds of the next of every number below m holds of every number below m.
+pub every-next : (P : ℕ → Type 0) (m : ℕ) → ((r : ℕ) → r < m → P ((r + 1) % m)) → (s : ℕ) → s < m → P s
+every-next P m next s l = dite (ℕ-discrete s 0)
+    (λ first.
+    let seam : m - 1 + 1 ≡ m = omega arith in
+    subst P (ap (λ (n : ℕ). n % m) seam ∙ mod-self m ∙ sym first) (next (m - 1) (omega arith)))
+    (λ later.
+    let here : s - 1 + 1 ≡ s = omega (arith, later) in
+    subst P (ap (λ (n : ℕ). n % m) here ∙ mod-eq-of-lt l) (next (s - 1) (omega arith)))
+
+-- Before 0 comes the last.
+pub earlier-first : (m r : ℕ) → r ≡ 0 → earlier m r ≡ m - 1
+unfolding earlier
+earlier-first m r first = rw (eq-eqb r 0 first) refl
+
+-- Before any other comes the one before.
+pub earlier-later : (m r : ℕ) → (r ≡ 0 → ⊥) → earlier m r ≡ r - 1
+unfolding earlier
+earlier-later m r later = rw (ne-eqb r 0 later) refl
+
+-- It is below m too.
+pub earlier-lt : (m r : ℕ) → r < m → earlier m r < m
+earlier-lt m r l = dite (ℕ-discrete r 0) (λ first. omega (arith, earlier-first m r first)) (λ later. omega (arith, earlier-later m r later))
+
+-- Before the next comes the number itself.
+pub earlier-next : (m r : ℕ) → r < m → earlier m ((r + 1) % m) ≡ r
+earlier-next m r l = dite (decLt (r + 1) m)
+    (λ below. rw (mod-eq-of-lt below) (earlier-later m (r + 1) (λ e. omega arith) ∙ omega arith))
+    (λ past.
+    let seam : r + 1 ≡ m = omega (arith, past) in
+    rw (seam, mod-self m) (earlier-first m 0 refl ∙ omega arith))

@@ -1,0 +1,73 @@
+-- A step of the counts is a step of the tally: from the tally of start i, with the first edge of its window leaving and the last edge of the next
+-- window entering, the counts become the tally of start i + 1. No count wraps: it has the leaving edge's comparison to lose, since that is one of those
+-- counted, and is at most 256.
+-- Assumes nothing.
+use Prim.Native.Nat.{ℕ, suc, _+_, _-_, _%_, _≤_, _<_}
+use mathlib.Core.Path.{_≡_, ap, _∙_}
+use mathlib.Core.List.{List}
+use native.Mathlib.Nat.{add-zero, mod-lt, mod-eq-of-lt}
+use native.Mathlib.Omega.{arith}
+use lib.ListN.{length, getD}
+use Rattle.meaning.specs.Numbers.{oneIf, count}
+use Rattle.meaning.specs.Meanings.{windowEdge, unequal, differs, distance}
+use Rattle.meaning.proofs.Count.{count-le, oneIf-le}
+use Rattle.meaning.proofs.TallyStep.{distance-step}
+use Rattle.tally.specs.Counts.{mostCounts}
+use Rattle.moves.specs.Moves.{changedAt, earlier, steppedCounts}
+use Rattle.tally.specs.Tallied.{Tallied}
+use Rattle.tally.proofs.PlaceByPlace.{listOf-length, listOf-first-at}
+use Rattle.moves.proofs.NextRotation.{every-next, earlier-next}
+
+module _ (ring line : List ℕ) (i : ℕ) where
+  abbrev m : ℕ
+  m = length ring
+
+  -- The leaving edge's comparison is one of those that the distance counts.
+  leaving-le : (r : ℕ) → r < m → oneIf (unequal (windowEdge line i 0) (getD ring r 0)) ≤ distance ring line i r
+  unfolding distance count differs
+  leaving-le r l =
+      let whole : m ≡ suc (m - 1) = omega arith in
+      omega (
+        arith,
+        ap (count (differs ring line i r) 0) whole,
+        ap (λ (p : ℕ). oneIf (unequal (windowEdge line i 0) (getD ring p 0))) (ap (λ (p : ℕ). p % m) (add-zero r) ∙ mod-eq-of-lt l),
+      )
+
+  -- A distance is at most m.
+  distance-most : (r : ℕ) → distance ring line i r ≤ m
+  unfolding distance
+  distance-most r = count-le (differs ring line i r) 0 m
+
+  module _ (counts : List ℕ) (most : m ≤ mostCounts) (tallied : Tallied ring line i counts) where
+    abbrev leaving : ℕ
+    leaving = windowEdge line i 0
+
+    abbrev entering : ℕ
+    entering = windowEdge line (i + 1) (m - 1)
+
+    -- A count changes as its distance does.
+    changed-distance : (r : ℕ) → r < m → changedAt ring leaving entering counts r ≡ distance ring line (i + 1) ((r + 1) % m)
+    unfolding changedAt
+    changed-distance r l =
+        omega (
+          arith,
+          distance-step ring line i r l,
+          tallied .each r l,
+          leaving-le r l,
+          distance-most r,
+          oneIf-le (unequal leaving (getD ring r 0)),
+          oneIf-le (unequal entering (getD ring r 0)),
+        )
+
+    -- A step gives the tally of the next start.
+    pub tallied-step : Tallied ring line (i + 1) (steppedCounts ring leaving entering counts)
+    unfolding steppedCounts
+    tallied-step = record {
+      size = listOf-length (length counts) _ ∙ tallied .size;
+      each = every-next (λ (s : ℕ). getD (steppedCounts ring leaving entering counts) s 0 ≡ distance ring line (i + 1) s) m
+          (λ r l.
+          listOf-first-at counts m (λ s. changedAt ring leaving entering counts (earlier m s)) ((r + 1) % m) (mod-lt (r + 1) (omega arith))
+          (omega (arith, tallied .size))
+          ∙ ap (changedAt ring leaving entering counts) (earlier-next m r l)
+          ∙ changed-distance r l);
+    }

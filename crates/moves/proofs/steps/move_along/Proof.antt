@@ -1,0 +1,105 @@
+-- `moves::steps::move_along` meets its contract: what is still to be moved comes to the same place as the whole way (`Moving`), and a turn goes on or ends
+-- the way. The starts that are left fall.
+-- Assumes nothing.
+use Prim.Native.Nat.{_+_, _-_}
+use borrow.Author.Needs.{needs}
+use native.Mathlib.Omega.{arith}
+use Rattle.tally.proofs.WindowEdges.{start-length}
+use Rattle.moves.proofs.MoveLoop.{Moving, moving-start, moving-fits, moving-turn, moving-stops, moving-end}
+use Rattle.moves.proofs.steps.move_along.Statement.{statement}
+use Rattle.moves.proofs.steps.move_along.Tie as tie
+
+abbrev Inv-loop : tie.InvT-loop
+Inv-loop counts₀ ring line from steps below m least₀ looks₀ i₀ counts least looks i = Moving ring line from steps below counts₀ counts least looks i
+
+abbrev μ-loop : tie.MeasureT-loop
+μ-loop counts₀ ring line from steps below m least₀ looks₀ i₀ counts least looks i = from + steps - i
+
+loop-holds : tie.Need-loop-holds Inv-loop μ-loop
+loop-holds c = moving-start _ _ _ _ _ _ (c .before .before .pre)
+
+add-loop : tie.Need-add-loop Inv-loop μ-loop
+add-loop c = search needs
+
+window-requires : tie.Need-window-requires Inv-loop μ-loop
+window-requires c κs = search needs
+
+add-window : tie.Need-add-window Inv-loop μ-loop
+add-window c = search needs
+
+window-requires-2 : tie.Need-window-requires-2 Inv-loop μ-loop
+window-requires-2 c κs = search needs
+
+shared-slice-read-step : tie.Need-shared-slice-read-step Inv-loop μ-loop
+shared-slice-read-step c =
+    let here = c .before .before .before in
+    omega (arith, start-length _ _ _ _ (here .window .ensures) (omega arith))
+
+sub-step : tie.Need-sub-step Inv-loop μ-loop
+sub-step c = search needs
+
+shared-slice-read-step-2 : tie.Need-shared-slice-read-step-2 Inv-loop μ-loop
+shared-slice-read-step-2 c =
+    let next = c .before .before .before in
+    omega (arith, start-length _ _ _ _ (next .window2 .ensures) (omega arith))
+
+step-requires : tie.Need-step-requires Inv-loop μ-loop
+step-requires c κs =
+    let at-loop = c .before .before .before .before .before .before in
+    moving-fits _ _ _ _ _ _ (at-loop .before .before .before .pre) _ _ _ _ (at-loop .loop .inv)
+
+add-looks : tie.Need-add-looks Inv-loop μ-loop
+add-looks c =
+    let here = c .before .before .before .before .before .before in
+    omega (arith, here .before .before .loop .inv .looks-le, c .before .step .ensures .looks-are, here .before .before .before .before .before .pre .fits .most)
+
+add-i : tie.Need-add-i Inv-loop μ-loop
+add-i c = search needs
+
+-- The way ends here.
+returns : tie.Need-returns Inv-loop μ-loop
+returns c =
+    let stepped = c .before .before in
+    let next = stepped .before .before .before .before in
+    let here = next .before in
+    let at-loop = here .before .before in
+    moving-stops _ _ _ _ _ _ (at-loop .before .before .before .pre) _ _ _ _ (at-loop .loop .inv) (here .before .loop-test .taken)
+    _ _ _ _ (here .window .ensures) (next .window2 .ensures) (stepped .step .ensures) (c .if1 .taken)
+
+loop-less : tie.Need-loop-less Inv-loop μ-loop
+loop-less c = search needs
+
+loop-again : tie.Need-loop-again Inv-loop μ-loop
+loop-again c =
+    let stepped = c .before .before in
+    let next = stepped .before .before .before .before in
+    let here = next .before in
+    let at-loop = here .before .before in
+    moving-turn _ _ _ _ _ _ (at-loop .before .before .before .pre) _ _ _ _ (at-loop .loop .inv) (here .before .loop-test .taken)
+    _ _ _ _ (here .window .ensures) (next .window2 .ensures) (stepped .step .ensures) (c .if1 .left)
+
+-- All steps are made.
+returns-2 : tie.Need-returns-2 Inv-loop μ-loop
+returns-2 c = moving-end _ _ _ _ _ _ (c .before .before .before .before .pre) _ _ _ _ (c .before .loop .inv) (c .loop-test .left)
+
+pub move-along-spec : {M : Type 1} → statement M
+move-along-spec =
+    tie.close
+    (tie.spec
+    Inv-loop
+    μ-loop
+    loop-holds
+    add-loop
+    window-requires
+    add-window
+    window-requires-2
+    shared-slice-read-step
+    sub-step
+    shared-slice-read-step-2
+    step-requires
+    add-looks
+    add-i
+    returns
+    loop-less
+    loop-again
+    returns-2)

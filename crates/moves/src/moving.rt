@@ -1,0 +1,109 @@
+// "The tally of one count per rotation is kept and moved along the line."
+use crate::steps::Reached;
+use crate::steps::move_along;
+use tally::MOST_COUNTS;
+ghost use mathlib.Core.Path.{_≡_};
+ghost use Rattle.moves.specs.Moves.{canMove, CanMove, IsMovedOn, IsMoved};
+
+// A line place goes out as one word of 32 bits, so no line has more places.
+pub const MOST_PLACES: usize = 4294967296;
+
+// One count for each rotation.
+pub struct Tally {
+    pub counts: [u16; MOST_COUNTS],
+}
+
+// The tally after it was moved, and where it came to.
+pub struct Moved {
+    pub tally: Tally,
+    pub reached: Reached,
+}
+
+// The tally, lent, is moved along the line: its counts are lent on.
+fn move_tally(
+    tally: &mut Tally,
+    ring: &[u8],
+    line: &[u8],
+    from: usize,
+    steps: usize,
+    below: usize,
+) -> Reached
+    requires { ⌜ CanMove (now ring) (now line) from steps (now tally .counts) ⌝ }
+    ensures { λ z. ⌜ IsMovedOn (now (ring .entry)) (now (line .entry)) from steps below (now (tally .entry) .counts) (now (tally .exit) .counts) z ⌝ }
+{
+    move_along(&mut tally.counts, ring, line, from, steps, below)
+}
+
+// The tally by value is lent from here, so that callers hold no reference to it.
+fn moved_tally(
+    tally: Tally,
+    ring: &[u8],
+    line: &[u8],
+    from: usize,
+    steps: usize,
+    below: usize,
+) -> Moved
+    requires { ⌜ CanMove (now ring) (now line) from steps (tally .counts) ⌝ }
+    ensures { λ z. ⌜ IsMovedOn (now (ring .entry)) (now (line .entry)) from steps below (tally .counts) (z .tally .counts) (z .reached) ⌝ }
+{
+    let mut kept = tally;
+    let reached = move_tally(&mut kept, ring, line, from, steps, below);
+    Moved {
+        tally: kept,
+        reached,
+    }
+}
+
+// Whether the tally of a ring of m edges can be moved so many steps: a window in the line after each step, and a count for
+// each rotation.
+fn can_move(m: usize, room: usize, n: usize, from: usize, steps: usize) -> bool
+    ensures { λ r. ⌜ r ≡ canMove m room n from steps ⌝ }
+{
+    if m == 0 {
+        return false;
+    }
+    if MOST_COUNTS < m {
+        return false;
+    }
+    if room < m {
+        return false;
+    }
+    if MOST_PLACES < n {
+        return false;
+    }
+    if n < m {
+        return false;
+    }
+    if n - m < from {
+        return false;
+    }
+    steps <= n - m - from
+}
+
+// The counts of a search moved along, or left alone where they cannot be. They go into a tally and come back once, however
+// many steps it moves: each way is a copy of 512 bytes.
+pub fn move_counts(
+    counts: &mut [u16; MOST_COUNTS],
+    ring: &[u8],
+    line: &[u8],
+    from: usize,
+    steps: usize,
+    below: usize,
+) -> Reached
+    ensures { λ z. ⌜ IsMoved (now (ring .entry)) (now (line .entry)) from steps below (now (counts .entry)) (now (counts .exit)) z ⌝ }
+{
+    let all = &counts[..];
+    if !can_move(ring.len(), all.len(), line.len(), from, steps) {
+        return Reached {
+            start: from,
+            least: 0,
+            looks: 0,
+        };
+    }
+    let tally = Tally { counts: *counts };
+    let there = moved_tally(tally, ring, line, from, steps, below);
+    let kept = there.tally;
+    let after = kept.counts;
+    *counts = after;
+    there.reached
+}

@@ -1,0 +1,124 @@
+// Rule 5: the tally moved along the line, each step 2·m looks. The counts stand under the rotations' own numbers
+// (specs/Tallied.antt), so a step renumbers them.
+use tally::Least;
+use tally::MOST_COUNTS;
+use tally::differing;
+use tally::window;
+ghost use mathlib.Core.Path.{_≡_};
+ghost use Prim.Native.Nat.{_<_, _≤_};
+ghost use lib.ListN.{length};
+ghost use Rattle.meaning.specs.Looks.{stepLooks};
+ghost use Rattle.tally.specs.Counts.{RingFits, IsLeast};
+ghost use Rattle.moves.specs.Moves.{changedCount, Changed, Renumbered, IsStepped, CanMove, IsMovedOn};
+
+// How many numbers a count of sixteen bits can be.
+const SIXTEEN_BITS: u32 = 65536;
+
+// A count that has lost one comparison and won another. One that has nothing to lose wraps: the sum is taken in more bits,
+// of which the compiler keeps sixteen.
+fn changed(count: u16, lost: u16, won: u16) -> u16
+    ensures { λ r. ⌜ r ≡ changedCount count lost won ⌝ }
+{
+    let sum = count as u32 + (SIXTEEN_BITS - lost as u32) + won as u32;
+    (sum % SIXTEEN_BITS) as u16
+}
+
+// The leaving and the entering edge, each against every ring edge. Rotation r at this start stands over the ring as the
+// next rotation does at the next start, so both meet the ring's edge at r. Counts that are no tally may wrap.
+fn change(counts: &mut [u16; MOST_COUNTS], ring: &[u8], leaving: u8, entering: u8) -> Least
+    requires { ⌜ RingFits (length (now ring)) (now counts) ⌝ }
+    ensures { λ z. ⌜ Changed (now (ring .entry)) leaving entering (now (counts .entry)) (now (counts .exit))
+        × IsLeast (length (now (ring .entry))) (now (counts .exit)) (z .least)
+        × (z .looks ≡ stepLooks (length (now (ring .entry)))) ⌝ }
+{
+    let mut least: u16 = 65535;
+    let mut looks: usize = 0;
+    let mut r = 0;
+    while r < ring.len() {
+        let edge = ring[r];
+        let lost = differing(leaving, edge);
+        looks += 1; // one look, at the leaving edge
+        let won = differing(entering, edge);
+        looks += 1; // one look, at the entering edge
+        let count = changed(counts[r], lost, won);
+        counts[r] = count;
+        if count < least {
+            least = count;
+        }
+        r += 1;
+    }
+    Least {
+        least: least as usize,
+        looks,
+    }
+}
+
+// Each count moves on to the next rotation's number, from the last down so that none is overwritten before it is moved.
+fn renumber(counts: &mut [u16; MOST_COUNTS], m: usize)
+    requires { ⌜ RingFits m (now counts) ⌝ }
+    ensures { λ _. ⌜ Renumbered m (now (counts .entry)) (now (counts .exit)) ⌝ }
+{
+    let last = counts[m - 1];
+    let mut r = m - 1;
+    while 0 < r {
+        counts[r] = counts[r - 1];
+        r -= 1;
+    }
+    counts[0] = last;
+}
+
+// One step. That the least was found before the renumbering does not matter: it moves no count's value.
+fn step(counts: &mut [u16; MOST_COUNTS], ring: &[u8], leaving: u8, entering: u8) -> Least
+    requires { ⌜ RingFits (length (now ring)) (now counts) ⌝ }
+    ensures { λ z. ⌜ IsStepped (now (ring .entry)) leaving entering (now (counts .entry)) (now (counts .exit)) z ⌝ }
+{
+    let least = change(counts, ring, leaving, entering);
+    renumber(counts, ring.len());
+    least
+}
+
+// Where moved counts came to: the start, the least of its counts, and the looks of the steps.
+pub struct Reached {
+    pub start: usize,
+    pub least: usize,
+    pub looks: usize,
+}
+
+// The counts moved along the line: so many steps, or to the first start on the way whose least count is below `below`. The
+// leaving edge is the first of the window that is left, the entering edge the last of the next one.
+pub fn move_along(
+    counts: &mut [u16; MOST_COUNTS],
+    ring: &[u8],
+    line: &[u8],
+    from: usize,
+    steps: usize,
+    below: usize,
+) -> Reached
+    requires { ⌜ CanMove (now ring) (now line) from steps (now counts) ⌝ }
+    ensures { λ z. ⌜ IsMovedOn (now (ring .entry)) (now (line .entry)) from steps below (now (counts .entry)) (now (counts .exit)) z ⌝ }
+{
+    let m = ring.len();
+    let mut least: usize = 0;
+    let mut looks: usize = 0;
+    let mut i = from;
+    while i < from + steps {
+        let here = window(line, i, m);
+        let next = window(line, i + 1, m);
+        let stepped = step(counts, ring, here[0], next[m - 1]);
+        least = stepped.least;
+        looks += stepped.looks;
+        i += 1;
+        if least < below {
+            return Reached {
+                start: i,
+                least,
+                looks,
+            };
+        }
+    }
+    Reached {
+        start: i,
+        least,
+        looks,
+    }
+}
