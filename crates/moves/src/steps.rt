@@ -47,10 +47,8 @@ fn change(counts: &mut [u16; MOST_COUNTS], ring: &[u8], leaving: u8, entering: u
         }
         r += 1;
     }
-    Least {
-        least: least as usize,
-        looks,
-    }
+    let low = least as usize;
+    Least { least: low, looks }
 }
 
 // Each count moves on to the next rotation's number, from the last down so that none is overwritten before it is moved.

@@ -1,11 +1,11 @@
 // Reading and unpacking. A row gives its name, the words of its silences, how many bytes of their layout the book has, the byte offset and the byte
 // of a fault if there is one, and the room. Reading is lent no room.
-use crate::area::AMPLE;
 use crate::area;
+use crate::area::AMPLE;
 use crate::books;
 use crate::paper;
-use crate::printing::Shown;
 use crate::printing;
+use crate::printing::Shown;
 use crate::table;
 use book::BookAnswer;
 

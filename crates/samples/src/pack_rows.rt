@@ -1,12 +1,12 @@
 // Packing. A row gives its name, words, how many of them are packed, and the room. It says what the call answers, the bytes written, in hex where
 // they are few, and whether all bytes behind the room that was lent are kept.
-use crate::area::AMPLE;
 use crate::area;
-use crate::books::MOST_WORDS;
+use crate::area::AMPLE;
 use crate::books;
+use crate::books::MOST_WORDS;
 use crate::paper;
-use crate::printing::Shown;
 use crate::printing;
+use crate::printing::Shown;
 use crate::table;
 
 // Packs the words, and prints what comes of it.

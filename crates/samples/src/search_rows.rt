@@ -1,11 +1,11 @@
 // Searching a line for a ring. A row gives its name, ring, line, allowance and room, and for a report what report_rows.rt says besides, and goes
 // through the call that is asked for. It says what the call answers, the words written, and whether all words behind the room that was lent are kept.
-use crate::area::LONG;
 use crate::area;
+use crate::area::LONG;
 use crate::made;
 use crate::paper;
-use crate::printing::Shown;
 use crate::printing;
+use crate::printing::Shown;
 use crate::report_rows;
 use crate::table;
 

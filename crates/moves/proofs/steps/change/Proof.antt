@@ -72,8 +72,8 @@ loop-again c =
     (lost .differing .ensures .is) (won .differing2 .ensures .is) (changed .changed .ensures) _ (kept .0 .left) (kept .1))
     (c .if1 .came)
 
-cast-t21 : tie.Need-cast-t21 Inv-loop μ-loop
-cast-t21 c = omega (arith, c .before .loop .inv .least-le)
+cast-low : tie.Need-cast-low Inv-loop μ-loop
+cast-low c = omega (arith, c .before .loop .inv .least-le)
 
 returns : tie.Need-returns Inv-loop μ-loop
 returns c = changing-end _ _ _ _ _ _ _ _ (c .before .before .before .pre) (c .before .loop .inv) (c .loop-test .left)
@@ -98,5 +98,5 @@ change-spec =
     add-r
     loop-less
     loop-again
-    cast-t21
+    cast-low
     returns)
