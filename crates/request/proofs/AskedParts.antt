@@ -10,14 +10,14 @@ use Rattle.meaning.specs.Findings.{written}
 use Rattle.answers.specs.declared.refusals.Refusal.{Refusal}
 use Rattle.silences.specs.Putting.{IsPut}
 use Rattle.silences.proofs.WrittenAt.{writtenAt-zero}
-use Rattle.request.specs.declared.asking.Asked.{Asked}
-use Rattle.request.specs.declared.asking.Asked.the-variants.{Parts as PartsCase, Refused}
-use Rattle.request.specs.declared.asking.Parts.{Parts}
-use Rattle.request.specs.Fields.{between}
-use Rattle.request.specs.Input.{Request}
+use Rattle.input.specs.declared.asking.Asked.{Asked}
+use Rattle.input.specs.declared.asking.Asked.the-variants.{Parts as PartsCase, Refused}
+use Rattle.input.specs.declared.asking.Parts.{Parts}
+use Rattle.input.specs.Fields.{between}
+use Rattle.input.specs.Input.{Request}
 use Rattle.request.specs.Lines.{refusalLine}
 use Rattle.request.specs.Answering.{requestText, textBy, answerText, IsAnswered}
-use Rattle.request.specs.Parsing.{askedOf, Within, WithinBy, IsAsked}
+use Rattle.input.specs.Asking.{askedOf, Within, WithinBy, IsAsked}
 use Rattle.request.specs.Writing.{request}
 
 -- the request of these parts, with this book

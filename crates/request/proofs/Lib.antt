@@ -2,8 +2,6 @@
 pub mod DecimalDigits
 pub mod BytePut
 pub mod DecimalPut
-pub mod FieldEnds
-pub mod AskedCases
 pub mod BytesLoop
 pub mod PutOneAfterAnother
 pub mod LinePieces
@@ -15,11 +13,6 @@ pub mod TextRoom
 pub mod RequestAnswered
 pub mod RequestPut
 pub mod AskedParts
-pub mod FieldLaid
-pub mod LaidDownRead
-pub mod FieldThen
-pub mod ReadIsLaidDown
-pub mod RowElevenIff
 pub mod DecimalReadBack
 pub mod OneText
 pub mod TextOfInput

@@ -16,8 +16,8 @@ use Rattle.silences.proofs.BookRows.{book-rows}
 use Rattle.findings.specs.Admitting.{roomAsked, refusalOf}
 use Rattle.outlines.specs.Report.{silencesBy, admittedSilences}
 use Rattle.findings.proofs.AdmitRows.{RowGiven, row-1, row-2, row-3, row-4, row-given}
-use Rattle.request.specs.Fields.{lineField}
-use Rattle.request.specs.Input.{Request}
+use Rattle.input.specs.Fields.{lineField}
+use Rattle.input.specs.Input.{Request}
 use Rattle.request.specs.Answering.{IsAnswered}
 
 -- Any two answers are equal, and any two texts.

@@ -18,8 +18,8 @@ use Rattle.outlines.specs.Report.{shown, hidden, ReportCounts, reportCounts, ad
 use Rattle.outlines.proofs.ReportRefusals.{report-refusal-iff}
 use Rattle.outlines.proofs.ReportGives.{IsGiven, goes-by-iff, report-gives}
 use Rattle.outlines.proofs.ShownAndHidden.{shown-hidden-length}
-use Rattle.request.specs.Fields.{lineField}
-use Rattle.request.specs.Input.{Request}
+use Rattle.input.specs.Fields.{lineField}
+use Rattle.input.specs.Input.{Request}
 use Rattle.request.specs.Lines.{firstLine, findingLines, lastLine, refusalLine}
 use Rattle.request.specs.Answering.{reportLines, linesBy, requestText}
 use Rattle.request.specs.Writing.{findingsOf, countsOf, mostText, request}

@@ -10,7 +10,7 @@ use native.Mathlib.Omega.{arith}
 use lib.ListN.{length, take}
 use Rattle.meaning.specs.Findings.{wordsEach}
 use Rattle.silences.specs.Putting.{IsPut}
-use Rattle.request.specs.Input.{Request}
+use Rattle.input.specs.Input.{Request}
 use Rattle.request.specs.Lines.{firstLine, findingLines, lastLine}
 use Rattle.request.specs.Answering.{requestText}
 use Rattle.request.specs.Writing.{findingsOf, countsOf, mostText}

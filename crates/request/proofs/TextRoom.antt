@@ -15,8 +15,8 @@ use Rattle.findings.specs.Admitting.{Admitted}
 use Rattle.outlines.specs.Report.{shown, ReportCounts, reportCounts}
 use Rattle.outlines.proofs.ShownExactly.{shown-iff}
 use Rattle.outlines.proofs.ShownAndHidden.{shown-hidden-length}
-use Rattle.request.specs.Fields.{lineField}
-use Rattle.request.specs.Input.{Request}
+use Rattle.input.specs.Fields.{lineField}
+use Rattle.input.specs.Input.{Request}
 use Rattle.request.specs.Lines.{firstLine, findingLines, lastLine}
 use Rattle.request.specs.Answering.{reportLines}
 use Rattle.request.specs.Writing.{mostText}

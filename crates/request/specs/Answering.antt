@@ -16,7 +16,7 @@ use Rattle.answers.specs.Paper.{Answer, accepted, refused}
 use Rattle.silences.specs.Silences.{Silence}
 use Rattle.findings.specs.Admitting.{roomAsked}
 use Rattle.outlines.specs.Report.{shown, admittedSilences, reportCounts}
-use Rattle.request.specs.Input.{Request, requestOf}
+use Rattle.input.specs.Input.{Request, requestOf}
 use Rattle.request.specs.Lines.{firstLine, findingLines, lastLine, refusalLine}
 
 -- The lines of a report that goes by these silences: the first line, a line for each shown finding, the last line.

@@ -16,8 +16,8 @@ use Rattle.silences.specs.Silences.{isBelow, isSame, names}
 use Rattle.silences.specs.Reading.{lengthByTag, silenceAt, isWhole, fieldBy, fieldAt, fieldsFrom, readFrom, readBook}
 use Rattle.findings.specs.Admitting.{refusalOf}
 use Rattle.outlines.specs.Report.{shown, hidden, admittedSilences}
-use Rattle.request.specs.Fields.{isField, fieldEndAt}
-use Rattle.request.specs.Input.{fieldsOf, requestOf, laidDown}
+use Rattle.input.specs.Fields.{isField, fieldEndAt}
+use Rattle.input.specs.Input.{fieldsOf, requestOf, laidDown}
 use Rattle.request.specs.Decimal.{digitsWithin, decimal}
 use Rattle.request.specs.Lines.{lf, firstLine, findingLine, findingLines, lastLine, refusalWords}
 use Rattle.request.specs.Answering.{reportLines, requestText, answerText}

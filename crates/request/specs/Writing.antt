@@ -4,8 +4,8 @@ use mathlib.Core.List.{List, [], _∷_, _++_}
 use Rattle.meaning.specs.Findings.{Finding}
 use Rattle.outlines.specs.Report.{ReportCounts}
 use Rattle.request.specs.Decimal.{decimal}
-use Rattle.request.specs.Fields.{lineField}
-use Rattle.request.specs.Input.{Request}
+use Rattle.input.specs.Fields.{lineField}
+use Rattle.input.specs.Input.{Request}
 use Rattle.request.specs.Lines.{space}
 
 -- A number, and the byte that comes after it.

@@ -1,11 +1,11 @@
 // The program's input to its output: read the request, make the report, write its lines.
-use crate::asking::Asked;
-use crate::asking::read_request;
 use crate::lines::WORDS_EACH;
 use crate::lines::put_finding_lines;
 use crate::lines::put_first_line;
 use crate::lines::put_last_line;
 use crate::refusing::put_refusal;
+use input::Asked;
+use input::read_request;
 use outlines::Reported;
 use outlines::report;
 ghost use lib.ListN.{length};

@@ -1,9 +1,7 @@
 // The report program's work: its input's bytes to its output's text. What the text is on every input stands in
 // specs/Answering.antt. No public function has a `requires`: each takes every input.
 mod answering;
-mod asking;
 mod digits;
-mod fields;
 mod lines;
 mod refusing;
 

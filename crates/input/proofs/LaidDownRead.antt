@@ -11,10 +11,10 @@ use Rattle.silences.specs.Numbers.{bytesOf}
 use Rattle.silences.specs.Layout.{field}
 use Rattle.silences.specs.Reading.{fieldEnd}
 use Rattle.silences.proofs.NumberBytes.{bytesOf-length}
-use Rattle.request.specs.Fields.{cellField, ringNumberField, allowanceField, ringField, lineField}
-use Rattle.request.specs.Input.{Request, requestOf, laidDown, CanLayDown}
-use Rattle.request.proofs.AskedCases.{FiveStand, stands-by, asked-parts}
-use Rattle.request.proofs.FieldLaid.{laid-rest, laid-between, laid-end, laid-number}
+use Rattle.input.specs.Fields.{cellField, ringNumberField, allowanceField, ringField, lineField}
+use Rattle.input.specs.Input.{Request, requestOf, laidDown, CanLayDown}
+use Rattle.input.proofs.AskedCases.{FiveStand, stands-by, asked-parts}
+use Rattle.input.proofs.FieldLaid.{laid-rest, laid-between, laid-end, laid-number}
 
 module _ (q : Request) (can : CanLayDown q) where
   abbrev whole : List ℕ

@@ -11,9 +11,9 @@ use Rattle.answers.specs.declared.refusals.Refusal.{Refusal}
 use Rattle.answers.specs.declared.refusals.Refusal.the-variants.{Input}
 use Rattle.answers.specs.Paper.{Answer, accepted, refused}
 use Rattle.silences.specs.Reading.{headLength}
-use Rattle.request.specs.Fields.{FieldKind, fieldEndAt}
-use Rattle.request.specs.Input.{Request, endThen, fieldThen}
-use Rattle.request.proofs.AskedCases.{Stands, stands-by}
+use Rattle.input.specs.Fields.{FieldKind, fieldEndAt}
+use Rattle.input.specs.Input.{Request, endThen, fieldThen}
+use Rattle.input.proofs.AskedCases.{Stands, stands-by}
 
 -- A refusal is no request.
 pub never-accepted : {r : Refusal} {q : Request} → refused r ≡ accepted q → ⊥

@@ -14,9 +14,9 @@ use Rattle.silences.specs.Layout.{field}
 use Rattle.silences.specs.Reading.{headLength, fieldEnd}
 use Rattle.silences.specs.Books.{IsBytes}
 use Rattle.silences.proofs.NumberBytes.{bytesOf-length, number-of-bytes, bytes-of-number}
-use Rattle.request.specs.Fields.{FieldKind, longAt, fieldEndAt, between}
-use Rattle.request.proofs.FieldEnds.{field-stands}
-use Rattle.request.proofs.AskedCases.{Stands}
+use Rattle.input.specs.Fields.{FieldKind, longAt, fieldEndAt, between}
+use Rattle.input.proofs.FieldEnds.{field-stands}
+use Rattle.input.proofs.AskedCases.{Stands}
 
 -- A number is the same in the bytes from some byte offset on.
 pub numberAt-drop : (count : ℕ) (bytes : List ℕ) (at i : ℕ) → numberAt count bytes (at + i) ≡ numberAt count (drop at bytes) i

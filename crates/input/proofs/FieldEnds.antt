@@ -8,7 +8,7 @@ use mathlib.Core.List.{List}
 use mathlib.Core.Option.{none, some}
 use lib.ListN.{length, getD}
 use borrow.Author.Tests.{le-leb, lt-leb, eq-eqb, ne-eqb}
-use Rattle.request.specs.Fields.{FieldKind, longAt, nextAt, isField, fieldEndAt}
+use Rattle.input.specs.Fields.{FieldKind, longAt, nextAt, isField, fieldEndAt}
 
 module _ (kind : FieldKind) (input : List ℕ) (at : ℕ) where
   -- No field of the kind stands.

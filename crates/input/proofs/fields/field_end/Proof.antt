@@ -1,11 +1,11 @@
--- `request::fields::field_end` meets its contract: each return is one case of what stands at a byte offset.
+-- `input::fields::field_end` meets its contract: each return is one case of what stands at a byte offset.
 -- Assumes nothing.
 use native.Mathlib.Omega.{arith}
 use borrow.Author.Needs.{needs}
 use Rattle.silences.proofs.NumberWithin.{number-read}
-use Rattle.request.proofs.FieldEnds.{field-cut, tag-no, field-short, field-long, field-stands}
-use Rattle.request.proofs.fields.field_end.Statement.{statement}
-use Rattle.request.proofs.fields.field_end.Tie as tie
+use Rattle.input.proofs.FieldEnds.{field-cut, tag-no, field-short, field-long, field-stands}
+use Rattle.input.proofs.fields.field_end.Statement.{statement}
+use Rattle.input.proofs.fields.field_end.Tie as tie
 
 sub-if1 : tie.Need-sub-if1
 sub-if1 c = search needs

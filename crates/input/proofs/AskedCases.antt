@@ -14,12 +14,13 @@ use Rattle.meaning.proofs.Cases.{and-true}
 use Rattle.answers.specs.declared.refusals.Refusal.the-variants.{Input}
 use Rattle.silences.specs.Numbers.{numberAt}
 use Rattle.silences.specs.Reading.{headLength}
-use Rattle.request.specs.declared.fields.FieldEnd.{FieldEnd}
-use Rattle.request.specs.declared.fields.FieldEnd.the-variants.{At, NoField}
-use Rattle.request.specs.declared.asking.Asked.the-variants.{Parts as PartsCase, Refused}
-use Rattle.request.specs.Fields.{FieldKind, cellField, ringNumberField, allowanceField, ringField, lineField, longAt, nextAt, isField, fieldEndAt}
-use Rattle.request.specs.Input.{mostInput, fieldsOf, requestOf}
-use Rattle.request.specs.Parsing.{endOf, IsEnd, IsAsked}
+use Rattle.input.specs.declared.fields.FieldEnd.{FieldEnd}
+use Rattle.input.specs.declared.fields.FieldEnd.the-variants.{At, NoField}
+use Rattle.input.specs.declared.asking.Asked.the-variants.{Parts as PartsCase, Refused}
+use Rattle.input.specs.Fields.{FieldKind, cellField, ringNumberField, allowanceField, ringField, lineField, longAt, nextAt, isField, fieldEndAt}
+use Rattle.input.specs.Input.{mostInput, fieldsOf, requestOf}
+use Rattle.input.specs.Parsing.{endOf, IsEnd}
+use Rattle.input.specs.Asking.{IsAsked}
 
 -- What is known of a field that stands and ends at `next`.
 pub record Stands (kind : FieldKind) (input : List ℕ) (at next : ℕ) : Type 0 where
@@ -147,6 +148,7 @@ asked-parts {input} short five cell-is ring-number-is allowance-is = record {
   );
   within = record {
     ring-le = omega (arith, five .ring .least-le);
+    line-behind = refl;
     line-le = omega (arith, five .line .least-le);
     ring-within = five .ring .next-le;
     line-within = five .line .next-le;

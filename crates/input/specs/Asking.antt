@@ -1,26 +1,20 @@
--- What the private functions promise that read the input. Nothing here is the public call's meaning.
+-- What `read_request` promises: the request of the input's bytes, its ring, its line and its book by the byte offsets between which they stand; or refusal 11.
+--
+--   requestAt    the request whose numbers and byte offsets these are
+--   askedOf      what an enum's case stands for
+--   Within       how the byte offsets lie
+--   IsAsked      what `read_request` promises
 use Prim.Native.Nat.{ℕ, _+_, _≤_}
 use mathlib.Core.Path.{_≡_}
 use mathlib.Core.List.{List}
-use mathlib.Core.Option.{Option, none, some}
 use lib.ListN.{length, drop}
 use Rattle.answers.specs.Paper.{Answer, accepted, refused}
-use Rattle.request.specs.declared.fields.FieldEnd.{FieldEnd}
-use Rattle.request.specs.declared.fields.FieldEnd.the-variants.{At, NoField}
-use Rattle.request.specs.declared.asking.Asked.{Asked}
-use Rattle.request.specs.declared.asking.Asked.the-variants.{Parts as PartsCase, Refused}
-use Rattle.request.specs.declared.asking.Parts.{Parts}
-use Rattle.request.specs.Fields.{lineField, fieldEndAt, between}
-use Rattle.request.specs.Input.{Request, requestOf}
-
--- The end that an enum's case stands for.
-abbrev pub endOf : FieldEnd → Option ℕ
-endOf (At next) = some next
-endOf NoField = none
-
--- A field's end is told: of its tag, the least and the most bytes of its value, the input, the byte offset and the answer.
-pub record IsEnd (tag least most : ℕ) (input : List ℕ) (at : ℕ) (r : FieldEnd) : Type 0 where
-  pub is : endOf r ≡ fieldEndAt (record { tag = tag; least = least; most = most }) input at
+use Rattle.silences.specs.Reading.{headLength}
+use Rattle.input.specs.declared.asking.Asked.{Asked}
+use Rattle.input.specs.declared.asking.Asked.the-variants.{Parts as PartsCase, Refused}
+use Rattle.input.specs.declared.asking.Parts.{Parts}
+use Rattle.input.specs.Fields.{lineField, between}
+use Rattle.input.specs.Input.{Request, requestOf}
 
 -- The request whose numbers and byte offsets these are.
 abbrev pub requestAt : List ℕ → Parts → Request
@@ -38,9 +32,11 @@ abbrev pub askedOf : List ℕ → Asked → Answer Request
 askedOf input (PartsCase p) = accepted (requestAt input p)
 askedOf input (Refused refusal) = refused refusal
 
--- The byte offsets of a request lie one after the other in the input, and its line is not too long.
+-- The byte offsets of a request lie one after the other in the input, the line a head behind the ring, and the line is not too long. With the request they
+-- are fixed: the book tells where the line ends, the line where it begins, and so where the ring ends and begins (`asked-unique` of proofs/OneAnswer.antt).
 pub record Within (input : List ℕ) (p : Parts) : Type 0 where
   pub ring-le : p .«ring_from» ≤ p .«ring_to»
+  pub line-behind : p .«line_from» ≡ p .«ring_to» + headLength
   pub line-le : p .«line_from» ≤ p .«line_to»
   pub ring-within : p .«ring_to» ≤ length input
   pub line-within : p .«line_to» ≤ length input
@@ -51,7 +47,7 @@ abbrev pub WithinBy : List ℕ → Asked → Type 0
 WithinBy input (PartsCase p) = Within input p
 WithinBy input (Refused refusal) = Unit {0}
 
--- A request is read: of the input and the answer.
+-- What `read_request` promises: of the input and the answer.
 pub record IsAsked (input : List ℕ) (r : Asked) : Type 0 where
   pub is : askedOf input r ≡ requestOf input
   pub within : WithinBy input r

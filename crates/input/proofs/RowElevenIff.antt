@@ -14,12 +14,12 @@ use borrow.Author.Tests.{ltb-true, ltb-false}
 use Rattle.answers.specs.declared.refusals.Refusal.{Refusal}
 use Rattle.answers.specs.declared.refusals.Refusal.the-variants.{Input}
 use Rattle.answers.specs.Paper.{accepted, refused}
-use Rattle.request.specs.Fields.{FieldKind, cellField, ringNumberField, allowanceField, ringField, lineField, fieldEndAt}
-use Rattle.request.specs.Input.{Request, mostInput, fieldsOf, requestOf}
-use Rattle.request.specs.RowEleven.{IsFieldAt, NoFieldAt, IsInputFault, longer, no-cell, no-ring-number, no-allowance, no-ring, no-line}
-use Rattle.request.proofs.FieldEnds.{field-stands}
-use Rattle.request.proofs.AskedCases.{Stands, stands-by, asked-longer, asked-cell-no, asked-ring-number-no, asked-allowance-no, asked-ring-no, asked-line-no}
-use Rattle.request.proofs.FieldThen.{refusal-same, then-refused}
+use Rattle.input.specs.Fields.{FieldKind, cellField, ringNumberField, allowanceField, ringField, lineField, fieldEndAt}
+use Rattle.input.specs.Input.{Request, mostInput, fieldsOf, requestOf}
+use Rattle.input.specs.RowEleven.{IsFieldAt, NoFieldAt, IsInputFault, longer, no-cell, no-ring-number, no-allowance, no-ring, no-line}
+use Rattle.input.proofs.FieldEnds.{field-stands}
+use Rattle.input.proofs.AskedCases.{Stands, stands-by, asked-longer, asked-cell-no, asked-ring-number-no, asked-allowance-no, asked-ring-no, asked-line-no}
+use Rattle.input.proofs.FieldThen.{refusal-same, then-refused}
 
 module _ (input : List ℕ) where
   -- a field that stands passes the tests

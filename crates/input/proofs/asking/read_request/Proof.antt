@@ -1,12 +1,12 @@
--- `request::asking::read_request` meets its contract: each return is one case of the five fields (`AskedCases`). What is known of a field that stands is
+-- `input::asking::read_request` meets its contract: each return is one case of the five fields (`AskedCases`). What is known of a field that stands is
 -- `Stands`, from the end that `field_end` told: so the next field begins within the input, and a number's bytes are there.
 -- Assumes nothing.
 use native.Mathlib.Omega.{arith}
 use borrow.Author.Needs.{needs}
 use Rattle.silences.proofs.NumberWithin.{number-read}
-use Rattle.request.proofs.AskedCases.{FiveStand, stands, stands-not, asked-longer, asked-cell-no, asked-ring-number-no, asked-allowance-no, asked-ring-no, asked-line-no, asked-parts}
-use Rattle.request.proofs.asking.read_request.Statement.{statement}
-use Rattle.request.proofs.asking.read_request.Tie as tie
+use Rattle.input.proofs.AskedCases.{FiveStand, stands, stands-not, asked-longer, asked-cell-no, asked-ring-number-no, asked-allowance-no, asked-ring-no, asked-line-no, asked-parts}
+use Rattle.input.proofs.asking.read_request.Statement.{statement}
+use Rattle.input.proofs.asking.read_request.Tie as tie
 
 -- a longer input
 returns : tie.Need-returns

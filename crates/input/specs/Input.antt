@@ -19,7 +19,7 @@ use Rattle.answers.specs.Paper.{Answer, accepted, refused}
 use Rattle.silences.specs.Numbers.{numberAt, bytesOf}
 use Rattle.silences.specs.Layout.{field}
 use Rattle.silences.specs.Reading.{headLength}
-use Rattle.request.specs.Fields.{FieldKind, cellField, ringNumberField, allowanceField, ringField, lineField, fieldEndAt, between}
+use Rattle.input.specs.Fields.{FieldKind, cellField, ringNumberField, allowanceField, ringField, lineField, fieldEndAt, between}
 
 -- What the program is asked: the report of a cell, a ring number, a ring, a line, an allowance and a book.
 pub record Request : Type 0 where

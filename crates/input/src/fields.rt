@@ -5,7 +5,7 @@ use silences::TAG_BYTES;
 use silences::number_at;
 ghost use Prim.Native.Nat.{_≤_};
 ghost use lib.ListN.{length};
-ghost use Rattle.request.specs.Parsing.{IsEnd};
+ghost use Rattle.input.specs.Parsing.{IsEnd};
 
 // Where a field ends: the byte offset just past it. Or no field of its kind stands there.
 pub enum FieldEnd {

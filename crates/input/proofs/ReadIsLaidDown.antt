@@ -17,12 +17,12 @@ use Rattle.silences.specs.Layout.{field}
 use Rattle.silences.specs.Reading.{headLength}
 use Rattle.silences.specs.Books.{IsBytes}
 use Rattle.silences.proofs.NumberBytes.{numberAt-lt, bytes-of-number}
-use Rattle.request.specs.Fields.{FieldKind, cellField, ringNumberField, allowanceField, ringField, lineField, between}
-use Rattle.request.specs.Input.{Request, mostInput, fieldsOf, requestOf, laidDown, CanLayDown}
-use Rattle.request.proofs.AskedCases.{Stands}
-use Rattle.request.proofs.FieldLaid.{standing-is-laid}
-use Rattle.request.proofs.FieldThen.{never-accepted, then-accepted}
-use Rattle.request.proofs.LaidDownRead.{laid-down-read}
+use Rattle.input.specs.Fields.{FieldKind, cellField, ringNumberField, allowanceField, ringField, lineField, between}
+use Rattle.input.specs.Input.{Request, mostInput, fieldsOf, requestOf, laidDown, CanLayDown}
+use Rattle.input.proofs.AskedCases.{Stands}
+use Rattle.input.proofs.FieldLaid.{standing-is-laid}
+use Rattle.input.proofs.FieldThen.{never-accepted, then-accepted}
+use Rattle.input.proofs.LaidDownRead.{laid-down-read}
 
 module _ (input : List ℕ) (is-bytes : IsBytes input) where
   -- The value of a field of a number is that number's bytes.

@@ -4,7 +4,7 @@ use crate::fields::field_end;
 use answers::Refusal;
 use silences::HEAD_LENGTH;
 use silences::number_at;
-ghost use Rattle.request.specs.Parsing.{IsAsked};
+ghost use Rattle.input.specs.Asking.{IsAsked};
 
 // "It reads at most 32,768 bytes of standard input".
 const INPUT_MOST: usize = 32768;
