@@ -11,7 +11,7 @@ ghost use Rattle.silences.specs.Reading.{readFrom};
 ghost use Rattle.book.specs.Calls.{answerOf, recordsOf, IsRead};
 
 // "book longer than 13,000 bytes": the most bytes that a book has.
-const BOOK_LENGTH_MOST: usize = 13000;
+const MOST_BOOK_LENGTH: usize = 13000;
 
 // The fields of a book one after the other. "Within a book the first faulty field decides, 6 before 7."
 fn read_fields(book: &[u8]) -> BookAnswer
@@ -43,7 +43,7 @@ fn read_fields(book: &[u8]) -> BookAnswer
 pub fn read(book: &[u8]) -> BookAnswer
     ensures { λ r. ⌜ IsRead (now (book .entry)) r ⌝ }
 {
-    if BOOK_LENGTH_MOST < book.len() {
+    if MOST_BOOK_LENGTH < book.len() {
         return BookAnswer::Refused(Refusal::BookLength);
     }
     read_fields(book)

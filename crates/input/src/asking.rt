@@ -7,7 +7,7 @@ use silences::number_at;
 ghost use Rattle.input.specs.Asking.{IsAsked};
 
 // "It reads at most 32,768 bytes of standard input".
-const INPUT_MOST: usize = 32768;
+const MOST_INPUT: usize = 32768;
 
 // "34 cell (4 bytes)"
 const CELL_TAG: u8 = 0x34;
@@ -27,12 +27,12 @@ const ALLOWANCE_BYTES: usize = 1;
 // "31 ring (any length)": any that two bytes say.
 const RING_TAG: u8 = 0x31;
 
-const RING_BYTES_MOST: usize = 65535;
+const MOST_RING_BYTES: usize = 65535;
 
 // "32 line (at most 4,096)"
 const LINE_TAG: u8 = 0x32;
 
-const LINE_BYTES_MOST: usize = 4096;
+const MOST_LINE_BYTES: usize = 4096;
 
 // The numbers of a request, and the byte offsets between which its ring and its line stand. The book begins where the line
 // ends.
@@ -57,7 +57,7 @@ pub enum Asked {
 pub fn read_request(input: &[u8]) -> Asked
     ensures { λ r. ⌜ IsAsked (now (input .entry)) r ⌝ }
 {
-    if INPUT_MOST < input.len() {
+    if MOST_INPUT < input.len() {
         return Asked::Refused(Refusal::Input(0));
     }
     let FieldEnd::At(cell_end) = field_end(input, 0, CELL_TAG, CELL_BYTES, CELL_BYTES) else {
@@ -81,11 +81,11 @@ pub fn read_request(input: &[u8]) -> Asked
     ) else {
         return Asked::Refused(Refusal::Input(ring_number_end));
     };
-    let FieldEnd::At(ring_end) = field_end(input, allowance_end, RING_TAG, 0, RING_BYTES_MOST)
+    let FieldEnd::At(ring_end) = field_end(input, allowance_end, RING_TAG, 0, MOST_RING_BYTES)
     else {
         return Asked::Refused(Refusal::Input(allowance_end));
     };
-    let FieldEnd::At(line_end) = field_end(input, ring_end, LINE_TAG, 0, LINE_BYTES_MOST) else {
+    let FieldEnd::At(line_end) = field_end(input, ring_end, LINE_TAG, 0, MOST_LINE_BYTES) else {
         return Asked::Refused(Refusal::Input(ring_end));
     };
     Asked::Parts(Parts {

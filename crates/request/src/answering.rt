@@ -14,11 +14,11 @@ ghost use Rattle.request.specs.Answering.{requestText, IsAnswered};
 ghost use Rattle.request.specs.Writing.{request, CanAnswer};
 
 // Room for the words of a finding at each place of the longest line, three words each: row 4 never asks for more.
-const WORDS_MOST: usize = 12288;
+const MOST_WORDS: usize = 12288;
 
 // The bytes of the longest text: a first line of 47 (10, 5, 3 and 3 digits), a line of 13 (4, 3 and 3) for each of 4,096
 // findings, and a last line of 37 (4, 4 and 7).
-pub const TEXT_MOST: usize = 53332;
+pub const MOST_TEXT: usize = 53332;
 
 // The output for a request: its report's lines, or the report's refusal.
 fn answer_request(
@@ -33,7 +33,7 @@ fn answer_request(
     requires { ⌜ CanAnswer (length (now line)) (length (now text)) ⌝ }
     ensures { λ r. ⌜ IsPut 0 (requestText (request cell «ring_number» allowance (now (ring .entry)) (now (line .entry)) (now (book .entry)))) (now (text .entry)) r (now (text .exit)) ⌝ }
 {
-    let mut words = [0u32; WORDS_MOST];
+    let mut words = [0u32; MOST_WORDS];
     match report(cell, ring_number, ring, line, allowance, book, &mut words) {
         Reported::Refused(refusal) => put_refusal(text, refusal),
         Reported::Counts {
@@ -57,7 +57,7 @@ fn answer_request(
 }
 
 // The program's whole output for its input, at the beginning of `text`; answers how long it is.
-pub fn answer(input: &[u8], text: &mut [u8; TEXT_MOST]) -> usize
+pub fn answer(input: &[u8], text: &mut [u8; MOST_TEXT]) -> usize
     ensures { λ r. ⌜ IsAnswered (now (input .entry)) (now (text .entry)) r (now (text .exit)) ⌝ }
 {
     match read_request(input) {

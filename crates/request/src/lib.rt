@@ -5,5 +5,5 @@ mod digits;
 mod lines;
 mod refusing;
 
-pub use answering::TEXT_MOST;
+pub use answering::MOST_TEXT;
 pub use answering::answer;

@@ -4,7 +4,7 @@ use crate::area;
 use crate::made;
 use crate::printing;
 use crate::table;
-use request::TEXT_MOST;
+use request::MOST_TEXT;
 
 // The most bytes of an input: one more than the program reads.
 const MOST_INPUT: usize = 32769;
@@ -13,8 +13,8 @@ fn no_input() -> [u8; MOST_INPUT] {
     [0; MOST_INPUT]
 }
 
-fn no_text() -> [u8; TEXT_MOST] {
-    [0; TEXT_MOST]
+fn no_text() -> [u8; MOST_TEXT] {
+    [0; MOST_TEXT]
 }
 
 // Writes the program's text for an input.
