@@ -39,7 +39,7 @@ lowestFrom counts least (suc n) r =
     let later : ℕ = lowestFrom counts least n (r + 1) in
     cond (eqb (getD counts r 0) least) r later
 
--- The lowest of m rotations that has this count, and m where none has it. There are counts for 256 rotations.
+-- The lowest of m rotations that has this count, and m where none has it. There are counts for 256 rotations, so a larger m counts as 256.
 abbrev pub lowestWith : ℕ → List ℕ → ℕ → ℕ
 lowestWith m counts least = lowestFrom counts least (min m mostCounts) 0
 

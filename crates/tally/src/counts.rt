@@ -63,8 +63,8 @@ fn rotations(m: usize) -> usize
     if m < MOST_COUNTS { m } else { MOST_COUNTS }
 }
 
-// The lowest of m rotations whose count is the least, and m where none has that count. It is looked for only where a start
-// is a finding.
+// The lowest of m rotations whose count is the least, and m where none has that count; a larger m counts as 256. It is
+// looked for only where a start is a finding.
 pub fn lowest_rotation(counts: &[u16; MOST_COUNTS], m: usize, least: usize) -> usize
     ensures { λ r. ⌜ IsLowestWith m (now (counts .entry)) least r ⌝ }
 {
