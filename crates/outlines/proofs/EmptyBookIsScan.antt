@@ -21,7 +21,7 @@ use Rattle.outlines.specs.declared.reporting.Reported.the-variants.{Coun
 use Rattle.findings.specs.Admitting.{refusalOf}
 use Rattle.findings.specs.Searching.{Counts, noCounts, answerBy, wordsBy, searched, searchedWords, answerOf as scanAnswerOf}
 use Rattle.outlines.specs.Scan.{IsScanned}
-use Rattle.outlines.specs.Report.{shown, hidden, ReportCounts, noReportCounts, silencesBy, admittedSilences, reportedBy, reportedWordsBy, answerOf, IsReported}
+use Rattle.outlines.specs.Report.{those, shown, hidden, ReportCounts, noReportCounts, silencesBy, admittedSilences, reportedBy, reportedWordsBy, answerOf, IsReported}
 use Rattle.outlines.proofs.ReportOneAnswer.{report-unique}
 
 -- A scan's answer as a report's: nothing hidden.
@@ -40,13 +40,13 @@ report-of-is (ScanRefused refusal) = refl
 module _ (cell ringNumber : ℕ) where
   -- With no silence all are shown.
   pub shown-all : (fs : List Finding) → shown [] cell ringNumber fs ≡ fs
-  unfolding shown names
+  unfolding those names
   shown-all [] = refl
   shown-all (f ∷ fs) = ap (λ (l : List Finding). f ∷ l) (shown-all fs)
 
   -- And none is hidden.
   pub hidden-none : (fs : List Finding) → hidden [] cell ringNumber fs ≡ []
-  unfolding hidden names
+  unfolding those names
   hidden-none [] = refl
   hidden-none (f ∷ fs) = hidden-none fs
 

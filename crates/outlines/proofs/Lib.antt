@@ -10,7 +10,7 @@ pub mod OneScanAnswer
 pub mod SameFindings
 -- The report.
 pub mod AskCases
-pub mod ShownOneMore
+pub mod TakenByTest
 pub mod HeldFrom
 pub mod ReportKeeps
 pub mod ReportTurns

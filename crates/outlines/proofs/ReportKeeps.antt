@@ -19,7 +19,7 @@ use Rattle.sweep.specs.declared.sweeping.Sweep.{Sweep}
 use Rattle.outlines.specs.declared.reporting.Asked.{Asked}
 use Rattle.findings.specs.Admitting.{mostLine}
 use Rattle.sweep.specs.Verifying.{lastOf}
-use Rattle.outlines.specs.Report.{shown, hidden, reportedBy, reportedWordsBy}
+use Rattle.outlines.specs.Report.{those, shown, hidden, reportedBy, reportedWordsBy}
 use Rattle.outlines.specs.Asking.{IsAccepted, CanReport, LineReported}
 use Rattle.outlines.proofs.ScanKeeps.{ScanKeeps, keeps-start, keeps-end}
 use Rattle.outlines.proofs.ShownAndHidden.{shown-hidden-length}
@@ -38,7 +38,7 @@ module _ (cell ringNumber : ℕ) (ring doubled table line : List ℕ) (k : ℕ) 
   pub report-start : (at : Sweep) (asked : Asked) (first : Address) → at .start ≡ 0 → lastOf (at .last) ≡ none → at .looks ≡ 0
       → asked .shown ≡ 0 → asked .hidden ≡ 0 → silenceOf first ≡ silence cell ringNumber 0 → IsSought book 0 first (asked .held)
       → ReportKeeps cell ringNumber ring line k book area at asked counts₀ area
-  unfolding shown hidden
+  unfolding those
   report-start at asked first s l o no-shown no-hidden zero meets = record {
     book-read = can .book-read;
     so-far = [];

@@ -3,7 +3,7 @@
 -- Assumes nothing.
 use Prim.Native.Nat.{ℕ, _+_, _≤_}
 use mathlib.Core.Path.{_≡_, refl, sym, ap, _∙_}
-use mathlib.Core.Bool.{Bool, true, false}
+use mathlib.Core.Bool.{Bool, true, false, not}
 use mathlib.Core.List.{List, [], _∷_, _++_}
 use native.Mathlib.Omega.{arith}
 use lib.Dec.{ltb}
@@ -18,11 +18,11 @@ use Rattle.sweep.specs.declared.sweeping.Swept.{Swept}
 use Rattle.outlines.specs.declared.reporting.Asked.{Asked}
 use Rattle.sweep.specs.Sweep.{stateOf, foundOf, hasEnded, LeftTo, leftState, IsSwept, IsSweptOn}
 use Rattle.findings.specs.Putting.{CanPut, wordsPut}
-use Rattle.outlines.specs.Report.{isHidden, hidden}
+use Rattle.outlines.specs.Report.{isHidden, isShown, hidden}
 use Rattle.outlines.specs.Asking.{hides, CanAsk, IsAsked, shownPut, CanReport}
 use Rattle.sweep.proofs.WindowsLeft.{left-from-le}
 use Rattle.outlines.proofs.ScanKeeps.{keeps-left, keeps-ended, keeps-length, keeps-later, keeps-none, keeps-finding-start, keeps-can-put, keeps-put-length, keeps-put, keeps-passed}
-use Rattle.outlines.proofs.ShownOneMore.{shown-more-no, shown-more-yes, hidden-more-no, hidden-more-yes}
+use Rattle.outlines.proofs.TakenByTest.{taken-more-no, taken-more-yes}
 use Rattle.outlines.proofs.HeldFrom.{HeldFrom, held-later, held-turn, held-hides}
 use Rattle.outlines.proofs.ReportKeeps.{ReportKeeps, report-found-le}
 
@@ -105,13 +105,13 @@ module _ (cell ringNumber : ℕ) (ring doubled table line : List ℕ) (k : ℕ) 
             book-read = h .book-read;
             so-far = h .so-far ++ f ∷ [];
             keeps =
-                rw (shown-more-no ss cell ringNumber (h .so-far) f named, shown-is, out-is)
+                rw (taken-more-no (isShown ss cell ringNumber) (h .so-far) f (ap not named), shown-is, out-is)
                 (keeps-passed ring doubled table line k counts₀ area (can .can-scan) _ _ at _ counts words (h .keeps) in-line r next counts′ swept is-next f e);
             hidden-is =
                 omega (
                   arith,
                   h .hidden-is,
-                  ap (λ (l : List Finding). length l) (hidden-more-yes ss cell ringNumber (h .so-far) f named),
+                  ap (λ (l : List Finding). length l) (taken-more-yes (isHidden ss cell ringNumber) (h .so-far) f named),
                   length-append (hidden ss cell ringNumber (h .so-far)) (f ∷ []),
                 );
             held-from = held-next;
@@ -128,9 +128,9 @@ module _ (cell ringNumber : ℕ) (ring doubled table line : List ℕ) (k : ℕ) 
             book-read = h .book-read;
             so-far = h .so-far ++ f ∷ [];
             keeps =
-                rw (shown-more-yes ss cell ringNumber (h .so-far) f named, shown-is, out-is)
+                rw (taken-more-yes (isShown ss cell ringNumber) (h .so-far) f (ap not named), shown-is, out-is)
                 (keeps-put ring doubled table line k counts₀ area (can .can-scan) _ _ at _ counts words (h .keeps) in-line r next counts′ swept is-next f e);
-            hidden-is = hidden-is ∙ h .hidden-is ∙ ap (λ (l : List Finding). length l) (sym (hidden-more-no ss cell ringNumber (h .so-far) f named));
+            hidden-is = hidden-is ∙ h .hidden-is ∙ ap (λ (l : List Finding). length l) (sym (taken-more-no (isHidden ss cell ringNumber) (h .so-far) f named));
             held-from = held-next;
           }
 

@@ -1,45 +1,29 @@
 -- The shown findings stand by strictly rising start, and so do the hidden ones: so no finding is counted twice, and hidden counts findings, whatever the
 -- number of records. The words after those of the last shown one keep their values.
 -- Assumes nothing.
-use Prim.Native.Nat.{ℕ, suc, _+_, _-_, _*_, _≤_}
+use Prim.Native.Nat.{ℕ, _+_, _-_, _*_}
 use mathlib.Core.Path.{_≡_, sym, ap, subst, _∙_}
-use mathlib.Core.List.{List, [], _∷_}
+use mathlib.Core.List.{List}
 use native.Mathlib.Omega.{arith}
 use lib.ListN.{length, getD}
 use Rattle.meaning.specs.Findings.{Finding, findings, wordsEach, wordsOf, written}
-use Rattle.meaning.proofs.Cases.{by-test}
 use Rattle.meaning.proofs.Rising.{Rising, findings-rising}
 use Rattle.meaning.proofs.Words.{words-length, written-rest}
 use Rattle.silences.specs.Silences.{Silence}
-use Rattle.outlines.specs.Report.{isHidden, shown, hidden}
+use Rattle.outlines.specs.Report.{isHidden, isShown, shown, hidden}
+use Rattle.outlines.proofs.TakenByTest.{taken-rising}
 use Rattle.outlines.proofs.ShownAndHidden.{shown-hidden-length}
 use Rattle.outlines.proofs.ReportGives.{IsGiven}
 
 module _ (silences : List Silence) (cell ringNumber : ℕ) where
-  shown-from-rising : (lo lo′ hi : ℕ) (fs : List Finding) → lo ≤ lo′ → Rising lo′ hi fs → Rising lo hi (shown silences cell ringNumber fs)
-  unfolding shown
-  shown-from-rising lo lo′ hi [] l r = omega arith
-  shown-from-rising lo lo′ hi (f ∷ fs) l r =
-      by-test (Rising lo hi) (isHidden silences cell ringNumber f)
-      (λ _. shown-from-rising lo (suc (f .start)) hi fs (omega arith) (r .1))
-      (λ _. (omega arith, shown-from-rising (suc (f .start)) (suc (f .start)) hi fs (omega arith) (r .1)))
-
-  hidden-from-rising : (lo lo′ hi : ℕ) (fs : List Finding) → lo ≤ lo′ → Rising lo′ hi fs → Rising lo hi (hidden silences cell ringNumber fs)
-  unfolding hidden
-  hidden-from-rising lo lo′ hi [] l r = omega arith
-  hidden-from-rising lo lo′ hi (f ∷ fs) l r =
-      by-test (Rising lo hi) (isHidden silences cell ringNumber f)
-      (λ _. (omega arith, hidden-from-rising (suc (f .start)) (suc (f .start)) hi fs (omega arith) (r .1)))
-      (λ _. hidden-from-rising lo (suc (f .start)) hi fs (omega arith) (r .1))
-
   module _ (ring line : List ℕ) (k : ℕ) where
     -- The shown findings' starts rise strictly.
     pub shown-rising : Rising 0 (length line) (shown silences cell ringNumber (findings ring line k))
-    shown-rising = shown-from-rising 0 0 (length line) (findings ring line k) (omega arith) (findings-rising ring line k)
+    shown-rising = taken-rising (isShown silences cell ringNumber) 0 0 (length line) (findings ring line k) (omega arith) (findings-rising ring line k)
 
     -- So do the hidden ones'.
     pub hidden-rising : Rising 0 (length line) (hidden silences cell ringNumber (findings ring line k))
-    hidden-rising = hidden-from-rising 0 0 (length line) (findings ring line k) (omega arith) (findings-rising ring line k)
+    hidden-rising = taken-rising (isHidden silences cell ringNumber) 0 0 (length line) (findings ring line k) (omega arith) (findings-rising ring line k)
 
 module _ (cell ringNumber : ℕ) (ring line : List ℕ) (k : ℕ) (book words : List ℕ) (found hid looks : ℕ) (out : List ℕ)
     (given : IsGiven cell ringNumber ring line k book words found hid looks out) where

@@ -2,8 +2,8 @@
 -- Assumes nothing.
 use Prim.Native.Nat.{ℕ, _<_}
 use mathlib.Core.Path.{_≡_, refl, sym, ap, _∙_}
-use mathlib.Core.Bool.{Bool, cond}
-use mathlib.Core.List.{List, [], _∷_, List·Memᴰ, List·Memᴰ·head, List·Memᴰ·tail}
+use mathlib.Core.Bool.{not}
+use mathlib.Core.List.{List, List·Memᴰ}
 use mathlib.Core.Option.{Option, none, some}
 use lib.ListN.{length}
 use Rattle.meaning.specs.Findings.{Finding, IsFinding, findings}
@@ -14,8 +14,9 @@ use Rattle.silences.specs.Silences.{Silence}
 use Rattle.silences.specs.Reading.{readBook}
 use Rattle.outlines.specs.declared.reporting.Reported.{Reported}
 use Rattle.findings.specs.Admitting.{refusalOf}
-use Rattle.outlines.specs.Report.{isHidden, shown, hidden, noReportCounts, silencesBy, admittedSilences, reportedBy, reportedWordsBy, IsReported}
+use Rattle.outlines.specs.Report.{isHidden, isShown, shown, hidden, noReportCounts, silencesBy, admittedSilences, reportedBy, reportedWordsBy, IsReported}
 use Rattle.findings.proofs.AdmitCases.{admitted-by}
+use Rattle.outlines.proofs.TakenByTest.{taken-same}
 use Rattle.outlines.proofs.ReportOneAnswer.{report-paper-unique}
 
 module _ (ss ts : List Silence) (cell ringNumber : ℕ) where
@@ -25,19 +26,11 @@ module _ (ss ts : List Silence) (cell ringNumber : ℕ) where
 
   -- The same ones are shown.
   pub shown-same : (fs : List Finding) → NamesAlike fs → shown ss cell ringNumber fs ≡ shown ts cell ringNumber fs
-  unfolding shown
-  shown-same [] h = refl
-  shown-same (f ∷ fs) h =
-      ap (λ (t : Bool). cond t (shown ss cell ringNumber fs) (f ∷ shown ss cell ringNumber fs)) (h f (List·Memᴰ·head refl))
-      ∙ ap (λ (l : List Finding). cond (isHidden ts cell ringNumber f) l (f ∷ l)) (shown-same fs (λ g m. h g (List·Memᴰ·tail m)))
+  shown-same fs h = taken-same (isShown ss cell ringNumber) (isShown ts cell ringNumber) fs (λ f m. ap not (h f m))
 
   -- The same ones are hidden.
   pub hidden-same : (fs : List Finding) → NamesAlike fs → hidden ss cell ringNumber fs ≡ hidden ts cell ringNumber fs
-  unfolding hidden
-  hidden-same [] h = refl
-  hidden-same (f ∷ fs) h =
-      ap (λ (t : Bool). cond t (f ∷ hidden ss cell ringNumber fs) (hidden ss cell ringNumber fs)) (h f (List·Memᴰ·head refl))
-      ∙ ap (λ (l : List Finding). cond (isHidden ts cell ringNumber f) (f ∷ l) l) (hidden-same fs (λ g m. h g (List·Memᴰ·tail m)))
+  hidden-same fs h = taken-same (isHidden ss cell ringNumber) (isHidden ts cell ringNumber) fs h
 
   module _ (ring line : List ℕ) (k : ℕ) (book book′ words : List ℕ) (is : readBook book ≡ accepted ss) (is′ : readBook book′ ≡ accepted ts)
       (alike : (f : Finding) → IsFinding ring line k f → isHidden ss cell ringNumber f ≡ isHidden ts cell ringNumber f) where

@@ -2,13 +2,14 @@
 -- (hidden ones included), hidden, looks"; "the report writes the shown ones only". What it promises is one record, on every input.
 --
 --   isHidden         a silence of the book names the finding's cell, ring number and start
---   shown, hidden    the findings that are shown, and those that are hidden
---   reported         what a report gives: refusals "report 1 to 7", or its counts
---   reportedWords    the lent words at exit
+--   shown, hidden    the findings that are not hidden, and those that are, of a list and in its order
+--   admittedSilences the silences that a report goes by, or the first of its refusals, "report 1 to 7"
+--   reportedBy       what a report gives by these: its counts, or that refusal
+--   reportedWordsBy  the lent words at exit
 --   IsReported       what `report` promises
 use Prim.Native.Nat.{ℕ}
 use mathlib.Core.Path.{_≡_}
-use mathlib.Core.Bool.{Bool, cond}
+use mathlib.Core.Bool.{Bool, not, cond}
 use mathlib.Core.List.{List, [], _∷_}
 use mathlib.Core.Option.{Option, none, some}
 use lib.ListN.{length}
@@ -26,17 +27,22 @@ use Rattle.findings.specs.Admitting.{refusalOf}
 abbrev pub isHidden : List Silence → ℕ → ℕ → Finding → Bool
 isHidden silences cell ringNumber f = names silences cell ringNumber (f .start)
 
--- The findings that are shown, by rising start as they come.
-unfoldable pub shown : List Silence → ℕ → ℕ → List Finding → List Finding
-shown silences cell ringNumber [] = []
-shown silences cell ringNumber (f ∷ fs) =
-    cond (isHidden silences cell ringNumber f) (shown silences cell ringNumber fs) (f ∷ shown silences cell ringNumber fs)
+-- A finding is shown exactly when it is not hidden.
+abbrev pub isShown : List Silence → ℕ → ℕ → Finding → Bool
+isShown silences cell ringNumber f = not (isHidden silences cell ringNumber f)
+
+-- The findings of a list that a test takes, in their order.
+unfoldable pub those : (Finding → Bool) → List Finding → List Finding
+those takes [] = []
+those takes (f ∷ fs) = cond (takes f) (f ∷ those takes fs) (those takes fs)
+
+-- The findings that are shown.
+abbrev pub shown : List Silence → ℕ → ℕ → List Finding → List Finding
+shown silences cell ringNumber fs = those (isShown silences cell ringNumber) fs
 
 -- The findings that are hidden. "Hidden counts findings, not records."
-unfoldable pub hidden : List Silence → ℕ → ℕ → List Finding → List Finding
-hidden silences cell ringNumber [] = []
-hidden silences cell ringNumber (f ∷ fs) =
-    cond (isHidden silences cell ringNumber f) (f ∷ hidden silences cell ringNumber fs) (hidden silences cell ringNumber fs)
+abbrev pub hidden : List Silence → ℕ → ℕ → List Finding → List Finding
+hidden silences cell ringNumber fs = those (isHidden silences cell ringNumber) fs
 
 -- "found (hidden ones included), hidden, looks"
 pub record ReportCounts : Type 0 where

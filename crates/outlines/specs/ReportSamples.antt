@@ -14,7 +14,7 @@ use Rattle.meaning.specs.Looks.{readLooks, tallyLooks, verifyLooks}
 use Rattle.meaning.specs.Samples.{ascii, finding}
 use Rattle.answers.specs.Paper.{accepted}
 use Rattle.silences.specs.Silences.{Silence, silence, isSame, names}
-use Rattle.outlines.specs.Report.{shown, hidden, reportedBy, reportedWordsBy}
+use Rattle.outlines.specs.Report.{those, shown, hidden, reportedBy, reportedWordsBy}
 
 -- P2's ring.
 unfoldable ring2 : List ℕ
@@ -35,17 +35,17 @@ sample-hidden : (shown silence10 7 2 (findings ring2 line2 1) ≡ finding 9 3 1 
     × (length (hidden silence10 8 2 (findings ring2 line2 1)) ≡ 0)
     × (length (hidden silence10 0 2 (findings ring2 line2 1)) ≡ 0)
     × (length (hidden silence10 7 3 (findings ring2 line2 1)) ≡ 0)
-unfolding ring2 line2 silence10 shown hidden isSame names ascii count lowest differs distance lowestRotation foundAt findingsBelow
+unfolding ring2 line2 silence10 those isSame names ascii count lowest differs distance lowestRotation foundAt findingsBelow
 sample-hidden = (refl, refl, refl, refl, refl, refl)
 
 -- A silence for cell 0 hides in cell 0 alone: "Letting cell 0 in a silence stand for all cells" looks right and is not.
 sample-cell-0 : (length (hidden (silence 0 2 10 ∷ []) 7 2 (findings ring2 line2 1)) ≡ 0) × (length (hidden (silence 0 2 10 ∷ []) 0 2 (findings ring2 line2 1)) ≡ 1)
-unfolding ring2 line2 hidden isSame names ascii count lowest differs distance lowestRotation foundAt findingsBelow
+unfolding ring2 line2 those isSame names ascii count lowest differs distance lowestRotation foundAt findingsBelow
 sample-cell-0 = (refl, refl)
 
 -- "found 2 hidden 1 looks 12", and the one line "0 0 0": of the words lent, three are written and three kept. As cell 8 nothing is hidden.
 sample-example : (reportedBy (ascii "aa") (ascii "aaa") 0 7 2 (accepted (silence 7 2 1 ∷ [])) ≡ accepted (record { found = 2; hidden = 1; looks = 12 }))
     × (reportedBy (ascii "aa") (ascii "aaa") 0 8 2 (accepted (silence 7 2 1 ∷ [])) ≡ accepted (record { found = 2; hidden = 0; looks = 12 }))
     × (reportedWordsBy (ascii "aa") (ascii "aaa") 0 7 2 (1 ∷ 2 ∷ 3 ∷ 4 ∷ 5 ∷ 6 ∷ []) (accepted (silence 7 2 1 ∷ [])) ≡ 0 ∷ 0 ∷ 0 ∷ 4 ∷ 5 ∷ 6 ∷ [])
-unfolding shown hidden wordsOf written isSame names ascii count lowest someBelow differs distance lowestRotation foundAt findingsBelow begins fits readEdge readLeft readWindow windowsFrom candidatesOf reported readLooks tallyLooks verifyLooks
+unfolding those wordsOf written isSame names ascii count lowest someBelow differs distance lowestRotation foundAt findingsBelow begins fits readEdge readLeft readWindow windowsFrom candidatesOf reported readLooks tallyLooks verifyLooks
 sample-example = (refl, refl, refl)
