@@ -33,22 +33,22 @@ pub record ReportKeeps (cell ringNumber : ℕ) (ring line : List ℕ) (k : ℕ) 
   pub hidden-is : asked .hidden ≡ length (hidden (book-read .silences) cell ringNumber so-far)
   pub held-from : HeldFrom cell ringNumber book (at .start) (asked .held)
 
-module _ (cell ringNumber : ℕ) (ring doubled table line : List ℕ) (k : ℕ) (book counts₀ area : List ℕ) (can : CanReport ring doubled table line k book counts₀ area) where
+module _ {cell ringNumber : ℕ} {ring doubled table line : List ℕ} {k : ℕ} {book counts₀ area : List ℕ} (can : CanReport ring doubled table line k book counts₀ area) where
   -- Before the first window the book is asked for start 0.
-  pub report-start : (at : Sweep) (asked : Asked) (first : Address) → at .start ≡ 0 → lastOf (at .last) ≡ none → at .looks ≡ 0
+  pub report-start : {at : Sweep} {asked : Asked} {first : Address} → at .start ≡ 0 → lastOf (at .last) ≡ none → at .looks ≡ 0
       → asked .shown ≡ 0 → asked .hidden ≡ 0 → silenceOf first ≡ silence cell ringNumber 0 → IsSought book 0 first (asked .held)
       → ReportKeeps cell ringNumber ring line k book area at asked counts₀ area
   unfolding those
-  report-start at asked first s l o no-shown no-hidden zero meets = record {
+  report-start {at} {asked} {first} s l o no-shown no-hidden zero meets = record {
     book-read = can .book-read;
     so-far = [];
-    keeps = rw no-shown (keeps-start ring doubled table line k counts₀ area (can .can-scan) at s l o);
+    keeps = rw no-shown (keeps-start (can .can-scan) s l o);
     hidden-is = no-hidden;
     held-from =
         subst (λ (i : ℕ). HeldFrom cell ringNumber book i (asked .held)) (sym s) (held-start cell ringNumber book first (asked .held) zero meets);
   }
 
-  module _ (at : Sweep) (asked : Asked) (counts words : List ℕ) (h : ReportKeeps cell ringNumber ring line k book area at asked counts words) where
+  module _ {at : Sweep} {asked : Asked} {counts words : List ℕ} (h : ReportKeeps cell ringNumber ring line k book area at asked counts words) where
     abbrev ss : List Silence
     ss = h .book-read .silences
 
@@ -71,7 +71,7 @@ module _ (cell ringNumber : ℕ) (ring doubled table line : List ℕ) (k : ℕ) 
     pub report-end : length line < at .start + length ring
         → LineReported cell ringNumber ring line k book area (asked .shown + asked .hidden) (asked .hidden) (at .looks) words
     report-end past =
-        let e = keeps-end ring doubled table line k counts₀ area (can .can-scan) _ _ at _ counts words (h .keeps) past in
+        let e = keeps-end (can .can-scan) (h .keeps) past in
         let found-is : asked .shown + asked .hidden ≡ length (findings ring line k) = counts-add ∙ ap (λ (l : List Finding). length l) (e .0) in
         let hidden-is : asked .hidden ≡ length (hidden ss cell ringNumber (findings ring line k)) =
         h .hidden-is ∙ ap (λ (l : List Finding). length (hidden ss cell ringNumber l)) (e .0) in

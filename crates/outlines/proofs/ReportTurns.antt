@@ -26,71 +26,71 @@ use Rattle.outlines.proofs.TakenByTest.{taken-more-no, taken-more-yes}
 use Rattle.outlines.proofs.HeldFrom.{HeldFrom, held-later, held-turn, held-hides}
 use Rattle.outlines.proofs.ReportKeeps.{ReportKeeps, report-found-le}
 
-module _ (cell ringNumber : ℕ) (ring doubled table line : List ℕ) (k : ℕ) (book counts₀ area : List ℕ) (can : CanReport ring doubled table line k book counts₀ area)
-    (at : Sweep) (asked : Asked) (counts words : List ℕ) (h : ReportKeeps cell ringNumber ring line k book area at asked counts words) where
+module _ {cell ringNumber : ℕ} {ring doubled table line : List ℕ} {k : ℕ} {book counts₀ area : List ℕ} (can : CanReport ring doubled table line k book counts₀ area)
+    {at : Sweep} {asked : Asked} {counts words : List ℕ} (h : ReportKeeps cell ringNumber ring line k book area at asked counts words) where
   -- Windows that are left change the sweep's start and looks, and nothing else.
-  pub report-left : (j reads : ℕ) → LeftTo ring line k (at .start) j reads → ReportKeeps cell ringNumber ring line k book area (leftState at j reads) asked counts words
-  report-left j reads left = record {
+  pub report-left : {j reads : ℕ} → LeftTo ring line k (at .start) j reads → ReportKeeps cell ringNumber ring line k book area (leftState at j reads) asked counts words
+  report-left {j} left = record {
     book-read = h .book-read;
     so-far = h .so-far;
-    keeps = keeps-left ring doubled table line k counts₀ area (can .can-scan) _ _ at _ counts words (h .keeps) j reads left;
+    keeps = keeps-left (can .can-scan) (h .keeps) left;
     hidden-is = h .hidden-is;
     held-from = held-later cell ringNumber book (at .start) (asked .held) (h .held-from) j (left-from-le ring line k (at .start) left);
   }
 
   -- No window is in the line any more.
-  pub report-ended : (r : Swept) (next : Sweep) (counts′ : List ℕ) (on : IsSweptOn ring line k at r counts′) → stateOf r ≡ next → hasEnded r ≡ true
+  pub report-ended : {r : Swept} {next : Sweep} {counts′ : List ℕ} (on : IsSweptOn ring line k at r counts′) → stateOf r ≡ next → hasEnded r ≡ true
       → ReportKeeps cell ringNumber ring line k book area next asked counts′ words
-  report-ended r next counts′ on is-next t =
-      let left = report-left (on .stop) (on .looks) (on .left-to) in
+  report-ended on is-next t =
+      let left = report-left (on .left-to) in
       record {
         book-read = h .book-read;
         so-far = h .so-far;
-        keeps = keeps-ended ring doubled table line k counts₀ area (can .can-scan) _ _ at _ counts words (h .keeps) r next counts′ on is-next t;
+        keeps = keeps-ended (can .can-scan) (h .keeps) on is-next t;
         hidden-is = h .hidden-is;
         held-from = rw (sym is-next ∙ on .ended t .next-is) (left .held-from);
       }
 
-module _ (cell ringNumber : ℕ) (ring doubled table line : List ℕ) (k : ℕ) (book counts₀ area : List ℕ) (can : CanReport ring doubled table line k book counts₀ area)
-    (at : Sweep) (asked : Asked) (counts words : List ℕ) (h : ReportKeeps cell ringNumber ring line k book area at asked counts words)
-    (in-line : at .start + length ring ≤ length line) (r : Swept) (next : Sweep) (counts′ : List ℕ) (swept : IsSwept ring line k at r counts′)
+module _ {cell ringNumber : ℕ} {ring doubled table line : List ℕ} {k : ℕ} {book counts₀ area : List ℕ} (can : CanReport ring doubled table line k book counts₀ area)
+    {at : Sweep} {asked : Asked} {counts words : List ℕ} (h : ReportKeeps cell ringNumber ring line k book area at asked counts words)
+    (in-line : at .start + length ring ≤ length line) {r : Swept} {next : Sweep} {counts′ : List ℕ} (swept : IsSwept ring line k at r counts′)
     (is-next : stateOf r ≡ next) where
   abbrev ss : List Silence
   ss = h .book-read .silences
 
   -- the next window starts after this one
   later : at .start ≤ next .start
-  later = keeps-later ring doubled table line k counts₀ area (can .can-scan) _ _ at _ counts words (h .keeps) in-line r next counts′ swept is-next
+  later = keeps-later (can .can-scan) (h .keeps) in-line swept is-next
 
   -- A window that reports nothing.
   pub report-turn-none : foundOf r ≡ [] → ReportKeeps cell ringNumber ring line k book area next asked counts′ words
   report-turn-none e = record {
     book-read = h .book-read;
     so-far = h .so-far;
-    keeps = keeps-none ring doubled table line k counts₀ area (can .can-scan) _ _ at _ counts words (h .keeps) in-line r next counts′ swept is-next e;
+    keeps = keeps-none (can .can-scan) (h .keeps) in-line swept is-next e;
     hidden-is = h .hidden-is;
     held-from = held-later cell ringNumber book (at .start) (asked .held) (h .held-from) (next .start) later;
   }
 
-  module _ (f : Finding) (e : foundOf r ≡ f ∷ []) where
+  module _ {f : Finding} (e : foundOf r ≡ f ∷ []) where
     start-is : f .start ≡ at .start
-    start-is = keeps-finding-start ring doubled table line k counts₀ area (can .can-scan) _ _ at _ counts words (h .keeps) in-line r next counts′ swept is-next f e
+    start-is = keeps-finding-start (can .can-scan) (h .keeps) in-line swept is-next e
 
     -- A finding has room for its words, and each is a 32-bit word.
     pub report-can-put : CanPut words (asked .shown) f
-    report-can-put = keeps-can-put ring doubled table line k counts₀ area (can .can-scan) _ _ at _ counts words (h .keeps) in-line r next counts′ swept is-next f e
+    report-can-put = keeps-can-put (can .can-scan) (h .keeps) in-line swept is-next e
 
     -- The book can be asked for it.
     pub report-can-ask : CanAsk asked f
     report-can-ask =
-        let found-le = report-found-le cell ringNumber ring doubled table line k book counts₀ area can at asked counts words h in
+        let found-le = report-found-le can h in
         record {
           start-lt = report-can-put .start-lt;
           shown-le = omega arith;
           hidden-le = omega arith;
         }
 
-    module _ (asked′ : Asked) (asks : IsAsked cell ringNumber book asked f asked′) (out : List ℕ) (put : out ≡ shownPut (asked .shown) (asked′ .shown) f words) where
+    module _ {asked′ : Asked} (asks : IsAsked cell ringNumber book asked f asked′) {out : List ℕ} (put : out ≡ shownPut (asked .shown) (asked′ .shown) f words) where
       held-next : HeldFrom cell ringNumber book (next .start) (asked′ .held)
       held-next = held-turn cell ringNumber book (at .start) (asked .held) (h .held-from) f start-is (asked′ .held) (next .start) (asks .held-is) later
 
@@ -106,7 +106,7 @@ module _ (cell ringNumber : ℕ) (ring doubled table line : List ℕ) (k : ℕ) 
             so-far = h .so-far ++ f ∷ [];
             keeps =
                 rw (taken-more-no (isShown ss cell ringNumber) (h .so-far) f (ap not named), shown-is, out-is)
-                (keeps-passed ring doubled table line k counts₀ area (can .can-scan) _ _ at _ counts words (h .keeps) in-line r next counts′ swept is-next f e);
+                (keeps-passed (can .can-scan) (h .keeps) in-line swept is-next e);
             hidden-is =
                 omega (
                   arith,
@@ -129,7 +129,7 @@ module _ (cell ringNumber : ℕ) (ring doubled table line : List ℕ) (k : ℕ) 
             so-far = h .so-far ++ f ∷ [];
             keeps =
                 rw (taken-more-yes (isShown ss cell ringNumber) (h .so-far) f (ap not named), shown-is, out-is)
-                (keeps-put ring doubled table line k counts₀ area (can .can-scan) _ _ at _ counts words (h .keeps) in-line r next counts′ swept is-next f e);
+                (keeps-put (can .can-scan) (h .keeps) in-line swept is-next e);
             hidden-is = hidden-is ∙ h .hidden-is ∙ ap (λ (l : List Finding). length l) (sym (taken-more-no (isHidden ss cell ringNumber) (h .so-far) f named));
             held-from = held-next;
           }
@@ -149,5 +149,5 @@ module _ (cell ringNumber : ℕ) (ring doubled table line : List ℕ) (k : ℕ) 
       report-length =
           ap (λ (l : List ℕ). length l) put
           ∙ by-test (λ (l : List ℕ). length l ≡ length area) (ltb (asked .shown) (asked′ .shown))
-          (λ _. keeps-put-length ring doubled table line k counts₀ area (can .can-scan) _ _ at _ counts words (h .keeps) in-line r next counts′ swept is-next f e _ refl)
-          (λ _. keeps-length ring doubled table line k counts₀ area (can .can-scan) _ _ at _ counts words (h .keeps) in-line)
+          (λ _. keeps-put-length (can .can-scan) (h .keeps) in-line swept is-next e refl)
+          (λ _. keeps-length (can .can-scan) (h .keeps) in-line)

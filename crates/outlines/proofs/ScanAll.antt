@@ -23,25 +23,25 @@ pub all-next : {ring line : List ℕ} {k : ℕ} {area : List ℕ} {so-far : List
     → ScanKeeps ring line k area so-far so-far at found counts words → ScanAll ring line k area at found counts words
 all-next {so-far = so-far} keeps = record { so-far = so-far; keeps = keeps }
 
-module _ (ring doubled table line : List ℕ) (k : ℕ) (counts₀ area : List ℕ) (can : CanScan ring doubled table line k counts₀ area) where
+module _ {ring doubled table line : List ℕ} {k : ℕ} {counts₀ area : List ℕ} (can : CanScan ring doubled table line k counts₀ area) where
   -- Before the first window.
-  pub all-start : (at : Sweep) → at .start ≡ 0 → lastOf (at .last) ≡ none → at .looks ≡ 0 → ScanAll ring line k area at 0 counts₀ area
-  all-start at s l o = record { so-far = []; keeps = keeps-start ring doubled table line k counts₀ area can at s l o }
+  pub all-start : {at : Sweep} → at .start ≡ 0 → lastOf (at .last) ≡ none → at .looks ≡ 0 → ScanAll ring line k area at 0 counts₀ area
+  all-start s l o = record { so-far = []; keeps = keeps-start can s l o }
 
-  module _ (at : Sweep) (found : ℕ) (counts words : List ℕ) (h : ScanAll ring line k area at found counts words) where
+  module _ {at : Sweep} {found : ℕ} {counts words : List ℕ} (h : ScanAll ring line k area at found counts words) where
     -- The count of findings fits.
     pub all-found-le : at .start + length ring ≤ length line → found ≤ mostLine
     all-found-le in-line =
         omega (
           arith,
           h .keeps .scanned .count-is,
-          keeps-found-le ring doubled table line k counts₀ area can (h .so-far) (h .so-far) at found counts words (h .keeps) in-line,
+          keeps-found-le can (h .keeps) in-line,
         )
 
     -- Past the last window the line is scanned.
     pub all-end : length line < at .start + length ring → LineScanned ring line k area found (at .looks) words
     all-end past =
-        let e = keeps-end ring doubled table line k counts₀ area can (h .so-far) (h .so-far) at found counts words (h .keeps) past in
+        let e = keeps-end can (h .keeps) past in
         record {
           found-is = h .keeps .scanned .count-is ∙ ap (λ (l : List Finding). length l) (e .0);
           looks-are = e .1;

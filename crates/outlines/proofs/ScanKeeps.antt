@@ -35,7 +35,7 @@ pub record ScanKeeps (ring line : List ℕ) (k : ℕ) (area : List ℕ) (so-far 
   pub size : length counts ≡ mostCounts
   pub start-le : at .start ≤ length line + 1
 
-module _ (ring doubled table line : List ℕ) (k : ℕ) (counts₀ area : List ℕ) (can : CanScan ring doubled table line k counts₀ area) where
+module _ {ring doubled table line : List ℕ} {k : ℕ} {counts₀ area : List ℕ} (can : CanScan ring doubled table line k counts₀ area) where
   abbrev m : ℕ
   m = length ring
 
@@ -43,18 +43,18 @@ module _ (ring doubled table line : List ℕ) (k : ℕ) (counts₀ area : List �
   n = length line
 
   -- Before the first window.
-  pub keeps-start : (at : Sweep) → at .start ≡ 0 → lastOf (at .last) ≡ none → at .looks ≡ 0 → ScanKeeps ring line k area [] [] at 0 counts₀ area
-  keeps-start at s l o = record {
-    scanned = rw (s, l, o) (scanning-start ring line k area (can .fits .some-edge));
+  pub keeps-start : {at : Sweep} → at .start ≡ 0 → lastOf (at .last) ≡ none → at .looks ≡ 0 → ScanKeeps ring line k area [] [] at 0 counts₀ area
+  keeps-start {at} s l o = record {
+    scanned = rw (s, l, o) (scanning-start (can .fits .some-edge));
     before = rw l tt;
     size = can .fits .size;
     start-le = omega arith;
   }
 
-  module _ (so-far put : List Finding) (at : Sweep) (count : ℕ) (counts words : List ℕ) (h : ScanKeeps ring line k area so-far put at count counts words) where
+  module _ {so-far put : List Finding} {at : Sweep} {count : ℕ} {counts words : List ℕ} (h : ScanKeeps ring line k area so-far put at count counts words) where
     -- Past the last window all is found, and all is looked at.
     pub keeps-end : n < at .start + m → (so-far ≡ findings ring line k) × (at .looks ≡ quickLooks ring line k)
-    keeps-end past = scanning-end ring line k area (can .fits .some-edge) so-far put (at .start) (lastOf (at .last)) (at .looks) count words (h .scanned) past
+    keeps-end past = scanning-end (can .fits .some-edge) (h .scanned) past
 
     -- The sweep can go on.
     pub keeps-can-sweep : CanSweepOn ring doubled table line k counts at
@@ -68,32 +68,32 @@ module _ (ring doubled table line : List ℕ) (k : ℕ) (counts₀ area : List �
       before = h .before;
       looks-le = omega (
         arith,
-        scanning-looks-le ring line k area (can .fits .some-edge) so-far put (at .start) (lastOf (at .last)) (at .looks) count words (h .scanned),
+        scanning-looks-le (can .fits .some-edge) (h .scanned),
         quickLooks-most ring line k (can .fits .some-edge),
         mul-le-mul (can .fits .most) (can .most-line),
       );
     }
 
     -- What it then gives, by the rules.
-    pub keeps-swept : (counts′ : List ℕ) (r : Swept) → IsSweptBy ring doubled table line k at counts counts′ r → IsSweptOn ring line k at r counts′
-    keeps-swept = swept-by-rules ring doubled table line k counts at keeps-can-sweep
+    pub keeps-swept : {counts′ : List ℕ} {r : Swept} → IsSweptBy ring doubled table line k at counts counts′ r → IsSweptOn ring line k at r counts′
+    keeps-swept {counts′} {r} = swept-by-rules ring doubled table line k counts at keeps-can-sweep counts′ r
 
     -- Windows that are left change the sweep's start and looks, and nothing else.
-    pub keeps-left : (j reads : ℕ) → LeftTo ring line k (at .start) j reads → ScanKeeps ring line k area so-far put (leftState at j reads) count counts words
-    keeps-left j reads left = record {
+    pub keeps-left : {j reads : ℕ} → LeftTo ring line k (at .start) j reads → ScanKeeps ring line k area so-far put (leftState at j reads) count counts words
+    keeps-left {j} left = record {
       scanned =
-          scanning-left ring line k area (can .fits .some-edge) so-far put (at .start) (lastOf (at .last)) (at .looks) count words (h .scanned) j reads left;
+          scanning-left (can .fits .some-edge) (h .scanned) left;
       before = before-later ring line counts (at .start) j (lastOf (at .last)) (left-from-le ring line k (at .start) left) (h .before);
       size = h .size;
       start-le = left-start-le ring line k (at .start) (h .start-le) left;
     }
 
-    module _ (r : Swept) (next : Sweep) (counts′ : List ℕ) (on : IsSweptOn ring line k at r counts′) (is-next : stateOf r ≡ next) where
+    module _ {r : Swept} {next : Sweep} {counts′ : List ℕ} (on : IsSweptOn ring line k at r counts′) (is-next : stateOf r ≡ next) where
       -- No window is in the line any more.
       pub keeps-ended : hasEnded r ≡ true → ScanKeeps ring line k area so-far put next count counts′ words
       keeps-ended t =
           let e = on .ended t in
-          let left = keeps-left (on .stop) (on .looks) (on .left-to) in
+          let left = keeps-left (on .left-to) in
           rw (sym is-next ∙ e .next-is) (record { scanned = left .scanned; before = e .before; size = e .size; start-le = left .start-le })
 
       -- The sweep has come on, and is in the line or just past it.
@@ -118,15 +118,15 @@ module _ (ring doubled table line : List ℕ) (k : ℕ) (counts₀ area : List �
           omega (
             arith,
             can .most-line,
-            scanning-found-le ring line k area (can .fits .some-edge) so-far put (at .start) (lastOf (at .last)) (at .looks) count words (h .scanned) in-line,
+            scanning-found-le (can .fits .some-edge) (h .scanned) in-line,
           )
 
       -- The words keep their length.
       pub keeps-length : length words ≡ length area
       keeps-length =
-          scanning-length ring line k area (can .fits .some-edge) so-far put (at .start) (lastOf (at .last)) (at .looks) count words (h .scanned) in-line room
+          scanning-length (can .fits .some-edge) (h .scanned) in-line room
 
-      module _ (r : Swept) (next : Sweep) (counts′ : List ℕ) (swept : IsSwept ring line k at r counts′) (is-next : stateOf r ≡ next) where
+      module _ {r : Swept} {next : Sweep} {counts′ : List ℕ} (swept : IsSwept ring line k at r counts′) (is-next : stateOf r ≡ next) where
         start-is : next .start ≡ sweptStart ring line k (at .start)
         start-is = sym (ap (λ (s : Sweep). s .start) is-next) ∙ swept .start-is
 
@@ -155,16 +155,15 @@ module _ (ring doubled table line : List ℕ) (k : ℕ) (counts₀ area : List �
         pub keeps-none : foundOf r ≡ [] → ScanKeeps ring line k area so-far put next count counts′ words
         keeps-none e =
             keeps-next
-            (scanning-none ring line k area (can .fits .some-edge) so-far put (at .start) (lastOf (at .last)) (at .looks) count words (h .scanned) in-line
-            (next .start) (lastOf (next .last)) (next .looks) start-is last-is looks-are (sym (swept .found-are) ∙ e))
+            (scanning-none (can .fits .some-edge) (h .scanned) in-line start-is last-is looks-are (sym (swept .found-are) ∙ e))
 
-        module _ (f : Finding) (e : foundOf r ≡ f ∷ []) where
+        module _ {f : Finding} (e : foundOf r ≡ f ∷ []) where
           found-is : sweptFound ring line k (at .start) ≡ f ∷ []
           found-is = sym (swept .found-are) ∙ e
 
           fits-behind : wordsEach * count + wordsEach ≤ length area
           fits-behind =
-              scanning-room ring line k area (can .fits .some-edge) so-far put (at .start) (lastOf (at .last)) (at .looks) count words (h .scanned) in-line f found-is room
+              scanning-room (can .fits .some-edge) (h .scanned) in-line found-is room
 
           -- A finding starts where its window does.
           pub keeps-finding-start : f .start ≡ at .start
@@ -182,19 +181,17 @@ module _ (ring doubled table line : List ℕ) (k : ℕ) (counts₀ area : List �
               }
 
           -- Putting them keeps the words' length.
-          pub keeps-put-length : (out : List ℕ) → out ≡ wordsPut count f words → length out ≡ length area
-          keeps-put-length out q = ap (λ (l : List ℕ). length l) q ∙ length-sets words (wordsEach * count) (findingWords f) ∙ keeps-length
+          pub keeps-put-length : {out : List ℕ} → out ≡ wordsPut count f words → length out ≡ length area
+          keeps-put-length q = ap (λ (l : List ℕ). length l) q ∙ length-sets words (wordsEach * count) (findingWords f) ∙ keeps-length
 
           -- A window that reports a finding, whose words are put behind the others.
           pub keeps-put : ScanKeeps ring line k area (so-far ++ f ∷ []) (put ++ f ∷ []) next (count + 1) counts′ (wordsPut count f words)
           keeps-put =
               keeps-next
-              (scanning-put ring line k area (can .fits .some-edge) so-far put (at .start) (lastOf (at .last)) (at .looks) count words (h .scanned) in-line
-              (next .start) (lastOf (next .last)) (next .looks) start-is last-is looks-are f found-is room)
+              (scanning-put (can .fits .some-edge) (h .scanned) in-line start-is last-is looks-are found-is room)
 
           -- A window that reports a finding, whose words are not put.
           pub keeps-passed : ScanKeeps ring line k area (so-far ++ f ∷ []) put next count counts′ words
           keeps-passed =
               keeps-next
-              (scanning-passed ring line k area (can .fits .some-edge) so-far put (at .start) (lastOf (at .last)) (at .looks) count words (h .scanned) in-line
-              (next .start) (lastOf (next .last)) (next .looks) start-is last-is looks-are f found-is)
+              (scanning-passed (can .fits .some-edge) (h .scanned) in-line start-is last-is looks-are found-is)

@@ -45,21 +45,15 @@ pub record ScanWindows (ring line : List ℕ) (k : ℕ) (area : List ℕ) (so-fa
   pub count-is : count ≡ length put
   pub words-are : words ≡ written (wordsOf put) area
 
-module _ (ring line : List ℕ) (k : ℕ) (area : List ℕ) (pos : 0 < length ring) where
-  abbrev m : ℕ
-  m = length ring
-
-  abbrev n : ℕ
-  n = length line
-
+module _ {ring line : List ℕ} {k : ℕ} {area : List ℕ} (pos : 0 < length ring) where
   -- Before the first window nothing is found, and the words are as they were lent.
   pub scanning-start : ScanWindows ring line k area [] [] 0 none 0 0 area
   scanning-start = record { scanning = scan-start ring line k pos; put-le = omega arith; count-is = refl; words-are = put-none area }
 
-  module _ (so-far put : List Finding) (i : ℕ) (last : Option ℕ) (looks count : ℕ) (words : List ℕ)
+  module _ {so-far put : List Finding} {i : ℕ} {last : Option ℕ} {looks count : ℕ} {words : List ℕ}
       (h : ScanWindows ring line k area so-far put i last looks count words) where
     -- Past the last window all is found, and all is looked at.
-    pub scanning-end : n < i + m → (so-far ≡ findings ring line k) × (looks ≡ quickLooks ring line k)
+    pub scanning-end : length line < i + length ring → (so-far ≡ findings ring line k) × (looks ≡ quickLooks ring line k)
     scanning-end past = scan-end ring line k i last so-far looks (h .scanning) past
 
     -- The looks so far do not go beyond all looks.
@@ -67,21 +61,21 @@ module _ (ring line : List ℕ) (k : ℕ) (area : List ℕ) (pos : 0 < length ri
     scanning-looks-le = scan-looks-le ring line k _ _ _ _ (h .scanning)
 
     -- Windows left at break k + 1 find nothing.
-    pub scanning-left : (j reads : ℕ) → LeftTo ring line k i j reads → ScanWindows ring line k area so-far put j last (looks + reads) count words
-    scanning-left j reads left = record {
+    pub scanning-left : {j reads : ℕ} → LeftTo ring line k i j reads → ScanWindows ring line k area so-far put j last (looks + reads) count words
+    scanning-left left = record {
       scanning = left-scanned ring line k i last so-far looks left (h .scanning);
       put-le = h .put-le;
       count-is = h .count-is;
       words-are = h .words-are;
     }
 
-    module _ (in-line : i + m ≤ n) where
+    module _ (in-line : i + length ring ≤ length line) where
       turned : ScanLoop ring line k (sweptStart ring line k i) (sweptLast ring line k i last) (so-far ++ sweptFound ring line k i) (sweptLooks ring line k i last looks)
       turned = scan-turn ring line k i last so-far looks (h .scanning) in-line
 
       -- There is room for the words of one finding more.
-      pub scanning-room : (f : Finding) → sweptFound ring line k i ≡ f ∷ [] → roomAsked m n ≤ length area → wordsEach * count + wordsEach ≤ length area
-      scanning-room f e room =
+      pub scanning-room : {f : Finding} → sweptFound ring line k i ≡ f ∷ [] → roomAsked (length ring) (length line) ≤ length area → wordsEach * count + wordsEach ≤ length area
+      scanning-room e room =
           omega (
             arith,
             h .count-is,
@@ -93,17 +87,17 @@ module _ (ring line : List ℕ) (k : ℕ) (area : List ℕ) (pos : 0 < length ri
           )
 
       -- No more findings than line places.
-      pub scanning-found-le : length so-far ≤ n
+      pub scanning-found-le : length so-far ≤ length line
       scanning-found-le = omega (arith, scan-found-le ring line k _ _ _ _ (h .scanning), findings-length-le ring line k pos (omega arith))
 
       -- The words keep their length.
-      pub scanning-length : roomAsked m n ≤ length area → length words ≡ length area
+      pub scanning-length : roomAsked (length ring) (length line) ≤ length area → length words ≡ length area
       scanning-length room =
           ap (λ (w : List ℕ). length w) (h .words-are)
           ∙ put-length put count area (h .count-is)
           (omega (arith, h .count-is, h .put-le, scan-found-le ring line k _ _ _ _ (h .scanning), findings-length-le ring line k pos (omega arith)))
 
-      module _ (i′ : ℕ) (last′ : Option ℕ) (looks′ : ℕ) (start-is : i′ ≡ sweptStart ring line k i) (last-is : last′ ≡ sweptLast ring line k i last)
+      module _ {i′ : ℕ} {last′ : Option ℕ} {looks′ : ℕ} (start-is : i′ ≡ sweptStart ring line k i) (last-is : last′ ≡ sweptLast ring line k i last)
           (looks-are : looks′ ≡ sweptLooks ring line k i last looks) where
         turned′ : {fs : List Finding} → sweptFound ring line k i ≡ fs → ScanLoop ring line k i′ last′ (so-far ++ fs) looks′
         turned′ e = rw (start-is, last-is, looks-are, ← e) turned
@@ -112,14 +106,14 @@ module _ (ring line : List ℕ) (k : ℕ) (area : List ℕ) (pos : 0 < length ri
         pub scanning-none : sweptFound ring line k i ≡ [] → ScanWindows ring line k area so-far put i′ last′ looks′ count words
         scanning-none e = record { scanning = rw append-nil at (turned′ e); put-le = h .put-le; count-is = h .count-is; words-are = h .words-are }
 
-        module _ (f : Finding) (e : sweptFound ring line k i ≡ f ∷ []) where
+        module _ {f : Finding} (e : sweptFound ring line k i ≡ f ∷ []) where
           -- A window that reports a finding, whose words are put behind the others.
-          pub scanning-put : roomAsked m n ≤ length area → ScanWindows ring line k area (so-far ++ f ∷ []) (put ++ f ∷ []) i′ last′ looks′ (count + 1) (wordsPut count f words)
+          pub scanning-put : roomAsked (length ring) (length line) ≤ length area → ScanWindows ring line k area (so-far ++ f ∷ []) (put ++ f ∷ []) i′ last′ looks′ (count + 1) (wordsPut count f words)
           scanning-put room = record {
             scanning = turned′ e;
             put-le = omega (arith, h .put-le, length-append so-far (f ∷ []), length-append put (f ∷ []));
             count-is = omega (arith, h .count-is, length-append put (f ∷ []));
-            words-are = ap (wordsPut count f) (h .words-are) ∙ put-more put f count area (h .count-is) (scanning-room f e room);
+            words-are = ap (wordsPut count f) (h .words-are) ∙ put-more put f count area (h .count-is) (scanning-room e room);
           }
 
           -- A window that reports a finding, whose words are not put.

@@ -15,7 +15,7 @@ use Rattle.silences.specs.Numbers.{numberAt, bytesOf}
 use Rattle.silences.specs.Silences.{isBelow, isSame, names}
 use Rattle.silences.specs.Reading.{lengthByTag, silenceAt, isWhole, fieldBy, fieldAt, fieldsFrom, readFrom, readBook}
 use Rattle.findings.specs.Admitting.{refusalOf}
-use Rattle.outlines.specs.Report.{shown, hidden, admittedSilences}
+use Rattle.outlines.specs.Report.{those, admittedSilences}
 use Rattle.input.specs.Fields.{isField, fieldEndAt}
 use Rattle.input.specs.Input.{fieldsOf, requestOf, laidDown}
 use Rattle.request.specs.Decimal.{digitsWithin, decimal}
@@ -39,7 +39,7 @@ printed letters = letters ++ lf ∷ []
 -- "Output, whole".
 sample-right : answerText (sampleFields ++ sampleBook)
     ≡ printed (ascii "cell 7 ring 2 edges 2 allow 0") ++ (printed (ascii "0 0 0") ++ printed (ascii "found 2 hidden 1 looks 12"))
-unfolding sampleFields sampleBook ascii answerText requestOf fieldsOf isField fieldEndAt numberAt requestText reportLines firstLine findingLine findingLines lastLine digitsWithin decimal admittedSilences refusalOf readBook readFrom fieldsFrom fieldAt fieldBy lengthByTag isWhole silenceAt isBelow isSame names shown hidden findingsBelow foundAt lowestRotation lowest distance count differs readLooks tallyLooks verifyLooks windowsFrom candidatesOf readWindow readLeft readEdge begins fits someBelow
+unfolding sampleFields sampleBook ascii answerText requestOf fieldsOf isField fieldEndAt numberAt requestText reportLines firstLine findingLine findingLines lastLine digitsWithin decimal admittedSilences refusalOf readBook readFrom fieldsFrom fieldAt fieldBy lengthByTag isWhole silenceAt isBelow isSame names those findingsBelow foundAt lowestRotation lowest distance count differs readLooks tallyLooks verifyLooks windowsFrom candidatesOf readWindow readLeft readEdge begins fits someBelow
 sample-right = refl
 
 -- It is what is laid down for this request.

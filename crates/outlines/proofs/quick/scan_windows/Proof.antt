@@ -21,7 +21,7 @@ abbrev μ-loop : tie.MeasureT-loop
 μ-loop ring doubled table line k counts₀ words₀ m at₀ found₀ counts words at found = length line + 1 - at .start
 
 loop-holds : tie.Need-loop-holds Inv-loop μ-loop
-loop-holds c = (refl, refl, all-start _ _ _ _ _ _ _ (c .before .before .before .before .pre) _ refl refl refl)
+loop-holds c = (refl, refl, all-start (c .before .before .before .before .pre) refl refl refl)
 
 add-if1 : tie.Need-add-if1 Inv-loop μ-loop
 add-if1 c = omega (arith, c .before .loop .inv .2 .keeps .start-le)
@@ -29,6 +29,7 @@ add-if1 c = omega (arith, c .before .loop .inv .2 .keeps .start-le)
 sweep-on-requires : tie.Need-sweep-on-requires Inv-loop μ-loop
 sweep-on-requires c κs = search needs
 
+-- No window is in the line any more.
 enum-known-next : tie.Need-enum-known-next Inv-loop μ-loop
 enum-known-next c = search needs
 
@@ -36,22 +37,21 @@ loop-less : tie.Need-loop-less Inv-loop μ-loop
 loop-less c =
     let swept = c .before .before .before in
     let at = swept .before .before .before .before in
-    keeps-less _ _ _ _ _ _ _ (at .before .before .before .before .before .pre) _ _ _ _ _ _ (at .loop .inv .2 .keeps) _ _ _ (keeps-swept _ _ _ _ _ _ _ (at .before .before .before .before .before .pre) _ _ _ _ _ _ (at .loop .inv .2 .keeps) _ _ (swept .sweep-on .ensures))
-    (ap stateOf (c .before .next .given .1)) (swept .before .before .if1 .taken)
+    let can = at .before .before .before .before .before .pre in
+    let keeps = at .loop .inv .2 .keeps in
+    keeps-less can keeps (keeps-swept can keeps (swept .sweep-on .ensures)) (ap stateOf (c .before .next .given .1)) (swept .before .before .if1 .taken)
 
--- No window is in the line any more.
 loop-again : tie.Need-loop-again Inv-loop μ-loop
 loop-again c =
     let swept = c .before .before .before in
     let at = swept .before .before .before .before in
-    let told = c .before .next .given .1 in (
-      refl,
-      at .loop .inv .1,
-      all-next
-          (keeps-ended _ _ _ _ _ _ _ (at .before .before .before .before .before .pre) _ _ _ _ _ _ (at .loop .inv .2 .keeps) _ _ _ (keeps-swept _ _ _ _ _ _ _ (at .before .before .before .before .before .pre) _ _ _ _ _ _ (at .loop .inv .2 .keeps) _ _ (swept .sweep-on .ensures))
-          (ap stateOf told) (ap hasEnded told)),
-    )
+    let can = at .before .before .before .before .before .pre in
+    let keeps = at .loop .inv .2 .keeps in
+    let told = c .before .next .given .1 in
+    let on = keeps-swept can keeps (swept .sweep-on .ensures) in
+    (refl, at .loop .inv .1, all-next (keeps-ended can keeps on (ap stateOf told) (ap hasEnded told)))
 
+-- A candidate that is no finding.
 enum-known-next-2 : tie.Need-enum-known-next-2 Inv-loop μ-loop
 enum-known-next-2 c = search needs
 
@@ -59,24 +59,22 @@ loop-less-2 : tie.Need-loop-less-2 Inv-loop μ-loop
 loop-less-2 c =
     let swept = c .before .before .before in
     let at = swept .before .before .before .before in
-    keeps-less _ _ _ _ _ _ _ (at .before .before .before .before .before .pre) _ _ _ _ _ _ (at .loop .inv .2 .keeps) _ _ _ (keeps-swept _ _ _ _ _ _ _ (at .before .before .before .before .before .pre) _ _ _ _ _ _ (at .loop .inv .2 .keeps) _ _ (swept .sweep-on .ensures))
-    (ap stateOf (c .before .next2 .given .1)) (swept .before .before .if1 .taken)
+    let can = at .before .before .before .before .before .pre in
+    let keeps = at .loop .inv .2 .keeps in
+    keeps-less can keeps (keeps-swept can keeps (swept .sweep-on .ensures)) (ap stateOf (c .before .next2 .given .1)) (swept .before .before .if1 .taken)
 
 loop-again-2 : tie.Need-loop-again-2 Inv-loop μ-loop
 loop-again-2 c =
     let swept = c .before .before .before in
     let at = swept .before .before .before .before in
+    let can = at .before .before .before .before .before .pre in
     let told = c .before .next2 .given .1 in
-    let on = keeps-swept _ _ _ _ _ _ _ (at .before .before .before .before .before .pre) _ _ _ _ _ _ (at .loop .inv .2 .keeps) _ _ (swept .sweep-on .ensures) in
-    let here = keeps-left _ _ _ _ _ _ _ (at .before .before .before .before .before .pre) _ _ _ _ _ _ (at .loop .inv .2 .keeps) _ _ (on .left-to) in
-    let candidate = on .candidate (ap hasEnded told) in (
-      refl,
-      at .loop .inv .1,
-      all-next
-          (keeps-none _ _ _ _ _ _ _ (at .before .before .before .before .before .pre) _ _ _ _ _ _ here (candidate .in-line) _ _ _ (candidate .swept)
-          (ap stateOf told) (ap foundOf told)),
-    )
+    let on = keeps-swept can (at .loop .inv .2 .keeps) (swept .sweep-on .ensures) in
+    let candidate = on .candidate (ap hasEnded told) in
+    let here = keeps-left can (at .loop .inv .2 .keeps) (on .left-to) in
+    (refl, at .loop .inv .1, all-next (keeps-none can here (candidate .in-line) (candidate .swept) (ap stateOf told) (ap foundOf told)))
 
+-- A finding.
 enum-known-next-3 : tie.Need-enum-known-next-3 Inv-loop μ-loop
 enum-known-next-3 c = search needs
 
@@ -87,44 +85,43 @@ add-found : tie.Need-add-found Inv-loop μ-loop
 add-found c =
     let swept = c .before .before .before .before .before .before .before in
     let at = swept .before .before .before .before in
-    omega (arith, all-found-le _ _ _ _ _ _ _ (at .before .before .before .before .before .pre) _ _ _ _ (at .loop .inv .2) (swept .before .before .if1 .taken))
+    let can = at .before .before .before .before .before .pre in
+    omega (arith, all-found-le can (at .loop .inv .2) (swept .before .before .if1 .taken))
 
 loop-less-3 : tie.Need-loop-less-3 Inv-loop μ-loop
 loop-less-3 c =
-    let swept = c .before .before .before .before .before .before .before in
+    let told = c .before .before .before .before .before in
+    let swept = told .before .before in
     let at = swept .before .before .before .before in
-    keeps-less _ _ _ _ _ _ _ (at .before .before .before .before .before .pre) _ _ _ _ _ _ (at .loop .inv .2 .keeps) _ _ _ (keeps-swept _ _ _ _ _ _ _ (at .before .before .before .before .before .pre) _ _ _ _ _ _ (at .loop .inv .2 .keeps) _ _ (swept .sweep-on .ensures))
-    (ap stateOf (c .before .before .before .before .before .next3 .given .1)) (swept .before .before .if1 .taken)
+    let can = at .before .before .before .before .before .pre in
+    let keeps = at .loop .inv .2 .keeps in
+    keeps-less can keeps (keeps-swept can keeps (swept .sweep-on .ensures)) (ap stateOf (told .next3 .given .1)) (swept .before .before .if1 .taken)
 
 loop-again-3 : tie.Need-loop-again-3 Inv-loop μ-loop
 loop-again-3 c =
-    let swept = c .before .before .before .before .before .before .before in
+    let told = c .before .before .before .before .before in
+    let swept = told .before .before in
     let at = swept .before .before .before .before in
-    let told = c .before .before .before .before .before .next3 .given .1 in
-    let on = keeps-swept _ _ _ _ _ _ _ (at .before .before .before .before .before .pre) _ _ _ _ _ _ (at .loop .inv .2 .keeps) _ _ (swept .sweep-on .ensures) in
-    let here = keeps-left _ _ _ _ _ _ _ (at .before .before .before .before .before .pre) _ _ _ _ _ _ (at .loop .inv .2 .keeps) _ _ (on .left-to) in
-    let candidate = on .candidate (ap hasEnded told) in
-    let can-put =
-    keeps-can-put _ _ _ _ _ _ _ (at .before .before .before .before .before .pre) _ _ _ _ _ _ here (candidate .in-line) _ _ _ (candidate .swept)
-    (ap stateOf told) _ (ap foundOf told)
-    in
+    let can = at .before .before .before .before .before .pre in
+    let is = told .next3 .given .1 in
+    let on = keeps-swept can (at .loop .inv .2 .keeps) (swept .sweep-on .ensures) in
+    let candidate = on .candidate (ap hasEnded is) in
+    let here = keeps-left can (at .loop .inv .2 .keeps) (on .left-to) in
+    let can-put = keeps-can-put can here (candidate .in-line) (candidate .swept) (ap stateOf is) (ap foundOf is) in
     let put = words-are-put _ _ _ _ can-put (c .before .before .put-finding .ensures) in (
       refl,
-      keeps-put-length _ _ _ _ _ _ _ (at .before .before .before .before .before .pre) _ _ _ _ _ _ here (candidate .in-line) _ _ _ (candidate .swept)
-          (ap stateOf told) _ (ap foundOf told) _ put,
-      rw put
-          (all-next
-          (keeps-put _ _ _ _ _ _ _ (at .before .before .before .before .before .pre) _ _ _ _ _ _ here (candidate .in-line) _ _ _ (candidate .swept)
-          (ap stateOf told) _ (ap foundOf told))),
+      keeps-put-length can here (candidate .in-line) (candidate .swept) (ap stateOf is) (ap foundOf is) put,
+      rw put (all-next (keeps-put can here (candidate .in-line) (candidate .swept) (ap stateOf is) (ap foundOf is))),
     )
 
+-- Past the last window.
 same-length : tie.Need-same-length Inv-loop μ-loop
 same-length c = c .before .before .loop .inv .1
 
 returns : tie.Need-returns Inv-loop μ-loop
 returns c =
     let at = c .before .before in
-    all-end _ _ _ _ _ _ _ (at .before .before .before .before .before .pre) _ _ _ _ (at .loop .inv .2) (c .if1 .left)
+    all-end (at .before .before .before .before .before .pre) (at .loop .inv .2) (c .if1 .left)
 
 pub scan-windows-spec : {M : Type 1} → statement M
 scan-windows-spec =

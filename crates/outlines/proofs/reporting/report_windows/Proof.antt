@@ -29,7 +29,7 @@ seek-requires c κs = tt
 loop-holds : tie.Need-loop-holds Inv-loop μ-loop
 loop-holds c =
     let start = c .before .before .before .before .before .before .before in
-    (refl, refl, report-start _ _ _ _ _ _ _ _ _ _ (start .pre) _ _ _ refl refl refl refl refl (c .before .address-of .ensures) (c .seek .ensures))
+    (refl, refl, report-start (start .pre) refl refl refl refl refl (c .before .address-of .ensures) (c .seek .ensures))
 
 add-if1 : tie.Need-add-if1 Inv-loop μ-loop
 add-if1 c = omega (arith, c .before .loop .inv .2 .keeps .start-le)
@@ -37,6 +37,7 @@ add-if1 c = omega (arith, c .before .loop .inv .2 .keeps .start-le)
 sweep-on-requires : tie.Need-sweep-on-requires Inv-loop μ-loop
 sweep-on-requires c κs = search needs
 
+-- No window is in the line any more.
 enum-known-next : tie.Need-enum-known-next Inv-loop μ-loop
 enum-known-next c = search needs
 
@@ -44,22 +45,20 @@ loop-less : tie.Need-loop-less Inv-loop μ-loop
 loop-less c =
     let swept = c .before .before .before in
     let at = swept .before .before .before .before in
-    let start = at .before .before .before .before .before .before .before .before in
-    keeps-less _ _ _ _ _ _ _ (start .pre .can-scan) _ _ _ _ _ _ (at .loop .inv .2 .keeps) _ _ _ (keeps-swept _ _ _ _ _ _ _ (start .pre .can-scan) _ _ _ _ _ _ (at .loop .inv .2 .keeps) _ _ (swept .sweep-on .ensures)) (ap stateOf (c .before .next .given .1))
-    (swept .before .before .if1 .taken)
+    let can = at .before .before .before .before .before .before .before .before .pre in
+    let on = keeps-swept (can .can-scan) (at .loop .inv .2 .keeps) (swept .sweep-on .ensures) in
+    keeps-less (can .can-scan) (at .loop .inv .2 .keeps) on (ap stateOf (c .before .next .given .1)) (swept .before .before .if1 .taken)
 
--- No window is in the line any more.
 loop-again : tie.Need-loop-again Inv-loop μ-loop
 loop-again c =
     let swept = c .before .before .before in
     let at = swept .before .before .before .before in
-    let start = at .before .before .before .before .before .before .before .before in
-    let told = c .before .next .given .1 in (
-      refl,
-      at .loop .inv .1,
-      report-ended _ _ _ _ _ _ _ _ _ _ (start .pre) _ _ _ _ (at .loop .inv .2) _ _ _ (keeps-swept _ _ _ _ _ _ _ (start .pre .can-scan) _ _ _ _ _ _ (at .loop .inv .2 .keeps) _ _ (swept .sweep-on .ensures)) (ap stateOf told) (ap hasEnded told),
-    )
+    let can = at .before .before .before .before .before .before .before .before .pre in
+    let told = c .before .next .given .1 in
+    let on = keeps-swept (can .can-scan) (at .loop .inv .2 .keeps) (swept .sweep-on .ensures) in
+    (refl, at .loop .inv .1, report-ended can (at .loop .inv .2) on (ap stateOf told) (ap hasEnded told))
 
+-- A candidate that is no finding.
 enum-known-next-2 : tie.Need-enum-known-next-2 Inv-loop μ-loop
 enum-known-next-2 c = search needs
 
@@ -67,25 +66,22 @@ loop-less-2 : tie.Need-loop-less-2 Inv-loop μ-loop
 loop-less-2 c =
     let swept = c .before .before .before in
     let at = swept .before .before .before .before in
-    let start = at .before .before .before .before .before .before .before .before in
-    keeps-less _ _ _ _ _ _ _ (start .pre .can-scan) _ _ _ _ _ _ (at .loop .inv .2 .keeps) _ _ _ (keeps-swept _ _ _ _ _ _ _ (start .pre .can-scan) _ _ _ _ _ _ (at .loop .inv .2 .keeps) _ _ (swept .sweep-on .ensures)) (ap stateOf (c .before .next2 .given .1))
-    (swept .before .before .if1 .taken)
+    let can = at .before .before .before .before .before .before .before .before .pre in
+    let on = keeps-swept (can .can-scan) (at .loop .inv .2 .keeps) (swept .sweep-on .ensures) in
+    keeps-less (can .can-scan) (at .loop .inv .2 .keeps) on (ap stateOf (c .before .next2 .given .1)) (swept .before .before .if1 .taken)
 
 loop-again-2 : tie.Need-loop-again-2 Inv-loop μ-loop
 loop-again-2 c =
     let swept = c .before .before .before in
     let at = swept .before .before .before .before in
-    let start = at .before .before .before .before .before .before .before .before in
+    let can = at .before .before .before .before .before .before .before .before .pre in
     let told = c .before .next2 .given .1 in
-    let on = keeps-swept _ _ _ _ _ _ _ (start .pre .can-scan) _ _ _ _ _ _ (at .loop .inv .2 .keeps) _ _ (swept .sweep-on .ensures) in
-    let here = report-left _ _ _ _ _ _ _ _ _ _ (start .pre) _ _ _ _ (at .loop .inv .2) _ _ (on .left-to) in
-    let candidate = on .candidate (ap hasEnded told) in (
-      refl,
-      at .loop .inv .1,
-      report-turn-none _ _ _ _ _ _ _ _ _ _ (start .pre) _ _ _ _ here (candidate .in-line) _ _ _ (candidate .swept)
-          (ap stateOf told) (ap foundOf told),
-    )
+    let on = keeps-swept (can .can-scan) (at .loop .inv .2 .keeps) (swept .sweep-on .ensures) in
+    let candidate = on .candidate (ap hasEnded told) in
+    let here = report-left can (at .loop .inv .2) (on .left-to) in
+    (refl, at .loop .inv .1, report-turn-none can here (candidate .in-line) (candidate .swept) (ap stateOf told) (ap foundOf told))
 
+-- A finding, which the book is asked for.
 enum-known-next-3 : tie.Need-enum-known-next-3 Inv-loop μ-loop
 enum-known-next-3 c = search needs
 
@@ -94,33 +90,31 @@ ask-requires c κs =
     let told = c .before in
     let swept = told .before .before in
     let at = swept .before .before .before .before in
-    let start = at .before .before .before .before .before .before .before .before in
-    let on = keeps-swept _ _ _ _ _ _ _ (start .pre .can-scan) _ _ _ _ _ _ (at .loop .inv .2 .keeps) _ _ (swept .sweep-on .ensures) in
-    let here = report-left _ _ _ _ _ _ _ _ _ _ (start .pre) _ _ _ _ (at .loop .inv .2) _ _ (on .left-to) in
-    let candidate = on .candidate (ap hasEnded (told .next3 .given .1)) in
-    report-can-ask _ _ _ _ _ _ _ _ _ _ (start .pre) _ _ _ _ here (candidate .in-line) _ _ _ (candidate .swept)
-    (ap stateOf (told .next3 .given .1)) _ (ap foundOf (told .next3 .given .1))
+    let can = at .before .before .before .before .before .before .before .before .pre in
+    let is = told .next3 .given .1 in
+    let on = keeps-swept (can .can-scan) (at .loop .inv .2 .keeps) (swept .sweep-on .ensures) in
+    let candidate = on .candidate (ap hasEnded is) in
+    report-can-ask can (report-left can (at .loop .inv .2) (on .left-to)) (candidate .in-line) (candidate .swept) (ap stateOf is) (ap foundOf is)
 
 put-shown-requires : tie.Need-put-shown-requires Inv-loop μ-loop
 put-shown-requires c κs =
     let told = c .before .before .before in
     let swept = told .before .before in
     let at = swept .before .before .before .before in
-    let start = at .before .before .before .before .before .before .before .before in
-    let on = keeps-swept _ _ _ _ _ _ _ (start .pre .can-scan) _ _ _ _ _ _ (at .loop .inv .2 .keeps) _ _ (swept .sweep-on .ensures) in
-    let here = report-left _ _ _ _ _ _ _ _ _ _ (start .pre) _ _ _ _ (at .loop .inv .2) _ _ (on .left-to) in
-    let candidate = on .candidate (ap hasEnded (told .next3 .given .1)) in
-    report-can-put _ _ _ _ _ _ _ _ _ _ (start .pre) _ _ _ _ here (candidate .in-line) _ _ _ (candidate .swept)
-    (ap stateOf (told .next3 .given .1)) _ (ap foundOf (told .next3 .given .1))
+    let can = at .before .before .before .before .before .before .before .before .pre in
+    let is = told .next3 .given .1 in
+    let on = keeps-swept (can .can-scan) (at .loop .inv .2 .keeps) (swept .sweep-on .ensures) in
+    let candidate = on .candidate (ap hasEnded is) in
+    report-can-put can (report-left can (at .loop .inv .2) (on .left-to)) (candidate .in-line) (candidate .swept) (ap stateOf is) (ap foundOf is)
 
 loop-less-3 : tie.Need-loop-less-3 Inv-loop μ-loop
 loop-less-3 c =
     let told = c .before .before .before .before .before .before in
     let swept = told .before .before in
     let at = swept .before .before .before .before in
-    let start = at .before .before .before .before .before .before .before .before in
-    keeps-less _ _ _ _ _ _ _ (start .pre .can-scan) _ _ _ _ _ _ (at .loop .inv .2 .keeps) _ _ _ (keeps-swept _ _ _ _ _ _ _ (start .pre .can-scan) _ _ _ _ _ _ (at .loop .inv .2 .keeps) _ _ (swept .sweep-on .ensures)) (ap stateOf (told .next3 .given .1))
-    (swept .before .before .if1 .taken)
+    let can = at .before .before .before .before .before .before .before .before .pre in
+    let on = keeps-swept (can .can-scan) (at .loop .inv .2 .keeps) (swept .sweep-on .ensures) in
+    keeps-less (can .can-scan) (at .loop .inv .2 .keeps) on (ap stateOf (told .next3 .given .1)) (swept .before .before .if1 .taken)
 
 loop-again-3 : tie.Need-loop-again-3 Inv-loop μ-loop
 loop-again-3 c =
@@ -129,23 +123,22 @@ loop-again-3 c =
     let told = asked .before .before in
     let swept = told .before .before in
     let at = swept .before .before .before .before in
-    let start = at .before .before .before .before .before .before .before .before in
+    let can = at .before .before .before .before .before .before .before .before .pre in
     let is = told .next3 .given .1 in
-    let on = keeps-swept _ _ _ _ _ _ _ (start .pre .can-scan) _ _ _ _ _ _ (at .loop .inv .2 .keeps) _ _ (swept .sweep-on .ensures) in
-    let here = report-left _ _ _ _ _ _ _ _ _ _ (start .pre) _ _ _ _ (at .loop .inv .2) _ _ (on .left-to) in
-    let candidate = on .candidate (ap hasEnded is) in (
+    let on = keeps-swept (can .can-scan) (at .loop .inv .2 .keeps) (swept .sweep-on .ensures) in
+    let candidate = on .candidate (ap hasEnded is) in
+    let here = report-left can (at .loop .inv .2) (on .left-to) in (
       refl,
-      report-length _ _ _ _ _ _ _ _ _ _ (start .pre) _ _ _ _ here (candidate .in-line) _ _ _ (candidate .swept)
-          (ap stateOf is) _ (ap foundOf is) _ (asked .ask .ensures) _ (put .put-shown .ensures),
-      report-turn-found _ _ _ _ _ _ _ _ _ _ (start .pre) _ _ _ _ here (candidate .in-line) _ _ _ (candidate .swept)
-          (ap stateOf is) _ (ap foundOf is) _ (asked .ask .ensures) _ (put .put-shown .ensures),
+      report-length can here (candidate .in-line) (candidate .swept) (ap stateOf is) (ap foundOf is) (asked .ask .ensures) (put .put-shown .ensures),
+      report-turn-found can here (candidate .in-line) (candidate .swept) (ap stateOf is) (ap foundOf is) (asked .ask .ensures) (put .put-shown .ensures),
     )
 
+-- Past the last window.
 add-found : tie.Need-add-found Inv-loop μ-loop
 add-found c =
     let at = c .before .before .before in
-    let start = at .before .before .before .before .before .before .before .before in
-    omega (arith, report-found-le _ _ _ _ _ _ _ _ _ _ (start .pre) _ _ _ _ (at .loop .inv .2))
+    let can = at .before .before .before .before .before .before .before .before .pre in
+    omega (arith, report-found-le can (at .loop .inv .2))
 
 same-length : tie.Need-same-length Inv-loop μ-loop
 same-length c = c .before .before .before .loop .inv .1
@@ -153,8 +146,8 @@ same-length c = c .before .before .before .loop .inv .1
 returns : tie.Need-returns Inv-loop μ-loop
 returns c =
     let at = c .before .before .before in
-    let start = at .before .before .before .before .before .before .before .before in
-    report-end _ _ _ _ _ _ _ _ _ _ (start .pre) _ _ _ _ (at .loop .inv .2) (c .before .if1 .left)
+    let can = at .before .before .before .before .before .before .before .before .pre in
+    report-end can (at .loop .inv .2) (c .before .if1 .left)
 
 pub report-windows-spec : {M : Type 1} → statement M
 report-windows-spec =
