@@ -1,6 +1,7 @@
 -- `outlines::reporting::put_shown` meets its contract: the words are put where more are shown than before, and stay else.
 -- Assumes nothing.
 use mathlib.Core.Path.{_∙_}
+use native.Mathlib.Omega.{arith}
 use borrow.Author.Needs.{needs}
 use borrow.Author.Tests.{lt-ltb, le-ltb}
 use Rattle.findings.proofs.PutCases.{words-are-put}
@@ -18,11 +19,15 @@ returns : tie.Need-returns
 returns c =
     let put = c .before .before in
     let start = put .before .before .before .before in
-    words-are-put _ _ _ _ (start .pre) (put .put-finding .ensures) ∙ simp (lt-ltb _ _ (put .before .before .if1 .taken))
+    let more = put .before .before .if1 .taken in
+    words-are-put _ _ _ _ (start .pre) (put .put-finding .ensures) ∙ simp (lt-ltb (start .args .before) (start .args .shown) (omega arith))
 
 -- Hidden.
 returns-2 : tie.Need-returns-2
-returns-2 c = simp (le-ltb _ _ (c .if1 .left))
+returns-2 c =
+    let no-more = c .if1 .left in
+    let start = c .before .before in
+    simp (le-ltb (start .args .before) (start .args .shown) (omega arith))
 
 pub put-shown-spec : {M : Type 1} → statement M
 put-shown-spec = tie.close (tie.spec put-finding-requires same-length returns returns-2)
