@@ -22,6 +22,7 @@ pub mod ShownRising
 pub mod SilencesAlike
 pub mod OneSilenceMore
 pub mod EmptyBookIsScan
+pub mod GoesBy
 pub mod ReportGives
 pub mod ReportRefusals
 pub mod ReportRows

@@ -5,7 +5,6 @@ use Prim.Native.Nat.{ℕ, _*_, _≤_}
 use mathlib.Core.Logic.{_↔_}
 use mathlib.Core.Path.{_≡_, refl, sym, ap, _∙_}
 use mathlib.Core.List.{List}
-use mathlib.Core.Option.{Option, none, some}
 use native.Mathlib.Omega.{arith}
 use lib.ListN.{length}
 use Rattle.meaning.specs.Findings.{findings, wordsOf, written}
@@ -21,9 +20,9 @@ use Rattle.silences.specs.Books.{IsBytes, IsBook}
 use Rattle.silences.proofs.AcceptedIsLayout.{accepted-iff}
 use Rattle.outlines.specs.declared.reporting.Reported.{Reported}
 use Rattle.outlines.specs.declared.reporting.Reported.the-variants.{Counts as CountsCase, Refused}
-use Rattle.findings.specs.Admitting.{refusalOf, Admitted}
-use Rattle.outlines.specs.Report.{shown, hidden, ReportCounts, noReportCounts, silencesBy, admittedSilences, reportedBy, reportedWordsBy, paperOf, IsReported}
-use Rattle.findings.proofs.AdmitRows.{no-row-iff}
+use Rattle.findings.specs.Admitting.{Admitted}
+use Rattle.outlines.specs.Report.{shown, hidden, ReportCounts, noReportCounts, admittedSilences, reportedBy, reportedWordsBy, paperOf, IsReported}
+use Rattle.outlines.proofs.GoesBy.{by-book-iff}
 
 -- An accepted report: its limits, the silences that it goes by, its counts and its words.
 pub record IsGiven (cell ringNumber : ℕ) (ring line : List ℕ) (k : ℕ) (book words : List ℕ) (found hid looks : ℕ) (out : List ℕ) : Type 0 where
@@ -39,23 +38,6 @@ module _ (cell ringNumber : ℕ) (ring line : List ℕ) (k : ℕ) (book words : 
   abbrev goesBy : Answer (List Silence)
   goesBy = admittedSilences ring line k book (length words)
 
-  -- A report goes by these silences exactly within all limits, the book being read as these.
-  pub goes-by-iff : (ss : List Silence) → (goesBy ≡ accepted ss) ↔ (Admitted (length ring) k (length line) (length words) × (readBook book ≡ accepted ss))
-  unfolding admittedSilences
-  goes-by-iff ss = go (refusalOf (length ring) k (length line) (length words)) refl
-    where
-      go : (o : Option Refusal) → refusalOf (length ring) k (length line) (length words) ≡ o
-          → (silencesBy o (readBook book) ≡ accepted ss) ↔ (Admitted (length ring) k (length line) (length words) × (readBook book ≡ accepted ss))
-      go (some p) e = (
-        λ h. absurd (let z : _≡_ {A = ℕ} 0 1 = cc in omega arith),
-        λ h.
-            absurd
-            (let other : none ≡ some p = sym (no-row-iff (length ring) k (length line) (length words) .1 (h .0)) ∙ e in
-            let z : _≡_ {A = ℕ} 0 1 = cc in
-            omega arith),
-      )
-      go none e = (λ h. (no-row-iff (length ring) k (length line) (length words) .0 e, h), λ h. h .1)
-
   module _ (r : Reported) (out : List ℕ) (meets : IsReported cell ringNumber ring line k book words r out) where
     module _ (found hid looks : ℕ) (e : r ≡ CountsCase found hid looks) where
       -- What an accepted report gives.
@@ -68,7 +50,7 @@ module _ (cell ringNumber : ℕ) (ring line : List ℕ) (k : ℕ) (book words : 
           go (refused p) is paper put =
               absurd (let number-is : 0 ≡ numberOf p = ap (λ (q : Paper ReportCounts). q .number) paper in omega (arith, number-in p .0))
           go (accepted ss) is paper put =
-              let by = goes-by-iff ss .0 is in
+              let by = by-book-iff ring line k book (length words) (accepted ss) tt .0 is in
               record {
                 silences = ss;
                 book-is = by .1;
@@ -104,10 +86,10 @@ module _ (cell ringNumber : ℕ) (ring line : List ℕ) (k : ℕ) (book words : 
       λ h.
           ap (λ (p : Paper ReportCounts). p .number) (meets .paper)
           ∙ ap (λ (a : Answer (List Silence)). answerPaper noReportCounts (reportedBy ring line k cell ringNumber a) .number)
-          (goes-by-iff (h .1 .0) .1 (h .0, accepted-iff book (h .1 .0) bytes .1 (h .1 .1))),
+          (by-book-iff ring line k book (length words) (accepted (h .1 .0)) tt .1 (h .0, accepted-iff book (h .1 .0) bytes .1 (h .1 .1))),
     )
       where
         there : (a : Answer (List Silence)) → goesBy ≡ a → answerPaper noReportCounts (reportedBy ring line k cell ringNumber a) .number ≡ 0
             → Admitted (length ring) k (length line) (length words) × ((ss : List Silence) × IsBook ss book)
-        there (accepted ss) is zero = let by = goes-by-iff ss .0 is in (by .0, (ss, accepted-iff book ss bytes .0 (by .1)))
+        there (accepted ss) is zero = let by = by-book-iff ring line k book (length words) (accepted ss) tt .0 is in (by .0, (ss, accepted-iff book ss bytes .0 (by .1)))
         there (refused p) is zero = absurd (omega (arith, number-in p .0))

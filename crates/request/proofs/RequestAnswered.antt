@@ -10,13 +10,14 @@ use lib.Seq.{take-at}
 use Rattle.meaning.specs.Findings.{Finding, findings, wordsEach, wordsOf, written}
 use Rattle.meaning.proofs.Words.{words-length}
 use Rattle.answers.specs.declared.refusals.Refusal.{Refusal}
-use Rattle.answers.specs.Paper.{Answer}
+use Rattle.answers.specs.Paper.{Answer, accepted}
 use Rattle.silences.specs.Silences.{Silence}
 use Rattle.outlines.specs.declared.reporting.Reported.{Reported}
 use Rattle.outlines.specs.declared.reporting.Reported.the-variants.{Counts as CountsCase, Refused}
 use Rattle.outlines.specs.Report.{shown, hidden, ReportCounts, reportCounts, admittedSilences, paperOf, IsReported}
 use Rattle.outlines.proofs.ReportRefusals.{report-refusal-iff}
-use Rattle.outlines.proofs.ReportGives.{IsGiven, goes-by-iff, report-gives}
+use Rattle.outlines.proofs.ReportGives.{IsGiven, report-gives}
+use Rattle.outlines.proofs.GoesBy.{by-book-iff}
 use Rattle.outlines.proofs.ShownAndHidden.{shown-hidden-length}
 use Rattle.input.specs.Fields.{lineField}
 use Rattle.input.specs.Input.{Request}
@@ -83,7 +84,7 @@ module _ {cell ringNumber k : ℕ} {ring line book words out : List ℕ} {r : Re
       let words-are : length (wordsOf seen) ≡ wordsEach * (found - hid) = omega (arith, words-length seen) in
       let front : take (wordsEach * (found - hid)) out ≡ wordsOf seen = front-of (wordsOf seen) words (wordsEach * (found - hid)) words-are (given .words-are) in
       let text : requestText q ≡ reportLines q (given .silences) =
-      text-by q (length words) line-le enough (goes-by-iff cell ringNumber ring line k book words (given .silences) .1 (given .admitted, given .book-is)) in
+      text-by q (length words) line-le enough (by-book-iff ring line k book (length words) (accepted (given .silences)) tt .1 (given .admitted, given .book-is)) in
       let counts : countsOf found hid looks ≡ reportCounts ring line k cell ringNumber (given .silences) =
       λ j. countsOf (found-is j) (hidden-is j) (given .looks-are j) in
       record {

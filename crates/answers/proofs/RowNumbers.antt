@@ -1,0 +1,70 @@
+-- From numbers and places to refusals, whatever a call counts: where a paper is that of an answer, it has a refusal's number and place exactly when the answer
+-- is that refusal, and where the table's place is always 0 the number alone says so. The rows of every call are stated through these.
+-- Assumes nothing.
+use Prim.Native.Nat.{ℕ}
+use mathlib.Core.Logic.{_↔_}
+use mathlib.Core.Path.{_≡_, refl, sym, ap, subst, _∙_}
+use native.Mathlib.Omega.{arith}
+use Rattle.answers.specs.declared.refusals.Refusal.{Refusal}
+use Rattle.answers.specs.declared.refusals.Refusal.the-variants.{Ring, Allowance, Line, FindingsRoom, BookLength, Field, NotAbove, WordCount, RingNumber, OutputRoom, Input}
+use Rattle.answers.specs.Refusals.{numberOf, placeOf}
+use Rattle.answers.specs.Paper.{Answer, accepted, refused, Paper, answerPaper}
+use Rattle.answers.proofs.OneAnswer.{refusal-unique, number-in}
+
+-- The table gives a place other than 0 in rows 6, 7, 9 and 11 only.
+pub record HasNoPlace (number : ℕ) : Type 0 where
+  pub not-6 : number ≡ 6 → ⊥
+  pub not-7 : number ≡ 7 → ⊥
+  pub not-9 : number ≡ 9 → ⊥
+  pub not-11 : number ≡ 11 → ⊥
+
+-- so the place is 0 in every other
+place-zero : (r : Refusal) → HasNoPlace (numberOf r) → placeOf r ≡ 0
+place-zero Ring h = refl
+place-zero Allowance h = refl
+place-zero Line h = refl
+place-zero FindingsRoom h = refl
+place-zero BookLength h = refl
+place-zero (Field place) h = absurd (h .not-6 refl)
+place-zero (NotAbove place) h = absurd (h .not-7 refl)
+place-zero WordCount h = refl
+place-zero (RingNumber place) h = absurd (h .not-9 refl)
+place-zero OutputRoom h = refl
+place-zero (Input place) h = absurd (h .not-11 refl)
+
+module _ {C : Type 0} (zeros : C) where
+  -- the refusal that a paper with its number and place is of
+  row-back : (a : Answer C) (q : Refusal) → answerPaper zeros a .number ≡ numberOf q → answerPaper zeros a .place ≡ placeOf q → a ≡ refused q
+  row-back (accepted counts) q number place = absurd (omega (arith, number-in q .0))
+  row-back (refused p) q number place = ap refused (refusal-unique p q number place)
+
+  -- a number without a place is found with place 0
+  number-place : (a : Answer C) (q : Refusal) → HasNoPlace (numberOf q) → answerPaper zeros a .number ≡ numberOf q → answerPaper zeros a .place ≡ placeOf q
+  number-place (accepted counts) q none number = absurd (omega (arith, number-in q .0))
+  number-place (refused p) q none number = place-zero p (subst HasNoPlace (sym number) none) ∙ sym (place-zero q none)
+
+  -- For a paper that is the answer's, as a contract says:
+  module _ (a : Answer C) (paper : Paper C) (paper-is : paper ≡ answerPaper zeros a) where
+    -- its number is the answer's
+    number-is : paper .number ≡ answerPaper zeros a .number
+    number-is = ap (λ (p : Paper C). p .number) paper-is
+
+    -- and its place
+    place-is : paper .place ≡ answerPaper zeros a .place
+    place-is = ap (λ (p : Paper C). p .place) paper-is
+
+    -- It has a refusal's number and place exactly when the answer is that refusal.
+    pub row-iff : (q : Refusal) → ((paper .number ≡ numberOf q) × (paper .place ≡ placeOf q)) ↔ (a ≡ refused q)
+    row-iff q = (
+      λ e. row-back a q (sym number-is ∙ e .0) (sym place-is ∙ e .1),
+      λ e. (number-is ∙ ap (λ (b : Answer C). answerPaper zeros b .number) e, place-is ∙ ap (λ (b : Answer C). answerPaper zeros b .place) e),
+    )
+
+    module _ (q : Refusal) (none : HasNoPlace (numberOf q)) where
+      -- Where the table's place is always 0, the number alone says so.
+      pub row-number-iff : (paper .number ≡ numberOf q) ↔ (a ≡ refused q)
+      row-number-iff = (λ e. row-back a q (sym number-is ∙ e) (number-place a q none (sym number-is ∙ e)), λ e. row-iff q .1 e .0)
+
+      -- And the place is 0.
+      pub row-place-is : paper .number ≡ numberOf q → paper .place ≡ 0
+      row-place-is e = row-iff q .1 (row-number-iff .0 e) .1 ∙ place-zero q none
