@@ -1,4 +1,5 @@
--- `packing::putting::put_field` meets its contract: each number begins where the one before it ends, and all five are the field (`field-put`).
+-- `packing::putting::put_field` meets its contract: each number begins where the one before it ends, and all five are the field (`field-put`). Room for the
+-- field is known at the beginning; what is left of it behind each number follows from what was left behind the one before.
 -- Assumes nothing.
 use Prim.Native.Nat.{_+_, _≤_}
 use native.Mathlib.Omega.{arith}
@@ -14,12 +15,12 @@ use Rattle.packing.proofs.putting.put_field.Tie as tie
 here : tie.Start → Silence
 here c = silence (c .args .cell) (c .args .ring-number) (c .args .start)
 
--- Room is asked once, at the beginning: behind the tag there is room for the 12 bytes left.
+-- behind the tag there is room for the 12 bytes left
 behind-tag : (c : tie.After-put-number) → c .put-number .result + 12 ≤ length (c .put-number .last .0)
 unfolding here
 behind-tag c = omega (arith, field-length (here (c .before .before .before)), number-next 1 _ (c .put-number .ensures))
 
--- and behind each number for what was left but that number
+-- behind each next number there is room for what was left but that number
 behind-length : (c : tie.After-put-number2) → c .put-number2 .result + 10 ≤ length (c .put-number2 .last .0)
 behind-length c = omega (arith, behind-tag (c .before .before .before .before), number-next 2 _ (c .put-number2 .ensures))
 
