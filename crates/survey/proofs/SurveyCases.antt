@@ -25,10 +25,10 @@ use Rattle.tally.proofs.TallyFinding.{least-no, least-yes}
 
 module _ {ring doubled line : List ℕ} {k i : ℕ} {old : List ℕ} (can : CanVerifyOn ring doubled line k i old) where
   -- The first start is counted afresh.
-  pub on-first : {edges counts : List ℕ} {z : Least} → i ≡ 0 → IsWindow line i (length ring) edges → IsCounted doubled edges old counts z
+  pub first-verified : {edges counts : List ℕ} {z : Least} → i ≡ 0 → IsWindow line i (length ring) edges → IsCounted doubled edges old counts z
       → IsVerifiedOn ring line k i counts (record { start = i; least = z .least; looks = z .looks })
   unfolding surveyLooksBelow
-  on-first {edges} {counts} {z} first handed counted =
+  first-verified {edges} {counts} {z} first handed counted =
       let v = counted-verified ring line i doubled old counts edges z (can .fits .size) (can .fits .some-edge) (can .fits .most) (can .twice) (can .in-line) handed counted in
       record {
         start-ge = omega arith;
@@ -53,9 +53,9 @@ module _ {ring doubled line : List ℕ} {k i : ℕ} {old : List ℕ} (can : CanV
       )
 
   -- From a later one on the tally of the start before is moved, at most to the last start.
-  pub on-moved : {counts : List ℕ} {r : Reached} → 0 < i → IsMoved ring line (i - 1) (length line - length ring - (i - 1)) (k + 1) old counts r
+  pub moved-verified : {counts : List ℕ} {r : Reached} → 0 < i → IsMoved ring line (i - 1) (length line - length ring - (i - 1)) (k + 1) old counts r
       → IsVerifiedOn ring line k i counts r
-  on-moved {counts} {r} after moved =
+  moved-verified {counts} {r} after moved =
       let reached : IsReached ring line (i - 1) (length line - length ring - (i - 1)) (k + 1) counts r =
       moved-tallied ring line (k + 1) (can .fits .some-edge) (can .fits .most) (i - 1) (length line - length ring - (i - 1)) old (can .before after)
       (omega (arith, can .in-line)) (omega (arith, can .in-line)) (omega (arith, can .most-line)) counts r moved in
@@ -71,16 +71,16 @@ module _ {ring doubled line : List ℕ} {k i : ℕ} {old : List ℕ} (can : CanV
 
   module _ {counts : List ℕ} {r : Reached} (v : IsVerifiedOn ring line k i counts r) where
     -- Verified, and no finding.
-    pub on-none : k < r .least → IsSurveyedOn ring line k i (NoFinding r) counts
-    on-none far = record {
+    pub reached-none : k < r .least → IsSurveyedOn ring line k i (NoFinding r) counts
+    reached-none far = record {
       verified = v;
       found-are = sym (least-no ring line k (r .start) counts (r .least) (can .fits .some-edge) (v .tallied) (v .least-is) far);
     }
 
     -- A finding.
-    pub on-found : (f : FindingStruct) {rotation : ℕ} → r .least ≤ k → IsLowestWith (length ring) counts (r .least) rotation
+    pub reached-found : (f : FindingStruct) {rotation : ℕ} → r .least ≤ k → IsLowestWith (length ring) counts (r .least) rotation
         → f .start .0 ≡ r .start → f .rotation .0 ≡ rotation → f .distance ≡ r .least → IsSurveyedOn ring line k i (Found r f) counts
-    on-found f {rotation} near low fs fr fd = record {
+    reached-found f {rotation} near low fs fr fd = record {
       verified = v;
       found-are =
           ap {A = Finding} (λ x. x ∷ []) (λ j. record { start = fs j; rotation = fr j; distance = fd j })

@@ -29,7 +29,8 @@ IsSurveyed ring line k words r out = IsSearched ring line k (surveyLooks ring li
 
 -- From here on: what private functions ask and promise.
 
--- What verifying from start i on asks: a window in the line, and after the first start the tally of the start before.
+-- What verifying from start i on asks: a ring, an allowance and a line within the limits, the ring's double, a window in the line, and after the first start
+-- the tally of the start before.
 pub record CanVerifyOn (ring doubled line : List ℕ) (k i : ℕ) (counts : List ℕ) : Type 0 where
   pub fits : TallyFits ring counts
   pub allowed : k < length ring

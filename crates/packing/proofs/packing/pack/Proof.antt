@@ -10,7 +10,7 @@ use Rattle.packing.proofs.packing.pack.Tie as tie
 
 -- what is known once the records are judged
 judged : (c : tie.After-judge) → WordsJudged (c .before .before .before .before .before .args .words .now) (c .judge .result)
-judged c = record { word-count = record { multiple = c .before .before .if1 .left; words-le = c .before .if2 .left }; is = c .judge .ensures }
+judged c = record { word-count = record { multiple = c .before .before .if1 .left; words-le = omega (arith, c .before .if2 .left) }; is = c .judge .ensures }
 
 -- not a multiple of 3: row 8
 returns : tie.Need-returns
@@ -18,7 +18,7 @@ returns c = pack-word-count _ _ (inl (c .if1 .taken))
 
 -- more than 3,000 words: row 8
 returns-2 : tie.Need-returns-2
-returns-2 c = pack-word-count _ _ (inr (c .if2 .taken))
+returns-2 c = pack-word-count _ _ (inr (omega (arith, c .if2 .taken)))
 
 judge-requires : tie.Need-judge-requires
 judge-requires c κs = omega arith
@@ -30,7 +30,7 @@ enum-known-records c = search needs
 returns-3 : tie.Need-returns-3
 returns-3 c =
     let at-records = c .before .before in
-    pack-no-room _ _ (judged (at-records .before .before)) (at-records .records .given .1) (c .if3 .taken)
+    pack-no-room _ _ (judged (at-records .before .before)) (at-records .records .given .1) (omega (arith, c .if3 .taken))
 
 put-fields-requires : tie.Need-put-fields-requires
 put-fields-requires c κs =
@@ -48,7 +48,7 @@ returns-4 : tie.Need-returns-4
 returns-4 c =
     let at-put = c .before .before in
     let at-records = at-put .before .before .before .before in
-    pack-written _ _ (judged (at-records .before .before)) (at-records .records .given .1) (at-put .before .before .if3 .left) (at-put .put-fields .ensures)
+    pack-written _ _ (judged (at-records .before .before)) (at-records .records .given .1) (omega (arith, at-put .before .before .if3 .left)) (at-put .put-fields .ensures)
 
 -- row 9 or 7
 returns-5 : tie.Need-returns-5

@@ -4,7 +4,7 @@
 use mathlib.Core.Path.{sym, ap, _∙_}
 use borrow.Author.Needs.{needs}
 use Rattle.findings.specs.Admitting.{verdictOf}
-use Rattle.findings.proofs.AdmitCases.{admitted-by}
+use Rattle.findings.proofs.AdmitRows.{no-row-iff}
 use Rattle.findings.proofs.SearchAnswers.{refused-search, accepted-search}
 use Rattle.survey.proofs.plain.survey.Statement.{statement}
 use Rattle.survey.proofs.plain.survey.Tie as tie
@@ -21,7 +21,7 @@ enum-told c = search needs
 survey-line-requires : tie.Need-survey-line-requires
 survey-line-requires c κs =
     let admitted = c .before .before .before in
-    admitted-by _ _ _ _ (sym (admitted .admit .ensures .is) ∙ ap verdictOf (c .before .enum-told .given .1))
+    no-row-iff _ _ _ _ .0 (sym (admitted .admit .ensures .is) ∙ ap verdictOf (c .before .enum-told .given .1))
 
 -- Refused.
 returns : tie.Need-returns

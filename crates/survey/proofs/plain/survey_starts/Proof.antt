@@ -30,7 +30,7 @@ turn : (c : tie.After-survey-on Inv-loop μ-loop)
     → SurveyTurn (at-entry c .args .ring .now) (at-entry c .args .doubled .now) (at-entry c .args .line .now) (at-entry c .args .k) (at-entry c .args .counts .now)
     (at-entry c .args .words .now) (at-loop c .loop .i) (at-loop c .loop .found) (at-loop c .loop .looks) (at-loop c .loop .counts) (at-loop c .loop .words)
     (c .survey-on .result) (c .survey-on .last .0)
-turn c = record { can = at-entry c .pre; keeps = at-loop c .loop .inv .2; in-line = c .before .before .loop-test .taken; surveyed = c .survey-on .ensures }
+turn c = record { can = at-entry c .pre; keeps = at-loop c .loop .inv .2; in-line = omega (arith, c .before .before .loop-test .taken); surveyed = c .survey-on .ensures }
 
 loop-holds : tie.Need-loop-holds Inv-loop μ-loop
 loop-holds c = (refl, refl, survey-start (c .before .before .before .before .pre))
@@ -41,7 +41,7 @@ add-loop c = omega (arith, c .loop .inv .2 .start-le)
 survey-on-requires : tie.Need-survey-on-requires Inv-loop μ-loop
 survey-on-requires c κs =
     let at-start = c .before .before in
-    survey-can-verify (at-start .before .before .before .before .before .pre) (at-start .loop .inv .2) (c .before .loop-test .taken)
+    survey-can-verify (at-start .before .before .before .before .before .pre) (at-start .loop .inv .2) (omega (arith, c .before .loop-test .taken))
 
 enum-known-reached : tie.Need-enum-known-reached Inv-loop μ-loop
 enum-known-reached c = search needs
@@ -110,7 +110,7 @@ same-length c = c .before .loop .inv .1
 returns : tie.Need-returns Inv-loop μ-loop
 returns c =
     let at-end = c .before in
-    survey-end (at-end .before .before .before .before .before .pre) (at-end .loop .inv .2) (c .loop-test .left)
+    survey-end (at-end .before .before .before .before .before .pre) (at-end .loop .inv .2) (omega (arith, c .loop-test .left))
 
 pub survey-starts-spec : {M : Type 1} → statement M
 survey-starts-spec =

@@ -3,7 +3,7 @@
 -- Assumes nothing.
 use native.Mathlib.Omega.{arith}
 use borrow.Author.Needs.{needs}
-use Rattle.survey.proofs.SurveyCases.{on-first, on-moved}
+use Rattle.survey.proofs.SurveyCases.{first-verified, moved-verified}
 use Rattle.survey.proofs.plain.verify_on.Statement.{statement}
 use Rattle.survey.proofs.plain.verify_on.Tie as tie
 
@@ -33,13 +33,13 @@ returns : tie.Need-returns
 returns c =
     let at-window = c .before in
     let at-entry = at-window .before .before .before .before .before .before in
-    on-first (at-entry .pre) (at-window .before .before .if1 .taken) (at-window .window .ensures) (c .count-afresh .ensures)
+    first-verified (at-entry .pre) (omega (arith, at-window .before .before .if1 .taken)) (at-window .window .ensures) (c .count-afresh .ensures)
 
 -- A later one, and those after it.
 returns-2 : tie.Need-returns-2
 returns-2 c =
     let at-entry = c .before .before .before .before .before .before in
-    on-moved (at-entry .pre) (omega (arith, c .before .before .if1 .left)) (c .move-counts .ensures)
+    moved-verified (at-entry .pre) (omega (arith, c .before .before .if1 .left)) (c .move-counts .ensures)
 
 pub verify-on-spec : {M : Type 1} → statement M
 verify-on-spec =
