@@ -1,7 +1,7 @@
 -- Reading field by field. Before the field at `at` the fields before it have been read (`FieldsRead`), and so many are counted; where reading stops, there or at the
 -- book's end, the walk so far is the whole one (`reads-as-is`). Each whole field gets on (`field-ends`), so there are no more records than bytes.
 -- Assumes nothing.
-use Prim.Native.Nat.{ℕ, _+_, _-_, _≤_, _<_}
+use Prim.Native.Nat.{ℕ, _+_, _≤_, _<_}
 use mathlib.Core.Path.{_≡_, refl, sym, ap, subst, _∙_}
 use mathlib.Core.Bool.{Bool, true, false}
 use mathlib.Core.List.{List, [], _∷_, _++_}
@@ -26,16 +26,16 @@ pub record ReadOn (book : List ℕ) (at records : ℕ) (last : Option Silence) :
   pub records-is : records ≡ length silences
   pub last-is : last ≡ lastAfter none silences
 
-module _ (book : List ℕ) where
-  -- Before the first field.
-  pub read-start : ReadOn book 0 0 none
-  read-start = record { at-le = omega arith; records-le = omega arith; silences = []; fields = none-read; records-is = refl; last-is = refl }
+-- Before the first field.
+pub read-start : (book : List ℕ) → ReadOn book 0 0 none
+read-start book = record { at-le = omega arith; records-le = omega arith; silences = []; fields = none-read; records-is = refl; last-is = refl }
 
+module _ {book : List ℕ} where
   -- where the walk stops, its answer is the whole one
   stops-so : {a : Answer (List Silence)} → ReadsAs book none 0 a → recordsOf a ≡ recordsOf (readFrom book none 0)
   stops-so w = ap recordsOf (sym (reads-as-is book w))
 
-  module _ (at records : ℕ) (last : Option Silence) (inv : ReadOn book at records last) where
+  module _ {at records : ℕ} {last : Option Silence} (inv : ReadOn book at records last) where
     -- At the book's end the records counted are the answer.
     pub read-end : length book ≤ at → accepted records ≡ recordsOf (readFrom book none 0)
     read-end done = ap accepted (inv .records-is) ∙ stops-so (read-all (inv .fields) done)
@@ -44,7 +44,7 @@ module _ (book : List ℕ) where
     pub read-faulty : faulty ≡ fieldAt book at → at < length book → refused (Field at) ≡ recordsOf (readFrom book none 0)
     read-faulty is within = stops-so (stopped-faulty (inv .fields) within (sym is))
 
-    module _ (s : Silence) (next : ℕ) (is : whole s next ≡ fieldAt book at) where
+    module _ {s : Silence} {next : ℕ} (is : whole s next ≡ fieldAt book at) where
       -- the last record is that of the walk
       same-order : {t : Bool} → isAbove last s ≡ t → isAbove (lastAfter none (inv .silences)) s ≡ t
       same-order {t} e = subst (λ (l : Option Silence). isAbove l s ≡ t) (inv .last-is) e
@@ -65,7 +65,3 @@ module _ (book : List ℕ) where
             records-is = omega (arith, inv .records-is, length-append (inv .silences) (s ∷ []));
             last-is = sym (lastAfter-end none (inv .silences) s);
           }
-
-      -- Fewer bytes are left past it.
-      pub read-lt : length book - next < length book - at
-      read-lt = let ends : (at < next) × (next ≤ length book) = field-ends book at s next (sym is) in omega arith

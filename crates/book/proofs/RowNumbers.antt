@@ -1,5 +1,6 @@
 -- From numbers and places to refusals: a call's answer has a refusal's number and place exactly when its definition gives that refusal, and where the
--- table's place is always 0 the number alone says so. The rows of each call are stated through these two.
+-- table's place is always 0 the number alone says so. And it has so many records exactly when the definition is accepted with so many silences. The rows
+-- of each call are stated through these.
 -- Assumes nothing.
 use Prim.Native.Nat.{ℕ}
 use mathlib.Core.Logic.{_↔_}

@@ -8,7 +8,6 @@ use mathlib.Core.List.{List}
 use native.Mathlib.Omega.{arith}
 use lib.ListN.{length}
 use Rattle.answers.specs.declared.refusals.Refusal.the-variants.{BookLength, Field, NotAbove}
-use Rattle.answers.specs.Paper.{accepted}
 use Rattle.book.specs.declared.answering.BookAnswer.{BookAnswer}
 use Rattle.book.specs.declared.answering.BookAnswer.the-variants.{Records}
 use Rattle.silences.specs.Silences.{Silence}
@@ -29,10 +28,6 @@ module _ (book : List ℕ) (r : BookAnswer) (meets : IsRead book r) where
   pub read-row-5-place : paperOf r .number ≡ 5 → paperOf r .place ≡ 0
   read-row-5-place = row-place-is (readBook book) r (meets .paper) BookLength (omega arith)
 
-  -- It gives so many records exactly when reading is accepted, with so many silences.
-  pub read-gives : (n : ℕ) → (r ≡ Records n) ↔ ((ss : List Silence) × (readBook book ≡ accepted ss) × (length ss ≡ n))
-  read-gives = records-iff (readBook book) r (meets .paper)
-
   module _ (bytes : IsBytes book) where
     -- Row 6: "a field isn't 13 bytes beginning 21 00 0A hex, or is cut off", its byte offset.
     pub read-row-6 : (at : ℕ) → ((paperOf r .number ≡ 6) × (paperOf r .place ≡ at)) ↔ ((length book ≤ 13000) × IsFieldFault book at)
@@ -45,5 +40,5 @@ module _ (book : List ℕ) (r : BookAnswer) (meets : IsRead book r) where
     -- So many records are given exactly for the book of so many silences.
     pub read-records : (n : ℕ) → (r ≡ Records n) ↔ ((ss : List Silence) × IsBook ss book × (length ss ≡ n))
     read-records n =
-        Iff·trans (read-gives n)
+        Iff·trans (records-iff (readBook book) r (meets .paper) n)
         (λ h. (h .0, accepted-iff book (h .0) bytes .0 (h .1), h .2), λ h. (h .0, accepted-iff book (h .0) bytes .1 (h .1), h .2))

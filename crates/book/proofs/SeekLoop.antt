@@ -1,41 +1,33 @@
 -- Seeking field by field. Before the field at `at` what is sought from `from` on is what is sought from `at` on: each field passed is below the
--- address. Each whole field gets on (`field-ends`), so seeking ends.
+-- address.
 -- Assumes nothing.
-use Prim.Native.Nat.{ℕ, _-_, _≤_, _<_}
+use Prim.Native.Nat.{ℕ}
 use mathlib.Core.Path.{_≡_, refl, sym, _∙_}
 use mathlib.Core.Bool.{true, false}
 use mathlib.Core.List.{List}
-use native.Mathlib.Omega.{arith}
-use lib.ListN.{length}
 use Rattle.silences.specs.Silences.{Silence, isBelow}
 use Rattle.silences.specs.Reading.{whole, faulty, fieldAt}
 use Rattle.book.specs.Seeking.{seekFrom}
-use Rattle.silences.proofs.FieldEnds.{field-ends}
 use Rattle.book.proofs.SeekFrom.{seekFrom-faulty, seekFrom-below, seekFrom-found}
 
 -- What is sought from `from` on is what is sought from `at` on.
 pub record SeekOn (book : List ℕ) (from : ℕ) (address : Silence) (at : ℕ) : Type 0 where
   pub same : seekFrom book address from ≡ seekFrom book address at
 
-module _ (book : List ℕ) (from : ℕ) (address : Silence) where
-  -- Before the first field.
-  pub seek-start : SeekOn book from address from
-  seek-start = record { same = refl }
+-- Before the first field.
+pub seek-start : (book : List ℕ) (from : ℕ) (address : Silence) → SeekOn book from address from
+seek-start book from address = record { same = refl }
 
-  module _ (at : ℕ) (inv : SeekOn book from address at) where
-    -- Where no whole field stands, there is none.
-    pub seek-nothing : faulty ≡ fieldAt book at → faulty ≡ seekFrom book address from
-    seek-nothing is = sym (inv .same ∙ seekFrom-faulty book address at (sym is))
+module _ {book : List ℕ} {from : ℕ} {address : Silence} {at : ℕ} (inv : SeekOn book from address at) where
+  -- Where no whole field stands, there is none.
+  pub seek-nothing : faulty ≡ fieldAt book at → faulty ≡ seekFrom book address from
+  seek-nothing is = sym (inv .same ∙ seekFrom-faulty book address at (sym is))
 
-    module _ (s : Silence) (next : ℕ) (is : whole s next ≡ fieldAt book at) where
-      -- A field that is not below the address is the one.
-      pub seek-end : isBelow s address ≡ false → whole s next ≡ seekFrom book address from
-      seek-end above = sym (inv .same ∙ seekFrom-found book address at (sym is) above)
+  module _ {s : Silence} {next : ℕ} (is : whole s next ≡ fieldAt book at) where
+    -- A field that is not below the address is the one.
+    pub seek-end : isBelow s address ≡ false → whole s next ≡ seekFrom book address from
+    seek-end above = sym (inv .same ∙ seekFrom-found book address at (sym is) above)
 
-      -- A field below the address is passed.
-      pub seek-turn : isBelow s address ≡ true → SeekOn book from address next
-      seek-turn below = record { same = inv .same ∙ seekFrom-below book address at (sym is) below }
-
-      -- Fewer bytes are left past it.
-      pub seek-lt : length book - next < length book - at
-      seek-lt = let ends : (at < next) × (next ≤ length book) = field-ends book at s next (sym is) in omega arith
+    -- A field below the address is passed.
+    pub seek-turn : isBelow s address ≡ true → SeekOn book from address next
+    seek-turn below = record { same = inv .same ∙ seekFrom-below book address at (sym is) below }

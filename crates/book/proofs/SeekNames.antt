@@ -35,13 +35,13 @@ abbrev pub AllPassed : Silence → List Silence → Type 0
 AllPassed address [] = Unit {0}
 AllPassed address (s ∷ ss) = Below s address × AllPassed address ss
 
--- Past the book's end no field stands.
-pub field-past : (book : List ℕ) (at : ℕ) → length book ≤ at → fieldAt book at ≡ faulty
+-- past the book's end no field stands
+field-past : (book : List ℕ) (at : ℕ) → length book ≤ at → fieldAt book at ≡ faulty
 field-past book at h = field-cut-off book at (omega arith)
 
 module _ (address : Silence) where
-  -- The silences that are below an address do not name it.
-  pub names-passed : (ss ts : List Silence) → AllPassed address ss → namesAddress (ss ++ ts) address ≡ namesAddress ts address
+  -- silences that are below an address do not name it
+  names-passed : (ss ts : List Silence) → AllPassed address ss → namesAddress (ss ++ ts) address ≡ namesAddress ts address
   unfolding names
   names-passed [] ts p = refl
   names-passed (s ∷ ss) ts p = ap (λ (t : Bool). t || namesAddress (ss ++ ts) address) (below-not-same s address (p .0) .0) ∙ names-passed ss ts (p .1)

@@ -3,8 +3,8 @@
 -- (`Seeking`), seeks on from just past it where it is below the next address, and reads no field twice.
 -- Assumes nothing.
 use Prim.Native.Nat.{ℕ}
-use mathlib.Core.Path.{_≡_, refl, sym, ap, subst, _∙_}
-use mathlib.Core.Bool.{Bool, true, false, cond}
+use mathlib.Core.Path.{_≡_, refl, sym, ap, _∙_}
+use mathlib.Core.Bool.{Bool, true, false}
 use mathlib.Core.List.{List}
 use Rattle.answers.specs.Paper.{accepted}
 use Rattle.silences.specs.Silences.{Silence, isBelow, Below}
@@ -44,26 +44,10 @@ pub record Seeking (book : List ℕ) (asked : Silence) (held : FieldAt) : Type 0
   pub held-is : held ≡ seekFrom book asked 0
 
 module _ (book : List ℕ) where
-  -- The first address is sought from the first byte on.
-  pub seeking-start : (a : Silence) → Seeking book a (seekFrom book a 0)
-  seeking-start a = record { held-is = refl }
-
-  module _ (a b : Silence) (not-below : Below b a → ⊥) where
-    -- The next address: the held field is asked for it.
-    pub seeking-turn : (held : FieldAt) → Seeking book a held → Seeking book b (seekField b held (seekFrom book b))
-    seeking-turn held was = record { held-is = ap (λ (f : FieldAt). seekField b f (seekFrom book b)) (was .held-is) ∙ seek-again book a b not-below 0 }
-
-    -- With nothing left there is nothing for it.
-    pub seeking-turn-none : Seeking book a faulty → Seeking book b faulty
-    seeking-turn-none was = seeking-turn faulty was
-
-    -- A held field that is not below it is kept.
-    pub seeking-turn-kept : (s : Silence) (next : ℕ) → isBelow s b ≡ false → Seeking book a (whole s next) → Seeking book b (whole s next)
-    seeking-turn-kept s next e was = subst (λ (t : Bool). Seeking book b (cond t (seekFrom book b next) (whole s next))) e (seeking-turn (whole s next) was)
-
-    -- One that is below it is passed: the address is sought from just past it.
-    pub seeking-turn-on : (s : Silence) (next : ℕ) → isBelow s b ≡ true → Seeking book a (whole s next) → Seeking book b (seekFrom book b next)
-    seeking-turn-on s next e was = subst (λ (t : Bool). Seeking book b (cond t (seekFrom book b next) (whole s next))) e (seeking-turn (whole s next) was)
+  -- The next address, if it is not below the last: the held field is asked for it.
+  pub seeking-turn : (a b : Silence) → (Below b a → ⊥) → (held : FieldAt) → Seeking book a held → Seeking book b (seekField b held (seekFrom book b))
+  seeking-turn a b not-below held was =
+      record { held-is = ap (λ (f : FieldAt). seekField b f (seekFrom book b)) (was .held-is) ∙ seek-again book a b not-below 0 }
 
   -- In an accepted book the held field is for the address exactly when the book names it.
   pub seeking-names : (ss : List Silence) (a : Silence) (held : FieldAt) → readBook book ≡ accepted ss → Seeking book a held

@@ -55,7 +55,7 @@ pub record PutOn (book area : List ℕ) (records : ℕ) (words : List ℕ) (at d
   pub room : recordWords * records ≤ length area
   pub words-is : words ≡ written (wordsOfSilences put) area
 
-module _ (book area : List ℕ) (records : ℕ) where
+module _ {book area : List ℕ} {records : ℕ} where
   -- Before the first field.
   pub put-start : recordsOf (readBook book) ≡ accepted records → recordWords * records ≤ length area → PutOn book area records area 0 0
   unfolding written wordsOfSilences
@@ -75,7 +75,7 @@ module _ (book area : List ℕ) (records : ℕ) where
         words-is = refl;
       }
 
-  module _ (words : List ℕ) (at done : ℕ) (inv : PutOn book area records words at done) where
+  module _ {words : List ℕ} {at done : ℕ} (inv : PutOn book area records words at done) where
     -- The area keeps its length.
     pub put-length-is : length words ≡ length area
     put-length-is =
@@ -104,9 +104,9 @@ module _ (book area : List ℕ) (records : ℕ) where
       put-room-le = omega (arith, put-length-is, inv .room)
 
       -- Its words are written behind the others.
-      pub put-turn : (s : Silence) (next : ℕ) → whole s next ≡ fieldAt book at
+      pub put-turn : {s : Silence} {next : ℕ} → whole s next ≡ fieldAt book at
           → PutOn book area records (sets words (recordWords * done) (silenceWords s)) next (done + 1)
-      put-turn s next is =
+      put-turn {s} {next} is =
           let f : FirstField book at (inv .others) = next-field in
           let same : whole s next ≡ whole (f .first) (f .next) = is ∙ f .field-is in
           let first-is : f .first ≡ s = sym (whole-silence-unique same) in

@@ -13,12 +13,12 @@ use Rattle.answers.specs.Paper.{Paper, answerPaper}
 use Rattle.answers.proofs.OneAnswer.{number-in}
 use Rattle.findings.specs.Admitting.{refusalOf, Admitted}
 use Rattle.findings.specs.Searching.{Counts, noCounts, answerBy, searched, searchPaper}
-use Rattle.findings.proofs.AdmitCases.{admitted-by}
+use Rattle.findings.proofs.AdmitRows.{no-row-iff}
 
--- Number 0 is of no row.
-no-row : (o : Option Refusal) (counts : Counts) → answerPaper noCounts (answerBy o counts) .number ≡ 0 → o ≡ none
-no-row none counts e = refl
-no-row (some refusal) counts e = absurd (omega (arith, number-in refusal .0))
+-- number 0 is of no row
+number-zero : (o : Option Refusal) (counts : Counts) → answerPaper noCounts (answerBy o counts) .number ≡ 0 → o ≡ none
+number-zero none counts e = refl
+number-zero (some refusal) counts e = absurd (omega (arith, number-in refusal .0))
 
 -- What is known of an accepted search: its found, its looks, and that it is within the limits.
 pub record AcceptedSearch (ring line : List ℕ) (k room looks : ℕ) (p : Paper Counts) : Type 0 where
@@ -33,10 +33,10 @@ unfolding searched
 search-counts ring line k room looks p paper zero-is =
     let counts : Counts = record { found = length (findings ring line k); looks = looks } in
     let accepted-is : refusalOf (length ring) k (length line) room ≡ none =
-    no-row (refusalOf (length ring) k (length line) room) counts (rw paper at zero-is)
+    number-zero (refusalOf (length ring) k (length line) room) counts (rw paper at zero-is)
     in
     record {
       found-is = ap (λ (q : Paper Counts). q .counts .found) paper ∙ rw accepted-is refl;
       looks-are = ap (λ (q : Paper Counts). q .counts .looks) paper ∙ rw accepted-is refl;
-      admitted = admitted-by (length ring) k (length line) room accepted-is;
+      admitted = no-row-iff (length ring) k (length line) room .0 accepted-is;
     }

@@ -10,7 +10,7 @@ use Rattle.answers.specs.declared.refusals.Refusal.{Refusal}
 use Rattle.answers.specs.declared.refusals.Refusal.the-variants.{Ring, Allowance, Line, FindingsRoom}
 use Rattle.answers.specs.Refusals.{numberOf}
 use Rattle.findings.specs.Admitting.{IsRing, refusalOf, Admitted}
-use Rattle.findings.proofs.AdmitCases.{row1-empty, row1-long, row2-is, row3-is, row4-is, short-accepted, room-accepted, admitted-by}
+use Rattle.findings.proofs.AdmitCases.{row1-empty, row1-long, row2-is, row3-is, row4-is, short-accepted, room-accepted}
 
 -- The first of rows 1 to 4 that is given, or that none is.
 pub data RowGiven (m k n room : ℕ) : Option Refusal → Type 0 where
@@ -108,7 +108,10 @@ module _ (m k n room : ℕ) where
 
   -- None of them is given exactly within all limits, and with room.
   pub no-row-iff : (refusalOf m k n room ≡ none) ↔ Admitted m k n room
-  no-row-iff = (λ e. admitted-by m k n room e, λ a. row-given none .1 (no-row a))
+  no-row-iff = (λ e. back (row-given none .0 e), λ a. row-given none .1 (no-row a))
+    where
+      back : RowGiven m k n room none → Admitted m k n room
+      back (no-row a) = a
 
   -- These are rows 1 to 4.
   pub row-numbers : (refusal : Refusal) → refusalOf m k n room ≡ some refusal → numberOf refusal ≤ 4

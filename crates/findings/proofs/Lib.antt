@@ -9,5 +9,6 @@ pub mod PutCases
 pub mod SearchAnswers
 pub mod RowsOfSearching
 pub mod AcceptedSearches
+pub mod SearchGives
 -- Any two answers that meet a contract are equal.
 pub mod OneAnswer

@@ -15,9 +15,9 @@ use Rattle.findings.specs.declared.searching.Scanned.{Scanned}
 use Rattle.findings.specs.declared.searching.Scanned.the-variants.{Counts as CountsCase, Refused}
 use Rattle.findings.specs.Admitting.{verdictOf, IsVerdict}
 use Rattle.findings.specs.Putting.{IsPut}
-use Rattle.findings.specs.Searching.{Counts, noCounts, answerOf, paperOf}
+use Rattle.findings.specs.Searching.{Counts, noCounts, answerOf, paperOf, IsSearched}
 
--- The verdict that a refusal comes from.
+-- the verdict that a refusal comes from
 abbrev verdictBack : Option Refusal → Verdict
 verdictBack none = Accepted
 verdictBack (some refusal) = RefusedBy refusal
@@ -26,15 +26,15 @@ verdict-back : (r : Verdict) → verdictBack (verdictOf r) ≡ r
 verdict-back Accepted = refl
 verdict-back (RefusedBy refusal) = refl
 
--- `admit`
+-- Any two verdicts of `admit` are equal.
 pub one-verdict : (m k n room : ℕ) (r r′ : Verdict) → IsVerdict m k n room r → IsVerdict m k n room r′ → r ≡ r′
 one-verdict m k n room r r′ a b = sym (verdict-back r) ∙ ap verdictBack (a .is ∙ sym (b .is)) ∙ verdict-back r′
 
--- `put_finding`
+-- Any two areas at exit of `put_finding` are equal.
 pub one-put : (words : List ℕ) (before : ℕ) (f : Finding) (out out′ : List ℕ) → IsPut words before f out → IsPut words before f out′ → out ≡ out′
 one-put words before f out out′ a b = a .written ∙ sym (b .written)
 
--- The case that an answer comes from.
+-- the case that an answer comes from
 abbrev answerBack : Answer Counts → Scanned
 answerBack (accepted counts) = CountsCase (counts .found) (counts .looks)
 answerBack (refused refusal) = Refused refusal
@@ -46,3 +46,8 @@ answer-back (Refused refusal) = refl
 -- The paper of a search determines its answer.
 pub paper-unique : (r r′ : Scanned) → paperOf r ≡ paperOf r′ → r ≡ r′
 paper-unique r r′ e = sym (answer-back r) ∙ ap answerBack (answer-unique noCounts (answerOf r) (answerOf r′) e) ∙ answer-back r′
+
+-- Any two answers that meet a search's contract are equal, and any two areas at exit.
+pub search-unique : {ring line : List ℕ} {k asked : ℕ} {words : List ℕ} {r r′ : Scanned} {out out′ : List ℕ} → IsSearched ring line k asked words r out
+    → IsSearched ring line k asked words r′ out′ → (r ≡ r′) × (out ≡ out′)
+search-unique {r = r} {r′ = r′} p p′ = (paper-unique r r′ (p .paper ∙ sym (p′ .paper)), p .written ∙ sym (p′ .written))

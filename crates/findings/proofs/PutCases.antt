@@ -12,19 +12,15 @@ use lib.Dec.{leb}
 use lib.ListN.{length}
 use borrow.Author.Tests.{ltb-true, leb-true, lt-ltb, le-ltb, le-leb, lt-leb}
 use Rattle.meaning.specs.Findings.{Finding, wordsEach}
-use Rattle.meaning.proofs.Cases.{and-true}
+use Rattle.meaning.proofs.Cases.{and-true, not-passed}
 use Rattle.findings.specs.Putting.{wordsPut, isWord, canPut, CanPut, IsPut}
 
--- A test that cannot pass fails.
-not-passed : (t : Bool) → (t ≡ true → ⊥) → false ≡ t
-not-passed true can-not = absurd (can-not refl)
-not-passed false can-not = refl
-
--- What the test asks, in words of order.
+-- what the test asks, in words of order
 abbrev Asked : ℕ → ℕ → Finding → Type 0
 Asked room before f = (wordsEach * before + wordsEach ≤ room) × (f .start < 2 ^ 32) × (f .rotation < 2 ^ 32) × (f .distance < 2 ^ 32)
 
 module _ (room before : ℕ) (f : Finding) where
+  -- a finding that passes the test has it all
   asked : canPut room before f ≡ true → Asked room before f
   unfolding canPut
   asked passed =
@@ -51,6 +47,7 @@ module _ (room before : ℕ) (f : Finding) where
       (λ g. lt-leb (f .distance) 4294967295 (omega (arith, g)) ∙ sym (le-ltb (f .distance) (2 ^ 32) (omega (arith, g)))))
 
 module _ (words : List ℕ) (before : ℕ) (f : Finding) where
+  -- whether the words can be put
   abbrev test : Bool
   test = canPut (length words) before f
 
@@ -68,7 +65,7 @@ module _ (words : List ℕ) (before : ℕ) (f : Finding) where
   pub put-no : test ≡ false → IsPut words before f words
   put-no failed = record { written = rw failed refl }
 
-  -- What can be put passes the test.
+  -- what can be put passes the test
   passes : CanPut words before f → test ≡ true
   unfolding canPut
   passes can =

@@ -71,14 +71,14 @@ module _ {m k n room : ℕ} where
   no-more (no-row a) = omega arith
 
 -- A row's paper has its number and place, and zero in every count; its words are as they were lent.
-record PaperBy (o : Option Refusal) (p : Paper Counts) (new old out : List ℕ) : Type 0 where
+record PaperBy (o : Option Refusal) (p : Paper Counts) (old out : List ℕ) : Type 0 where
   number-is : p .number ≡ rowNumber o
   place-is : p .place ≡ rowPlace o
   no-found : 0 < p .number → p .counts .found ≡ 0
   no-looks : 0 < p .number → p .counts .looks ≡ 0
   untouched : 0 < p .number → out ≡ old
 
-paper-by : (o : Option Refusal) (counts : Counts) (new old : List ℕ) → PaperBy o (answerPaper noCounts (answerBy o counts)) new old (wordsBy o new old)
+paper-by : (o : Option Refusal) (counts : Counts) (new old : List ℕ) → PaperBy o (answerPaper noCounts (answerBy o counts)) old (wordsBy o new old)
 paper-by none counts new old = record {
   number-is = refl;
   place-is = refl;

@@ -1,5 +1,5 @@
--- A search's two answers, by the first row that is given: refused, and nothing written; or accepted, with what it found and looked at. Stated once over
--- the looks, for survey and scan.
+-- A search's two answers, by the first row that is given: refused, and nothing written; or accepted, with the line searched. Stated once over the looks, for
+-- survey and scan.
 -- Assumes nothing.
 use Prim.Native.Nat.{ℕ}
 use mathlib.Core.Path.{_≡_, ap, _∙_}
@@ -11,31 +11,54 @@ use Rattle.answers.specs.declared.refusals.Refusal.{Refusal}
 use Rattle.answers.specs.Paper.{answerPaper}
 use Rattle.findings.specs.declared.searching.Scanned.the-variants.{Counts as CountsCase, Refused}
 use Rattle.findings.specs.Admitting.{refusalOf}
-use Rattle.findings.specs.Searching.{noCounts, answerBy, wordsBy, searched, searchedWords, paperOf, searchPaper}
+use Rattle.findings.specs.Searching.{noCounts, answerBy, wordsBy, searched, searchedWords, LineSearched, paperOf, searchPaper, IsSearched}
 
 module _ (ring line : List ℕ) (k : ℕ) (words : List ℕ) where
+  -- the first row that is given, if one is
   abbrev row : Option Refusal
   row = refusalOf (length ring) k (length line) (length words)
 
-  paper-by : (o : Option Refusal) (looks : ℕ) → o ≡ row
-      → answerPaper noCounts (answerBy o (record { found = length (findings ring line k); looks = looks })) ≡ searchPaper ring line k (length words) looks
+  -- the paper goes by that row
+  paper-by : (o : Option Refusal) (asked : ℕ) → o ≡ row
+      → answerPaper noCounts (answerBy o (record { found = length (findings ring line k); looks = asked })) ≡ searchPaper ring line k (length words) asked
   unfolding searched
-  paper-by o looks e = ap (λ (p : Option Refusal). answerPaper noCounts (answerBy p (record { found = length (findings ring line k); looks = looks }))) e
+  paper-by o asked e = ap (λ (p : Option Refusal). answerPaper noCounts (answerBy p (record { found = length (findings ring line k); looks = asked }))) e
 
+  -- and so do the words
   words-by : (o : Option Refusal) → o ≡ row → wordsBy o (written (wordsOf (findings ring line k)) words) words ≡ searchedWords ring line k words
   unfolding searchedWords
   words-by o e = ap (λ (p : Option Refusal). wordsBy p (written (wordsOf (findings ring line k)) words) words) e
 
+module _ {ring line : List ℕ} {k asked : ℕ} {words : List ℕ} where
   -- A row is given: the refusal, and the words as they were.
-  pub search-refused : (looks : ℕ) (refusal : Refusal) → some refusal ≡ row
-      → (paperOf (Refused refusal) ≡ searchPaper ring line k (length words) looks) × (words ≡ searchedWords ring line k words)
-  search-refused looks refusal e = (paper-by (some refusal) looks e, words-by (some refusal) e)
+  pub refused-search : {refusal : Refusal} → some refusal ≡ refusalOf (length ring) k (length line) (length words)
+      → IsSearched ring line k asked words (Refused refusal) words
+  refused-search {refusal} e =
+      record { paper = paper-by ring line k words (some refusal) asked e; written = words-by ring line k words (some refusal) e }
 
   -- No row is given: found, looks and the words of the findings.
-  pub search-accepted : (all found looks : ℕ) (out : List ℕ) → none ≡ row → found ≡ length (findings ring line k) → looks ≡ all
-      → out ≡ written (wordsOf (findings ring line k)) words
-      → (paperOf (CountsCase found looks) ≡ searchPaper ring line k (length words) all) × (out ≡ searchedWords ring line k words)
-  search-accepted all found looks out e found-is looks-are written-is = (
-    (λ j. record { number = 0; place = 0; counts = record { found = found-is j; looks = looks-are j } }) ∙ paper-by none all e,
-    written-is ∙ words-by none e,
-  )
+  pub accepted-search : {found looks : ℕ} {out : List ℕ} → none ≡ refusalOf (length ring) k (length line) (length words)
+      → LineSearched ring line k asked words found looks out → IsSearched ring line k asked words (CountsCase found looks) out
+  accepted-search e done =
+      record {
+        paper = (λ j. record { number = 0; place = 0; counts = record { found = done .found-is j; looks = done .looks-are j } })
+            ∙ paper-by ring line k words none asked e;
+        written = done .written ∙ words-by ring line k words none e;
+      }
+
+-- The refusal, its two equations apart.
+pub search-refused : (ring line : List ℕ) (k : ℕ) (words : List ℕ) (asked : ℕ) (refusal : Refusal) → some refusal ≡ refusalOf (length ring) k (length line) (length words)
+    → (paperOf (Refused refusal) ≡ searchPaper ring line k (length words) asked) × (words ≡ searchedWords ring line k words)
+search-refused ring line k words asked refusal e =
+    let searched : IsSearched ring line k asked words (Refused refusal) words = refused-search e in
+    (searched .paper, searched .written)
+
+-- The accepted answer, its two equations apart.
+pub search-accepted : (ring line : List ℕ) (k : ℕ) (words : List ℕ) (asked found looks : ℕ) (out : List ℕ)
+    → none ≡ refusalOf (length ring) k (length line) (length words) → found ≡ length (findings ring line k) → looks ≡ asked
+    → out ≡ written (wordsOf (findings ring line k)) words
+    → (paperOf (CountsCase found looks) ≡ searchPaper ring line k (length words) asked) × (out ≡ searchedWords ring line k words)
+search-accepted ring line k words asked found looks out e found-is looks-are written-is =
+    let searched : IsSearched ring line k asked words (CountsCase found looks) out =
+    accepted-search e (record { found-is = found-is; looks-are = looks-are; written = written-is }) in
+    (searched .paper, searched .written)

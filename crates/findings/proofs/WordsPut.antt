@@ -1,10 +1,10 @@
 -- The words of one finding put behind those of the findings before it: what the area then holds is what `written` says of one finding more.
 -- Assumes nothing.
-use Prim.Native.Nat.{ℕ, suc, _+_, _*_, _≤_}
+use Prim.Native.Nat.{ℕ, _+_, _*_, _≤_}
 use mathlib.Core.Path.{_≡_, refl, sym, ap, _∙_}
 use mathlib.Core.List.{List, [], _∷_, _++_}
 use native.Mathlib.Omega.{arith}
-use lib.ListN.{length, set}
+use lib.ListN.{length}
 use lib.Seq.{sets}
 use Rattle.meaning.specs.Findings.{Finding, findingWords, wordsEach, wordsOf, written}
 use Rattle.meaning.proofs.Words.{words-length, words-append, written-length, written-more}
@@ -28,10 +28,3 @@ put-none area = refl
 -- The area keeps its length, where there is room.
 pub put-length : (fs : List Finding) (found : ℕ) (area : List ℕ) → found ≡ length fs → wordsEach * found ≤ length area → length (written (wordsOf fs) area) ≡ length area
 put-length fs found area e room = written-length (wordsOf fs) area (omega (arith, words-length fs))
-
--- Three stores, one after the other, as code writes their places.
-pub three-stores : (words : List ℕ) (at a b c : ℕ) → set (set (set words at a) (at + 1) b) (at + 2) c ≡ sets words at (a ∷ b ∷ c ∷ [])
-three-stores words at a b c =
-    let one : at + 1 ≡ suc at = omega arith in
-    let two : at + 2 ≡ suc (suc at) = omega arith in
-    rw (one, two)

@@ -2,8 +2,10 @@
 --
 --   mostRing, mostLine    the document's limits
 --   roomAsked             the words asked for findings
+--   isRow1 to isRow4      when each row is given
 --   refusalOf             "Order: survey and scan 1 to 4": the first row that is given, if one is
---   Admitted              what is known of an accepted call
+--   IsRing                row 1 is not given
+--   Admitted              no row is given: what is known of an accepted call
 --   IsVerdict             what `admit` promises
 use Prim.Native.Nat.{ℕ, _+_, _-_, _*_, _≤_, _<_}
 use mathlib.Core.Path.{_≡_}

@@ -6,6 +6,7 @@
 --   searchedWords        the lent words at exit
 --   LineSearched         a line searched, once a call is accepted
 --   paperOf              document 01's number, place and counts of an answer
+--   IsSearched           what a search promises: survey and scan, each with its own looks
 use Prim.Native.Nat.{ℕ}
 use mathlib.Core.Path.{_≡_}
 use mathlib.Core.List.{List}
@@ -65,3 +66,9 @@ paperOf r = answerPaper noCounts (answerOf r)
 -- Document 01's number, place and counts of what a search gives.
 abbrev pub searchPaper : List ℕ → List ℕ → ℕ → ℕ → ℕ → Paper Counts
 searchPaper ring line k room looks = answerPaper noCounts (searched ring line k room looks)
+
+-- What a search promises that takes so many looks of its own: of the ring, the line, the allowance, these looks, the lent words, the answer and the words at
+-- exit. Its number, place and counts, and the words, on every input, accepted or refused.
+pub record IsSearched (ring line : List ℕ) (k asked : ℕ) (words : List ℕ) (r : Scanned) (out : List ℕ) : Type 0 where
+  pub paper : paperOf r ≡ searchPaper ring line k (length words) asked
+  pub written : out ≡ searchedWords ring line k words

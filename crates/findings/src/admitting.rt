@@ -3,10 +3,10 @@ use answers::Refusal;
 ghost use Rattle.findings.specs.Admitting.{IsVerdict};
 
 // "Ring: m edges, 1 to 256."
-pub const MOST_RING: usize = 256;
+const MOST_RING: usize = 256;
 // "Line: n edges, 0 to 65,536."
-pub const MOST_LINE: usize = 65536;
-// "Three 32-bit words each."
+const MOST_LINE: usize = 65536;
+// "three 32-bit words each"
 pub const WORDS_EACH: usize = 3;
 
 // Whether a call goes on, or the first refusal that is given.

@@ -28,7 +28,7 @@ pub record PutFields (words area : List ℕ) (at to : ℕ) (out : List ℕ) : Ty
   pub room : to + length (layoutFrom words at) ≤ length area
   pub whole-is : writtenAt to (layoutFrom words at) out ≡ written (layout (silencesOf words)) area
 
-module _ (words area : List ℕ) where
+module _ {words area : List ℕ} where
   -- At the start all fields are left.
   pub fields-start : length (layout (silencesOf words)) ≤ length area → PutFields words area 0 0 area
   fields-start h = record { at-le = omega arith; length-is = refl; room = omega arith; whole-is = writtenAt-zero (layout (silencesOf words)) area }

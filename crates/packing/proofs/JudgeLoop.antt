@@ -38,7 +38,7 @@ pub record JudgedTo (words : List ℕ) (last : Option Silence) (records bytes at
   pub records-is : records ≡ length passed
   pub bytes-is : bytes ≡ length (layout passed)
 
-module _ (words : List ℕ) where
+module _ {words : List ℕ} where
   -- At the start no record is passed.
   pub judge-start : JudgedTo words none 0 0 0
   unfolding layout

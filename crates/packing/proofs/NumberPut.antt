@@ -20,20 +20,20 @@ pub record PutNumber (at count number : ℕ) (area : List ℕ) (rest left : ℕ)
   pub length-is : length out ≡ length area
   pub whole-is : writtenAt at (bytesOf left rest) out ≡ writtenAt at (bytesOf count number) area
 
-module _ (at count number : ℕ) (area : List ℕ) where
+-- the last of the bytes left is stored
+store-last : (at rest before : ℕ) (out : List ℕ) → at + before < length out
+    → writtenAt at (bytesOf before (rest / 256)) (set out (at + before) (rest % 256)) ≡ writtenAt at (bytesOf (suc before) rest) out
+unfolding bytesOf
+store-last at rest before out h =
+    let others : List ℕ = bytesOf before (rest / 256) in
+    let long : length others ≡ before = bytesOf-length before (rest / 256) in
+    ap (λ (n : ℕ). writtenAt at others (set out (at + n) (rest % 256))) (sym long)
+    ∙ writtenAt-last at others (rest % 256) out (omega arith)
+
+module _ {at count number : ℕ} {area : List ℕ} where
   -- At the start all bytes are left.
   pub put-number-start : PutNumber at count number area number count area
   put-number-start = record { left-le = omega arith; length-is = refl; whole-is = refl }
-
-  -- the last of the bytes left is stored
-  store-last : (rest before : ℕ) (out : List ℕ) → at + before < length out
-      → writtenAt at (bytesOf before (rest / 256)) (set out (at + before) (rest % 256)) ≡ writtenAt at (bytesOf (suc before) rest) out
-  unfolding bytesOf
-  store-last rest before out h =
-      let others : List ℕ = bytesOf before (rest / 256) in
-      let long : length others ≡ before = bytesOf-length before (rest / 256) in
-      ap (λ (n : ℕ). writtenAt at others (set out (at + n) (rest % 256))) (sym long)
-      ∙ writtenAt-last at others (rest % 256) out (omega arith)
 
   -- A turn stores the last of the bytes left, and the number left is what stands before it.
   pub put-number-turn : {rest left : ℕ} {out : List ℕ} → at + count ≤ length area → 0 < left → PutNumber at count number area rest left out
@@ -43,7 +43,7 @@ module _ (at count number : ℕ) (area : List ℕ) where
       record {
         left-le = omega (arith, now .left-le);
         length-is = length-set out (at + (left - 1)) (rest % 256) ∙ now .length-is;
-        whole-is = store-last rest (left - 1) out (omega (arith, now .length-is, now .left-le))
+        whole-is = store-last at rest (left - 1) out (omega (arith, now .length-is, now .left-le))
             ∙ ap (λ (n : ℕ). writtenAt at (bytesOf n rest) out) one
             ∙ now .whole-is;
       }

@@ -1,5 +1,5 @@
 -- What packing gives by its cases, as code goes by them: row 8, the first refusal among the records, row 10, or all bytes written. Each is a row of PackRows; what
--- the records were judged to be is known by its sizes.
+-- the records were judged to be (`WordsJudged`) is known by its sizes.
 -- Assumes nothing.
 use Prim.Native.Nat.{ℕ, _%_, _≤_, _<_}
 use mathlib.Core.Logic.{_⊎_}
@@ -17,8 +17,10 @@ use Rattle.silences.specs.Layout.{layout}
 use Rattle.silences.specs.Packing.{silencesOf, inRoom, areaAtExit, packed}
 use Rattle.silences.specs.Rows.{HasWordCount, IsPackable}
 use Rattle.book.specs.Calls.{paperOf, recordsPaper}
+use Rattle.packing.specs.declared.judging.Judged.{Judged}
+use Rattle.packing.specs.declared.judging.Judged.the-variants.{Accepted, Refused as RefusedBy}
 use Rattle.packing.specs.Calls.{IsPacked}
-use Rattle.packing.specs.Judging.{Sizes, sizes, sizesOf}
+use Rattle.packing.specs.Judging.{Sizes, sized, sizes, sizesOf, judgedOf}
 use Rattle.silences.proofs.AnswerCases.{accepted-not-refused, accepted-unique}
 use Rattle.silences.proofs.AreaAtExit.{area-refused}
 use Rattle.silences.proofs.RecordRows.{packedRecords}
@@ -34,6 +36,24 @@ sizes-accepted : (a : Answer (List Silence)) {total : Sizes} → accepted total 
 sizes-accepted (accepted ss) e = (ss, refl, accepted-unique refl e)
 sizes-accepted (refused q) e = absurd (accepted-not-refused (sym e) refl)
 
+-- What is known of the words once their records are judged: row 8 is not given, and what was judged.
+pub record WordsJudged (words : List ℕ) (r : Judged) : Type 0 where
+  pub word-count : HasWordCount words
+  pub is : judgedOf r ≡ sizesOf (packedRecords words)
+
+module _ {words : List ℕ} {r : Judged} (judged : WordsJudged words r) {records bytes : ℕ} (told : r ≡ Accepted records bytes) where
+  -- all records are accepted, and the sizes are theirs
+  all-accepted : IsPackable words × (sized records bytes ≡ sizes (silencesOf words))
+  all-accepted =
+      let has : (ss : List Silence) × (packedRecords words ≡ accepted ss) × (sized records bytes ≡ sizes ss) =
+      sizes-accepted (packedRecords words) (sym (ap judgedOf told) ∙ judged .is) in
+      let fine : IsPackable words × (has .0 ≡ silencesOf words) = packable words (judged .word-count) (has .0) (has .1) in
+      (fine .0, has .2 ∙ ap sizes (fine .1))
+
+  -- The bytes judged are those of the whole output.
+  pub judged-bytes-are : bytes ≡ length (layout (silencesOf words))
+  judged-bytes-are = ap (λ (s : Sizes). s .bytes) (all-accepted .1)
+
 module _ (words area : List ℕ) where
   -- a call that is refused, and leaves the area as it was
   is-refused : {r : Refusal} → packed words (length area) ≡ refused r → IsPacked words area (Refused r) area
@@ -43,41 +63,26 @@ module _ (words area : List ℕ) where
   pub pack-word-count : ((length words % 3 ≡ 0 → ⊥) ⊎ (3000 < length words)) → IsPacked words area (Refused WordCount) area
   pack-word-count h = is-refused (packed-8-iff words (length area) .1 h)
 
-  module _ (multiple : length words % 3 ≡ 0) (few : length words ≤ 3000) where
-    -- neither
-    counted : HasWordCount words
-    counted = record { multiple = multiple; words-le = few }
-
+  module _ {r : Judged} (judged : WordsJudged words r) where
     -- Row 9 or 7, at the record that was judged so.
-    pub pack-refused : {r : Refusal} → refused r ≡ sizesOf (packedRecords words) → IsPacked words area (Refused r) area
-    pack-refused e = is-refused (packed-counted words (length area) counted ∙ ap (inRoom layout (length area)) (sizes-refused (packedRecords words) e))
+    pub pack-refused : {refusal : Refusal} → r ≡ RefusedBy refusal → IsPacked words area (Refused refusal) area
+    pack-refused told =
+        is-refused
+        (packed-counted words (length area) (judged .word-count)
+        ∙ ap (inRoom layout (length area)) (sizes-refused (packedRecords words) (sym (ap judgedOf told) ∙ judged .is)))
 
-    module _ {total : Sizes} (e : accepted total ≡ sizesOf (packedRecords words)) where
-      -- all records are accepted, and the sizes are theirs
-      all-accepted : IsPackable words × (total ≡ sizes (silencesOf words))
-      all-accepted =
-          let has : (ss : List Silence) × (packedRecords words ≡ accepted ss) × (total ≡ sizes ss) = sizes-accepted (packedRecords words) e in
-          let fine : IsPackable words × (has .0 ≡ silencesOf words) = packable words counted (has .0) (has .1) in
-          (fine .0, has .2 ∙ ap sizes (fine .1))
-
-      -- the bytes judged are those of the whole output
-      bytes-are : total .bytes ≡ length (layout (silencesOf words))
-      bytes-are = ap (λ (s : Sizes). s .bytes) (all-accepted .1)
-
-      -- Room for the bytes judged is room for the whole output.
-      pub pack-room : total .bytes ≤ length area → length (layout (silencesOf words)) ≤ length area
-      pack-room h = omega (arith, bytes-are)
-
+    module _ {records bytes : ℕ} (told : r ≡ Accepted records bytes) where
       -- Row 10.
-      pub pack-no-room : length area < total .bytes → IsPacked words area (Refused OutputRoom) area
-      pack-no-room h = is-refused (packed-10-iff words (length area) .1 (all-accepted .0, omega (arith, bytes-are)))
+      pub pack-no-room : length area < bytes → IsPacked words area (Refused OutputRoom) area
+      pack-no-room h = is-refused (packed-10-iff words (length area) .1 (all-accepted judged told .0, omega (arith, judged-bytes-are judged told)))
 
       -- There is room, and the whole output is written.
-      pub pack-written : {out : List ℕ} → total .bytes ≤ length area → out ≡ written (layout (silencesOf words)) area → IsPacked words area (Records (total .records)) out
+      pub pack-written : {out : List ℕ} → bytes ≤ length area → out ≡ written (layout (silencesOf words)) area → IsPacked words area (Records records) out
       pack-written {out} h w =
+          let all : IsPackable words × (sized records bytes ≡ sizes (silencesOf words)) = all-accepted judged told in
           let is : packed words (length area) ≡ accepted (silencesOf words) =
-          packed-accepted-iff words (length area) (silencesOf words) .1 (all-accepted .0, refl, pack-room h) in
+          packed-accepted-iff words (length area) (silencesOf words) .1 (all .0, refl, omega (arith, judged-bytes-are judged told)) in
           record {
-            paper = ap (λ (s : Sizes). paperOf (Records (s .records))) (all-accepted .1) ∙ sym (ap recordsPaper is);
+            paper = ap (λ (s : Sizes). paperOf (Records (s .records))) (all .1) ∙ sym (ap recordsPaper is);
             written = w ∙ sym (ap (λ (a : Answer (List Silence)). areaAtExit layout a area) is);
           }

@@ -1,4 +1,4 @@
--- What the packer's private function promises that judges the records before a byte is written. Nothing here is a public call's meaning.
+-- What `judge` promises, the packer's private function that judges the records before a byte is written. Nothing here is a public call's meaning.
 use mathlib.Core.List.{List}
 use Prim.Native.Nat.{ℕ}
 use lib.ListN.{length}

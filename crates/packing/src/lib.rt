@@ -3,6 +3,5 @@
 mod judging;
 mod packing;
 mod putting;
-mod records;
 
 pub use packing::pack;

@@ -1,7 +1,6 @@
 -- Laws behind the survey, one module for each idea; the functions' proofs cite them. In the order in which they build on each other.
 pub mod SurveyCases
 pub mod SurveyLoop
-pub mod SurveyAnswers
 -- What any answer that meets the contract gives.
 pub mod SurveyGives
 pub mod OneAnswer

@@ -23,25 +23,12 @@ use Rattle.moves.specs.Moves.{IsMoved, IsReached}
 use Rattle.survey.specs.Survey.{CanVerifyOn, IsVerifiedOn, IsSurveyedOn}
 use Rattle.tally.proofs.TallyFinding.{least-no, least-yes}
 
-module _ (ring doubled line : List ℕ) (k i : ℕ) (old : List ℕ) (can : CanVerifyOn ring doubled line k i old) where
-  abbrev m : ℕ
-  m = length ring
-
-  abbrev n : ℕ
-  n = length line
-
-  -- The tally of the start before, moved on to the last start.
-  pub on-reached : 0 < i → (new : List ℕ) (r : Reached) → IsMoved ring line (i - 1) (n - m - (i - 1)) (k + 1) old new r
-      → IsReached ring line (i - 1) (n - m - (i - 1)) (k + 1) new r
-  on-reached after =
-      moved-tallied ring line (k + 1) (can .fits .some-edge) (can .fits .most) (i - 1) (n - m - (i - 1)) old (can .before after) (omega (arith, can .in-line))
-      (omega (arith, can .in-line)) (omega (arith, can .most-line))
-
+module _ {ring doubled line : List ℕ} {k i : ℕ} {old : List ℕ} (can : CanVerifyOn ring doubled line k i old) where
   -- The first start is counted afresh.
-  pub on-first : (edges counts : List ℕ) (z : Least) → i ≡ 0 → IsWindow line i m edges → IsCounted doubled edges old counts z
+  pub first-verified : {edges counts : List ℕ} {z : Least} → i ≡ 0 → IsWindow line i (length ring) edges → IsCounted doubled edges old counts z
       → IsVerifiedOn ring line k i counts (record { start = i; least = z .least; looks = z .looks })
   unfolding surveyLooksBelow
-  on-first edges counts z first handed counted =
+  first-verified {edges} {counts} {z} first handed counted =
       let v = counted-verified ring line i doubled old counts edges z (can .fits .size) (can .fits .some-edge) (can .fits .most) (can .twice) (can .in-line) handed counted in
       record {
         start-ge = omega arith;
@@ -52,8 +39,9 @@ module _ (ring doubled line : List ℕ) (k i : ℕ) (old : List ℕ) (can : CanV
         passed = λ j lo hi. absurd (omega arith);
       }
 
-  -- What the starts below i and those from i to j cost: so many steps more.
-  steps-cost : (j : ℕ) → 0 < i → i ≤ j → j + m ≤ n → surveyLooksBelow ring line i + (j - (i - 1)) * stepLooks m ≡ surveyLooksBelow ring line (j + 1)
+  -- what the starts below i and those from i to j cost: so many steps more
+  steps-cost : (j : ℕ) → 0 < i → i ≤ j → j + length ring ≤ length line
+      → surveyLooksBelow ring line i + (j - (i - 1)) * stepLooks (length ring) ≡ surveyLooksBelow ring line (j + 1)
   steps-cost j after l in-line =
       let here : i ≡ i - 1 + 1 = omega arith in
       let all : (i - 1) + (j - (i - 1)) ≡ j = omega arith in
@@ -61,13 +49,17 @@ module _ (ring doubled line : List ℕ) (k i : ℕ) (old : List ℕ) (can : CanV
         arith,
         ap (surveyLooksBelow ring line) (here ∙ add-one (i - 1)) ∙ surveyLooks-below ring line (i - 1) (omega (arith, can .in-line)),
         ap (surveyLooksBelow ring line) (add-one j) ∙ surveyLooks-below ring line j in-line,
-        ap (λ (x : ℕ). x * stepLooks m) all,
+        ap (λ (x : ℕ). x * stepLooks (length ring)) all,
       )
 
-  -- From a later one on the tally is moved.
-  pub on-moved : (counts : List ℕ) (r : Reached) → 0 < i → IsReached ring line (i - 1) (n - m - (i - 1)) (k + 1) counts r → IsVerifiedOn ring line k i counts r
-  on-moved counts r after reached =
-      let in-line : r .start + m ≤ n = omega (arith, can .in-line, reached .start-le) in
+  -- From a later one on the tally of the start before is moved, at most to the last start.
+  pub moved-verified : {counts : List ℕ} {r : Reached} → 0 < i → IsMoved ring line (i - 1) (length line - length ring - (i - 1)) (k + 1) old counts r
+      → IsVerifiedOn ring line k i counts r
+  moved-verified {counts} {r} after moved =
+      let reached : IsReached ring line (i - 1) (length line - length ring - (i - 1)) (k + 1) counts r =
+      moved-tallied ring line (k + 1) (can .fits .some-edge) (can .fits .most) (i - 1) (length line - length ring - (i - 1)) old (can .before after)
+      (omega (arith, can .in-line)) (omega (arith, can .in-line)) (omega (arith, can .most-line)) counts r moved in
+      let in-line : r .start + length ring ≤ length line = omega (arith, can .in-line, reached .start-le) in
       record {
         start-ge = omega (arith, reached .after);
         in-line = in-line;
@@ -77,21 +69,21 @@ module _ (ring doubled line : List ℕ) (k i : ℕ) (old : List ℕ) (can : CanV
         passed = λ j lo hi. omega (arith, reached .passed j (omega arith) hi);
       }
 
-  module _ (counts : List ℕ) (r : Reached) (v : IsVerifiedOn ring line k i counts r) where
+  module _ {counts : List ℕ} {r : Reached} (v : IsVerifiedOn ring line k i counts r) where
     -- Verified, and no finding.
-    pub on-none : k < r .least → IsSurveyedOn ring line k i (NoFinding r) counts
-    on-none far = record {
+    pub reached-none : k < r .least → IsSurveyedOn ring line k i (NoFinding r) counts
+    reached-none far = record {
       verified = v;
       found-are = sym (least-no ring line k (r .start) counts (r .least) (can .fits .some-edge) (v .tallied) (v .least-is) far);
     }
 
     -- A finding.
-    pub on-found : (f : FindingStruct) (rotation : ℕ) → r .least ≤ k → IsLowestWith m counts (r .least) rotation
+    pub reached-found : (f : FindingStruct) {rotation : ℕ} → r .least ≤ k → IsLowestWith (length ring) counts (r .least) rotation
         → f .start .0 ≡ r .start → f .rotation .0 ≡ rotation → f .distance ≡ r .least → IsSurveyedOn ring line k i (Found r f) counts
-    on-found f rotation near low fs fr fd = record {
+    reached-found f {rotation} near low fs fr fd = record {
       verified = v;
       found-are =
           ap {A = Finding} (λ x. x ∷ []) (λ j. record { start = fs j; rotation = fr j; distance = fd j })
           ∙ sym (least-yes ring line k (r .start) counts (r .least) (can .fits .some-edge) (v .tallied) (v .least-is) rotation
-          (lowest-at counts (r .least) m rotation (can .fits .most) (v .least-is) low) (v .in-line) near);
+          (lowest-at counts (r .least) (length ring) rotation (can .fits .most) (v .least-is) low) (v .in-line) near);
     }

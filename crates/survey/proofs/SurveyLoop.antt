@@ -1,6 +1,6 @@
 -- The survey's loop over all starts: before start i the words of the findings below i are put, the looks are those of the starts below i, and
--- the counts hold the tally of the start before. A turn verifies the starts from i to the one reached, of which that one alone may be a finding; at
--- the first place that is no start all is found.
+-- the counts hold the tally of the start before. A turn (`SurveyTurn`) verifies the starts from i to the one reached, of which that one alone may be a
+-- finding; at the first place that is no start all is found.
 -- Assumes nothing.
 use Prim.Native.Nat.{ℕ, _+_, _-_, _*_, _≤_, _<_}
 use mathlib.Core.Path.{_≡_, refl, sym, ap, _∙_}
@@ -18,7 +18,7 @@ use Rattle.meaning.proofs.Words.{below-length-le, findings-below}
 use Rattle.meaning.proofs.SurveyLooks.{surveyLooks-below, surveyLooks-end}
 use Rattle.moves.specs.declared.steps.Reached.{Reached}
 use Rattle.survey.specs.declared.plain.Surveyed.{Surveyed}
-use Rattle.findings.specs.Admitting.{mostLine}
+use Rattle.findings.specs.Admitting.{mostLine, Admitted}
 use Rattle.tally.specs.Counts.{mostCounts}
 use Rattle.tally.specs.Tallied.{Tallied}
 use Rattle.findings.specs.Putting.{CanPut, IsPut, wordsPut}
@@ -35,13 +35,7 @@ pub record SurveyKeeps (ring line : List ℕ) (k : ℕ) (area : List ℕ) (i fou
   pub before : 0 < i → Tallied ring line (i - 1) counts
   pub size : length counts ≡ mostCounts
 
-module _ (ring doubled line : List ℕ) (k : ℕ) (counts₀ area : List ℕ) (can : CanSurvey ring doubled line k counts₀ area) where
-  abbrev m : ℕ
-  m = length ring
-
-  abbrev n : ℕ
-  n = length line
-
+module _ {ring doubled line : List ℕ} {k : ℕ} {counts₀ area : List ℕ} (can : CanSurvey ring doubled line k counts₀ area) where
   -- Before the first start nothing is found, and the words are as they were lent.
   pub survey-start : SurveyKeeps ring line k area 0 0 0 counts₀ area
   unfolding findingsBelow surveyLooksBelow
@@ -51,137 +45,157 @@ module _ (ring doubled line : List ℕ) (k : ℕ) (counts₀ area : List ℕ) (c
     looks-are = refl;
     words-are = put-none area;
     before = λ l. absurd (omega arith);
-    size = can .fits .size;
+    size = can .size;
   }
 
-  -- Past the last start all is found.
-  pub survey-end : (i found looks : ℕ) (counts words : List ℕ) → SurveyKeeps ring line k area i found looks counts words → n < i + m
-      → LineSurveyed ring line k area found looks words
-  survey-end i found looks counts words h past =
-      let all : findingsBelow ring line k i ≡ findings ring line k = sym (findings-below ring line k i (h .start-le) past) in
-      record {
-        found-is = h .found-is ∙ ap (λ (l : List Finding). length l) all;
-        looks-are = h .looks-are ∙ sym (surveyLooks-end ring line i (h .start-le) past);
-        written = h .words-are ∙ ap (λ (l : List Finding). written (wordsOf l) area) all;
-      }
-
-  module _ (i found looks : ℕ) (counts words : List ℕ) (h : SurveyKeeps ring line k area i found looks counts words) (in-line : i + m ≤ n) where
+  module _ {i found looks : ℕ} {counts words : List ℕ} (keeps : SurveyKeeps ring line k area i found looks counts words) where
     -- The next start can be verified.
-    pub survey-can-verify : CanVerifyOn ring doubled line k i counts
-    survey-can-verify = record {
-      fits = record { size = h .size; some-edge = can .fits .some-edge; most = can .fits .most };
-      allowed = can .allowed;
+    pub survey-can-verify : i + length ring ≤ length line → CanVerifyOn ring doubled line k i counts
+    survey-can-verify in-line = record {
+      fits = record { size = keeps .size; some-edge = can .admitted .some-edge; most = can .admitted .most-ring };
+      allowed = can .admitted .allowed;
       twice = can .twice;
       in-line = in-line;
-      most-line = can .most-line;
-      before = h .before;
+      most-line = can .admitted .most-line;
+      before = keeps .before;
     }
 
-    -- No more findings than starts so far.
-    pub survey-found-le : found ≤ i
-    survey-found-le = omega (arith, h .found-is, below-length-le ring line k i)
+    -- Past the last start all is found.
+    pub survey-end : length line < i + length ring → LineSurveyed ring line k area found looks words
+    survey-end past =
+        let all : findingsBelow ring line k i ≡ findings ring line k = sym (findings-below ring line k i (keeps .start-le) past) in
+        record {
+          found-is = keeps .found-is ∙ ap (λ (l : List Finding). length l) all;
+          looks-are = keeps .looks-are ∙ sym (surveyLooks-end ring line i (keeps .start-le) past);
+          written = keeps .words-are ∙ ap (λ (l : List Finding). written (wordsOf l) area) all;
+        }
 
-    room-behind : wordsEach * found + wordsEach ≤ length area
-    room-behind = omega (arith, survey-found-le, can .room-for (omega arith))
+-- A turn: what surveying asks, what the loop keeps before start i, that i is a start, and what the starts from i on gave.
+pub record SurveyTurn (ring doubled line : List ℕ) (k : ℕ) (counts₀ area : List ℕ) (i found looks : ℕ) (counts words : List ℕ) (r : Surveyed) (counts′ : List ℕ) : Type 0 where
+  pub can : CanSurvey ring doubled line k counts₀ area
+  pub keeps : SurveyKeeps ring line k area i found looks counts words
+  pub in-line : i + length ring ≤ length line
+  pub surveyed : IsSurveyedOn ring line k i r counts′
 
-    -- The words keep their length.
-    survey-length : length words ≡ length area
-    survey-length =
-        ap (λ (w : List ℕ). length w) (h .words-are) ∙ put-length (findingsBelow ring line k i) found area (h .found-is) (omega (arith, room-behind))
+module _ {ring doubled line : List ℕ} {k : ℕ} {counts₀ area : List ℕ} {i found looks : ℕ} {counts words : List ℕ} {r : Surveyed} {counts′ : List ℕ}
+    (turn : SurveyTurn ring doubled line k counts₀ area i found looks counts words r counts′) where
+  -- what the call is known to be
+  admitted : Admitted (length ring) k (length line) (length area)
+  admitted = turn .can .admitted
 
-    module _ (r : Surveyed) (counts′ : List ℕ) (surveyed : IsSurveyedOn ring line k i r counts′) (reached : Reached) (is-reached : reachedOf r ≡ reached) where
-      abbrev j : ℕ
-      j = reached .start
+  -- No more findings than starts so far.
+  pub survey-found-le : found ≤ i
+  survey-found-le = omega (arith, turn .keeps .found-is, below-length-le ring line k i)
 
-      verified : IsVerifiedOn ring line k i counts′ reached
-      verified = rw is-reached at (surveyed .verified)
+  -- there is room for one finding more
+  room-behind : wordsEach * found + wordsEach ≤ length area
+  room-behind = omega (arith, survey-found-le, turn .in-line, admitted .room-for (omega (arith, turn .in-line)))
 
-      -- The looks with those of the starts verified: m ≤ 256 and n ≤ 65,536.
-      pub survey-looks-le : looks + reached .looks ≤ afreshLooks mostCounts + mostLine * stepLooks mostCounts
-      survey-looks-le =
-          let steps : stepLooks m ≤ stepLooks mostCounts = omega (arith, can .fits .most) in
-          let starts : j ≤ mostLine = omega (arith, verified .in-line, can .most-line) in
-          omega (
-            arith,
-            h .looks-are,
-            verified .looks-are,
-            ap (surveyLooksBelow ring line) (add-one j) ∙ surveyLooks-below ring line j (verified .in-line),
-            mul-le-mul (can .fits .most) (can .fits .most),
-            mul-le-mul starts steps,
-          )
+  -- the words keep their length
+  survey-length : length words ≡ length area
+  survey-length =
+      ap (λ (w : List ℕ). length w) (turn .keeps .words-are)
+      ∙ put-length (findingsBelow ring line k i) found area (turn .keeps .found-is) (omega (arith, room-behind))
 
-      -- The next start is in the line, or just past the last.
-      pub survey-start-le : j + 1 ≤ n
-      survey-start-le = omega (arith, verified .in-line, can .fits .some-edge)
+  module _ {reached : Reached} (is-reached : reachedOf r ≡ reached) where
+    -- the starts up to the one reached are verified
+    verified : IsVerifiedOn ring line k i counts′ reached
+    verified = rw is-reached at (turn .surveyed .verified)
 
-      -- The places that are left fall.
-      pub survey-less : n + 1 - (j + 1) < n + 1 - i
-      survey-less = omega (arith, verified .start-ge, in-line)
+    -- what was reported is what the start reached gives
+    reported-is : foundOf r ≡ foundAt ring line k (reached .start)
+    reported-is = rw is-reached at (turn .surveyed .found-are)
 
-      -- The starts passed are no findings.
-      below-turn : findingsBelow ring line k (j + 1) ≡ findingsBelow ring line k i ++ foundAt ring line k j
-      unfolding findingsBelow
-      below-turn =
-          let there : i + (j - i) ≡ j = omega (arith, verified .start-ge) in
-          let passed : findingsBelow ring line k j ≡ findingsBelow ring line k i =
-          ap (findingsBelow ring line k) (sym there)
-          ∙ below-same ring line k i (j - i) (λ t lo hi. found-no ring line k t (verified .passed t lo (omega arith)))
-          in
-          rw (add-one j, passed)
+    -- The looks with those of the starts verified: m ≤ 256 and n ≤ 65,536.
+    pub survey-looks-le : looks + reached .looks ≤ afreshLooks mostCounts + mostLine * stepLooks mostCounts
+    survey-looks-le =
+        let steps : stepLooks (length ring) ≤ stepLooks mostCounts = omega (arith, admitted .most-ring) in
+        let starts : reached .start ≤ mostLine = omega (arith, verified .in-line, admitted .most-line) in
+        omega (
+          arith,
+          turn .keeps .looks-are,
+          verified .looks-are,
+          ap (surveyLooksBelow ring line) (add-one (reached .start)) ∙ surveyLooks-below ring line (reached .start) (verified .in-line),
+          mul-le-mul (admitted .most-ring) (admitted .most-ring),
+          mul-le-mul starts steps,
+        )
 
-      -- What the loop keeps after them, finding or not.
-      survey-turn : (found′ : ℕ) (words′ : List ℕ) → found′ ≡ length (findingsBelow ring line k i ++ foundAt ring line k j)
-          → words′ ≡ written (wordsOf (findingsBelow ring line k i ++ foundAt ring line k j)) area
-          → SurveyKeeps ring line k area (j + 1) found′ (looks + reached .looks) counts′ words′
-      survey-turn found′ words′ f w =
-          let here : j + 1 - 1 ≡ j = omega arith in
+    -- the next start is in the line, or just past the last
+    next-le : reached .start + 1 ≤ length line
+    next-le = omega (arith, verified .in-line, admitted .some-edge)
+
+    -- So it is at most 65,536.
+    pub survey-start-le : reached .start + 1 ≤ mostLine
+    survey-start-le = omega (arith, next-le, admitted .most-line)
+
+    -- The places that are left fall.
+    pub survey-less : length line + 1 - (reached .start + 1) < length line + 1 - i
+    survey-less = omega (arith, verified .start-ge, turn .in-line)
+
+    -- the starts passed are no findings
+    below-turn : findingsBelow ring line k (reached .start + 1) ≡ findingsBelow ring line k i ++ foundAt ring line k (reached .start)
+    unfolding findingsBelow
+    below-turn =
+        let there : i + (reached .start - i) ≡ reached .start = omega (arith, verified .start-ge) in
+        let passed : findingsBelow ring line k (reached .start) ≡ findingsBelow ring line k i =
+        ap (findingsBelow ring line k) (sym there)
+        ∙ below-same ring line k i (reached .start - i) (λ t lo hi. found-no ring line k t (verified .passed t lo (omega arith)))
+        in
+        rw (add-one (reached .start), passed)
+
+    -- what the loop keeps after them, finding or not
+    survey-turn : (found′ : ℕ) (words′ : List ℕ) → found′ ≡ length (findingsBelow ring line k i ++ foundAt ring line k (reached .start))
+        → words′ ≡ written (wordsOf (findingsBelow ring line k i ++ foundAt ring line k (reached .start))) area
+        → SurveyKeeps ring line k area (reached .start + 1) found′ (looks + reached .looks) counts′ words′
+    survey-turn found′ words′ f w =
+        let here : reached .start + 1 - 1 ≡ reached .start = omega arith in
+        record {
+          start-le = next-le;
+          found-is = rw below-turn f;
+          looks-are = omega (arith, turn .keeps .looks-are, verified .looks-are);
+          words-are = rw below-turn w;
+          before = λ _. rw here (verified .tallied);
+          size = verified .tallied .size;
+        }
+
+    -- The start reached is no finding.
+    pub survey-none : foundOf r ≡ [] → SurveyKeeps ring line k area (reached .start + 1) found (looks + reached .looks) counts′ words
+    survey-none e =
+        let none : findingsBelow ring line k i ++ foundAt ring line k (reached .start) ≡ findingsBelow ring line k i =
+        ap (λ (l : List Finding). findingsBelow ring line k i ++ l) (sym reported-is ∙ e) ∙ append-nil _
+        in
+        survey-turn found words (rw none (turn .keeps .found-is)) (rw none (turn .keeps .words-are))
+
+    module _ {f : Finding} (e : foundOf r ≡ f ∷ []) where
+      -- a finding at the start reached
+      found-here : foundAt ring line k (reached .start) ≡ f ∷ []
+      found-here = sym reported-is ∙ e
+
+      -- there is room for its words, and each is a 32-bit word
+      survey-can-put : CanPut words found f
+      survey-can-put =
+          let small = found-small ring line k (reached .start) f (admitted .some-edge) found-here in
           record {
-            start-le = survey-start-le;
-            found-is = rw below-turn f;
-            looks-are = omega (arith, h .looks-are, verified .looks-are);
-            words-are = rw below-turn w;
-            before = λ _. rw here (verified .tallied);
-            size = verified .tallied .size;
+            room = omega (arith, survey-length, room-behind);
+            start-lt = omega (arith, small .0, verified .in-line, admitted .most-line);
+            rotation-lt = omega (arith, small .1, admitted .most-ring);
+            distance-lt = omega (arith, small .2, admitted .allowed, admitted .most-ring);
           }
 
-      -- The start reached is no finding.
-      pub survey-none : foundOf r ≡ [] → SurveyKeeps ring line k area (j + 1) found (looks + reached .looks) counts′ words
-      survey-none e =
-          let none : findingsBelow ring line k i ++ foundAt ring line k j ≡ findingsBelow ring line k i =
-          ap (λ (l : List Finding). findingsBelow ring line k i ++ l) (sym (found-reached) ∙ e) ∙ append-nil _
-          in
-          survey-turn found words (rw none (h .found-is)) (rw none (h .words-are))
-        where
-          found-reached : foundOf r ≡ foundAt ring line k j
-          found-reached = rw is-reached at (surveyed .found-are)
+      module _ {out : List ℕ} (put : IsPut words found f out) where
+        -- so they are put
+        out-is : out ≡ wordsPut found f words
+        out-is = words-are-put words found f out survey-can-put put
 
-      module _ (f : Finding) (e : foundOf r ≡ f ∷ []) where
-        found-here : foundAt ring line k j ≡ f ∷ []
-        found-here = sym (rw is-reached at (surveyed .found-are)) ∙ e
-
-        -- A finding has room for its words, and each is a 32-bit word.
-        survey-can-put : CanPut words found f
-        survey-can-put =
-            let small = found-small ring line k j f (can .fits .some-edge) found-here in
-            record {
-              room = omega (arith, survey-length, room-behind);
-              start-lt = omega (arith, small .0, verified .in-line, can .most-line);
-              rotation-lt = omega (arith, small .1, can .fits .most);
-              distance-lt = omega (arith, small .2, can .allowed, can .fits .most);
-            }
-
-        -- So they are put.
-        pub survey-put : (out : List ℕ) → IsPut words found f out → out ≡ wordsPut found f words
-        survey-put out put = words-are-put words found f out survey-can-put put
-
-        -- Putting them keeps the words' length.
-        pub survey-put-length : (out : List ℕ) → out ≡ wordsPut found f words → length out ≡ length area
-        survey-put-length out q = ap (λ (l : List ℕ). length l) q ∙ length-sets words (wordsEach * found) (findingWords f) ∙ survey-length
+        -- Putting a finding's words keeps their length.
+        pub survey-put-length : length out ≡ length area
+        survey-put-length = ap (λ (l : List ℕ). length l) out-is ∙ length-sets words (wordsEach * found) (findingWords f) ∙ survey-length
 
         -- The start reached is a finding, whose words are put behind the others.
-        pub survey-found : SurveyKeeps ring line k area (j + 1) (found + 1) (looks + reached .looks) counts′ (wordsPut found f words)
+        pub survey-found : SurveyKeeps ring line k area (reached .start + 1) (found + 1) (looks + reached .looks) counts′ out
         survey-found =
-            survey-turn (found + 1) (wordsPut found f words)
-            (rw found-here (omega (arith, h .found-is, length-append (findingsBelow ring line k i) (f ∷ []))))
+            survey-turn (found + 1) out (rw found-here (omega (arith, turn .keeps .found-is, length-append (findingsBelow ring line k i) (f ∷ []))))
             (rw found-here
-            (ap (wordsPut found f) (h .words-are) ∙ put-more (findingsBelow ring line k i) f found area (h .found-is) room-behind))
+            (out-is
+            ∙ ap (wordsPut found f) (turn .keeps .words-are)
+            ∙ put-more (findingsBelow ring line k i) f found area (turn .keeps .found-is) room-behind))

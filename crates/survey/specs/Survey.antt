@@ -1,10 +1,11 @@
 -- Document 01, the plain survey: it "verifies every start, the first afresh and each next by one step, at m = 1 too: 2·m·n − m·m looks for n ≥ m, else
 -- 0. It gives the same findings." Refusals, counts and words are those of every search (specs/Searching.antt of crates/findings); only the looks are its own,
--- `surveyLooks` of crates/meaning. What a survey promises is one record, on every input, accepted or refused.
+-- `surveyLooks` of crates/meaning.
 --
---   IsSurveyed      what `survey` promises
---   IsVerifiedOn    starts verified, to the next finding or the last start
---   IsSurveyedOn    what they give
+--   IsSurveyed                   what `survey` promises
+--   CanVerifyOn, IsVerifiedOn    starts verified, to the next finding or the last start
+--   IsSurveyedOn                 what they give
+--   CanSurvey, LineSurveyed      a line surveyed, once a call is accepted
 use Prim.Native.Nat.{ℕ, _+_, _-_, _≤_, _<_}
 use mathlib.Core.Path.{_≡_}
 use mathlib.Core.List.{List, [], _∷_}
@@ -13,23 +14,23 @@ use Rattle.meaning.specs.Meanings.{leastDistance}
 use Rattle.meaning.specs.Findings.{Finding, foundAt}
 use Rattle.meaning.specs.Looks.{surveyLooksBelow, surveyLooks}
 use Rattle.moves.specs.declared.steps.Reached.{Reached}
-use Rattle.tally.specs.Counts.{IsDoubled, IsLeast}
+use Rattle.tally.specs.Counts.{mostCounts, IsDoubled, IsLeast}
 use Rattle.tally.specs.Tallied.{Tallied, TallyFits}
 use Rattle.findings.specs.declared.searching.Scanned.{Scanned}
-use Rattle.findings.specs.Admitting.{mostLine, roomAsked}
+use Rattle.findings.specs.Admitting.{mostLine, Admitted}
 use Rattle.findings.specs.Putting.{findingOf}
-use Rattle.findings.specs.Searching.{LineSearched, paperOf, searchPaper, searchedWords}
+use Rattle.findings.specs.Searching.{LineSearched, IsSearched}
 use Rattle.survey.specs.declared.plain.Surveyed.{Surveyed}
 use Rattle.survey.specs.declared.plain.Surveyed.the-variants.{NoFinding, Found}
 
--- What `survey` promises: of the ring, the line, the allowance, the lent words, the answer and the words at exit.
-pub record IsSurveyed (ring line : List ℕ) (k : ℕ) (words : List ℕ) (r : Scanned) (out : List ℕ) : Type 0 where
-  pub paper : paperOf r ≡ searchPaper ring line k (length words) (surveyLooks ring line)
-  pub written : out ≡ searchedWords ring line k words
+-- What `survey` promises: of the ring, the line, the allowance, the lent words, the answer and the words at exit. It is a search with the survey's looks.
+abbrev pub IsSurveyed : List ℕ → List ℕ → ℕ → List ℕ → Scanned → List ℕ → Type 0
+IsSurveyed ring line k words r out = IsSearched ring line k (surveyLooks ring line) words r out
 
 -- From here on: what private functions ask and promise.
 
--- What verifying from start i on asks: a window in the line, and after the first start the tally of the start before.
+-- What verifying from start i on asks: a ring, an allowance and a line within the limits, the ring's double, a window in the line, and after the first start
+-- the tally of the start before.
 pub record CanVerifyOn (ring doubled line : List ℕ) (k i : ℕ) (counts : List ℕ) : Type 0 where
   pub fits : TallyFits ring counts
   pub allowed : k < length ring
@@ -63,13 +64,11 @@ pub record IsSurveyedOn (ring line : List ℕ) (k i : ℕ) (r : Surveyed) (count
   pub verified : IsVerifiedOn ring line k i counts (reachedOf r)
   pub found-are : foundOf r ≡ foundAt ring line k (reachedOf r .start)
 
--- What surveying a line asks: a call within the limits, the ring's double, and room for the findings.
+-- What surveying a line asks: a call that is accepted, the ring's double, and the tally's counts, whatever they hold.
 pub record CanSurvey (ring doubled line : List ℕ) (k : ℕ) (counts words : List ℕ) : Type 0 where
-  pub fits : TallyFits ring counts
-  pub allowed : k < length ring
-  pub most-line : length line ≤ mostLine
+  pub admitted : Admitted (length ring) k (length line) (length words)
   pub twice : IsDoubled ring doubled
-  pub room-for : length ring ≤ length line → roomAsked (length ring) (length line) ≤ length words
+  pub size : length counts ≡ mostCounts
 
 -- A line is surveyed.
 abbrev pub LineSurveyed : List ℕ → List ℕ → ℕ → List ℕ → ℕ → ℕ → List ℕ → Type 0

@@ -18,7 +18,7 @@ ghost use lib.ListN.{length};
 ghost use Rattle.findings.specs.Admitting.{Admitted};
 ghost use Rattle.survey.specs.Survey.{CanVerifyOn, IsVerifiedOn, IsSurveyedOn, CanSurvey, LineSurveyed, IsSurveyed};
 
-// What the starts up to the one reached gave: it is verified and no finding, and the last; or it is a finding.
+// The start reached, verified: the last one, which is no finding; or the next finding.
 pub enum Surveyed {
     NoFinding(Reached),
     Found(Reached, Finding),

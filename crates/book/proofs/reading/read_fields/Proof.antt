@@ -1,14 +1,16 @@
 -- `book::reading::read_fields` meets its contract. Before the field at `at` the fields before it have been read and counted (`ReadOn`); each return is one
--- case of that field, or the book's end. The bytes left fall.
+-- case of that field, or the book's end. The bytes left fall: a whole field begins before it ends, within the book (`field-ends`).
 -- Assumes nothing.
 use Prim.Native.Nat.{_-_}
-use mathlib.Core.Path.{sym, _∙_}
+use mathlib.Core.Path.{_≡_, sym, _∙_}
 use native.Mathlib.Omega.{arith}
 use borrow.Author.Needs.{needs}
 use borrow.Author.Tests.{not-true, not-false}
 use lib.ListN.{length}
-use Rattle.silences.specs.Addresses.{lastOf}
-use Rattle.book.proofs.ReadLoop.{ReadOn, read-start, read-end, read-faulty, read-not-above, read-turn, read-lt}
+use Rattle.silences.specs.Reading.{whole, fieldAt}
+use Rattle.silences.specs.Addresses.{silenceOf, lastOf}
+use Rattle.silences.proofs.FieldEnds.{field-ends}
+use Rattle.book.proofs.ReadLoop.{ReadOn, read-start, read-end, read-faulty, read-not-above, read-turn}
 use Rattle.book.proofs.reading.read_fields.Statement.{statement}
 use Rattle.book.proofs.reading.read_fields.Tie as tie
 
@@ -17,6 +19,12 @@ Inv-loop book at₀ records₀ last₀ at records last = ReadOn book at records 
 
 abbrev μ-loop : tie.MeasureT-loop
 μ-loop book at₀ records₀ last₀ at records last = length book - at
+
+-- a whole field that was read stands in the book
+field-is : (c : tie.After-field Inv-loop μ-loop)
+    → whole (silenceOf (c .field .given .0 .0)) (c .field .given .0 .1 .0)
+    ≡ fieldAt (c .before .before .before .before .before .before .args .book .now) (c .before .before .before .before .loop .at)
+field-is c = rw (c .field .given .1) at (c .before .before .field-at .ensures)
 
 loop-holds : tie.Need-loop-holds Inv-loop μ-loop
 loop-holds c = read-start _
@@ -31,7 +39,7 @@ enum-told c = search needs
 returns : tie.Need-returns Inv-loop μ-loop
 returns c =
     let at-field = c .before .before in
-    read-faulty _ _ _ _ (at-field .before .before .loop .inv) (rw (c .enum-told .given .1) at (at-field .field-at .ensures)) (omega arith)
+    read-faulty (at-field .before .before .loop .inv) (rw (c .enum-told .given .1) at (at-field .field-at .ensures)) (omega arith)
 
 enum-known-field : tie.Need-enum-known-field Inv-loop μ-loop
 enum-known-field c = search needs
@@ -43,29 +51,23 @@ is-above-requires c κs = tt
 returns-2 : tie.Need-returns-2 Inv-loop μ-loop
 returns-2 c =
     let at-whole = c .before .before .before in
-    let at-field = at-whole .before .before in
-    read-not-above _ _ _ _ (at-field .before .before .loop .inv) _ _ (rw (at-whole .field .given .1) at (at-field .field-at .ensures))
-    (sym (c .before .is-above .ensures) ∙ not-true _ (c .if1 .taken))
+    read-not-above (at-whole .before .before .before .before .loop .inv) (field-is at-whole) (sym (c .before .is-above .ensures) ∙ not-true _ (c .if1 .taken))
 
 add-records : tie.Need-add-records Inv-loop μ-loop
 add-records c = omega arith
 
 loop-less : tie.Need-loop-less Inv-loop μ-loop
-loop-less c =
-    let at-whole = c .before .before .before in
-    let at-field = at-whole .before .before in
-    read-lt _ _ _ _ (at-field .before .before .loop .inv) _ _ (rw (at-whole .field .given .1) at (at-field .field-at .ensures))
+loop-less c = omega (arith, field-ends _ _ _ _ (sym (field-is (c .before .before .before))))
 
+-- one record more
 loop-again : tie.Need-loop-again Inv-loop μ-loop
 loop-again c =
     let at-whole = c .before .before .before in
-    let at-field = at-whole .before .before in
-    read-turn _ _ _ _ (at-field .before .before .loop .inv) _ _ (rw (at-whole .field .given .1) at (at-field .field-at .ensures))
-    (sym (c .before .is-above .ensures) ∙ not-false _ (c .if1 .left))
+    read-turn (at-whole .before .before .before .before .loop .inv) (field-is at-whole) (sym (c .before .is-above .ensures) ∙ not-false _ (c .if1 .left))
 
 -- the book's end
 returns-3 : tie.Need-returns-3 Inv-loop μ-loop
-returns-3 c = read-end _ _ _ _ (c .before .loop .inv) (omega arith)
+returns-3 c = read-end (c .before .loop .inv) (omega arith)
 
 pub read-fields-spec : {M : Type 1} → statement M
 read-fields-spec =

@@ -1,13 +1,16 @@
 -- `book::seeking::seek` meets its contract. Before the field at `at` what is sought from `from` on is what is sought from `at` on (`SeekOn`); each
--- return is one case of that field. The bytes left fall.
+-- return is one case of that field. The bytes left fall: a whole field begins before it ends, within the book (`field-ends`).
 -- Assumes nothing.
 use Prim.Native.Nat.{_-_}
-use mathlib.Core.Path.{sym, _∙_}
+use mathlib.Core.Path.{_≡_, sym, _∙_}
+use native.Mathlib.Omega.{arith}
 use borrow.Author.Needs.{needs}
 use borrow.Author.Tests.{not-true, not-false}
 use lib.ListN.{length}
+use Rattle.silences.specs.Reading.{whole, fieldAt}
 use Rattle.silences.specs.Addresses.{silenceOf}
-use Rattle.book.proofs.SeekLoop.{SeekOn, seek-start, seek-nothing, seek-end, seek-turn, seek-lt}
+use Rattle.silences.proofs.FieldEnds.{field-ends}
+use Rattle.book.proofs.SeekLoop.{SeekOn, seek-start, seek-nothing, seek-end, seek-turn}
 use Rattle.book.proofs.seeking.seek.Statement.{statement}
 use Rattle.book.proofs.seeking.seek.Tie as tie
 
@@ -16,6 +19,12 @@ Inv-loop book from address at₀ at = SeekOn book from (silenceOf address) at
 
 abbrev μ-loop : tie.MeasureT-loop
 μ-loop book from address at₀ at = length book - at
+
+-- a whole field that was read stands in the book
+field-is : (c : tie.After-field Inv-loop μ-loop)
+    → whole (silenceOf (c .field .given .0 .0)) (c .field .given .0 .1 .0)
+    ≡ fieldAt (c .before .before .before .before .before .args .book .now) (c .before .before .before .loop .at)
+field-is c = rw (c .field .given .1) at (c .before .before .field-at .ensures)
 
 loop-holds : tie.Need-loop-holds Inv-loop μ-loop
 loop-holds c = seek-start _ _ _
@@ -30,7 +39,7 @@ enum-told c = search needs
 returns : tie.Need-returns Inv-loop μ-loop
 returns c =
     let at-field = c .before .before in
-    record { is = seek-nothing _ _ _ _ (at-field .before .loop .inv) (rw (c .enum-told .given .1) at (at-field .field-at .ensures)) }
+    record { is = seek-nothing (at-field .before .loop .inv) (rw (c .enum-told .given .1) at (at-field .field-at .ensures)) }
 
 enum-known-field : tie.Need-enum-known-field Inv-loop μ-loop
 enum-known-field c = search needs
@@ -42,25 +51,18 @@ is-below-requires c κs = tt
 returns-2 : tie.Need-returns-2 Inv-loop μ-loop
 returns-2 c =
     let at-whole = c .before .before .before in
-    let at-field = at-whole .before .before in
     record {
-      is =
-          seek-end _ _ _ _ (at-field .before .loop .inv) _ _ (rw (at-whole .field .given .1) at (at-field .field-at .ensures))
-          (sym (c .before .is-below .ensures) ∙ not-true _ (c .if1 .taken));
+      is = seek-end (at-whole .before .before .before .loop .inv) (field-is at-whole) (sym (c .before .is-below .ensures) ∙ not-true _ (c .if1 .taken));
     }
 
 loop-less : tie.Need-loop-less Inv-loop μ-loop
-loop-less c =
-    let at-whole = c .before .before .before in
-    let at-field = at-whole .before .before in
-    seek-lt _ _ _ _ (at-field .before .loop .inv) _ _ (rw (at-whole .field .given .1) at (at-field .field-at .ensures))
+loop-less c = omega (arith, field-ends _ _ _ _ (sym (field-is (c .before .before .before))))
 
+-- a field below it
 loop-again : tie.Need-loop-again Inv-loop μ-loop
 loop-again c =
     let at-whole = c .before .before .before in
-    let at-field = at-whole .before .before in
-    seek-turn _ _ _ _ (at-field .before .loop .inv) _ _ (rw (at-whole .field .given .1) at (at-field .field-at .ensures))
-    (sym (c .before .is-below .ensures) ∙ not-false _ (c .if1 .left))
+    seek-turn (at-whole .before .before .before .loop .inv) (field-is at-whole) (sym (c .before .is-below .ensures) ∙ not-false _ (c .if1 .left))
 
 pub seek-spec : {M : Type 1} → statement M
 seek-spec =

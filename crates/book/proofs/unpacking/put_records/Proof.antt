@@ -15,7 +15,7 @@ abbrev μ-loop : tie.MeasureT-loop
 μ-loop book records words₀ at₀ done₀ words at done = records - done
 
 loop-holds : tie.Need-loop-holds Inv-loop μ-loop
-loop-holds c = put-start _ _ _ (c .before .before .pre .0) (c .before .before .pre .1)
+loop-holds c = put-start (c .before .before .pre .0) (c .before .before .pre .1)
 
 field-at-requires : tie.Need-field-at-requires Inv-loop μ-loop
 field-at-requires c κs = tt
@@ -27,13 +27,13 @@ enum-told : tie.Need-enum-told Inv-loop μ-loop
 enum-told c = search needs
 
 same-length : tie.Need-same-length Inv-loop μ-loop
-same-length c = put-length-is _ _ _ _ _ _ (c .before .before .before .before .loop .inv)
+same-length c = put-length-is (c .before .before .before .before .loop .inv)
 
 -- never reached: a field stands for each record
 returns : tie.Need-returns Inv-loop μ-loop
 returns c =
     let at-field = c .before .before in
-    absurd (put-faulty-no _ _ _ _ _ _ (at-field .before .before .loop .inv) (omega arith) (rw (c .enum-told .given .1) at (at-field .field-at .ensures)))
+    absurd (put-faulty-no (at-field .before .before .loop .inv) (omega arith) (rw (c .enum-told .given .1) at (at-field .field-at .ensures)))
 
 mul-put-record : tie.Need-mul-put-record Inv-loop μ-loop
 mul-put-record c = omega arith
@@ -41,7 +41,7 @@ mul-put-record c = omega arith
 put-record-requires : tie.Need-put-record-requires Inv-loop μ-loop
 put-record-requires c κs =
     let at-loop = c .before .before .before .before .before .before .loop in
-    put-room-le _ _ _ _ _ _ (at-loop .inv) (omega arith)
+    put-room-le (at-loop .inv) (omega arith)
 
 add-done : tie.Need-add-done Inv-loop μ-loop
 add-done c = omega arith
@@ -55,14 +55,14 @@ loop-again c =
     let at-whole = at-put .before .before .before in
     let at-field = at-whole .before .before in
     rw (at-put .put-record .ensures)
-    (put-turn _ _ _ _ _ _ (at-field .before .before .loop .inv) (omega arith) _ _ (rw (at-whole .field .given .1) at (at-field .field-at .ensures)))
+    (put-turn (at-field .before .before .loop .inv) (omega arith) (rw (at-whole .field .given .1) at (at-field .field-at .ensures)))
 
 same-length-2 : tie.Need-same-length-2 Inv-loop μ-loop
-same-length-2 c = put-length-is _ _ _ _ _ _ (c .before .loop .inv)
+same-length-2 c = put-length-is (c .before .loop .inv)
 
 -- all words written
 returns-2 : tie.Need-returns-2 Inv-loop μ-loop
-returns-2 c = put-end _ _ _ _ _ _ (c .before .loop .inv) (omega arith)
+returns-2 c = put-end (c .before .loop .inv) (omega arith)
 
 pub put-records-spec : {M : Type 1} → statement M
 put-records-spec =

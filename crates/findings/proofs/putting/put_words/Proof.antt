@@ -1,10 +1,9 @@
 -- `findings::putting::put_words` meets its contract: three stores, one after the other, are `sets` of the finding's words.
 -- Assumes nothing.
-use Prim.Native.Nat.{_*_}
+use native.Mathlib.Numerals.{add-one, add-two}
 use native.Mathlib.Omega.{arith}
 use borrow.Author.Needs.{needs}
 use lib.ListN.{length-set}
-use Rattle.findings.proofs.WordsPut.{three-stores}
 use Rattle.findings.proofs.putting.put_words.Statement.{statement}
 use Rattle.findings.proofs.putting.put_words.Tie as tie
 
@@ -48,9 +47,7 @@ same-length : tie.Need-same-length
 same-length c = search needs
 
 returns : tie.Need-returns
-returns c =
-    let a = c .before .before .before .before .before .args in
-    three-stores (a .words .now) (3 * a .before) (a .finding .start .0) (a .finding .rotation .0) (a .finding .distance)
+returns c = simp (add-one, add-two)
 
 pub put-words-spec : {M : Type 1} → statement M
 put-words-spec =

@@ -1,4 +1,5 @@
--- `packing::judging::judge` meets its contract. Its loop keeps `JudgedTo`; the words left fall.
+-- `packing::judging::judge` meets its contract. Its loop keeps `JudgedTo`: the records before `at` are passed and counted. Each return is one case of the record
+-- there, or that none is left. The words left fall.
 -- Assumes nothing.
 use Prim.Native.Nat.{_-_}
 use mathlib.Core.Path.{sym, _∙_}
@@ -18,7 +19,7 @@ abbrev μ-loop : tie.MeasureT-loop
 μ-loop words last₀ records₀ bytes₀ at₀ last records bytes at = length words - at
 
 loop-holds : tie.Need-loop-holds Inv-loop μ-loop
-loop-holds c = judge-start _
+loop-holds c = judge-start
 
 sub-loop : tie.Need-sub-loop Inv-loop μ-loop
 sub-loop c = omega arith
@@ -47,10 +48,11 @@ mul-start c = omega arith
 shared-slice-read-start : tie.Need-shared-slice-read-start Inv-loop μ-loop
 shared-slice-read-start c = omega arith
 
+-- row 9 at this record
 returns : tie.Need-returns Inv-loop μ-loop
 returns c =
     let at-loop = c .before .before .before .before .before in
-    judge-ring-number _ (at-loop .loop .inv) (omega arith) (c .if1 .taken)
+    judge-ring-number (at-loop .loop .inv) (omega arith) (omega (arith, c .if1 .taken))
 
 cast-t18 : tie.Need-cast-t18 Inv-loop μ-loop
 cast-t18 c = omega arith
@@ -58,10 +60,11 @@ cast-t18 c = omega arith
 is-above-requires : tie.Need-is-above-requires Inv-loop μ-loop
 is-above-requires c κs = tt
 
+-- row 7 at this record
 returns-2 : tie.Need-returns-2 Inv-loop μ-loop
 returns-2 c =
     let at-loop = c .before .before .before .before .before .before .before in
-    judge-not-above _ (at-loop .loop .inv) (omega arith) (c .before .before .if1 .left) (sym (c .before .is-above .ensures) ∙ not-true _ (c .if2 .taken))
+    judge-not-above (at-loop .loop .inv) (omega arith) (omega (arith, c .before .before .if1 .left)) (sym (c .before .is-above .ensures) ∙ not-true _ (c .if2 .taken))
 
 add-records : tie.Need-add-records Inv-loop μ-loop
 add-records c = omega arith
@@ -75,13 +78,15 @@ add-at c = omega arith
 loop-less : tie.Need-loop-less Inv-loop μ-loop
 loop-less c = omega arith
 
+-- this record is taken
 loop-again : tie.Need-loop-again Inv-loop μ-loop
 loop-again c =
     let at-loop = c .before .before .before .before .before .before .before in
-    judge-turn _ (at-loop .loop .inv) (omega arith) (c .before .before .if1 .left) (sym (c .before .is-above .ensures) ∙ not-false _ (c .if2 .left)) (field-length _)
+    judge-turn (at-loop .loop .inv) (omega arith) (omega (arith, c .before .before .if1 .left)) (sym (c .before .is-above .ensures) ∙ not-false _ (c .if2 .left)) (field-length _)
 
+-- no record is left
 returns-3 : tie.Need-returns-3 Inv-loop μ-loop
-returns-3 c = judge-end _ (c .before .loop .inv) (omega arith)
+returns-3 c = judge-end (c .before .loop .inv) (omega arith)
 
 pub judge-spec : {M : Type 1} → statement M
 judge-spec =

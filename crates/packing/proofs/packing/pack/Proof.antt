@@ -1,13 +1,16 @@
--- `packing::packing::pack` meets its contract: each return is one case of packing (`PackCases`), and what is judged of the records is what `judge` ensures.
+-- `packing::packing::pack` meets its contract: each return is one case of packing (`PackCases`), and what is known once the records are judged (`judged`) is what
+-- the two tests of the word count left and what `judge` ensures.
 -- Assumes nothing.
 use mathlib.Core.Logic.{inl, inr}
-use mathlib.Core.Path.{sym, ap, _∙_}
 use native.Mathlib.Omega.{arith}
 use borrow.Author.Needs.{needs}
-use Rattle.packing.specs.Judging.{judgedOf}
-use Rattle.packing.proofs.PackCases.{pack-word-count, pack-refused, pack-room, pack-no-room, pack-written}
+use Rattle.packing.proofs.PackCases.{WordsJudged, judged-bytes-are, pack-word-count, pack-refused, pack-no-room, pack-written}
 use Rattle.packing.proofs.packing.pack.Statement.{statement}
 use Rattle.packing.proofs.packing.pack.Tie as tie
+
+-- what is known once the records are judged
+judged : (c : tie.After-judge) → WordsJudged (c .before .before .before .before .before .args .words .now) (c .judge .result)
+judged c = record { word-count = record { multiple = c .before .before .if1 .left; words-le = omega (arith, c .before .if2 .left) }; is = c .judge .ensures }
 
 -- not a multiple of 3: row 8
 returns : tie.Need-returns
@@ -15,7 +18,7 @@ returns c = pack-word-count _ _ (inl (c .if1 .taken))
 
 -- more than 3,000 words: row 8
 returns-2 : tie.Need-returns-2
-returns-2 c = pack-word-count _ _ (inr (c .if2 .taken))
+returns-2 c = pack-word-count _ _ (inr (omega (arith, c .if2 .taken)))
 
 judge-requires : tie.Need-judge-requires
 judge-requires c κs = omega arith
@@ -27,16 +30,12 @@ enum-known-records c = search needs
 returns-3 : tie.Need-returns-3
 returns-3 c =
     let at-records = c .before .before in
-    let at-judge = at-records .before .before in
-    let at-count = at-judge .before in
-    pack-no-room _ _ (at-count .before .if1 .left) (at-count .if2 .left) (sym (ap judgedOf (at-records .records .given .1)) ∙ at-judge .judge .ensures) (c .if3 .taken)
+    pack-no-room _ _ (judged (at-records .before .before)) (at-records .records .given .1) (omega (arith, c .if3 .taken))
 
 put-fields-requires : tie.Need-put-fields-requires
 put-fields-requires c κs =
     let at-records = c .before .before .before in
-    let at-judge = at-records .before .before in
-    let at-count = at-judge .before in
-    pack-room _ (at-count .before .before .before .before .args .out .now) (at-count .before .if1 .left) (at-count .if2 .left) (sym (ap judgedOf (at-records .records .given .1)) ∙ at-judge .judge .ensures) (c .before .if3 .left)
+    omega (arith, judged-bytes-are (judged (at-records .before .before)) (at-records .records .given .1))
 
 enum-known-refusal : tie.Need-enum-known-refusal
 enum-known-refusal c = search needs
@@ -49,17 +48,13 @@ returns-4 : tie.Need-returns-4
 returns-4 c =
     let at-put = c .before .before in
     let at-records = at-put .before .before .before .before in
-    let at-judge = at-records .before .before in
-    let at-count = at-judge .before in
-    pack-written _ _ (at-count .before .if1 .left) (at-count .if2 .left) (sym (ap judgedOf (at-records .records .given .1)) ∙ at-judge .judge .ensures) (at-put .before .before .if3 .left) (at-put .put-fields .ensures)
+    pack-written _ _ (judged (at-records .before .before)) (at-records .records .given .1) (omega (arith, at-put .before .before .if3 .left)) (at-put .put-fields .ensures)
 
 -- row 9 or 7
 returns-5 : tie.Need-returns-5
 returns-5 c =
     let at-refusal = c .before in
-    let at-judge = at-refusal .before .before in
-    let at-count = at-judge .before in
-    pack-refused _ _ (at-count .before .if1 .left) (at-count .if2 .left) (sym (ap judgedOf (at-refusal .refusal .given .1)) ∙ at-judge .judge .ensures)
+    pack-refused _ _ (judged (at-refusal .before .before)) (at-refusal .refusal .given .1)
 
 pub pack-spec : {M : Type 1} → statement M
 pack-spec =

@@ -1,7 +1,10 @@
--- `packing::putting::put_field` meets its contract: each number begins where the one before it ends, and all five are the field (`field-put`).
+-- `packing::putting::put_field` meets its contract: each number begins where the one before it ends, and all five are the field (`field-put`). Room for the
+-- field is known at the beginning; what is left of it behind each number follows from what was left behind the one before.
 -- Assumes nothing.
+use Prim.Native.Nat.{_+_, _≤_}
 use native.Mathlib.Omega.{arith}
 use borrow.Author.Needs.{needs}
+use lib.ListN.{length}
 use Rattle.silences.specs.Silences.{Silence, silence}
 use Rattle.silences.proofs.FieldBytes.{field-length}
 use Rattle.packing.proofs.FieldPut.{number-next, field-put}
@@ -11,6 +14,21 @@ use Rattle.packing.proofs.putting.put_field.Tie as tie
 -- the silence whose field is put
 here : tie.Start → Silence
 here c = silence (c .args .cell) (c .args .ring-number) (c .args .start)
+
+-- behind the tag there is room for the 12 bytes left
+behind-tag : (c : tie.After-put-number) → c .put-number .result + 12 ≤ length (c .put-number .last .0)
+unfolding here
+behind-tag c = omega (arith, field-length (here (c .before .before .before)), number-next 1 _ (c .put-number .ensures))
+
+-- behind each next number there is room for what was left but that number
+behind-length : (c : tie.After-put-number2) → c .put-number2 .result + 10 ≤ length (c .put-number2 .last .0)
+behind-length c = omega (arith, behind-tag (c .before .before .before .before), number-next 2 _ (c .put-number2 .ensures))
+
+behind-cell : (c : tie.After-put-number3) → c .put-number3 .result + 6 ≤ length (c .put-number3 .last .0)
+behind-cell c = omega (arith, behind-length (c .before .before .before .before), number-next 4 _ (c .put-number3 .ensures))
+
+behind-ring-number : (c : tie.After-put-number4) → c .put-number4 .result + 4 ≤ length (c .put-number4 .last .0)
+behind-ring-number c = omega (arith, behind-cell (c .before .before .before .before), number-next 2 _ (c .put-number4 .ensures))
 
 cast-put-number : tie.Need-cast-put-number
 cast-put-number c = search needs
@@ -23,60 +41,16 @@ cast-put-number-2 : tie.Need-cast-put-number-2
 cast-put-number-2 c = search needs
 
 put-number-requires-2 : tie.Need-put-number-requires-2
-unfolding here
-put-number-requires-2 c κs =
-    let at-tag = c .before .before .before in
-    let at-entry = at-tag .before .before .before in
-    omega (
-      arith,
-      field-length (here at-entry),
-      number-next 1 _ (at-tag .put-number .ensures),
-    )
+put-number-requires-2 c κs = omega (arith, behind-tag (c .before .before .before))
 
 put-number-requires-3 : tie.Need-put-number-requires-3
-unfolding here
-put-number-requires-3 c κs =
-    let at-length = c .before .before .before in
-    let at-tag = at-length .before .before .before .before in
-    let at-entry = at-tag .before .before .before in
-    omega (
-      arith,
-      field-length (here at-entry),
-      number-next 1 _ (at-tag .put-number .ensures),
-      number-next 2 _ (at-length .put-number2 .ensures),
-    )
+put-number-requires-3 c κs = omega (arith, behind-length (c .before .before .before))
 
 put-number-requires-4 : tie.Need-put-number-requires-4
-unfolding here
-put-number-requires-4 c κs =
-    let at-cell = c .before .before .before in
-    let at-length = at-cell .before .before .before .before in
-    let at-tag = at-length .before .before .before .before in
-    let at-entry = at-tag .before .before .before in
-    omega (
-      arith,
-      field-length (here at-entry),
-      number-next 1 _ (at-tag .put-number .ensures),
-      number-next 2 _ (at-length .put-number2 .ensures),
-      number-next 4 _ (at-cell .put-number3 .ensures),
-    )
+put-number-requires-4 c κs = omega (arith, behind-cell (c .before .before .before))
 
 put-number-requires-5 : tie.Need-put-number-requires-5
-unfolding here
-put-number-requires-5 c κs =
-    let at-ring-number = c .before .before .before in
-    let at-cell = at-ring-number .before .before .before .before in
-    let at-length = at-cell .before .before .before .before in
-    let at-tag = at-length .before .before .before .before in
-    let at-entry = at-tag .before .before .before in
-    omega (
-      arith,
-      field-length (here at-entry),
-      number-next 1 _ (at-tag .put-number .ensures),
-      number-next 2 _ (at-length .put-number2 .ensures),
-      number-next 4 _ (at-cell .put-number3 .ensures),
-      number-next 2 _ (at-ring-number .put-number4 .ensures),
-    )
+put-number-requires-5 c κs = omega (arith, behind-ring-number (c .before .before .before))
 
 same-length : tie.Need-same-length
 same-length c = search needs

@@ -1,4 +1,5 @@
--- `packing::putting::put_fields` meets its contract. Its loop keeps `PutFields`; the words left fall.
+-- `packing::putting::put_fields` meets its contract. Its loop keeps `PutFields`: what is to be written yet, written over the area as it is, gives the whole. The
+-- words left fall.
 -- Assumes nothing.
 use Prim.Native.Nat.{_-_}
 use native.Mathlib.Omega.{arith}
@@ -14,7 +15,7 @@ abbrev μ-loop : tie.MeasureT-loop
 μ-loop words out₀ at₀ to₀ out at to = length words - at
 
 loop-holds : tie.Need-loop-holds Inv-loop μ-loop
-loop-holds c = fields-start _ _ (c .before .before .pre)
+loop-holds c = fields-start (c .before .before .pre)
 
 sub-loop : tie.Need-sub-loop Inv-loop μ-loop
 sub-loop c = omega arith
@@ -46,7 +47,7 @@ shared-slice-read-put-field-3 c = omega arith
 put-field-requires : tie.Need-put-field-requires Inv-loop μ-loop
 put-field-requires c κs =
     let at-loop = c .before .before .before .before .before in
-    fields-room _ _ (at-loop .loop .inv) (omega arith)
+    fields-room (at-loop .loop .inv) (omega arith)
 
 add-at : tie.Need-add-at Inv-loop μ-loop
 add-at c = omega arith
@@ -58,13 +59,13 @@ loop-again : tie.Need-loop-again Inv-loop μ-loop
 loop-again c =
     let at-put-field = c .before .before in
     let at-loop = at-put-field .before .before .before .before .before .before in
-    fields-turn _ _ (at-loop .loop .inv) (omega arith) (at-put-field .put-field .kept .0) (at-put-field .put-field .ensures)
+    fields-turn (at-loop .loop .inv) (omega arith) (at-put-field .put-field .kept .0) (at-put-field .put-field .ensures)
 
 same-length : tie.Need-same-length Inv-loop μ-loop
 same-length c = c .before .loop .inv .length-is
 
 returns : tie.Need-returns Inv-loop μ-loop
-returns c = fields-end _ _ (c .before .loop .inv) (omega arith)
+returns c = fields-end (c .before .loop .inv) (omega arith)
 
 pub put-fields-spec : {M : Type 1} → statement M
 put-fields-spec =

@@ -1,4 +1,5 @@
--- `packing::putting::put_number` meets its contract. Its loop keeps `PutNumber`; the bytes left fall.
+-- `packing::putting::put_number` meets its contract. Its loop keeps `PutNumber`: the bytes left, written over the area as it is, give the whole number. The
+-- bytes left fall.
 -- Assumes nothing.
 use native.Mathlib.Omega.{arith}
 use Rattle.packing.proofs.NumberPut.{PutNumber, put-number-start, put-number-turn, put-number-end}
@@ -12,7 +13,7 @@ abbrev μ-loop : tie.MeasureT-loop
 μ-loop out₀ at count number rest₀ left₀ out rest left = left
 
 loop-holds : tie.Need-loop-holds Inv-loop μ-loop
-loop-holds c = put-number-start _ _ _ _
+loop-holds c = put-number-start
 
 cast-out : tie.Need-cast-out Inv-loop μ-loop
 cast-out c = omega arith
@@ -33,7 +34,7 @@ loop-less : tie.Need-loop-less Inv-loop μ-loop
 loop-less c = omega arith
 
 loop-again : tie.Need-loop-again Inv-loop μ-loop
-loop-again c = put-number-turn _ _ _ _ (omega arith) (omega arith) (c .before .loop .inv)
+loop-again c = put-number-turn (omega arith) (omega arith) (c .before .loop .inv)
 
 add-result : tie.Need-add-result Inv-loop μ-loop
 add-result c = omega arith
@@ -42,7 +43,7 @@ same-length : tie.Need-same-length Inv-loop μ-loop
 same-length c = c .before .loop .inv .length-is
 
 returns : tie.Need-returns Inv-loop μ-loop
-returns c = put-number-end _ _ _ _ (omega arith) (c .before .loop .inv)
+returns c = put-number-end (omega arith) (c .before .loop .inv)
 
 pub put-number-spec : {M : Type 1} → statement M
 put-number-spec =

@@ -1,8 +1,9 @@
 -- `survey::plain::survey_on` meets its contract: its two returns are the two cases of the start reached (`SurveyCases`).
 -- Assumes nothing.
 use mathlib.Core.Path.{refl}
+use native.Mathlib.Omega.{arith}
 use borrow.Author.Needs.{needs}
-use Rattle.survey.proofs.SurveyCases.{on-none, on-found}
+use Rattle.survey.proofs.SurveyCases.{reached-none, reached-found}
 use Rattle.survey.proofs.plain.survey_on.Statement.{statement}
 use Rattle.survey.proofs.plain.survey_on.Tie as tie
 
@@ -12,9 +13,9 @@ verify-on-requires c κs = search needs
 -- Verified, and no finding.
 returns : tie.Need-returns
 returns c =
-    let verified = c .before in
-    let start = verified .before .before .before .before .before in
-    on-none _ _ _ _ _ _ (start .pre) _ _ (verified .verify-on .ensures) (c .if1 .taken)
+    let at-verified = c .before in
+    let at-entry = at-verified .before .before .before .before .before in
+    reached-none (at-entry .pre) (at-verified .verify-on .ensures) (omega (arith, c .if1 .taken))
 
 lowest-rotation-requires : tie.Need-lowest-rotation-requires
 lowest-rotation-requires c κs = search needs
@@ -22,9 +23,9 @@ lowest-rotation-requires c κs = search needs
 -- A finding.
 returns-2 : tie.Need-returns-2
 returns-2 c =
-    let verified = c .before .before .before in
-    let start = verified .before .before .before .before .before in
-    on-found _ _ _ _ _ _ (start .pre) _ _ (verified .verify-on .ensures) _ _ (c .before .before .if1 .left) (c .lowest-rotation .ensures) refl refl refl
+    let at-verified = c .before .before .before in
+    let at-entry = at-verified .before .before .before .before .before in
+    reached-found (at-entry .pre) (at-verified .verify-on .ensures) _ (omega (arith, c .before .before .if1 .left)) (c .lowest-rotation .ensures) refl refl refl
 
 pub survey-on-spec : {M : Type 1} → statement M
 survey-on-spec =

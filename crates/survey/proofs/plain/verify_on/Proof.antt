@@ -3,7 +3,7 @@
 -- Assumes nothing.
 use native.Mathlib.Omega.{arith}
 use borrow.Author.Needs.{needs}
-use Rattle.survey.proofs.SurveyCases.{on-first, on-reached, on-moved}
+use Rattle.survey.proofs.SurveyCases.{first-verified, moved-verified}
 use Rattle.survey.proofs.plain.verify_on.Statement.{statement}
 use Rattle.survey.proofs.plain.verify_on.Tie as tie
 
@@ -31,16 +31,15 @@ move-counts-requires c κs = search needs
 -- The first start.
 returns : tie.Need-returns
 returns c =
-    let counted = c .before in
-    let start = counted .before .before .before .before .before .before in
-    on-first _ _ _ _ _ _ (start .pre) _ _ _ (counted .before .before .if1 .taken) (counted .window .ensures) (c .count-afresh .ensures)
+    let at-window = c .before in
+    let at-entry = at-window .before .before .before .before .before .before in
+    first-verified (at-entry .pre) (omega (arith, at-window .before .before .if1 .taken)) (at-window .window .ensures) (c .count-afresh .ensures)
 
 -- A later one, and those after it.
 returns-2 : tie.Need-returns-2
 returns-2 c =
-    let start = c .before .before .before .before .before .before in
-    on-moved _ _ _ _ _ _ (start .pre) _ _ (omega (arith, c .before .before .if1 .left))
-    (on-reached _ _ _ _ _ _ (start .pre) (omega (arith, c .before .before .if1 .left)) _ _ (c .move-counts .ensures))
+    let at-entry = c .before .before .before .before .before .before in
+    moved-verified (at-entry .pre) (omega (arith, c .before .before .if1 .left)) (c .move-counts .ensures)
 
 pub verify-on-spec : {M : Type 1} → statement M
 verify-on-spec =
