@@ -3,7 +3,6 @@
 pub mod ScanAll
 pub mod ScanWindows
 pub mod ScanKeeps
-pub mod ScanAnswers
 -- What any answer of a scan gives, and that a survey gives the same.
 pub mod ScanGives
 pub mod OneScanAnswer

@@ -64,7 +64,7 @@ module _ {cell ringNumber : ℕ} {ring doubled table line : List ℕ} {k : ℕ} 
           counts-add,
           scan-found-le ring line k _ _ _ _ (h .keeps .scanned .scanning),
           below-length-le ring line k (length line),
-          can .can-scan .most-line,
+          can .can-scan .admitted .most-line,
         )
 
     -- Past the last window the line is reported.

@@ -45,32 +45,32 @@ module _ {ring doubled table line : List ℕ} {k : ℕ} {counts₀ area : List �
   -- Before the first window.
   pub keeps-start : {at : Sweep} → at .start ≡ 0 → lastOf (at .last) ≡ none → at .looks ≡ 0 → ScanKeeps ring line k area [] [] at 0 counts₀ area
   keeps-start {at} s l o = record {
-    scanned = rw (s, l, o) (scanning-start (can .fits .some-edge));
+    scanned = rw (s, l, o) (scanning-start (can .admitted .some-edge));
     before = rw l tt;
-    size = can .fits .size;
+    size = can .size;
     start-le = omega arith;
   }
 
   module _ {so-far put : List Finding} {at : Sweep} {count : ℕ} {counts words : List ℕ} (h : ScanKeeps ring line k area so-far put at count counts words) where
     -- Past the last window all is found, and all is looked at.
     pub keeps-end : n < at .start + m → (so-far ≡ findings ring line k) × (at .looks ≡ quickLooks ring line k)
-    keeps-end past = scanning-end (can .fits .some-edge) (h .scanned) past
+    keeps-end past = scanning-end (can .admitted .some-edge) (h .scanned) past
 
     -- The sweep can go on.
     pub keeps-can-sweep : CanSweepOn ring doubled table line k counts at
     keeps-can-sweep = record {
-      fits = record { size = h .size; some-edge = can .fits .some-edge; most = can .fits .most };
-      allowed = can .allowed;
-      most-line = omega (arith, can .most-line);
+      fits = record { size = h .size; some-edge = can .admitted .some-edge; most = can .admitted .most-ring };
+      allowed = can .admitted .allowed;
+      most-line = omega (arith, can .admitted .most-line);
       occurs = can .occurs;
       twice = can .twice;
       start-le = h .start-le;
       before = h .before;
       looks-le = omega (
         arith,
-        scanning-looks-le (can .fits .some-edge) (h .scanned),
-        quickLooks-most ring line k (can .fits .some-edge),
-        mul-le-mul (can .fits .most) (can .most-line),
+        scanning-looks-le (can .admitted .some-edge) (h .scanned),
+        quickLooks-most ring line k (can .admitted .some-edge),
+        mul-le-mul (can .admitted .most-ring) (can .admitted .most-line),
       );
     }
 
@@ -82,7 +82,7 @@ module _ {ring doubled table line : List ℕ} {k : ℕ} {counts₀ area : List �
     pub keeps-left : {j reads : ℕ} → LeftTo ring line k (at .start) j reads → ScanKeeps ring line k area so-far put (leftState at j reads) count counts words
     keeps-left {j} left = record {
       scanned =
-          scanning-left (can .fits .some-edge) (h .scanned) left;
+          scanning-left (can .admitted .some-edge) (h .scanned) left;
       before = before-later ring line counts (at .start) j (lastOf (at .last)) (left-from-le ring line k (at .start) left) (h .before);
       size = h .size;
       start-le = left-start-le ring line k (at .start) (h .start-le) left;
@@ -110,21 +110,21 @@ module _ {ring doubled table line : List ℕ} {k : ℕ} {counts₀ area : List �
 
     module _ (in-line : at .start + m ≤ n) where
       room : roomAsked m n ≤ length area
-      room = can .room-for (omega arith)
+      room = can .admitted .room-for (omega arith)
 
       -- The count of findings fits.
       pub keeps-found-le : length so-far ≤ mostLine
       keeps-found-le =
           omega (
             arith,
-            can .most-line,
-            scanning-found-le (can .fits .some-edge) (h .scanned) in-line,
+            can .admitted .most-line,
+            scanning-found-le (can .admitted .some-edge) (h .scanned) in-line,
           )
 
       -- The words keep their length.
       pub keeps-length : length words ≡ length area
       keeps-length =
-          scanning-length (can .fits .some-edge) (h .scanned) in-line room
+          scanning-length (can .admitted .some-edge) (h .scanned) in-line room
 
       module _ {r : Swept} {next : Sweep} {counts′ : List ℕ} (swept : IsSwept ring line k at r counts′) (is-next : stateOf r ≡ next) where
         start-is : next .start ≡ sweptStart ring line k (at .start)
@@ -155,7 +155,7 @@ module _ {ring doubled table line : List ℕ} {k : ℕ} {counts₀ area : List �
         pub keeps-none : foundOf r ≡ [] → ScanKeeps ring line k area so-far put next count counts′ words
         keeps-none e =
             keeps-next
-            (scanning-none (can .fits .some-edge) (h .scanned) in-line start-is last-is looks-are (sym (swept .found-are) ∙ e))
+            (scanning-none (can .admitted .some-edge) (h .scanned) in-line start-is last-is looks-are (sym (swept .found-are) ∙ e))
 
         module _ {f : Finding} (e : foundOf r ≡ f ∷ []) where
           found-is : sweptFound ring line k (at .start) ≡ f ∷ []
@@ -163,21 +163,21 @@ module _ {ring doubled table line : List ℕ} {k : ℕ} {counts₀ area : List �
 
           fits-behind : wordsEach * count + wordsEach ≤ length area
           fits-behind =
-              scanning-room (can .fits .some-edge) (h .scanned) in-line found-is room
+              scanning-room (can .admitted .some-edge) (h .scanned) in-line found-is room
 
           -- A finding starts where its window does.
           pub keeps-finding-start : f .start ≡ at .start
-          keeps-finding-start = swept-finding ring line k (at .start) f (can .fits .some-edge) found-is .0
+          keeps-finding-start = swept-finding ring line k (at .start) f (can .admitted .some-edge) found-is .0
 
           -- A finding has room for its words, and each is a 32-bit word.
           pub keeps-can-put : CanPut words count f
           keeps-can-put =
-              let small = swept-finding ring line k (at .start) f (can .fits .some-edge) found-is in
+              let small = swept-finding ring line k (at .start) f (can .admitted .some-edge) found-is in
               record {
                 room = omega (arith, keeps-length, fits-behind);
-                start-lt = omega (arith, small .0, can .most-line);
-                rotation-lt = omega (arith, small .1, can .fits .most);
-                distance-lt = omega (arith, small .2, can .allowed, can .fits .most);
+                start-lt = omega (arith, small .0, can .admitted .most-line);
+                rotation-lt = omega (arith, small .1, can .admitted .most-ring);
+                distance-lt = omega (arith, small .2, can .admitted .allowed, can .admitted .most-ring);
               }
 
           -- Putting them keeps the words' length.
@@ -188,10 +188,10 @@ module _ {ring doubled table line : List ℕ} {k : ℕ} {counts₀ area : List �
           pub keeps-put : ScanKeeps ring line k area (so-far ++ f ∷ []) (put ++ f ∷ []) next (count + 1) counts′ (wordsPut count f words)
           keeps-put =
               keeps-next
-              (scanning-put (can .fits .some-edge) (h .scanned) in-line start-is last-is looks-are found-is room)
+              (scanning-put (can .admitted .some-edge) (h .scanned) in-line start-is last-is looks-are found-is room)
 
           -- A window that reports a finding, whose words are not put.
           pub keeps-passed : ScanKeeps ring line k area (so-far ++ f ∷ []) put next count counts′ words
           keeps-passed =
               keeps-next
-              (scanning-passed (can .fits .some-edge) (h .scanned) in-line start-is last-is looks-are found-is)
+              (scanning-passed (can .admitted .some-edge) (h .scanned) in-line start-is last-is looks-are found-is)

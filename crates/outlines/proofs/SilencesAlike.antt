@@ -15,7 +15,7 @@ use Rattle.silences.specs.Reading.{readBook}
 use Rattle.outlines.specs.declared.reporting.Reported.{Reported}
 use Rattle.findings.specs.Admitting.{refusalOf}
 use Rattle.outlines.specs.Report.{isHidden, isShown, shown, hidden, noReportCounts, silencesBy, admittedSilences, reportedBy, reportedWordsBy, IsReported}
-use Rattle.findings.proofs.AdmitCases.{admitted-by}
+use Rattle.findings.proofs.AdmitRows.{no-row-iff}
 use Rattle.outlines.proofs.TakenByTest.{taken-same}
 use Rattle.outlines.proofs.ReportOneAnswer.{report-paper-unique}
 
@@ -45,7 +45,7 @@ module _ (ss ts : List Silence) (cell ringNumber : ℕ) where
         go : (o : Option Refusal) → refusalOf (length ring) k (length line) (length words) ≡ o → by (silencesBy o (readBook book)) ≡ by (silencesBy o (readBook book′))
         go (some refusal) e = refl
         go none e =
-            let pos : 0 < length ring = admitted-by (length ring) k (length line) (length words) e .some-edge in
+            let pos : 0 < length ring = no-row-iff (length ring) k (length line) (length words) .0 e .some-edge in
             let named : NamesAlike (findings ring line k) = λ f m. alike f (findings-iff ring line k pos f .0 m) in
             ap by is ∙ same (shown-same (findings ring line k) named) (hidden-same (findings ring line k) named) ∙ sym (ap by is′)
 

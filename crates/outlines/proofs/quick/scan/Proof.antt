@@ -1,10 +1,11 @@
--- `outlines::quick::scan` meets its contract: a row is given and the call refused, or none is and the line is scanned.
+-- `outlines::quick::scan` meets its contract: a row is given and the call refused, or none is and the line is scanned: a search's two answers
+-- (`SearchAnswers` of the findings).
 -- Assumes nothing.
 use mathlib.Core.Path.{sym, ap, _∙_}
 use borrow.Author.Needs.{needs}
 use Rattle.findings.specs.Admitting.{verdictOf}
-use Rattle.findings.proofs.AdmitCases.{admitted-by}
-use Rattle.outlines.proofs.ScanAnswers.{scan-refused, scan-accepted}
+use Rattle.findings.proofs.AdmitRows.{no-row-iff}
+use Rattle.findings.proofs.SearchAnswers.{refused-search, accepted-search}
 use Rattle.outlines.proofs.quick.scan.Statement.{statement}
 use Rattle.outlines.proofs.quick.scan.Tie as tie
 
@@ -20,13 +21,13 @@ enum-told c = search needs
 scan-line-requires : tie.Need-scan-line-requires
 scan-line-requires c κs =
     let admitted = c .before .before .before in
-    admitted-by _ _ _ _ (sym (admitted .admit .ensures .is) ∙ ap verdictOf (c .before .enum-told .given .1))
+    no-row-iff _ _ _ _ .0 (sym (admitted .admit .ensures .is) ∙ ap verdictOf (c .before .enum-told .given .1))
 
 -- Refused.
 returns : tie.Need-returns
 returns c =
     let admitted = c .before .before .before in
-    scan-refused _ _ _ _ _ (sym (ap verdictOf (c .before .refusal .given .1)) ∙ admitted .admit .ensures .is)
+    refused-search (sym (ap verdictOf (c .before .refusal .given .1)) ∙ admitted .admit .ensures .is)
 
 same-length : tie.Need-same-length
 same-length c = search needs
@@ -36,7 +37,7 @@ returns-2 : tie.Need-returns-2
 returns-2 c =
     let scanned = c .before .before in
     let told = scanned .before .before in
-    scan-accepted _ _ _ _ _ _ _ (sym (ap verdictOf (told .enum-told .given .1)) ∙ told .before .before .admit .ensures .is) (scanned .scan-line .ensures)
+    accepted-search (sym (ap verdictOf (told .enum-told .given .1)) ∙ told .before .before .admit .ensures .is) (scanned .scan-line .ensures)
 
 pub scan-spec : {M : Type 1} → statement M
 scan-spec =

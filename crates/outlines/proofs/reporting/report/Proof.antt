@@ -3,7 +3,7 @@
 use mathlib.Core.Path.{sym, ap, _∙_}
 use borrow.Author.Needs.{needs}
 use Rattle.findings.specs.Admitting.{verdictOf}
-use Rattle.findings.proofs.AdmitCases.{admitted-by}
+use Rattle.findings.proofs.AdmitRows.{no-row-iff}
 use Rattle.outlines.proofs.ReportAnswers.{book-accepted, book-refused, report-refused-row, report-refused-book, report-accepted}
 use Rattle.outlines.proofs.reporting.report.Statement.{statement}
 use Rattle.outlines.proofs.reporting.report.Tie as tie
@@ -31,7 +31,7 @@ report-line-requires c κs =
     let read = c .before .before .before in
     let told = read .before in
     record {
-      admitted = admitted-by _ _ _ _ (sym (told .before .before .admit .ensures .is) ∙ ap verdictOf (told .enum-told .given .1));
+      admitted = no-row-iff _ _ _ _ .0 (sym (told .before .before .admit .ensures .is) ∙ ap verdictOf (told .enum-told .given .1));
       book-read = book-accepted _ _ _ (read .read .ensures) (c .before .enum-told2 .given .1);
     }
 
