@@ -6,7 +6,7 @@ use mathlib.Core.Path.{_≡_, sym, ap, subst, _∙_}
 use mathlib.Core.List.{List}
 use native.Mathlib.Omega.{arith}
 use lib.ListN.{length, getD}
-use Rattle.meaning.specs.Findings.{Finding, findings, wordsEach, wordsOf, written}
+use Rattle.meaning.specs.Findings.{findings, wordsEach, wordsOf, written}
 use Rattle.meaning.proofs.Rising.{Rising, findings-rising}
 use Rattle.meaning.proofs.Words.{words-length, written-rest}
 use Rattle.silences.specs.Silences.{Silence}
