@@ -5,6 +5,7 @@ pub mod AdmitRows
 -- A finding's words.
 pub mod WordsPut
 pub mod PutCases
+pub mod WordsSoFar
 -- What holds of both searches.
 pub mod SearchAnswers
 pub mod RowsOfSearching

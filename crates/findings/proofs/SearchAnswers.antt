@@ -46,14 +46,14 @@ module _ {ring line : List ℕ} {k asked : ℕ} {words : List ℕ} where
         written = done .written ∙ words-by ring line k words none e;
       }
 
--- The refusal, its two equations apart.
+-- The same of a contract that is a record of its own, as its two equations: the refusal.
 pub search-refused : (ring line : List ℕ) (k : ℕ) (words : List ℕ) (asked : ℕ) (refusal : Refusal) → some refusal ≡ refusalOf (length ring) k (length line) (length words)
     → (paperOf (Refused refusal) ≡ searchPaper ring line k (length words) asked) × (words ≡ searchedWords ring line k words)
 search-refused ring line k words asked refusal e =
     let searched : IsSearched ring line k asked words (Refused refusal) words = refused-search e in
     (searched .paper, searched .written)
 
--- The accepted answer, its two equations apart.
+-- And the accepted answer.
 pub search-accepted : (ring line : List ℕ) (k : ℕ) (words : List ℕ) (asked found looks : ℕ) (out : List ℕ)
     → none ≡ refusalOf (length ring) k (length line) (length words) → found ≡ length (findings ring line k) → looks ≡ asked
     → out ≡ written (wordsOf (findings ring line k)) words

@@ -14,7 +14,7 @@ use Rattle.silences.proofs.NumberBytes.{bytesOf-length}
 use Rattle.silences.proofs.FieldBytes.{fieldOf-is}
 use Rattle.silences.proofs.WrittenAt.{put-append}
 
--- A number is put in its count of bytes.
+-- What comes behind a number begins as many bytes on as the number has.
 pub number-next : {at next : ℕ} {area out : List ℕ} (count number : ℕ) → IsPut at (bytesOf count number) area next out → next ≡ at + count
 number-next {at} count number is-put = is-put .next-is ∙ ap (λ (n : ℕ). at + n) (bytesOf-length count number)
 

@@ -8,9 +8,8 @@ use mathlib.Core.List.{List, [], _∷_, _++_, append-nil}
 use native.Mathlib.Nat.{mul-le-mul}
 use native.Mathlib.Numerals.{add-one}
 use native.Mathlib.Omega.{arith}
-use lib.ListN.{length, length-append}
-use lib.Seq.{length-sets}
-use Rattle.meaning.specs.Findings.{Finding, foundAt, findingsBelow, findings, findingWords, wordsEach, wordsOf, written}
+use lib.ListN.{length}
+use Rattle.meaning.specs.Findings.{Finding, foundAt, findingsBelow, findings, wordsEach, wordsOf, written}
 use Rattle.meaning.specs.Looks.{afreshLooks, stepLooks, surveyLooksBelow}
 use Rattle.meaning.proofs.Places.{found-no, found-small}
 use Rattle.meaning.proofs.QuickFindsAll.{below-same}
@@ -21,17 +20,15 @@ use Rattle.survey.specs.declared.plain.Surveyed.{Surveyed}
 use Rattle.findings.specs.Admitting.{mostLine, Admitted}
 use Rattle.tally.specs.Counts.{mostCounts}
 use Rattle.tally.specs.Tallied.{Tallied}
-use Rattle.findings.specs.Putting.{CanPut, IsPut, wordsPut}
+use Rattle.findings.specs.Putting.{IsPut}
 use Rattle.survey.specs.Survey.{CanVerifyOn, IsVerifiedOn, reachedOf, foundOf, IsSurveyedOn, CanSurvey, LineSurveyed}
-use Rattle.findings.proofs.WordsPut.{put-more, put-none, put-length}
-use Rattle.findings.proofs.PutCases.{words-are-put}
+use Rattle.findings.proofs.WordsSoFar.{IsThreeWords, admitted-three-words, WordsSoFar, so-far-none, so-far-length, so-far-more}
 
 -- What the loop keeps before start i.
 pub record SurveyKeeps (ring line : List ℕ) (k : ℕ) (area : List ℕ) (i found looks : ℕ) (counts words : List ℕ) : Type 0 where
   pub start-le : i ≤ length line
-  pub found-is : found ≡ length (findingsBelow ring line k i)
+  pub put : WordsSoFar area (findingsBelow ring line k i) found words
   pub looks-are : looks ≡ surveyLooksBelow ring line i
-  pub words-are : words ≡ written (wordsOf (findingsBelow ring line k i)) area
   pub before : 0 < i → Tallied ring line (i - 1) counts
   pub size : length counts ≡ mostCounts
 
@@ -41,9 +38,8 @@ module _ {ring doubled line : List ℕ} {k : ℕ} {counts₀ area : List ℕ} (c
   unfolding findingsBelow surveyLooksBelow
   survey-start = record {
     start-le = omega arith;
-    found-is = refl;
+    put = so-far-none area;
     looks-are = refl;
-    words-are = put-none area;
     before = λ l. absurd (omega arith);
     size = can .size;
   }
@@ -65,9 +61,9 @@ module _ {ring doubled line : List ℕ} {k : ℕ} {counts₀ area : List ℕ} (c
     survey-end past =
         let all : findingsBelow ring line k i ≡ findings ring line k = sym (findings-below ring line k i (keeps .start-le) past) in
         record {
-          found-is = keeps .found-is ∙ ap (λ (l : List Finding). length l) all;
+          found-is = keeps .put .count-is ∙ ap (λ (l : List Finding). length l) all;
           looks-are = keeps .looks-are ∙ sym (surveyLooks-end ring line i (keeps .start-le) past);
-          written = keeps .words-are ∙ ap (λ (l : List Finding). written (wordsOf l) area) all;
+          written = keeps .put .words-are ∙ ap (λ (l : List Finding). written (wordsOf l) area) all;
         }
 
 -- A turn: what surveying asks, what the loop keeps before start i, that i is a start, and what the starts from i on gave.
@@ -85,17 +81,11 @@ module _ {ring doubled line : List ℕ} {k : ℕ} {counts₀ area : List ℕ} {i
 
   -- No more findings than starts so far.
   pub survey-found-le : found ≤ i
-  survey-found-le = omega (arith, turn .keeps .found-is, below-length-le ring line k i)
+  survey-found-le = omega (arith, turn .keeps .put .count-is, below-length-le ring line k i)
 
   -- there is room for one finding more
   room-behind : wordsEach * found + wordsEach ≤ length area
   room-behind = omega (arith, survey-found-le, turn .in-line, admitted .room-for (omega (arith, turn .in-line)))
-
-  -- the words keep their length
-  survey-length : length words ≡ length area
-  survey-length =
-      ap (λ (w : List ℕ). length w) (turn .keeps .words-are)
-      ∙ put-length (findingsBelow ring line k i) found area (turn .keeps .found-is) (omega (arith, room-behind))
 
   module _ {reached : Reached} (is-reached : reachedOf r ≡ reached) where
     -- the starts up to the one reached are verified
@@ -144,16 +134,14 @@ module _ {ring doubled line : List ℕ} {k : ℕ} {counts₀ area : List ℕ} {i
         rw (add-one (reached .start), passed)
 
     -- what the loop keeps after them, finding or not
-    survey-turn : (found′ : ℕ) (words′ : List ℕ) → found′ ≡ length (findingsBelow ring line k i ++ foundAt ring line k (reached .start))
-        → words′ ≡ written (wordsOf (findingsBelow ring line k i ++ foundAt ring line k (reached .start))) area
+    survey-turn : {found′ : ℕ} {words′ : List ℕ} → WordsSoFar area (findingsBelow ring line k i ++ foundAt ring line k (reached .start)) found′ words′
         → SurveyKeeps ring line k area (reached .start + 1) found′ (looks + reached .looks) counts′ words′
-    survey-turn found′ words′ f w =
+    survey-turn put =
         let here : reached .start + 1 - 1 ≡ reached .start = omega arith in
         record {
           start-le = next-le;
-          found-is = rw below-turn f;
+          put = rw below-turn put;
           looks-are = omega (arith, turn .keeps .looks-are, verified .looks-are);
-          words-are = rw below-turn w;
           before = λ _. rw here (verified .tallied);
           size = verified .tallied .size;
         }
@@ -164,38 +152,27 @@ module _ {ring doubled line : List ℕ} {k : ℕ} {counts₀ area : List ℕ} {i
         let none : findingsBelow ring line k i ++ foundAt ring line k (reached .start) ≡ findingsBelow ring line k i =
         ap (λ (l : List Finding). findingsBelow ring line k i ++ l) (sym reported-is ∙ e) ∙ append-nil _
         in
-        survey-turn found words (rw none (turn .keeps .found-is)) (rw none (turn .keeps .words-are))
+        survey-turn (rw none (turn .keeps .put))
 
-    module _ {f : Finding} (e : foundOf r ≡ f ∷ []) where
+    module _ {f : Finding} (e : foundOf r ≡ f ∷ []) {out : List ℕ} (put : IsPut words found f out) where
       -- a finding at the start reached
       found-here : foundAt ring line k (reached .start) ≡ f ∷ []
       found-here = sym reported-is ∙ e
 
-      -- there is room for its words, and each is a 32-bit word
-      survey-can-put : CanPut words found f
-      survey-can-put =
+      -- its numbers are 32-bit words
+      three-words : IsThreeWords f
+      three-words =
           let small = found-small ring line k (reached .start) f (admitted .some-edge) found-here in
-          record {
-            room = omega (arith, survey-length, room-behind);
-            start-lt = omega (arith, small .0, verified .in-line, admitted .most-line);
-            rotation-lt = omega (arith, small .1, admitted .most-ring);
-            distance-lt = omega (arith, small .2, admitted .allowed, admitted .most-ring);
-          }
+          admitted-three-words admitted (omega (arith, small .0, verified .in-line)) (small .1) (small .2)
 
-      module _ {out : List ℕ} (put : IsPut words found f out) where
-        -- so they are put
-        out-is : out ≡ wordsPut found f words
-        out-is = words-are-put words found f out survey-can-put put
+      -- one finding more is put
+      put-one-more : WordsSoFar area (findingsBelow ring line k i ++ f ∷ []) (found + 1) out
+      put-one-more = so-far-more (turn .keeps .put) room-behind three-words put
 
-        -- Putting a finding's words keeps their length.
-        pub survey-put-length : length out ≡ length area
-        survey-put-length = ap (λ (l : List ℕ). length l) out-is ∙ length-sets words (wordsEach * found) (findingWords f) ∙ survey-length
+      -- The words keep their length.
+      pub survey-put-length : length out ≡ length area
+      survey-put-length = so-far-length put-one-more (omega (arith, room-behind))
 
-        -- The start reached is a finding, whose words are put behind the others.
-        pub survey-found : SurveyKeeps ring line k area (reached .start + 1) (found + 1) (looks + reached .looks) counts′ out
-        survey-found =
-            survey-turn (found + 1) out (rw found-here (omega (arith, turn .keeps .found-is, length-append (findingsBelow ring line k i) (f ∷ []))))
-            (rw found-here
-            (out-is
-            ∙ ap (wordsPut found f) (turn .keeps .words-are)
-            ∙ put-more (findingsBelow ring line k i) f found area (turn .keeps .found-is) room-behind))
+      -- The start reached is a finding, whose words are put behind the others.
+      pub survey-found : SurveyKeeps ring line k area (reached .start + 1) (found + 1) (looks + reached .looks) counts′ out
+      survey-found = survey-turn (rw found-here put-one-more)

@@ -49,7 +49,7 @@ pub record IsVerifiedOn (ring line : List ℕ) (k i : ℕ) (counts : List ℕ) (
   pub looks-are : surveyLooksBelow ring line i + r .looks ≡ surveyLooksBelow ring line (r .start + 1)
   pub passed : (j : ℕ) → i ≤ j → j < r .start → k < leastDistance ring line j
 
--- Where the survey stands.
+-- The start that was reached.
 abbrev pub reachedOf : Surveyed → Reached
 reachedOf (NoFinding reached) = reached
 reachedOf (Found reached f) = reached

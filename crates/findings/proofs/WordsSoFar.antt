@@ -1,0 +1,63 @@
+-- The words of the findings so far, as the loop of a search keeps them: how many findings, and the area with their words at its front. `put_finding` puts one more
+-- behind them, where there is room and its three numbers are 32-bit words. What the findings are is the loop's own.
+-- Assumes nothing.
+use Prim.Native.Nat.{ℕ, _+_, _*_, _^_, _≤_, _<_}
+use mathlib.Core.Path.{_≡_, refl, ap, _∙_}
+use mathlib.Core.List.{List, [], _∷_, _++_}
+use native.Mathlib.Omega.{arith}
+use lib.ListN.{length, length-append}
+use Rattle.meaning.specs.Findings.{Finding, wordsEach, wordsOf, written}
+use Rattle.findings.specs.Admitting.{Admitted}
+use Rattle.findings.specs.Putting.{wordsPut, IsPut}
+use Rattle.findings.proofs.WordsPut.{put-more, put-none, put-length}
+use Rattle.findings.proofs.PutCases.{words-are-put}
+
+-- A finding's three numbers are 32-bit words.
+pub record IsThreeWords (f : Finding) : Type 0 where
+  pub start-lt : f .start < 2 ^ 32
+  pub rotation-lt : f .rotation < 2 ^ 32
+  pub distance-lt : f .distance < 2 ^ 32
+
+-- So are those of any finding of an accepted call.
+pub admitted-three-words : {m k n room : ℕ} {f : Finding} → Admitted m k n room → f .start + m ≤ n → f .rotation < m → f .distance ≤ k → IsThreeWords f
+admitted-three-words admitted in-line is-rotation near =
+    record {
+      start-lt = omega (arith, admitted .most-line);
+      rotation-lt = omega (arith, admitted .most-ring);
+      distance-lt = omega (arith, admitted .allowed, admitted .most-ring);
+    }
+
+-- So many findings, and their words at the front of the area as it was lent.
+pub record WordsSoFar (area : List ℕ) (fs : List Finding) (count : ℕ) (words : List ℕ) : Type 0 where
+  pub count-is : count ≡ length fs
+  pub words-are : words ≡ written (wordsOf fs) area
+
+-- Before the first finding the words are as they were lent.
+pub so-far-none : (area : List ℕ) → WordsSoFar area [] 0 area
+so-far-none area = record { count-is = refl; words-are = put-none area }
+
+module _ {area : List ℕ} {fs : List Finding} {count : ℕ} {words : List ℕ} (so-far : WordsSoFar area fs count words) where
+  -- The words keep their length.
+  pub so-far-length : wordsEach * count ≤ length area → length words ≡ length area
+  so-far-length room = ap (λ (w : List ℕ). length w) (so-far .words-are) ∙ put-length fs count area (so-far .count-is) room
+
+  module _ {f : Finding} {out : List ℕ} (room : wordsEach * count + wordsEach ≤ length area) (fit : IsThreeWords f) (put : IsPut words count f out) where
+    -- the words of one finding more are put
+    more-put : out ≡ wordsPut count f words
+    more-put =
+        words-are-put words count f out
+        (record {
+          room = omega (arith, so-far-length (omega arith));
+          start-lt = fit .start-lt;
+          rotation-lt = fit .rotation-lt;
+          distance-lt = fit .distance-lt;
+        })
+        put
+
+    -- One finding more.
+    pub so-far-more : WordsSoFar area (fs ++ f ∷ []) (count + 1) out
+    so-far-more =
+        record {
+          count-is = omega (arith, so-far .count-is, length-append fs (f ∷ []));
+          words-are = more-put ∙ ap (wordsPut count f) (so-far .words-are) ∙ put-more fs f count area (so-far .count-is) room;
+        }
