@@ -5,4 +5,4 @@ pub mod PlacesUndo
 pub mod PlaceSamples
 pub mod Rows
 pub mod OneAnswer
-pub mod RowNumbers
+pub mod RefusalNumbers

@@ -12,7 +12,6 @@ pub mod SeekRising
 pub mod SoughtRising
 pub mod SoughtCases
 -- the rows of each call
-pub mod RefusalNumbers
 pub mod RowNumbers
 pub mod RowsOfReading
 pub mod RowsOfUnpacking

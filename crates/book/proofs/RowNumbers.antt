@@ -1,5 +1,5 @@
 -- From the numbers and places of a call's answer to what its definition gives, for the calls on a book: the answer has a refusal's number and place exactly when
--- the definition gives that refusal (RefusalNumbers), and so many records exactly when it is accepted with so many silences. The rows of each call are stated
+-- the definition gives that refusal (`RefusalNumbers` of the answers), and so many records exactly when it is accepted with so many silences. The rows of each call are stated
 -- through these.
 -- Assumes nothing.
 use Prim.Native.Nat.{ℕ}
@@ -12,14 +12,13 @@ use Rattle.answers.specs.declared.refusals.Refusal.{Refusal}
 use Rattle.answers.specs.Refusals.{numberOf, placeOf}
 use Rattle.answers.specs.Paper.{Answer, accepted, refused, Paper}
 use Rattle.answers.proofs.OneAnswer.{number-in}
+use Rattle.answers.proofs.RefusalNumbers.{HasNoPlace, refusal-iff, refusal-number-iff, refusal-place-is}
 use Rattle.book.specs.declared.answering.BookAnswer.{BookAnswer}
 use Rattle.book.specs.declared.answering.BookAnswer.the-variants.{Records}
 use Rattle.silences.specs.Silences.{Silence}
 use Rattle.book.specs.Calls.{paperOf, recordsOf, recordsPaper}
 use Rattle.book.proofs.OneAnswer.{paper-unique}
 use Rattle.book.proofs.AcceptedBook.{has-refusal}
-use Rattle.book.proofs.RefusalNumbers.{refusal-iff, refusal-number-iff, refusal-place-is}
-pub use Rattle.book.proofs.RefusalNumbers.{HasNoPlace}
 
 -- the silences that a paper of so many records is of
 records-back : (a : Answer (List Silence)) (n : ℕ) → paperOf (Records n) ≡ recordsPaper a → (ss : List Silence) × (a ≡ accepted ss) × (length ss ≡ n)

@@ -8,7 +8,7 @@ use native.Mathlib.Omega.{arith}
 use Rattle.meaning.proofs.Cases.{le-or-lt}
 use Rattle.answers.specs.declared.refusals.Refusal.{Refusal}
 use Rattle.answers.specs.declared.refusals.Refusal.the-variants.{Ring, Allowance, Line, FindingsRoom}
-use Rattle.answers.specs.Refusals.{numberOf}
+use Rattle.answers.specs.Refusals.{numberOf, placeOf}
 use Rattle.findings.specs.Admitting.{IsRing, refusalOf, Admitted}
 use Rattle.findings.proofs.AdmitCases.{row1-empty, row1-long, row2-is, row3-is, row4-is, short-accepted, room-accepted}
 
@@ -113,12 +113,20 @@ module _ (m k n room : ℕ) where
       back : RowGiven m k n room none → Admitted m k n room
       back (no-row a) = a
 
-  -- These are rows 1 to 4.
-  pub row-numbers : (refusal : Refusal) → refusalOf m k n room ≡ some refusal → numberOf refusal ≤ 4
-  row-numbers refusal e = at-most-4 (row-given (some refusal) .0 e)
+  -- These are rows 1 to 4, and the table's place of each is 0.
+  row-tells : (refusal : Refusal) → refusalOf m k n room ≡ some refusal → (numberOf refusal ≤ 4) × (placeOf refusal ≡ 0)
+  row-tells refusal e = by-row (row-given (some refusal) .0 e)
     where
-      at-most-4 : {q : Refusal} → RowGiven m k n room (some q) → numberOf q ≤ 4
-      at-most-4 (row-1 h) = omega arith
-      at-most-4 (row-2 ring h) = omega arith
-      at-most-4 (row-3 ring allowed h) = omega arith
-      at-most-4 (row-4 ring allowed fits starts h) = omega arith
+      by-row : {q : Refusal} → RowGiven m k n room (some q) → (numberOf q ≤ 4) × (placeOf q ≡ 0)
+      by-row (row-1 h) = omega arith
+      by-row (row-2 ring h) = omega arith
+      by-row (row-3 ring allowed h) = omega arith
+      by-row (row-4 ring allowed fits starts h) = omega arith
+
+  -- The first row that is given is one of rows 1 to 4.
+  pub row-numbers : (refusal : Refusal) → refusalOf m k n room ≡ some refusal → numberOf refusal ≤ 4
+  row-numbers refusal e = row-tells refusal e .0
+
+  -- Its place is 0.
+  pub row-places : (refusal : Refusal) → refusalOf m k n room ≡ some refusal → placeOf refusal ≡ 0
+  row-places refusal e = row-tells refusal e .1

@@ -1,119 +1,87 @@
--- The table's rows 1 to 4 hold of any answer that is a search's, of survey or scan: the paper and the words go by `refusalOf`. Which row is given is one of
--- five cases (`RowGiven` of AdmitRows); in each the number is known, and so is what holds of m, k, n and the room.
+-- The table's rows 1 to 4 hold of any answer that is a search's, of survey or scan: its paper and its words go by the first row that is given (`refusalOf`). A
+-- number of the paper is that of a refusal exactly when the search gives it (`RefusalNumbers` of the answers), and each row's own condition is in AdmitRows.
 -- Assumes nothing.
-use Prim.Native.Nat.{ℕ, _+_, _-_, _*_, _≤_, _<_}
+use Prim.Native.Nat.{ℕ, _≤_, _<_}
 use mathlib.Core.Path.{_≡_, refl, ap, _∙_}
-use mathlib.Core.Logic.{_↔_, _⊎_, ⊎-elim}
+use mathlib.Core.Logic.{_↔_, Iff·trans}
 use mathlib.Core.List.{List}
 use mathlib.Core.Option.{Option, none, some}
 use native.Mathlib.Omega.{arith}
 use lib.ListN.{length}
 use Rattle.meaning.specs.Findings.{findings, wordsOf, written}
 use Rattle.answers.specs.declared.refusals.Refusal.{Refusal}
+use Rattle.answers.specs.declared.refusals.Refusal.the-variants.{Ring, Allowance, Line, FindingsRoom}
 use Rattle.answers.specs.Refusals.{numberOf, placeOf}
-use Rattle.answers.specs.Paper.{Paper, answerPaper}
+use Rattle.answers.specs.Paper.{refused, Paper, answerPaper}
+use Rattle.answers.proofs.RefusalNumbers.{HasNoPlace, refusal-number-iff}
 use Rattle.findings.specs.declared.searching.Scanned.{Scanned}
 use Rattle.findings.specs.Admitting.{refusalOf}
-use Rattle.findings.specs.Searching.{Counts, noCounts, answerBy, wordsBy, searched, searchedWords, paperOf, searchPaper}
+use Rattle.findings.specs.Searching.{Counts, noCounts, answerBy, wordsBy, searched, searchedWords, paperOf, IsSearched}
 use Rattle.findings.specs.SearchRows.{SearchRows}
-use Rattle.findings.proofs.AdmitRows.{RowGiven, row-1, row-2, row-3, row-4, no-row, row-given}
+use Rattle.findings.proofs.AdmitRows.{row-1-iff, row-2-iff, row-3-iff, row-4-iff, row-numbers, row-places}
 
--- The number of the first row that is given, 0 if none is.
-abbrev rowNumber : Option Refusal → ℕ
-rowNumber none = 0
-rowNumber (some refusal) = numberOf refusal
+-- by the first row that is given: a search gives that refusal and no other
+refused-iff : (o : Option Refusal) (counts : Counts) (q : Refusal) → (answerBy o counts ≡ refused q) ↔ (o ≡ some q)
+refused-iff none counts q = (
+  λ h. absurd (let z : _≡_ {A = ℕ} 0 1 = cc in omega arith),
+  λ h. absurd (let z : _≡_ {A = ℕ} 0 1 = cc in omega arith),
+)
+refused-iff (some p) counts q = (λ h. cc, λ h. cc)
 
--- The place of the first row that is given, 0 if none is.
-abbrev rowPlace : Option Refusal → ℕ
-rowPlace none = 0
-rowPlace (some refusal) = placeOf refusal
-
-module _ {m k n room : ℕ} where
-  -- Number 1.
-  one-iff : {o : Option Refusal} → RowGiven m k n room o → (rowNumber o ≡ 1) ↔ ((m ≡ 0) ⊎ (256 < m))
-  one-iff (row-1 h) = (λ q. h, λ z. omega arith)
-  one-iff (row-2 ring h) = (λ q. absurd (omega arith), λ z. ⊎-elim (λ y. omega arith) (λ y. omega arith) z)
-  one-iff (row-3 ring b h) = (λ q. absurd (omega arith), λ z. ⊎-elim (λ y. omega arith) (λ y. omega arith) z)
-  one-iff (row-4 ring b c d h) = (λ q. absurd (omega arith), λ z. ⊎-elim (λ y. omega arith) (λ y. omega arith) z)
-  one-iff (no-row a) = (λ q. absurd (omega arith), λ z. ⊎-elim (λ y. omega arith) (λ y. omega arith) z)
-
-  -- Number 2.
-  two-iff : {o : Option Refusal} → RowGiven m k n room o → (rowNumber o ≡ 2) ↔ ((1 ≤ m) × (m ≤ 256) × (m ≤ k))
-  two-iff (row-1 h) = (λ q. omega arith, λ z. ⊎-elim (λ y. omega arith) (λ y. omega arith) h)
-  two-iff (row-2 ring h) = (λ q. omega arith, λ z. omega arith)
-  two-iff (row-3 ring b h) = (λ q. omega arith, λ z. omega arith)
-  two-iff (row-4 ring b c d h) = (λ q. omega arith, λ z. omega arith)
-  two-iff (no-row a) = (λ q. omega arith, λ z. omega arith)
-
-  -- Number 3.
-  three-iff : {o : Option Refusal} → RowGiven m k n room o → (rowNumber o ≡ 3) ↔ ((1 ≤ m) × (m ≤ 256) × (k < m) × (65536 < n))
-  three-iff (row-1 h) = (λ q. omega arith, λ z. ⊎-elim (λ y. omega arith) (λ y. omega arith) h)
-  three-iff (row-2 ring h) = (λ q. omega arith, λ z. omega arith)
-  three-iff (row-3 ring b h) = (λ q. omega arith, λ z. omega arith)
-  three-iff (row-4 ring b c d h) = (λ q. omega arith, λ z. omega arith)
-  three-iff (no-row a) = (λ q. omega arith, λ z. omega arith)
-
-  -- Number 4.
-  four-iff : {o : Option Refusal} → RowGiven m k n room o
-      → (rowNumber o ≡ 4) ↔ ((1 ≤ m) × (m ≤ 256) × (k < m) × (n ≤ 65536) × (m ≤ n) × (room < 3 * (n - m + 1)))
-  four-iff (row-1 h) = (λ q. omega arith, λ z. ⊎-elim (λ y. omega arith) (λ y. omega arith) h)
-  four-iff (row-2 ring h) = (λ q. omega arith, λ z. omega arith)
-  four-iff (row-3 ring b h) = (λ q. omega arith, λ z. omega arith)
-  four-iff (row-4 ring b c d h) = (λ q. omega arith, λ z. omega arith)
-  four-iff (no-row a) = (λ q. omega arith, λ z. omega (arith, a .room-for (omega arith)))
-
-  -- No other number, and no place but 0.
-  no-more : {o : Option Refusal} → RowGiven m k n room o → (rowNumber o ≤ 4) × (rowPlace o ≡ 0)
-  no-more (row-1 h) = omega arith
-  no-more (row-2 ring h) = omega arith
-  no-more (row-3 ring b h) = omega arith
-  no-more (row-4 ring b c d h) = omega arith
-  no-more (no-row a) = omega arith
-
--- A row's paper has its number and place, and zero in every count; its words are as they were lent.
+-- What the first row says of a paper and of the words: a number and a place of the table, and of a refusal zero in every count, and no word changed.
 record PaperBy (o : Option Refusal) (p : Paper Counts) (old out : List ℕ) : Type 0 where
-  number-is : p .number ≡ rowNumber o
-  place-is : p .place ≡ rowPlace o
+  number-le : p .number ≤ 4
+  place-is : p .place ≡ 0
   no-found : 0 < p .number → p .counts .found ≡ 0
   no-looks : 0 < p .number → p .counts .looks ≡ 0
   untouched : 0 < p .number → out ≡ old
 
-paper-by : (o : Option Refusal) (counts : Counts) (new old : List ℕ) → PaperBy o (answerPaper noCounts (answerBy o counts)) old (wordsBy o new old)
-paper-by none counts new old = record {
-  number-is = refl;
+paper-by : (o : Option Refusal) (counts : Counts) (new old : List ℕ) → ((q : Refusal) → o ≡ some q → (numberOf q ≤ 4) × (placeOf q ≡ 0))
+    → PaperBy o (answerPaper noCounts (answerBy o counts)) old (wordsBy o new old)
+paper-by none counts new old early = record {
+  number-le = omega arith;
   place-is = refl;
   no-found = λ l. absurd (omega arith);
   no-looks = λ l. absurd (omega arith);
   untouched = λ l. absurd (omega arith);
 }
-paper-by (some refusal) counts new old = record {
-  number-is = refl;
-  place-is = refl;
+paper-by (some q) counts new old early = record {
+  number-le = early q refl .0;
+  place-is = early q refl .1;
   no-found = λ _. refl;
   no-looks = λ _. refl;
   untouched = λ _. refl;
 }
 
-module _ (ring line : List ℕ) (k : ℕ) (words : List ℕ) (r : Scanned) (out : List ℕ) where
+module _ {ring line : List ℕ} {k asked : ℕ} {words : List ℕ} {r : Scanned} {out : List ℕ} (meets : IsSearched ring line k asked words r out) where
+  abbrev row : Option Refusal
+  row = refusalOf (length ring) k (length line) (length words)
+
+  abbrev counts : Counts
+  counts = record { found = length (findings ring line k); looks = asked }
+
+  -- it has a row's number exactly when that row is the first that is given
+  number-iff : (q : Refusal) → HasNoPlace (numberOf q) → (paperOf r .number ≡ numberOf q) ↔ (row ≡ some q)
+  unfolding searched
+  number-iff q no-place = Iff·trans (refusal-number-iff noCounts (answerBy row counts) (meets .paper) q no-place) (refused-iff row counts q)
+
+  -- its paper and its words by that row
+  given : PaperBy row (answerPaper noCounts (answerBy row counts)) words (wordsBy row (written (wordsOf (findings ring line k)) words) words)
+  given =
+      paper-by row counts (written (wordsOf (findings ring line k)) words) words
+      (λ q e. (row-numbers (length ring) k (length line) (length words) q e, row-places (length ring) k (length line) (length words) q e))
+
   -- The rows of a search, whatever its looks.
-  pub search-rows : (looks : ℕ) → paperOf r ≡ searchPaper ring line k (length words) looks → out ≡ searchedWords ring line k words
-      → SearchRows (length ring) k (length line) words (paperOf r) out
+  pub rows-of-search : SearchRows (length ring) k (length line) words (paperOf r) out
   unfolding searched searchedWords
-  search-rows looks paper is-out =
-      let o : Option Refusal = refusalOf (length ring) k (length line) (length words) in
-      let counts : Counts = record { found = length (findings ring line k); looks = looks } in
-      let given = paper-by o counts (written (wordsOf (findings ring line k)) words) words in
-      let number-is : paperOf r .number ≡ rowNumber o = ap (λ (p : Paper Counts). p .number) paper ∙ given .number-is in
-      let place-is : paperOf r .place ≡ rowPlace o = ap (λ (p : Paper Counts). p .place) paper ∙ given .place-is in
-      let row : RowGiven (length ring) k (length line) (length words) o = row-given (length ring) k (length line) (length words) o .0 refl in
-      record {
-        row-1 = rw number-is (one-iff row);
-        row-2 = rw number-is (two-iff row);
-        row-3 = rw number-is (three-iff row);
-        row-4 = rw number-is (four-iff row);
-        number-le = omega (arith, number-is, no-more row .0);
-        place-is = place-is ∙ no-more row .1;
-        no-found = λ l. ap (λ (p : Paper Counts). p .counts .found) paper ∙ given .no-found (omega (arith, number-is, given .number-is));
-        no-looks = λ l. ap (λ (p : Paper Counts). p .counts .looks) paper ∙ given .no-looks (omega (arith, number-is, given .number-is));
-        untouched = λ l. is-out ∙ given .untouched (omega (arith, number-is, given .number-is));
-      }
+  rows-of-search = record {
+    row-1 = Iff·trans (number-iff Ring (omega arith)) (row-1-iff (length ring) k (length line) (length words));
+    row-2 = Iff·trans (number-iff Allowance (omega arith)) (row-2-iff (length ring) k (length line) (length words));
+    row-3 = Iff·trans (number-iff Line (omega arith)) (row-3-iff (length ring) k (length line) (length words));
+    row-4 = Iff·trans (number-iff FindingsRoom (omega arith)) (row-4-iff (length ring) k (length line) (length words));
+    number-le = rw (meets .paper) (given .number-le);
+    place-is = rw (meets .paper) (given .place-is);
+    no-found = rw (meets .paper) (given .no-found);
+    no-looks = rw (meets .paper) (given .no-looks);
+    untouched = λ l. meets .written ∙ given .untouched (rw (meets .paper) at l);
+  }

@@ -1,4 +1,4 @@
--- What follows of any answer that meets a search's contract, of survey or scan: the table's rows 1 to 4 hold of it; where it is accepted, which its number 0
+-- What follows of any answer that meets a search's contract, of survey or scan, beside the table's rows (RowsOfSearching): where it is accepted, which its number 0
 -- says, it has found all findings and its looks are the search's; and a refusal has no looks, so that what holds of 0 and of the search's looks holds of its.
 -- Assumes nothing.
 use Prim.Native.Nat.{ℕ, _<_}
@@ -10,15 +10,10 @@ use lib.ListN.{length}
 use Rattle.meaning.proofs.Cases.{le-or-lt}
 use Rattle.findings.specs.declared.searching.Scanned.{Scanned}
 use Rattle.findings.specs.Searching.{paperOf, IsSearched}
-use Rattle.findings.specs.SearchRows.{SearchRows}
-use Rattle.findings.proofs.RowsOfSearching.{search-rows}
+use Rattle.findings.proofs.RowsOfSearching.{rows-of-search}
 use Rattle.findings.proofs.AcceptedSearches.{AcceptedSearch, search-counts}
 
 module _ {ring line : List ℕ} {k asked : ℕ} {words : List ℕ} {r : Scanned} {out : List ℕ} (meets : IsSearched ring line k asked words r out) where
-  -- Rows 1 to 4 of the table.
-  pub rows-of-search : SearchRows (length ring) k (length line) words (paperOf r) out
-  rows-of-search = search-rows ring line k words r out asked (meets .paper) (meets .written)
-
   -- Accepted: found, looks, and that the call is within the limits.
   pub accepted-gives : paperOf r .number ≡ 0 → AcceptedSearch ring line k (length words) asked (paperOf r)
   accepted-gives = search-counts ring line k (length words) asked (paperOf r) (meets .paper)
@@ -30,5 +25,5 @@ module _ {ring line : List ℕ} {k asked : ℕ} {words : List ℕ} {r : Scanned}
       (λ zero-le.
       let accepted : AcceptedSearch ring line k (length words) asked (paperOf r) = accepted-gives (omega arith) in
       rw (accepted .looks-are) (searched (accepted .admitted .some-edge)))
-      (λ refused. rw (rows-of-search .no-looks refused) none)
+      (λ refused. rw (rows-of-search meets .no-looks refused) none)
       (le-or-lt (paperOf r .number) 0)

@@ -9,18 +9,19 @@ use mathlib.Core.Logic.{_↔_, _⊎_}
 use mathlib.Core.List.{List}
 use lib.ListN.{length}
 use Rattle.answers.specs.Paper.{Paper}
+use Rattle.findings.specs.Admitting.{IsRing}
 use Rattle.findings.specs.Searching.{Counts}
 
 -- The rows of a search with m, k, n and the lent words; p is the paper of its answer, out the words at exit.
 pub record SearchRows (m k n : ℕ) (words : List ℕ) (p : Paper Counts) (out : List ℕ) : Type 0 where
   -- "m = 0 or m > 256"
   pub row-1 : (p .number ≡ 1) ↔ ((m ≡ 0) ⊎ (256 < m))
-  -- "k ≥ m"
-  pub row-2 : (p .number ≡ 2) ↔ ((1 ≤ m) × (m ≤ 256) × (m ≤ k))
-  -- "n > 65,536"
-  pub row-3 : (p .number ≡ 3) ↔ ((1 ≤ m) × (m ≤ 256) × (k < m) × (65536 < n))
-  -- "n ≥ m and fewer than 3·(n − m + 1) words are lent for findings"
-  pub row-4 : (p .number ≡ 4) ↔ ((1 ≤ m) × (m ≤ 256) × (k < m) × (n ≤ 65536) × (m ≤ n) × (length words < 3 * (n - m + 1)))
+  -- "k ≥ m", row 1 not given
+  pub row-2 : (p .number ≡ 2) ↔ (IsRing m × (m ≤ k))
+  -- "n > 65,536", rows 1 and 2 not given
+  pub row-3 : (p .number ≡ 3) ↔ (IsRing m × (k < m) × (65536 < n))
+  -- "n ≥ m and fewer than 3·(n − m + 1) words are lent for findings", rows 1 to 3 not given
+  pub row-4 : (p .number ≡ 4) ↔ (IsRing m × (k < m) × (n ≤ 65536) × (m ≤ n) × (length words < 3 * (n - m + 1)))
   -- No row else.
   pub number-le : p .number ≤ 4
   -- The table's place of each: 0.

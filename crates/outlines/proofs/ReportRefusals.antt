@@ -1,4 +1,4 @@
--- From a number and place of a report's answer to the refusal that it goes by, for any answer that meets the contract: the laws of `RowNumbers` of the answers,
+-- From a number and place of a report's answer to the refusal that it goes by, for any answer that meets the contract: the laws of `RefusalNumbers` of the answers,
 -- said of what a report gives.
 -- Assumes nothing.
 use Prim.Native.Nat.{ℕ}
@@ -10,7 +10,7 @@ use lib.ListN.{length}
 use Rattle.answers.specs.declared.refusals.Refusal.{Refusal}
 use Rattle.answers.specs.Refusals.{numberOf, placeOf}
 use Rattle.answers.specs.Paper.{Answer, accepted, refused}
-use Rattle.answers.proofs.RowNumbers.{HasNoPlace, row-iff, row-number-iff, row-place-is}
+use Rattle.answers.proofs.RefusalNumbers.{HasNoPlace, refusal-iff, refusal-number-iff, refusal-place-is}
 use Rattle.silences.specs.Silences.{Silence}
 use Rattle.outlines.specs.declared.reporting.Reported.{Reported}
 use Rattle.outlines.specs.Report.{noReportCounts, admittedSilences, reportedBy, paperOf, IsReported}
@@ -31,14 +31,14 @@ module _ (cell ringNumber : ℕ) (ring line : List ℕ) (k : ℕ) where
     -- It has a refusal's number and place exactly when that refusal is given.
     pub report-refusal-iff : (q : Refusal) → ((paperOf r .number ≡ numberOf q) × (paperOf r .place ≡ placeOf q)) ↔ (goesBy ≡ refused q)
     report-refusal-iff q =
-        Iff·trans (row-iff noReportCounts (reportedBy ring line k cell ringNumber goesBy) (paperOf r) (meets .paper) q) (refused-iff q goesBy)
+        Iff·trans (refusal-iff noReportCounts (reportedBy ring line k cell ringNumber goesBy) (meets .paper) q) (refused-iff q goesBy)
 
     module _ (q : Refusal) (no-place : HasNoPlace (numberOf q)) where
       -- Where the table's place is always 0, the number alone says so.
       pub report-number-iff : (paperOf r .number ≡ numberOf q) ↔ (goesBy ≡ refused q)
       report-number-iff =
-          Iff·trans (row-number-iff noReportCounts (reportedBy ring line k cell ringNumber goesBy) (paperOf r) (meets .paper) q no-place) (refused-iff q goesBy)
+          Iff·trans (refusal-number-iff noReportCounts (reportedBy ring line k cell ringNumber goesBy) (meets .paper) q no-place) (refused-iff q goesBy)
 
       -- And the place is 0.
       pub report-place-is : paperOf r .number ≡ numberOf q → paperOf r .place ≡ 0
-      report-place-is = row-place-is noReportCounts (reportedBy ring line k cell ringNumber goesBy) (paperOf r) (meets .paper) q no-place
+      report-place-is = refusal-place-is noReportCounts (reportedBy ring line k cell ringNumber goesBy) (meets .paper) q no-place

@@ -10,7 +10,8 @@ use Rattle.meaning.proofs.SurveyLooks.{surveyLooks-is, surveyLooks-short}
 use Rattle.findings.specs.declared.searching.Scanned.{Scanned}
 use Rattle.findings.specs.Searching.{paperOf}
 use Rattle.findings.specs.SearchRows.{SearchRows}
-use Rattle.findings.proofs.SearchGives.{rows-of-search, accepted-gives, looks-of-search}
+use Rattle.findings.proofs.RowsOfSearching.{rows-of-search}
+use Rattle.findings.proofs.SearchGives.{accepted-gives, looks-of-search}
 use Rattle.survey.specs.Survey.{IsSurveyed}
 
 module _ (ring line : List ℕ) (k : ℕ) (words : List ℕ) (r : Scanned) (out : List ℕ) (meets : IsSurveyed ring line k words r out) where

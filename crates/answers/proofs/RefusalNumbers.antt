@@ -1,15 +1,15 @@
 -- From numbers and places to refusals, of any answer, whatever it counts: a paper has a refusal's number and place exactly when the answer is that refusal, and
--- where the table's place is always 0 the number alone says so. Nothing here knows a book.
+-- where the table's place is always 0 the number alone says so. The rows of every call are stated through these.
 -- Assumes nothing.
 use Prim.Native.Nat.{ℕ}
 use mathlib.Core.Logic.{_↔_}
 use mathlib.Core.Path.{_≡_, refl, sym, ap, subst, _∙_}
 use native.Mathlib.Omega.{arith}
 use Rattle.answers.specs.declared.refusals.Refusal.{Refusal}
 use Rattle.answers.specs.declared.refusals.Refusal.the-variants.{Ring, Allowance, Line, FindingsRoom, BookLength, Field, NotAbove, WordCount, RingNumber, OutputRoom, Input}
 use Rattle.answers.specs.Refusals.{numberOf, placeOf}
 use Rattle.answers.specs.Paper.{Answer, accepted, refused, Paper, answerPaper}
 use Rattle.answers.proofs.OneAnswer.{refusal-unique, number-in}
 
 -- The table gives a place other than 0 in rows 6, 7, 9 and 11 only.
 pub record HasNoPlace (number : ℕ) : Type 0 where
