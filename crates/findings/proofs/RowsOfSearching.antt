@@ -2,7 +2,7 @@
 -- number of the paper is that of a refusal exactly when the search gives it (`RefusalNumbers` of the answers), and each row's own condition is in AdmitRows.
 -- Assumes nothing.
 use Prim.Native.Nat.{ℕ, _≤_, _<_}
-use mathlib.Core.Path.{_≡_, refl, ap, _∙_}
+use mathlib.Core.Path.{_≡_, refl, _∙_}
 use mathlib.Core.Logic.{_↔_, Iff·trans}
 use mathlib.Core.List.{List}
 use mathlib.Core.Option.{Option, none, some}
