@@ -31,6 +31,7 @@ module _ (ring line : List ℕ) (k : ℕ) where
   abbrev Rest : ℕ → List Reading → Type 0
   Rest i ws = findingsBelow ring line k (min i (length line)) ++ reported ring line k (candidatesOf ring k ws) ≡ findings ring line k
 
+  -- Past the last window no place is a start.
   rest-end : (i : ℕ) → length line < i + length ring → Rest i []
   unfolding candidatesOf reported
   rest-end i h =
@@ -41,6 +42,7 @@ module _ (ring line : List ℕ) (k : ℕ) where
       ∙ ap (findingsBelow ring line k) all
 
   module _ (pos : 0 < length ring) where
+    -- A candidate reports its own place; a window that was left jumps over places that have no finding.
     rest-step : (i : ℕ) (ws : List Reading) → i + length ring ≤ length line → Rest (nextStart ring (readWindow ring line k i)) ws
         → Rest i (readWindow ring line k i ∷ ws)
     unfolding candidatesOf reported findingsBelow

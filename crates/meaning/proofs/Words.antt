@@ -27,7 +27,7 @@ words-append [] b = refl
 words-append (f ∷ a) b = ap (λ (l : List ℕ). findingWords f ++ l) (words-append a b)
 
 -- A place has at most one finding.
-pub found-length-le : (ring line : List ℕ) (k i : ℕ) → length (foundAt ring line k i) ≤ 1
+found-length-le : (ring line : List ℕ) (k i : ℕ) → length (foundAt ring line k i) ≤ 1
 unfolding foundAt
 found-length-le ring line k i =
     by-test (λ (l : List Finding). length l ≤ 1) (isStart ring line i && leb (leastDistance ring line i) k) (λ _. omega arith) (λ _. omega arith)
