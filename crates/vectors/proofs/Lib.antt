@@ -1,17 +1,26 @@
+-- Laws of vectors of bits in machine words. Other crates cite those of HeldVectors, and as Rattle.vectors.proofs.HeldVectors. Every law but those of the last two groups is
+-- for any word count. Below each group stands on those before it.
+
+-- the bits of one word, of a vector, and of a vector given word by word
 pub mod WordBits
 pub mod VectorBits
 pub mod WordByWord
+-- what the definitions of Bits, Rotating and Holding mean: a bit put in, the first m bits, no bit, the shift, the turn, and a held vector grown
 pub mod OneBitPut
 pub mod FirstBitsAreSet
 pub mod NoBitIsSet
 pub mod CarryBetweenWords
 pub mod WrapToLastBit
 pub mod HeldVectorGrows
-pub mod GrownWords
-pub mod GrownInFewestWords
+-- a table of vectors, and the loops that make the occurrence vectors in it
 pub mod PartOfTable
 pub mod OccurrenceLoop
 pub mod OccurrenceTableLoop
+-- a vector of four words, as the code makes it word by word
+pub mod JoinedWords
+pub mod GrownWords
+pub mod GrownInFewestWords
 pub mod OccurrencesLoop
+-- what a caller cites, and that each function has one answer
 pub mod HeldVectors
 pub mod OneAnswer

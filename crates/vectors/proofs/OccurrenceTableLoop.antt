@@ -37,7 +37,7 @@ module _ (ring : List ℕ) (count : ℕ) (room : length ring ≤ wordBits * coun
   }
 
   -- A place's turn, however the bit is put in: bit r of the vector of the code at place r.
-  pub table-below-put : (table new : List ℕ) (r : ℕ) → TableBelow ring count table r → r < length ring
+  table-below-put : (table new : List ℕ) (r : ℕ) → TableBelow ring count table r → r < length ring
       → Put table (wordBits * (getD ring r 0 * count) + r) 1 new → TableBelow ring count new (r + 1)
   table-below-put table new r known h put = record {
     turn-le = omega arith;
@@ -52,7 +52,7 @@ module _ (ring : List ℕ) (count : ℕ) (room : length ring ≤ wordBits * coun
   }
 
   -- The word that holds a place's bit lies within a table with a vector for each of `codes` codes.
-  pub table-word-lt : (codes code r : ℕ) → code < codes → r < length ring → code * count + r / wordBits < codes * count
+  table-word-lt : (codes code r : ℕ) → code < codes → r < length ring → code * count + r / wordBits < codes * count
   table-word-lt codes code r h l = omega (arith, mul-le-mul-right count h, suc-mul code count)
 
   -- A turn stores the word that holds the place's bit, with that bit put in.
