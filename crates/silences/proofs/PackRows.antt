@@ -22,7 +22,7 @@ use Rattle.silences.proofs.AnswerCases.{accepted-not-refused, row-uniqu
 use Rattle.silences.proofs.RoomRows.{in-room-accepted-iff, in-room-row-iff, in-room-10-iff}
 use Rattle.silences.proofs.RecordRows.{packedRecords, records-rows, records-accepted-iff, records-9-iff, records-7-iff}
 
--- The words have a right number, or "aren't a multiple of 3, or exceed 3,000"; and so says the test
+-- The words have a right number, or "aren't a multiple of 3, or exceed 3,000"; and so says the test.
 pub word-count-cases : (words : List ℕ)
     → ((isWordCount words ≡ true) × HasWordCount words) ⊎ ((isWordCount words ≡ false) × ((length words % 3 ≡ 0 → ⊥) ⊎ (3000 < length words)))
 unfolding isWordCount
