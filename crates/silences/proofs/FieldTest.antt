@@ -49,13 +49,17 @@ module _ (book : List ℕ) (at : ℕ) where
       record { begins = begins-from (omega arith) tag (omega (arith, length-is)) (omega (arith, length-is)); not-cut = omega arith }
 
   -- where a field stands, it is whole; where none stands, it is faulty
-  field-cases : (IsField book at × (fieldAt book at ≡ whole (silenceAt book (at + headLength)) (at + 13))) ⊎ ((IsField book at → ⊥) × (fieldAt book at ≡ faulty))
+  abbrev FieldCases : Type 0
+  FieldCases = (IsField book at × (fieldAt book at ≡ whole (silenceAt book (at + headLength)) (at + 13))) ⊎ ((IsField book at → ⊥) × (fieldAt book at ≡ faulty))
+
+  -- one or the other, by the three tests
+  field-cases : FieldCases
   unfolding fieldAt fieldBy lengthByTag isWhole
   field-cases = go (eqb (getD book at 0) silenceTag) (eqb (numberAt 2 book (at + 1)) 10) (leb (at + headLength + 10) (length book)) refl refl refl
     where
       go : (tag-test length-test end-test : Bool) → eqb (getD book at 0) silenceTag ≡ tag-test → eqb (numberAt 2 book (at + 1)) 10 ≡ length-test
           → leb (at + headLength + 10) (length book) ≡ end-test
-          → (IsField book at × (fieldAt book at ≡ whole (silenceAt book (at + headLength)) (at + 13))) ⊎ ((IsField book at → ⊥) × (fieldAt book at ≡ faulty))
+          → FieldCases
       go false length-test end-test t l e = inr (λ f. eqb-false (getD book at 0) silenceTag t (field-tests f .0), simp t)
       go true false end-test t l e = inr (λ f. eqb-false (numberAt 2 book (at + 1)) 10 l (field-tests f .1), simp (t, l))
       go true true false t l e = inr (λ f. omega (arith, leb-false (at + headLength + 10) (length book) e, field-tests f .2), simp (t, l, e))

@@ -22,20 +22,24 @@ use Rattle.silences.proofs.AnswerCases.{accepted-not-refused, row-uniqu
 use Rattle.silences.proofs.RoomRows.{in-room-accepted-iff, in-room-row-iff, in-room-10-iff}
 use Rattle.silences.proofs.RecordRows.{packedRecords, records-rows, records-accepted-iff, records-9-iff, records-7-iff}
 
--- The words have a right number, or "aren't a multiple of 3, or exceed 3,000"; and so says the test.
+-- The words to pack "aren't a multiple of 3, or exceed 3,000": row 8.
+abbrev pub HasWrongCount : List ℕ → Type 0
+HasWrongCount words = (length words % 3 ≡ 0 → ⊥) ⊎ (3000 < length words)
+
+-- The words have a right number, or a wrong one; and so says the test.
 pub word-count-cases : (words : List ℕ)
-    → ((isWordCount words ≡ true) × HasWordCount words) ⊎ ((isWordCount words ≡ false) × ((length words % 3 ≡ 0 → ⊥) ⊎ (3000 < length words)))
+    → ((isWordCount words ≡ true) × HasWordCount words) ⊎ ((isWordCount words ≡ false) × HasWrongCount words)
 unfolding isWordCount
 word-count-cases words = go (eqb (length words % recordWords) 0) (leb (length words) mostWords) refl refl
   where
     go : (m l : Bool) → eqb (length words % recordWords) 0 ≡ m → leb (length words) mostWords ≡ l
-        → ((isWordCount words ≡ true) × HasWordCount words) ⊎ ((isWordCount words ≡ false) × ((length words % 3 ≡ 0 → ⊥) ⊎ (3000 < length words)))
+        → ((isWordCount words ≡ true) × HasWordCount words) ⊎ ((isWordCount words ≡ false) × HasWrongCount words)
     go true true e f = inl (simp (e, f), record { multiple = eqb-true (length words % recordWords) 0 e; words-le = leb-true (length words) mostWords f })
     go true false e f = inr (simp (e, f), inr (leb-false (length words) mostWords f))
     go false l e f = inr (simp e, inl (eqb-false (length words % recordWords) 0 e))
 
 -- a wrong number is not a right one
-not-both-counts : (words : List ℕ) → HasWordCount words → ((length words % 3 ≡ 0 → ⊥) ⊎ (3000 < length words)) → ⊥
+not-both-counts : (words : List ℕ) → HasWordCount words → HasWrongCount words → ⊥
 not-both-counts words h n = ⊎-elim (λ m. m (h .multiple)) (λ l. omega (arith, h .words-le)) n
 
 -- What is accepted of the records of a right number of words is all their silences, and they can be packed.
@@ -59,7 +63,7 @@ module _ (words : List ℕ) (room : ℕ) where
       (word-count-cases words)
 
   -- With a wrong one it is row 8.
-  pub packed-uncounted : ((length words % 3 ≡ 0 → ⊥) ⊎ (3000 < length words)) → packed words room ≡ refused WordCount
+  pub packed-uncounted : HasWrongCount words → packed words room ≡ refused WordCount
   unfolding packed
   packed-uncounted h =
       ⊎-elim

@@ -3,7 +3,7 @@
 -- their answers are what `Bits` and `Holding` mean: the laws are in proofs/HeldVectors.
 --     vectorWords, vectorBits     a vector's words and bits            HeldVector     a vector of m bits held by value
 --     edgeCodes     "every byte value 0 to 255 is an edge code"
---     carryInto, grownWord, grownWords     the held vector grown by one edge, word by word
+--     lastBitPlace, carryInto, grownWord, grownWords     the held vector grown by one edge, word by word
 --     Occurrences     the occurrence vectors of a ring's edge codes, in one table
 -- `first_bits` answers `firstBits`, `no_bit` answers `noBit`, both of `Bits`, and `vector_of` answers `vectorAt` of `Holding`.
 -- Assumes nothing.
