@@ -7,8 +7,9 @@ pub mod Count
 pub mod Lowest
 pub mod Some
 pub mod WordsInThrees
--- the meanings: place by place, the findings as a list, the stretch that fits, and a start under a rotation as an alignment
+-- the meanings: place by place, the findings as a list and how many they are, the stretch that fits, and a start under a rotation as an alignment
 pub mod Places
+pub mod FindingsBelow
 pub mod FoundExactly
 pub mod Rising
 pub mod FitDecided
@@ -22,7 +23,7 @@ pub mod QuickFindsAll
 pub mod LookBound
 pub mod BoundReached
 pub mod SurveyLooks
--- how many findings there are, their words, and the area that they are written to
+-- the words of findings, and the area that they are written to
 pub mod Words
 -- what the proofs of code cite: a window by itself, a step of the tally, and the two loops
 pub mod WindowAlone
