@@ -26,7 +26,7 @@ module _ (ring line : List ℕ) (pos : 0 < length ring) (k i : ℕ) where
   abbrev Costs : Reading → Type 0
   Costs w = (c : ℕ) → w .breaks ≤ count (unlike ring line c) (i + (length ring - w .read)) (w .read)
 
-  -- While the window is read: the held stretch is the line's, and each break counted is an unlike place among the edges past it.
+  -- While the window is read: the held stretch is the line's, and each break counted is an unlike place among the `past` edges behind it.
   record Counting (left : ℕ) (w : Reading) : Type 0 where
     past : ℕ
     all : w .read + left ≡ length ring
@@ -105,7 +105,7 @@ module _ (ring line : List ℕ) (pos : 0 < length ring) (k i : ℕ) where
   unfolding readWindow
   window-costs = left-costs (length ring) (unread i) counting-start
 
-  -- Every start before the next window is at least as far from the ring as there were breaks, under every rotation.
+  -- Every start from the window's own on, before the next window, is at least as far from the ring as there were breaks, under every rotation.
   pub breaks-le : (i′ r : ℕ) → i ≤ i′ → i′ < nextStart ring (readWindow ring line k i) → readWindow ring line k i .breaks ≤ distance ring line i′ r
   breaks-le i′ r lo hi =
       let w : Reading = readWindow ring line k i in

@@ -1,5 +1,5 @@
--- The findings by the rules are the findings: rules 1 to 4 decide them, and that a tally moved by rule 5 holds the distances that verifying
--- asks for is `distance-step` of TallyStep. Over the windows from place i on: the findings below i, followed by what these windows
+-- The findings by the rules are the findings: rules 1 to 4 decide them. (Rule 5 decides none; that a tally moved by it holds the distances is shown
+-- in crates/moves, from `distance-step` of TallyStep.) Over the windows from place i on: the findings below i, followed by what these windows
 -- report, are all of them. A candidate reports its own place; a window left at break k + 1 jumps over places that have none
 -- (`nothing-lost`); past the last window no place is a start (`findings-below`).
 -- Assumes nothing.

@@ -25,14 +25,12 @@ vectors-apart code other count i j differ h l e = dite (decLt code other)
 
 -- Before turn r of the loop over the ring's places: each code's vector is right below r.
 pub record TableBelow (ring : List ℕ) (count : ℕ) (table : List ℕ) (r : ℕ) : Type 0 where
-  pub turn-le : r ≤ length ring
   pub each : (code : ℕ) → OccursBelow ring code (vectorAt table (code * count) count) r
 
 module _ (ring : List ℕ) (count : ℕ) (room : length ring ≤ wordBits * count) where
   -- Before the first turn no bit of the table is set.
   pub table-below-start : (table : List ℕ) → NoBit table → TableBelow ring count table 0
   table-below-start table no-bit = record {
-    turn-le = omega arith;
     each = λ code. occurs-below-start ring code (vectorAt table (code * count) count) (part-no-bit table (code * count) count no-bit);
   }
 
@@ -40,7 +38,6 @@ module _ (ring : List ℕ) (count : ℕ) (room : length ring ≤ wordBits * coun
   table-below-put : (table new : List ℕ) (r : ℕ) → TableBelow ring count table r → r < length ring
       → Put table (wordBits * (getD ring r 0 * count) + r) 1 new → TableBelow ring count new (r + 1)
   table-below-put table new r known h put = record {
-    turn-le = omega arith;
     each = λ code. dite (ℕ-discrete (getD ring r 0) code)
         (λ same. occurs-below-turn-yes ring code (vectorAt table (code * count) count) (vectorAt new (code * count) count) r (known .each code) h same
         (part-put table new (code * count) count r 1 (omega arith) (rw same at put)))
