@@ -1,5 +1,5 @@
--- Laws of vectors of bits in machine words. Other crates cite those of HeldVectors, and as Rattle.vectors.proofs.HeldVectors. Every law but those of the last two groups is
--- for any word count. Below each group stands on those before it.
+-- Laws of vectors of bits in machine words. Other crates cite those of HeldVectors alone, as Rattle.vectors.proofs.HeldVectors.NAME. Every law is for any word count, but
+-- `part-words` of PartOfTable and those of the last two groups. Below each group stands on those before it.
 
 -- the bits of one word, of a vector, and of a vector given word by word
 pub mod WordBits
@@ -14,8 +14,8 @@ pub mod WrapToLastBit
 pub mod HeldVectorGrows
 -- a table of vectors, and the loops that make the occurrence vectors in it
 pub mod PartOfTable
-pub mod OccurrenceLoop
-pub mod OccurrenceTableLoop
+pub mod OneCodeOccurs
+pub mod EveryCodeOccurs
 -- a vector of four words, as the code makes it word by word
 pub mod JoinedWords
 pub mod GrownWords

@@ -12,7 +12,7 @@ use native.Mathlib.Omega.{arith}
 use lib.ListN.{length, getD, set}
 use Rattle.vectors.specs.Bits.{wordBits, putWord, putBit, Put, NoBit}
 use Rattle.vectors.specs.Holding.{vectorAt, OccurrenceTable}
-use Rattle.vectors.proofs.OccurrenceLoop.{OccursBelow, occurs-below-start, occurs-below-turn-yes, occurs-below-turn-no, occurs-below-end, occurs-below-same}
+use Rattle.vectors.proofs.OneCodeOccurs.{OccursBelow, occurs-below-start, occurs-below-turn-yes, occurs-below-turn-no, occurs-below-end, occurs-below-same}
 use Rattle.vectors.proofs.PartOfTable.{part-no-bit, part-put, part-put-outside, part-put-word}
 use Rattle.vectors.proofs.OneBitPut.{put-is}
 
