@@ -4,7 +4,7 @@
 use Prim.Native.Nat.{ℕ, _%_, _≤_, _<_}
 use mathlib.Core.Logic.{_⊎_, inl, inr, ⊎-elim, _↔_, Iff·rfl, Iff·trans, Iff·and}
 use mathlib.Core.Path.{_≡_, refl, sym, ap, _∙_}
-use mathlib.Core.Bool.{Bool, true, false, cond}
+use mathlib.Core.Bool.{Bool, true, false}
 use mathlib.Core.List.{List}
 use native.Mathlib.Omega.{arith}
 use lib.Dec.{leb, eqb}
@@ -58,7 +58,7 @@ module _ (words : List ℕ) (room : ℕ) where
   unfolding packed
   packed-counted h =
       ⊎-elim
-      (λ c. ap (λ (t : Bool). cond t (inRoom layout room (packedRecords words)) (refused WordCount)) (c .0))
+      (λ c. rw (c .0))
       (λ n. absurd (not-both-counts words h (n .1)))
       (word-count-cases words)
 
@@ -68,7 +68,7 @@ module _ (words : List ℕ) (room : ℕ) where
   packed-uncounted h =
       ⊎-elim
       (λ c. absurd (not-both-counts words (c .1) h))
-      (λ n. ap (λ (t : Bool). cond t (inRoom layout room (packedRecords words)) (refused WordCount)) (n .0))
+      (λ n. rw (n .0))
       (word-count-cases words)
 
   -- Row 8, exactly when the words "aren't a multiple of 3, or exceed 3,000".
