@@ -8,30 +8,26 @@ use native.Mathlib.Omega.{arith}
 use borrow.Author.Tests.{eq-eqb, ne-eqb}
 use Rattle.answers.specs.Places.{around}
 
--- a length that is not 0 is above it
-pub pos-of-ne : {m : ℕ} → (m ≡ 0 → ⊥) → 0 < m
-pos-of-ne h = omega arith
-
--- with no ring it is 0
+-- With no ring it is 0.
 pub around-none : (m x : ℕ) → m ≡ 0 → 0 ≡ around m x
 unfolding around
 around-none m x e = simp (eq-eqb m 0 e)
 
--- in a ring it is the number mod m
+-- In a ring it is the number mod m.
 pub around-is : (m x : ℕ) → 0 < m → around m x ≡ x % m
 unfolding around
 around-is m x h = simp (ne-eqb m 0 (λ e. omega arith))
 
--- in a ring it is a ring place
+-- In a ring it is a ring place.
 pub around-lt : (m x : ℕ) → 0 < m → around m x < m
 around-lt m x h = omega (arith, around-is m x h, mod-lt x h)
 
 module _ (m a b : ℕ) (h : 0 < m) where
-  -- the two parts, added where the sum stays below m
+  -- The two parts, added where the sum stays below m.
   pub around-sum-lt : a % m < m - b % m → a % m + b % m ≡ around m (a + b)
   around-sum-lt l = sym (around-is m (a + b) h ∙ add-mod a b m ∙ mod-eq-of-lt (omega arith))
 
-  -- the two parts, less m where the sum reaches m
+  -- The two parts, less m where the sum reaches m.
   pub around-sum-ge : m - b % m ≤ a % m → a % m - (m - b % m) ≡ around m (a + b)
   around-sum-ge l =
       let x-lt : a % m < m = mod-lt a h in

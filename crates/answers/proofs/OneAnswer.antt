@@ -1,5 +1,5 @@
 -- Number and place determine the refusal, and the paper determines the answer, whatever its counts are. Each by a left inverse: `refusalOf` and
--- `answerOf` read the answer back. So any two answers that meet a contract on the paper are equal. Last, the same of the functions of this crate.
+-- `answerOf` read the answer back. So any two answers that meet a contract on the paper are equal. Last, a law for each function of this crate: its contract is one equation.
 -- Assumes nothing.
 use Prim.Native.Nat.{ℕ, _≤_}
 use mathlib.Core.Path.{_≡_, refl, sym, ap, ap₂, _∙_}
@@ -9,7 +9,10 @@ use lib.Dec.{eqb}
 use borrow.Author.Tests.{ne-eqb}
 use Rattle.answers.specs.declared.refusals.Refusal.{Refusal}
 use Rattle.answers.specs.declared.refusals.Refusal.the-variants.{Ring, Allowance, Line, FindingsRoom, BookLength, Field, NotAbove, WordCount, RingNumber, OutputRoom, Input}
+use Rattle.answers.specs.declared.places.RingPlace.{RingPlace}
+use Rattle.answers.specs.declared.places.LinePlace.{LinePlace}
 use Rattle.answers.specs.Refusals.{numberOf, placeOf, IsNumber, IsPlace}
+use Rattle.answers.specs.Places.{IsRingPlace, IsLinePlace}
 use Rattle.answers.specs.Paper.{Answer, accepted, refused, Paper, answerPaper}
 
 -- the refusal that has this number and this place
@@ -26,6 +29,7 @@ refusalOf number place =
     (cond (eqb number 9) (RingNumber place)
     (cond (eqb number 10) OutputRoom (Input place))))))))))
 
+-- it is read back
 refusal-back : (r : Refusal) → refusalOf (numberOf r) (placeOf r) ≡ r
 unfolding refusalOf
 refusal-back Ring = refl
@@ -40,11 +44,11 @@ refusal-back (RingNumber place) = refl
 refusal-back OutputRoom = refl
 refusal-back (Input place) = refl
 
--- number and place determine the refusal
+-- Number and place determine the refusal.
 pub refusal-unique : (a b : Refusal) → numberOf a ≡ numberOf b → placeOf a ≡ placeOf b → a ≡ b
 refusal-unique a b n p = sym (refusal-back a) ∙ ap₂ refusalOf n p ∙ refusal-back b
 
--- the numbers are 1 to 11
+-- The numbers are 1 to 11.
 pub number-in : (r : Refusal) → (1 ≤ numberOf r) × (numberOf r ≤ 11)
 number-in Ring = omega arith
 number-in Allowance = omega arith
@@ -63,12 +67,13 @@ module _ {C : Type 0} (zeros : C) where
   unfoldable answerOf : Paper C → Answer C
   answerOf p = cond (eqb (p .number) 0) (accepted (p .counts)) (refused (refusalOf (p .number) (p .place)))
 
+  -- it is read back
   answer-back : (a : Answer C) → answerOf (answerPaper zeros a) ≡ a
   unfolding answerOf
   answer-back (accepted counts) = refl
   answer-back (refused r) = rw (ne-eqb (numberOf r) 0 (λ e. omega (arith, number-in r .0))) (ap refused (refusal-back r))
 
-  -- the paper determines the answer
+  -- The paper determines the answer.
   pub answer-unique : (a b : Answer C) → answerPaper zeros a ≡ answerPaper zeros b → a ≡ b
   answer-unique a b e = sym (answer-back a) ∙ ap answerOf e ∙ answer-back b
 
@@ -79,3 +84,13 @@ number-of-unique refusal a b s t = s .is ∙ sym (t .is)
 -- Any two answers of `place_of` are equal.
 pub place-of-unique : (refusal : Refusal) (a b : ℕ) → IsPlace refusal a → IsPlace refusal b → a ≡ b
 place-of-unique refusal a b s t = s .is ∙ sym (t .is)
+
+-- Any two answers of `to_ring` are equal.
+pub to-ring-unique : (place start : LinePlace) (rotation : RingPlace) (m : ℕ) (a b : RingPlace) → IsRingPlace place start rotation m a
+    → IsRingPlace place start rotation m b → a ≡ b
+to-ring-unique place start rotation m a b s t = s .is ∙ sym (t .is)
+
+-- Any two answers of `to_line` are equal.
+pub to-line-unique : (place : RingPlace) (start : LinePlace) (rotation : RingPlace) (m : ℕ) (a b : LinePlace) → IsLinePlace place start rotation m a
+    → IsLinePlace place start rotation m b → a ≡ b
+to-line-unique place start rotation m a b s t = s .is ∙ sym (t .is)

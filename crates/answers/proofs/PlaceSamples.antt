@@ -6,9 +6,11 @@ use Rattle.answers.specs.declared.places.RingPlace.{RingPlace}
 use Rattle.answers.specs.declared.places.LinePlace.{LinePlace}
 use Rattle.answers.specs.Places.{around, lastPlace, ringPlaceOf, linePlaceOf}
 
+-- the ring place of this number
 abbrev ringPlace : ℕ → RingPlace
 ringPlace n = record { 0 = n }
 
+-- the line place of this number
 abbrev linePlace : ℕ → LinePlace
 linePlace n = record { 0 = n }
 

@@ -3,18 +3,19 @@
 -- the largest usize, as for every window of document 01 (its lines have at most 65,536 edges).
 -- Assumes nothing.
 use Prim.Native.Nat.{ℕ, _+_, _-_, _%_, _≤_, _<_, min}
-use mathlib.Core.Path.{_≡_, sym, ap, _∙_}
+use mathlib.Core.Path.{_≡_, ap, _∙_}
 use native.Mathlib.Nat.{mod-eq-of-lt, mod-add-mod, add-mod-mod, add-mod-right}
 use native.Mathlib.Omega.{arith}
 use Rattle.answers.specs.declared.places.RingPlace.{RingPlace}
 use Rattle.answers.specs.declared.places.LinePlace.{LinePlace}
-use Rattle.answers.specs.Places.{around, lastPlace, ringPlaceOf, linePlaceOf, IsRingPlace, IsLinePlace}
+use Rattle.answers.specs.Places.{around, lastPlace, ringPlaceOf, linePlaceOf}
 use Rattle.answers.proofs.AroundRing.{around-is, around-lt}
 
--- two ring places with one number are one, and so of line places
+-- two ring places with one number are one
 ring-place-eq : (a b : RingPlace) → a .0 ≡ b .0 → a ≡ b
 ring-place-eq a b e = ap (λ (n : ℕ). record { 0 = n }) e
 
+-- and so of line places
 line-place-eq : (a b : LinePlace) → a .0 ≡ b .0 → a ≡ b
 line-place-eq a b e = ap (λ (n : ℕ). record { 0 = n }) e
 
@@ -23,38 +24,40 @@ module _ (start : LinePlace) (rotation : RingPlace) (m : ℕ) (turned : rotation
   way : RingPlace → ℕ
   way place = around m (place .0 + (m - rotation .0))
 
+  -- it stands within the window
+  way-lt : (place : RingPlace) → way place < m
+  unfolding way
+  way-lt place = around-lt m (place .0 + (m - rotation .0)) (omega arith)
+
+  -- a whole turn past z, mod m, is z
+  whole-turn : (a z : ℕ) → a ≡ z + m → z < m → a % m ≡ z
+  whole-turn a z e h = ap (λ (n : ℕ). n % m) e ∙ add-mod-right z m ∙ mod-eq-of-lt h
+
   -- the place q of the window, past the rotation, and back
   way-of-sum : (q : ℕ) → q < m → around m (around m (rotation .0 + q) + (m - rotation .0)) ≡ q
   way-of-sum q h =
       let r : ℕ = rotation .0 in
-      let whole : r + q + (m - r) ≡ q + m = omega arith in
       around-is m (around m (r + q) + (m - r)) (omega arith)
       ∙ ap (λ (n : ℕ). (n + (m - r)) % m) (around-is m (r + q) (omega arith))
       ∙ mod-add-mod (r + q) m (m - r)
-      ∙ ap (λ (n : ℕ). n % m) whole
-      ∙ add-mod-right q m
-      ∙ mod-eq-of-lt h
+      ∙ whole-turn (r + q + (m - r)) q (omega arith) h
 
   -- the way back from the rotation, and past it again
   sum-of-way : (z : ℕ) → z < m → around m (rotation .0 + around m (z + (m - rotation .0))) ≡ z
   sum-of-way z h =
       let r : ℕ = rotation .0 in
-      let whole : r + (z + (m - r)) ≡ z + m = omega arith in
       around-is m (r + around m (z + (m - r))) (omega arith)
       ∙ ap (λ (n : ℕ). (r + n) % m) (around-is m (z + (m - r)) (omega arith))
       ∙ add-mod-mod r (z + (m - r)) m
-      ∙ ap (λ (n : ℕ). n % m) whole
-      ∙ add-mod-right z m
-      ∙ mod-eq-of-lt h
+      ∙ whole-turn (r + (z + (m - r))) z (omega arith) h
 
   -- the rotation is below m, so mod m it is itself
   line-place-is : (place : RingPlace) → linePlaceOf place start rotation m .0 ≡ start .0 + way place
   unfolding linePlaceOf way
   line-place-is place =
-      let near : around m (place .0 + (m - rotation .0)) < m = around-lt m (place .0 + (m - rotation .0)) (omega arith) in
-      ap (λ (n : ℕ). min (start .0 + around m (place .0 + (m - n))) lastPlace) (mod-eq-of-lt turned) ∙ omega arith
+      ap (λ (n : ℕ). min (start .0 + around m (place .0 + (m - n))) lastPlace) (mod-eq-of-lt turned) ∙ omega (arith, way-lt place)
 
-  -- a line place of the window comes back
+  -- A line place of the window comes back.
   pub line-of-ring : (place : LinePlace) → start .0 ≤ place .0 → place .0 < start .0 + m → linePlaceOf (ringPlaceOf place start rotation m) start rotation m ≡ place
   unfolding ringPlaceOf way
   line-of-ring place from below =
@@ -63,7 +66,7 @@ module _ (start : LinePlace) (rotation : RingPlace) (m : ℕ) (turned : rotation
       ∙ ap (λ (n : ℕ). start .0 + n) (way-of-sum (place .0 - start .0) (omega arith))
       ∙ omega arith)
 
-  -- a ring place comes back
+  -- A ring place comes back.
   pub ring-of-line : (place : RingPlace) → place .0 < m → ringPlaceOf (linePlaceOf place start rotation m) start rotation m ≡ place
   unfolding ringPlaceOf way
   ring-of-line place below =
@@ -71,29 +74,18 @@ module _ (start : LinePlace) (rotation : RingPlace) (m : ℕ) (turned : rotation
       ring-place-eq (ringPlaceOf (linePlaceOf place start rotation m) start rotation m) place
       (ap (λ (n : ℕ). around m (rotation .0 + n)) along ∙ sum-of-way (place .0) below)
 
-  -- a ring place is below m
+  -- What a line place is turned into is below m.
   pub ring-place-lt : (place : LinePlace) → ringPlaceOf place start rotation m .0 < m
   unfolding ringPlaceOf
   ring-place-lt place = around-lt m (rotation .0 + (place .0 - start .0)) (omega arith)
 
-  -- a line place is in the window
+  -- What a ring place is turned into is in the window.
   pub line-place-in : (place : RingPlace) → (start .0 ≤ linePlaceOf place start rotation m .0) × (linePlaceOf place start rotation m .0 < start .0 + m)
-  unfolding way
-  line-place-in place =
-      let near : around m (place .0 + (m - rotation .0)) < m = around-lt m (place .0 + (m - rotation .0)) (omega arith) in
-      (omega (arith, line-place-is place), omega (arith, line-place-is place))
+  line-place-in place = (omega (arith, line-place-is place), omega (arith, line-place-is place, way-lt place))
 
-  -- the document's rule: at place q of the window stands the ring's edge (rotation + q) mod m
+  -- The document's rule: the window's place q is over the ring place (rotation + q) mod m.
   pub ring-place-is : (place : LinePlace) (q : ℕ) → place .0 ≡ start .0 + q → ringPlaceOf place start rotation m .0 ≡ (rotation .0 + q) % m
   unfolding ringPlaceOf
   ring-place-is place q e =
       let along : place .0 - start .0 ≡ q = omega arith in
       ap (λ (n : ℕ). around m (rotation .0 + n)) along ∙ around-is m (rotation .0 + q) (omega arith)
-
--- any two answers of `to_ring` are equal
-pub to-ring-unique : (place start : LinePlace) (rotation : RingPlace) (m : ℕ) (a b : RingPlace) → IsRingPlace place start rotation m a → IsRingPlace place start rotation m b → a ≡ b
-to-ring-unique place start rotation m a b s t = s .is ∙ sym (t .is)
-
--- any two answers of `to_line` are equal
-pub to-line-unique : (place : RingPlace) (start : LinePlace) (rotation : RingPlace) (m : ℕ) (a b : LinePlace) → IsLinePlace place start rotation m a → IsLinePlace place start rotation m b → a ≡ b
-to-line-unique place start rotation m a b s t = s .is ∙ sym (t .is)

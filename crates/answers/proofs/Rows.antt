@@ -19,10 +19,12 @@ data Row : Type 0 where
 unfoldable right : Row → Bool
 right (row refusal number place) = eqb (numberOf refusal) number && eqb (placeOf refusal) place
 
+-- and each of these
 unfoldable allRight : List Row → Bool
 allRight [] = true
 allRight (r ∷ rs) = right r && allRight rs
 
+-- the document's table
 unfoldable table : List Row
 table =
     row Ring 1 0

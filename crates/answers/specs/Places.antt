@@ -1,5 +1,5 @@
 -- Document 01, "Meanings": "Ring places and line places are each counted from zero and are never added or compared directly;
--- only the rules below turn one into the other." The rule is "Rotation r of the ring has at its place q the ring's edge (r + q) mod m",
+-- only the rules below turn one into the other." The rule is "Rotation r of the ring .. has at its place q the ring's edge (r + q) mod m",
 -- read in the window at a start: the window's place q is the line place start + q.
 --
 --   ringPlaceOf   ring place = (rotation + (line place − start)) mod m

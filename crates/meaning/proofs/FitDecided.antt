@@ -24,6 +24,7 @@ Begins ring r s = (q : ℕ) → q < length s → getD s q 0 ≡ rotationEdge rin
 edge-at : (ring : List ℕ) {a b : ℕ} → a ≡ b → getD ring (a % length ring) 0 ≡ getD ring (b % length ring) 0
 edge-at ring e = ap (λ (n : ℕ). getD ring (n % length ring) 0) e
 
+-- What the test finds a beginning is one.
 begins-yes : (ring : List ℕ) (r : ℕ) (s : List ℕ) → begins ring r s ≡ true → Begins ring r s
 unfolding begins Begins
 begins-yes ring r [] e q l = absurd (omega arith)
@@ -33,6 +34,7 @@ begins-yes ring r (x ∷ s) e (suc q) l =
     begins-yes ring (suc r) s (and-true (eqb x (getD ring (r % length ring) 0)) (begins ring (suc r) s) e .1) q (omega arith)
     ∙ edge-at ring (omega arith)
 
+-- And what is one, the test finds.
 begins-by : (ring : List ℕ) (r : ℕ) (s : List ℕ) → Begins ring r s → begins ring r s ≡ true
 unfolding begins Begins
 begins-by ring r [] h = refl

@@ -12,11 +12,11 @@ use native.Mathlib.Omega.{arith}
 use lib.Dec.{ltb}
 use lib.ListN.{length}
 use borrow.Author.Tests.{ltb-true}
-use Rattle.meaning.specs.Rules.{Reading, readWindow, nextStart, isCandidate, candidatesOf}
+use Rattle.meaning.specs.Rules.{Reading, readWindow, isCandidate, candidatesOf}
 use Rattle.meaning.specs.Looks.{readLooks, stepLooks, tallyLooks, verifyLooks, quickLooks}
 use Rattle.meaning.proofs.Cases.{by-test, le-or-lt}
 use Rattle.meaning.proofs.WindowRead.{window-read}
-use Rattle.meaning.proofs.WindowSteps.{next-above, windowsAt, windows-start, windows-end, windows-induct}
+use Rattle.meaning.proofs.WindowSteps.{nextAfter, next-above, windowsAt, windows-start, windows-end, windows-induct}
 
 -- Verifying a start s beyond the last verified one never costs more than s steps.
 pub tallyLooks-le : (m last s : ℕ) → tallyLooks m (some last) (last + s) ≤ s * stepLooks m
@@ -36,6 +36,7 @@ module _ (ring line : List ℕ) (k : ℕ) where
   abbrev ReadsAtMost : ℕ → List Reading → Type 0
   ReadsAtMost i ws = (g : ℕ) → length line + 1 ≤ i + g + m → readLooks ws ≤ g * m
 
+  -- So many windows, at most m looks each.
   reads-le : (i : ℕ) → ReadsAtMost i (windowsAt ring line k i)
   unfolding readLooks
   reads-le =
@@ -61,13 +62,15 @@ module _ (ring line : List ℕ) (k : ℕ) where
       let all : s + (g - s) ≡ g = omega arith in
       omega (arith, tallyLooks-le m last s, ap (tallyLooks m (some last)) at, ap (λ (x : ℕ). x * stepLooks m) all)
 
-  -- A candidate's start is where its window was.
-  start-at : (i : ℕ) (P : ℕ → List ℕ → Type 0) → P i (candidatesOf ring k (windowsAt ring line k (nextStart ring (readWindow ring line k i))))
-      → P (readWindow ring line k i .start) (candidatesOf ring k (windowsAt ring line k (nextStart ring (readWindow ring line k i))))
-  start-at i P h =
-      subst (λ (j : ℕ). P j (candidatesOf ring k (windowsAt ring line k (nextStart ring (readWindow ring line k i)))))
-      (sym (window-read ring line k i .start-is)) h
+  -- The candidates after the window at i.
+  abbrev later : ℕ → List ℕ
+  later i = candidatesOf ring k (windowsAt ring line k (nextAfter ring line k i))
 
+  -- A candidate's start is where its window was.
+  start-at : (i : ℕ) (P : ℕ → Type 0) → P i → P (readWindow ring line k i .start)
+  start-at i P h = subst P (sym (window-read ring line k i .start-is)) h
+
+  -- Each candidate is verified by at most its steps from the last.
   steps-le : (i : ℕ) → StepsAtMost i (windowsAt ring line k i)
   unfolding verifyLooks candidatesOf
   steps-le =
@@ -75,7 +78,7 @@ module _ (ring line : List ℕ) (k : ℕ) where
       (λ i _ last g _ _. omega arith)
       (λ i in-line rest last g l h.
       by-test (λ (starts : List ℕ). verifyLooks m (some last) starts ≤ g * stepLooks m) (isCandidate ring k (readWindow ring line k i))
-      (λ _. start-at i (λ j starts. verifyLooks m (some last) (j ∷ starts) ≤ g * stepLooks m)
+      (λ _. start-at i (λ j. verifyLooks m (some last) (j ∷ later i) ≤ g * stepLooks m)
       (steps-add last i g _ l (omega arith) (rest i (g - (i - last)) (next-above ring line k i) (omega arith))))
       (λ _. rest last g (omega (arith, next-above ring line k i)) h))
 
@@ -83,6 +86,7 @@ module _ (ring line : List ℕ) (k : ℕ) where
   abbrev FirstAtMost : ℕ → List Reading → Type 0
   FirstAtMost i ws = (g : ℕ) → length line ≤ i + g + m → verifyLooks m none (candidatesOf ring k ws) ≤ m * m + g * stepLooks m
 
+  -- The first candidate is counted afresh, the others as after a verified start.
   first-le : (i : ℕ) → FirstAtMost i (windowsAt ring line k i)
   unfolding verifyLooks candidatesOf tallyLooks
   first-le =
@@ -90,8 +94,8 @@ module _ (ring line : List ℕ) (k : ℕ) where
       (λ i _ g _. omega arith)
       (λ i in-line rest g h.
       by-test (λ (starts : List ℕ). verifyLooks m none starts ≤ m * m + g * stepLooks m) (isCandidate ring k (readWindow ring line k i))
-      (λ _. start-at i (λ j starts. verifyLooks m none (j ∷ starts) ≤ m * m + g * stepLooks m)
-      (omega (arith, steps-le (nextStart ring (readWindow ring line k i)) i g (next-above ring line k i) h)))
+      (λ _. start-at i (λ j. verifyLooks m none (j ∷ later i) ≤ m * m + g * stepLooks m)
+      (omega (arith, steps-le (nextAfter ring line k i) i g (next-above ring line k i) h)))
       (λ _. rest g (omega (arith, next-above ring line k i))))
 
   -- "For n ≥ m they are never above 3·m·n − 2·m·m + m".

@@ -16,6 +16,7 @@ pub record IsLowest (f : ℕ → ℕ) (n r : ℕ) : Type 0 where
   pub first : (s : ℕ) → s < r → f r < f s
 
 module _ (f : ℕ → ℕ) where
+  -- Of one number it is that one.
   lowest-one : IsLowest f 1 0
   lowest-one = record {
     below = omega arith;
@@ -23,6 +24,7 @@ module _ (f : ℕ → ℕ) where
     first = λ s l. omega arith;
   }
 
+  -- One number more takes its place only where f is less there.
   lowest-more : (n b : ℕ) → IsLowest f n b → (t : Bool) → ltb (f n) (f b) ≡ t → IsLowest f (suc n) (cond t n b)
   lowest-more n b h true e = record {
     below = omega arith;
@@ -35,6 +37,7 @@ module _ (f : ℕ → ℕ) where
     first = h .first;
   }
 
+  -- Either way it is 0.
   cond-same : (t : Bool) → _≡_ {A = ℕ} (cond t 0 0) 0
   cond-same true = refl
   cond-same false = refl

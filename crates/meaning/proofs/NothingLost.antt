@@ -26,7 +26,7 @@ module _ (ring line : List ℕ) (pos : 0 < length ring) (k i : ℕ) where
   abbrev Costs : Reading → Type 0
   Costs w = (c : ℕ) → w .breaks ≤ count (unlike ring line c) (i + (length ring - w .read)) (w .read)
 
-  -- While the window is read: the held stretch is the line's, and each break counted is an unlike place among the edges past it.
+  -- While the window is read: the held stretch is the line's, and each break counted is an unlike place among the `past` edges behind it.
   record Counting (left : ℕ) (w : Reading) : Type 0 where
     past : ℕ
     all : w .read + left ≡ length ring
@@ -34,9 +34,11 @@ module _ (ring line : List ℕ) (pos : 0 < length ring) (k i : ℕ) where
     from-line : FromLine ring line (i + left) (w .held)
     cost : (c : ℕ) → w .breaks ≤ count (unlike ring line c) (i + left + length (w .held)) past
 
+  -- Before the first edge nothing is held, and nothing is past.
   counting-start : Counting (length ring) (unread i)
   counting-start = record { past = 0; all = omega arith; parts = omega arith; from-line = tt; cost = λ c. omega arith }
 
+  -- Wherever reading ends, the breaks are unlike places among all edges read.
   counting-end : (left : ℕ) (w : Reading) → Counting left w → Costs w
   counting-end left w h c =
       let at : i + (length ring - w .read) ≡ i + left = omega (arith, h .all) in
@@ -52,9 +54,11 @@ module _ (ring line : List ℕ) (pos : 0 < length ring) (k i : ℕ) where
     abbrev grown : List ℕ
     grown = windowEdge line i left ∷ w .held
 
+    -- The grown stretch is the line's too,
     grown-from-line : FromLine ring line (i + left) grown
     grown-from-line = (refl, subst (λ (n : ℕ). FromLine ring line n (w .held)) (add-suc i left) (h .from-line))
 
+    -- and what was past it is past it still.
     grown-cost : (c : ℕ) → w .breaks ≤ count (unlike ring line c) (i + left + length grown) (h .past)
     grown-cost c =
         let at : i + suc left + length (w .held) ≡ i + left + length grown = omega arith in
@@ -87,6 +91,7 @@ module _ (ring line : List ℕ) (pos : 0 < length ring) (k i : ℕ) where
               ));
         })
 
+  -- So of the edges that are left, as far as they are read,
   left-costs : (left : ℕ) (w : Reading) → Counting left w → Costs (readLeft ring line k i left w)
   unfolding readLeft
   left-costs zero w h = counting-end zero w h
@@ -95,11 +100,12 @@ module _ (ring line : List ℕ) (pos : 0 < length ring) (k i : ℕ) where
       (λ _. counting-end (suc left) w h)
       (λ _. left-costs left (readEdge ring (windowEdge line i left) w) (counting-turn left w h))
 
+  -- and of the whole window.
   window-costs : Costs (readWindow ring line k i)
   unfolding readWindow
   window-costs = left-costs (length ring) (unread i) counting-start
 
-  -- Every start before the next window is at least as far from the ring as there were breaks, under every rotation.
+  -- Every start from the window's own on, before the next window, is at least as far from the ring as there were breaks, under every rotation.
   pub breaks-le : (i′ r : ℕ) → i ≤ i′ → i′ < nextStart ring (readWindow ring line k i) → readWindow ring line k i .breaks ≤ distance ring line i′ r
   breaks-le i′ r lo hi =
       let w : Reading = readWindow ring line k i in

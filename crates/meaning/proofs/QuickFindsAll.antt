@@ -1,46 +1,35 @@
--- The findings by the rules are the findings: rules 1 to 4 decide them, and that a tally moved by rule 5 holds the distances that verifying
--- asks for is `distance-step` of TallyStep. Over the windows from place i on: the findings below i, followed by what these windows
+-- The findings by the rules are the findings: rules 1 to 4 decide them. (Rule 5 decides none; that a tally moved by it holds the distances is shown
+-- in crates/moves, from `distance-step` of TallyStep.) Over the windows from place i on: the findings below i, followed by what these windows
 -- report, are all of them. A candidate reports its own place; a window left at break k + 1 jumps over places that have none
--- (`nothing-lost`); past the last window no place is a start.
+-- (`nothing-lost`); past the last window no place is a start (`findings-below`).
 -- Assumes nothing.
-use Prim.Native.Nat.{ℕ, zero, suc, _+_, _-_, _≤_, _<_, min}
-use mathlib.Core.Path.{_≡_, sym, ap, ap₂, _∙_}
+use Prim.Native.Nat.{ℕ, suc, _+_, _-_, _≤_, _<_, min}
+use mathlib.Core.Path.{_≡_, sym, _∙_}
 use mathlib.Core.Logic.{⊎-elim}
 use mathlib.Core.List.{List, [], _∷_, _++_, append-nil, append-assoc}
-use native.Mathlib.Nat.{add-zero, add-suc}
 use native.Mathlib.Omega.{arith}
 use lib.ListN.{length}
-use Rattle.meaning.specs.Findings.{Finding, foundAt, findingsBelow, findings}
+use Rattle.meaning.specs.Findings.{findingsBelow, findings}
 use Rattle.meaning.specs.Rules.{Reading, readWindow, nextStart, candidatesOf, reported, quickFindings}
-use Rattle.meaning.proofs.Places.{found-no-start}
+use Rattle.meaning.proofs.FindingsBelow.{findings-below}
 use Rattle.meaning.proofs.WindowRead.{window-read, candidate-yes, candidate-no}
 use Rattle.meaning.proofs.NothingLost.{nothing-lost}
 use Rattle.meaning.proofs.WindowSteps.{windows-start, windows-induct}
+-- (handed on: a crate above cites it from here)
+pub use Rattle.meaning.proofs.FindingsBelow.{below-same}
 
 module _ (ring line : List ℕ) (k : ℕ) where
-  -- Places without a finding add nothing to the findings below.
-  pub below-same : (i d : ℕ) → ((j : ℕ) → i ≤ j → j < i + d → foundAt ring line k j ≡ []) → findingsBelow ring line k (i + d) ≡ findingsBelow ring line k i
-  unfolding findingsBelow
-  below-same i zero h = rw add-zero
-  below-same i (suc d) h =
-      ap (findingsBelow ring line k) (add-suc i d)
-      ∙ ap₂ (λ (a b : List Finding). a ++ b) (below-same i d (λ j lo hi. h j lo (omega arith))) (h (i + d) (omega arith) (omega arith))
-      ∙ append-nil _
-
   -- The findings below i, followed by what the windows report, are all of them.
   abbrev Rest : ℕ → List Reading → Type 0
   Rest i ws = findingsBelow ring line k (min i (length line)) ++ reported ring line k (candidatesOf ring k ws) ≡ findings ring line k
 
-  rest-end : (i : ℕ) → length line < i + length ring → Rest i []
-  unfolding candidatesOf reported
-  rest-end i h =
-      let d : ℕ = length line - min i (length line) in
-      let all : min i (length line) + d ≡ length line = omega arith in
-      append-nil _
-      ∙ sym (below-same (min i (length line)) d (λ j lo hi. found-no-start ring line k j (omega arith)))
-      ∙ ap (findingsBelow ring line k) all
-
   module _ (pos : 0 < length ring) where
+    -- Past the last window no place is a start.
+    rest-end : (i : ℕ) → length line < i + length ring → Rest i []
+    unfolding candidatesOf reported
+    rest-end i h = append-nil _ ∙ sym (findings-below ring line k (min i (length line)) (omega arith) (omega arith))
+
+    -- A candidate reports its own place; a window that was left jumps over places that have no finding.
     rest-step : (i : ℕ) (ws : List Reading) → i + length ring ≤ length line → Rest (nextStart ring (readWindow ring line k i)) ws
         → Rest i (readWindow ring line k i ∷ ws)
     unfolding candidatesOf reported findingsBelow
@@ -56,7 +45,7 @@ module _ (ring line : List ℕ) (k : ℕ) where
         let d : ℕ = min (nextStart ring w) (length line) - i in
         let there : min (nextStart ring w) (length line) ≡ i + d = omega (arith, was .start-is) in
         let jumped : findingsBelow ring line k (i + d) ≡ findingsBelow ring line k i =
-        below-same i d (λ j lo hi. nothing-lost ring line pos k i many j lo (omega arith))
+        below-same ring line k i d (λ j lo hi. nothing-lost ring line pos k i many j lo (omega arith))
         in
         rw (candidate-no ring k w many, here) (rw (there, jumped) at h))
         (was .ended)

@@ -18,20 +18,24 @@ abbrev pub Rising : ℕ → ℕ → List Finding → Type 0
 Rising lo hi [] = lo ≤ hi
 Rising lo hi (f ∷ fs) = (lo ≤ f .start) × Rising (suc (f .start)) hi fs
 
+-- What rises from a place on rises from any lower one on.
 rising-lower : (lo lo′ hi : ℕ) (l : List Finding) → lo ≤ lo′ → Rising lo′ hi l → Rising lo hi l
 rising-lower lo lo′ hi [] h r = omega arith
 rising-lower lo lo′ hi (f ∷ fs) h r = (omega arith, r .1)
 
+-- A list that rises to mid, and one that rises from there on.
 rising-join : (lo mid hi : ℕ) (a b : List Finding) → Rising lo mid a → Rising mid hi b → Rising lo hi (a ++ b)
 rising-join lo mid hi [] b ra rb = rising-lower lo mid hi b ra rb
 rising-join lo mid hi (f ∷ a) b ra rb = (ra .0, rising-join (suc (f .start)) mid hi a b (ra .1) rb)
 
 module _ (ring line : List ℕ) (k : ℕ) where
+  -- A place adds at most its own start.
   at-rising : (i : ℕ) → Rising i (suc i) (foundAt ring line k i)
   unfolding foundAt
   at-rising i =
       by-test (Rising i (suc i)) (isStart ring line i && leb (leastDistance ring line i) k) (λ _. (omega arith, omega arith)) (λ _. omega arith)
 
+  -- So the findings below i rise.
   below-rising : (i : ℕ) → Rising 0 i (findingsBelow ring line k i)
   unfolding findingsBelow
   below-rising zero = omega arith
@@ -51,7 +55,7 @@ rising-from lo hi (g ∷ l) r f h =
     (List·Memᴰ·cases-cons h)
 
 -- Each start has at most one finding in a list that rises.
-pub rising-unique : (lo hi : ℕ) (l : List Finding) → Rising lo hi l
+rising-unique : (lo hi : ℕ) (l : List Finding) → Rising lo hi l
     → (f g : Finding) → List·Memᴰ f l → List·Memᴰ g l → f .start ≡ g .start → f ≡ g
 rising-unique lo hi [] r f g hf hg e = absurd (List·Memᴰ·not-nil hf)
 rising-unique lo hi (x ∷ l) r f g hf hg e =

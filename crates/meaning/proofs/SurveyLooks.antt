@@ -29,7 +29,7 @@ module _ (ring line : List ℕ) where
   surveyLooks-first h = rw (le-leb (0 + m) (length line) (omega arith)) (omega arith)
 
   -- Each next start is one step more.
-  pub surveyLooks-step : (i : ℕ) → suc i + m ≤ length line → surveyLooksBelow ring line (suc (suc i)) ≡ surveyLooksBelow ring line (suc i) + stepLooks m
+  surveyLooks-step : (i : ℕ) → suc i + m ≤ length line → surveyLooksBelow ring line (suc (suc i)) ≡ surveyLooksBelow ring line (suc i) + stepLooks m
   surveyLooks-step i h = one-place (suc i) ∙ rw (le-leb (suc i + m) (length line) h, ne-eqb (suc i) 0 (λ z. omega arith))
 
   -- Places past the last start add nothing.

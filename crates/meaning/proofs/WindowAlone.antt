@@ -4,7 +4,7 @@
 use Prim.Native.Nat.{ℕ, zero, suc, _≤_, _<_}
 use mathlib.Core.Path.{_≡_, refl, ap}
 use mathlib.Core.Bool.{Bool, true, false, not, cond, true≢false, false≢true}
-use mathlib.Core.List.{List, [], _∷_}
+use mathlib.Core.List.{List, _∷_}
 use native.Mathlib.Nat.{zero-add}
 use native.Mathlib.Omega.{arith}
 use lib.Dec.{ltb, eqb}
@@ -21,6 +21,13 @@ pub record SameReading (v w : Reading) : Type 0 where
   pub breaks-is : v .breaks ≡ w .breaks
   pub held-is : v .held ≡ w .held
 
+-- Tests that agree pick readings that are the same.
+same-cond : (t t′ : Bool) → t ≡ t′ → {v w v′ w′ : Reading} → SameReading v w → SameReading v′ w′ → SameReading (cond t v v′) (cond t′ w w′)
+same-cond true true e a b = a
+same-cond true false e a b = absurd (true≢false e)
+same-cond false true e a b = absurd (false≢true e)
+same-cond false false e a b = b
+
 module _ (ring line : List ℕ) (i : ℕ) where
   abbrev m : ℕ
   m = length ring
@@ -36,29 +43,22 @@ module _ (ring line : List ℕ) (i : ℕ) where
       count-same (differs ring (window m line i) 0 r) (differs ring line i r) 0 m
       (λ q _ l. ap (λ (x : ℕ). not (eqb x (rotationEdge ring r q))) (alone-edge q (omega arith)))
 
+  -- An edge read keeps two readings the same: by the held stretch both fit, or neither does.
   same-edge : (x : ℕ) (v w : Reading) → SameReading v w → SameReading (readEdge ring x v) (readEdge ring x w)
   unfolding readEdge
-  same-edge x v w s = rw (s .held-is, s .read-is, s .breaks-is) (either (fits ring (x ∷ w .held)))
-    where
-      either : (t : Bool) → SameReading
-          (cond t (record { start = v .start; read = suc (w .read); breaks = w .breaks; held = x ∷ w .held }) (record { start = v .start; read = suc (w .read); breaks = suc (w .breaks); held = [] }))
-          (cond t (record { start = w .start; read = suc (w .read); breaks = w .breaks; held = x ∷ w .held }) (record { start = w .start; read = suc (w .read); breaks = suc (w .breaks); held = [] }))
-      either true = record { read-is = refl; breaks-is = refl; held-is = refl }
-      either false = record { read-is = refl; breaks-is = refl; held-is = refl }
+  same-edge x v w s =
+      same-cond _ _ (ap (λ (held : List ℕ). fits ring (x ∷ held)) (s .held-is))
+      (record { read-is = ap suc (s .read-is); breaks-is = s .breaks-is; held-is = ap (λ (held : List ℕ). x ∷ held) (s .held-is) })
+      (record { read-is = ap suc (s .read-is); breaks-is = ap suc (s .breaks-is); held-is = refl })
 
+  -- And so do the edges that are left: by their breaks both stop, or neither does.
   same-left : (k left : ℕ) (v w : Reading) → left ≤ m → SameReading v w
       → SameReading (readLeft ring (window m line i) k 0 left v) (readLeft ring line k i left w)
   unfolding readLeft
   same-left k zero v w l s = s
   same-left k (suc left) v w l s =
-      either _ _ (ap (ltb k) (s .breaks-is)) s
+      same-cond _ _ (ap (ltb k) (s .breaks-is)) s
       (rw (alone-edge left (omega arith)) (same-left k left _ _ (omega arith) (same-edge (windowEdge line i left) v w s)))
-    where
-      either : (t t′ : Bool) → t ≡ t′ → {v w v′ w′ : Reading} → SameReading v w → SameReading v′ w′ → SameReading (cond t v v′) (cond t′ w w′)
-      either true true e a b = a
-      either true false e a b = absurd (true≢false e)
-      either false true e a b = absurd (false≢true e)
-      either false false e a b = b
 
   -- It is read as the line's window at i.
   pub alone-reading : (k : ℕ) → SameReading (readWindow ring (window m line i) k 0) (readWindow ring line k i)

@@ -33,6 +33,7 @@ module _ (ring : List ℕ) where
   unfoldable pub GrownBy : ℕ → (ℕ → Bool) → (ℕ → Bool) → Type 0
   GrownBy x bits bits′ = (r : ℕ) → r < length ring → bits′ r ≡ (bits ((r + 1) % length ring) && eqb (getD ring r 0) x)
 
+  -- Bits that stand for a stretch, grown by an edge, stand for the grown stretch.
   bits-grown : (x : ℕ) (bits bits′ : ℕ → Bool) (s : List ℕ) → Bits bits s → GrownBy x bits bits′ → Bits bits′ (x ∷ s)
   unfolding Bits GrownBy begins
   bits-grown x bits bits′ s h g r l =
@@ -91,16 +92,18 @@ module _ (ring line : List ℕ) (k i : ℕ) where
     abbrev x : ℕ
     x = windowEdge line i left
 
+    -- The grown bits stand for the grown stretch,
     grown-bits : Bits ring bits′ (x ∷ h .so-far .held)
     grown-bits = bits-grown ring x bits bits′ (h .so-far .held) (h .bits-are) g
 
+    -- so it fits exactly when some bit is left.
     grown-fits : fits ring (x ∷ h .so-far .held) ≡ someBelow bits′ m
     grown-fits = bits-fit ring bits′ (x ∷ h .so-far .held) (omega (arith, h .left-is, h .held-le)) grown-bits
 
-    -- The next edge is read.
-    on : readLeft ring line k i left (readEdge ring x (h .so-far)) ≡ readWindow ring line k i
+    -- The next edge is read: there is no break k + 1 yet.
+    goes-on-read : readLeft ring line k i left (readEdge ring x (h .so-far)) ≡ readWindow ring line k i
     unfolding readLeft
-    on = rw (le-ltb k (h .so-far .breaks) (omega (arith, h .breaks-is))) at (h .goes-on)
+    goes-on-read = rw (le-ltb k (h .so-far .breaks) (omega (arith, h .breaks-is))) at (h .goes-on)
 
     -- A bit is left: the stretch has grown.
     window-grows : someBelow bits′ m ≡ true → WindowLoop left breaks bits′
@@ -111,7 +114,7 @@ module _ (ring line : List ℕ) (k i : ℕ) where
       breaks-is = h .breaks-is;
       held-le = omega (arith, h .held-le);
       bits-are = grown-bits;
-      goes-on = rw (grown-fits, e) at on;
+      goes-on = rw (grown-fits, e) at goes-on-read;
     }
 
     -- No bit is left: a break, and every bit is set again.
@@ -123,7 +126,7 @@ module _ (ring line : List ℕ) (k i : ℕ) where
       breaks-is = omega (arith, h .breaks-is);
       held-le = omega arith;
       bits-are = all-set;
-      goes-on = rw (grown-fits, e) at on;
+      goes-on = rw (grown-fits, e) at goes-on-read;
     }
 
   -- At break k + 1 the window is left.
@@ -137,13 +140,14 @@ module _ (ring line : List ℕ) (k i : ℕ) where
   -- The same turns for a loop that counts down: with the code's left − 1 and breaks + 1.
   module _ (left breaks : ℕ) (bits bits′ : ℕ → Bool) (few : breaks ≤ k) (some-left : 0 < left)
       (g : GrownBy ring (windowEdge line i (left - 1)) bits bits′) (h : WindowLoop left breaks bits) where
-    down : WindowLoop (suc (left - 1)) breaks bits
-    down = let e : left ≡ suc (left - 1) = omega arith in subst (λ (n : ℕ). WindowLoop n breaks bits) e h
+    -- With some edges left they are one more than left − 1.
+    one-more : WindowLoop (suc (left - 1)) breaks bits
+    one-more = let e : left ≡ suc (left - 1) = omega arith in subst (λ (n : ℕ). WindowLoop n breaks bits) e h
 
     -- A bit is left.
     pub turn-grows : someBelow bits′ m ≡ true → WindowLoop (left - 1) breaks bits′
-    turn-grows e = window-grows (left - 1) breaks bits bits′ few g down e
+    turn-grows e = window-grows (left - 1) breaks bits bits′ few g one-more e
 
     -- No bit is left: a break.
     pub turn-breaks : someBelow bits′ m ≡ false → (all : ℕ → Bool) → AllSet ring all → WindowLoop (left - 1) (breaks + 1) all
-    turn-breaks e all all-set = rw add-one (window-breaks (left - 1) breaks bits bits′ few g down e all all-set)
+    turn-breaks e all all-set = rw add-one (window-breaks (left - 1) breaks bits bits′ few g one-more e all all-set)

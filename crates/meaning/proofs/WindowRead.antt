@@ -16,7 +16,7 @@ use Rattle.meaning.specs.Rules.{Reading, unread, readEdge, readLeft, rea
 use Rattle.meaning.proofs.Cases.{by-test, le-or-lt}
 
 -- An edge read keeps the window's start.
-pub edge-start : (ring : List ℕ) (x : ℕ) (w : Reading) → readEdge ring x w .start ≡ w .start
+edge-start : (ring : List ℕ) (x : ℕ) (w : Reading) → readEdge ring x w .start ≡ w .start
 unfolding readEdge
 edge-start ring x w = by-test (λ (v : Reading). v .start ≡ w .start) (fits ring (x ∷ w .held)) (λ _. refl) (λ _. refl)
 
@@ -36,9 +36,11 @@ pub record WasRead (ring : List ℕ) (k i : ℕ) (w : Reading) : Type 0 where
   pub ended : Ended ring k w
 
 module _ (ring line : List ℕ) (k i : ℕ) where
+  -- All edges are read: by the breaks it is one or the other.
   all-read : (w : Reading) → w .read ≡ length ring → Ended ring k w
   all-read w e = ⊎-elim (λ l. inl (e, l)) (λ l. inr l) (le-or-lt (w .breaks) k)
 
+  -- However many edges are left, reading them ends so.
   left-read : (left : ℕ) (w : Reading) → w .start ≡ i → w .read + left ≡ length ring → WasRead ring k i (readLeft ring line k i left w)
   unfolding readLeft
   left-read zero w s e = record { start-is = s; read-le = omega arith; ended = all-read w (omega arith) }

@@ -16,10 +16,15 @@ use Rattle.meaning.proofs.Cases.{le-or-lt}
 use Rattle.meaning.proofs.WindowRead.{window-read}
 
 module _ (ring line : List ℕ) (k : ℕ) where
+  -- Where the window after the one at i starts.
+  abbrev pub nextAfter : ℕ → ℕ
+  nextAfter i = nextStart ring (readWindow ring line k i)
+
   -- Each window starts after the one before.
-  pub next-above : (i : ℕ) → i < nextStart ring (readWindow ring line k i)
+  pub next-above : (i : ℕ) → i < nextAfter i
   next-above i = omega (arith, window-read ring line k i .start-is)
 
+  -- Two numbers that are large enough give the same windows.
   windowsFrom-enough : (f g i : ℕ) → length line < i + f → length line < i + g → windowsFrom ring line k f i ≡ windowsFrom ring line k g i
   unfolding windowsFrom
   windowsFrom-enough zero zero i hf hg = refl
@@ -27,7 +32,7 @@ module _ (ring line : List ℕ) (k : ℕ) where
   windowsFrom-enough (suc f) zero i hf hg = rw (lt-leb (i + length ring) (length line) (omega arith))
   windowsFrom-enough (suc f) (suc g) i hf hg =
       ap (λ (ws : List Reading). cond (fitsInLine ring line i) (readWindow ring line k i ∷ ws) [])
-      (windowsFrom-enough f g (nextStart ring (readWindow ring line k i)) (omega (arith, next-above i)) (omega (arith, next-above i)))
+      (windowsFrom-enough f g (nextAfter i) (omega (arith, next-above i)) (omega (arith, next-above i)))
 
   -- The windows read from place i on.
   pub windowsAt : ℕ → List Reading
@@ -39,8 +44,7 @@ module _ (ring line : List ℕ) (k : ℕ) where
   windows-start = refl
 
   -- A window in the line is read, and followed by those from the next one on.
-  pub windows-step : (i : ℕ) → i + length ring ≤ length line
-      → windowsAt i ≡ readWindow ring line k i ∷ windowsAt (nextStart ring (readWindow ring line k i))
+  pub windows-step : (i : ℕ) → i + length ring ≤ length line → windowsAt i ≡ readWindow ring line k i ∷ windowsAt (nextAfter i)
   unfolding windowsAt windowsFrom
   windows-step i h =
       ap (λ (f : ℕ). windowsFrom ring line k f i) (add-one (length line))
@@ -57,9 +61,7 @@ module _ (ring line : List ℕ) (k : ℕ) where
   -- holds of the windows from every place on.
   pub windows-induct : (P : ℕ → List Reading → Type 0)
       → ((i : ℕ) → length line < i + length ring → P i [])
-      → ((i : ℕ) → i + length ring ≤ length line
-      → P (nextStart ring (readWindow ring line k i)) (windowsAt (nextStart ring (readWindow ring line k i)))
-      → P i (readWindow ring line k i ∷ windowsAt (nextStart ring (readWindow ring line k i))))
+      → ((i : ℕ) → i + length ring ≤ length line → P (nextAfter i) (windowsAt (nextAfter i)) → P i (readWindow ring line k i ∷ windowsAt (nextAfter i)))
       → (i : ℕ) → P i (windowsAt i)
   windows-induct P over step i = go (suc (length line)) i (omega arith)
     where

@@ -50,6 +50,6 @@ distance ring line i r = count (differs ring line i r) 0 (length ring)
 unfoldable pub lowestRotation : List ℕ → List ℕ → ℕ → ℕ
 lowestRotation ring line i = lowest (distance ring line i) (length ring)
 
--- The "least distance over all r".
+-- The "least distance over all r": that of the lowest rotation at which it is least.
 abbrev pub leastDistance : List ℕ → List ℕ → ℕ → ℕ
 leastDistance ring line i = distance ring line i (lowestRotation ring line i)

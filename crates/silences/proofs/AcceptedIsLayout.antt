@@ -3,13 +3,12 @@
 -- Assumes nothing.
 use Prim.Native.Nat.{ℕ, _≤_}
 use mathlib.Core.Logic.{⊎-elim, _↔_}
-use mathlib.Core.Path.{_≡_, sym, ap, _∙_}
+use mathlib.Core.Path.{_≡_, refl, sym, ap, _∙_}
 use mathlib.Core.List.{List}
 use mathlib.Core.Option.{none}
 use native.Mathlib.Omega.{arith}
 use lib.ListN.{length}
 use lib.Seq.{take-all}
-use Rattle.meaning.proofs.Cases.{le-or-lt}
 use Rattle.answers.specs.Paper.{accepted}
 use Rattle.silences.specs.Silences.{Silence}
 use Rattle.silences.specs.Layout.{layout}
@@ -17,8 +16,8 @@ use Rattle.silences.specs.Reading.{mostBytes, readBook}
 use Rattle.silences.specs.Books.{IsBytes, IsBook}
 use Rattle.silences.specs.Rows.{IsFineBefore}
 use Rattle.silences.proofs.AnswerCases.{accepted-not-refused}
-use Rattle.silences.proofs.ReadFrom.{readBook-long, readBook-fields}
-use Rattle.silences.proofs.FieldsRead.{FieldsRead, ReadsAs, read-all, reads-as, reads-as-is}
+use Rattle.silences.proofs.ReadFrom.{readBook-fields}
+use Rattle.silences.proofs.FieldsRead.{FieldsRead, ReadsAs, read-all, reads-as-is, book-reads}
 use Rattle.silences.proofs.LayoutRead.{layout-length, read-fine, fine-read}
 
 -- How a book was accepted: it is no longer than 13,000 bytes, and its fields were read to its end.
@@ -35,10 +34,7 @@ whole-of-walk book ss h (read-all {stop = stop} f l) = record { book-le = h; sto
 -- A book is accepted exactly when its fields were read to its end.
 pub accepted-whole-iff : (book : List ℕ) (ss : List Silence) → (readBook book ≡ accepted ss) ↔ IsReadWhole ss book
 accepted-whole-iff book ss = (
-  λ e. ⊎-elim
-      (λ h. whole-of-walk book ss h (reads-as book none 0 (accepted ss) (sym (readBook-fields book h) ∙ e)))
-      (λ h. absurd (accepted-not-refused e (readBook-long book h)))
-      (le-or-lt (length book) mostBytes),
+  λ e. ⊎-elim (λ long. absurd (accepted-not-refused refl (long .1))) (λ r. whole-of-walk book ss (r .0) (r .1)) (book-reads book (accepted ss) e),
   λ w. readBook-fields book (w .book-le) ∙ reads-as-is book (read-all (w .fields) (w .stop-ge)),
 )
 

@@ -2,7 +2,7 @@
 -- it was refused nothing is written.
 -- Assumes nothing.
 use Prim.Native.Nat.{ℕ, _+_}
-use mathlib.Core.Path.{_≡_, ap, _∙_}
+use mathlib.Core.Path.{_≡_}
 use mathlib.Core.List.{List}
 use lib.ListN.{length, getD, take, drop}
 use lib.Seq.{take-at}
@@ -17,13 +17,13 @@ module _ (output : List Silence → List ℕ) (area : List ℕ) (a : Answer (Lis
   -- After a call that was accepted the front of the area is its output.
   pub area-front : (ss : List Silence) (n : ℕ) → a ≡ accepted ss → length (output ss) ≡ n → take n (areaAtExit output a area) ≡ output ss
   unfolding written
-  area-front ss n e l = ap (λ (b : Answer (List Silence)). take n (areaAtExit output b area)) e ∙ take-at (output ss) (drop (length (output ss)) area) n l
+  area-front ss n e l = rw e (take-at (output ss) (drop (length (output ss)) area) n l)
 
   -- And beyond it every element is as it was: calls "leave room beyond their output unwritten".
   pub area-rest : (ss : List Silence) (j : ℕ) → a ≡ accepted ss
       → getD (areaAtExit output a area) (length (output ss) + j) 0 ≡ getD area (length (output ss) + j) 0
-  area-rest ss j e = ap (λ (b : Answer (List Silence)). getD (areaAtExit output b area) (length (output ss) + j) 0) e ∙ written-rest (output ss) area j
+  area-rest ss j e = rw e (written-rest (output ss) area j)
 
   -- A refusal "writes nothing to any lent area".
   pub area-refused : (r : Refusal) → a ≡ refused r → areaAtExit output a area ≡ area
-  area-refused r e = ap (λ (b : Answer (List Silence)). areaAtExit output b area) e
+  area-refused r e = rw e

@@ -3,12 +3,11 @@
 -- Assumes nothing.
 use Prim.Native.Nat.{ℕ, _+_, _≤_, _<_}
 use mathlib.Core.Logic.{⊎-elim, _↔_, Iff·rfl, Iff·trans, Iff·and}
-use mathlib.Core.Path.{_≡_, sym, subst, _∙_}
+use mathlib.Core.Path.{_≡_, refl, subst, _∙_}
 use mathlib.Core.List.{List}
 use mathlib.Core.Option.{none}
 use native.Mathlib.Omega.{arith}
 use lib.ListN.{length}
-use Rattle.meaning.proofs.Cases.{le-or-lt}
 use Rattle.answers.specs.declared.refusals.Refusal.{Refusal}
 use Rattle.answers.specs.declared.refusals.Refusal.the-variants.{BookLength, Field, NotAbove}
 use Rattle.answers.specs.Refusals.{numberOf}
@@ -20,17 +19,14 @@ use Rattle.silences.proofs.AnswerCases.{row-unique}
 use Rattle.silences.proofs.ReadFrom.{readBook-long, readBook-fields}
 use Rattle.silences.proofs.FieldTest.{field-whole-is, field-whole-iff, field-faulty-iff}
 use Rattle.silences.proofs.AscendingAfter.{not-above-iff}
-use Rattle.silences.proofs.FieldsRead.{ReadsAs, stopped-faulty, stopped-order, reads-as, reads-as-is}
+use Rattle.silences.proofs.FieldsRead.{ReadsAs, stopped-faulty, stopped-order, reads-as-is, book-reads}
 use Rattle.silences.proofs.LayoutRead.{read-fine, fine-read}
 
 module _ (book : List ℕ) where
   -- another row than 5 is given exactly when the book is no longer than 13,000 bytes and reading it gives that row
   refused-reads-iff : (r : Refusal) → (numberOf r ≡ 5 → ⊥) → (readBook book ≡ refused r) ↔ ((length book ≤ 13000) × ReadsAs book none 0 (refused r))
   refused-reads-iff r other = (
-    λ e. ⊎-elim
-        (λ h. (h, reads-as book none 0 (refused r) (sym (readBook-fields book h) ∙ e)))
-        (λ h. absurd (other (row-unique e (readBook-long book h))))
-        (le-or-lt (length book) 13000),
+    λ e. ⊎-elim (λ long. absurd (other (row-unique refl (long .1)))) (λ reads. reads) (book-reads book (refused r) e),
     λ h. readBook-fields book (h .0) ∙ reads-as-is book (h .1),
   )
 
@@ -42,20 +38,14 @@ module _ (book : List ℕ) where
   -- Row 5 is given exactly for a "book longer than 13,000 bytes".
   pub book-row-5-iff : (readBook book ≡ refused BookLength) ↔ (13000 < length book)
   book-row-5-iff = (
-    λ e. ⊎-elim
-        (λ h. absurd (omega (arith, reads-row BookLength (reads-as book none 0 (refused BookLength) (sym (readBook-fields book h) ∙ e)))))
-        (λ h. h)
-        (le-or-lt (length book) 13000),
+    λ e. ⊎-elim (λ long. long .0) (λ reads. absurd (omega (arith, reads-row BookLength (reads .1)))) (book-reads book (refused BookLength) e),
     readBook-long book,
   )
 
   -- Reading gives rows 5, 6 and 7 and no other.
   pub book-rows : (r : Refusal) → readBook book ≡ refused r → (5 ≤ numberOf r) × (numberOf r ≤ 7)
   book-rows r e =
-      ⊎-elim
-      (λ h. omega (arith, reads-row r (reads-as book none 0 (refused r) (sym (readBook-fields book h) ∙ e))))
-      (λ h. omega (arith, row-unique e (readBook-long book h)))
-      (le-or-lt (length book) 13000)
+      ⊎-elim (λ long. omega (arith, row-unique refl (long .1))) (λ reads. omega (arith, reads-row r (reads .1))) (book-reads book (refused r) e)
 
 module _ (book : List ℕ) (bytes : IsBytes book) where
   -- where reading stops at no field, row 6's fault stands

@@ -16,8 +16,8 @@ use Rattle.silences.specs.Books.{IsBytes, IsField}
 use Rattle.silences.proofs.NumberBytes.{bytesOf-length, number-of-bytes, numberAt-lt, bytes-of-number}
 use Rattle.silences.proofs.FieldTest.{field-whole-is, field-whole-iff}
 
--- The value of a silence has 10 bytes.
-pub value-length : (s : Silence) → length (valueOf s) ≡ 10
+-- the value of a silence has 10 bytes
+value-length : (s : Silence) → length (valueOf s) ≡ 10
 unfolding valueOf
 value-length s = simp (length-append, bytesOf-length) (omega arith)
 

@@ -1,16 +1,18 @@
 -- `fieldAt` tests what row 6 says: a field stands exactly where 13 bytes begin 21 00 0A hex and are not cut off (`IsField`). By its three tests: the
 -- tag, the two length bytes, which make 10 only as 00 0A, and the field's end. Then the same by each test, as code goes by them.
 -- Assumes nothing.
-use Prim.Native.Nat.{ℕ, suc, _+_, _*_, _≤_, _<_}
+use Prim.Native.Nat.{ℕ, _+_, _*_, _≤_, _<_}
 use mathlib.Core.Logic.{_⊎_, inl, inr, ⊎-elim, _↔_}
 use mathlib.Core.Path.{_≡_, refl, sym, ap, ap₂, _∙_}
 use mathlib.Core.Bool.{Bool, true, false}
 use mathlib.Core.List.{List, [], _∷_}
+use native.Mathlib.Nat.{add-zero}
 use native.Mathlib.Omega.{arith}
 use lib.Dec.{leb, eqb}
 use lib.ListN.{length, getD, take, drop}
-use lib.Seq.{drop-cons, getD-drop, getD-take}
+use lib.Seq.{getD-drop, getD-take}
 use borrow.Author.Tests.{eqb-true, eqb-false, leb-true, leb-false}
+use Rattle.meaning.proofs.WordsInThrees.{drop-three}
 use Rattle.silences.specs.Numbers.{numberAt}
 use Rattle.silences.specs.Silences.{Silence, silence}
 use Rattle.silences.specs.Layout.{silenceTag}
@@ -24,33 +26,22 @@ module _ (book : List ℕ) (at : ℕ) where
   begins-are f i h = sym (getD-drop at book i 0) ∙ sym (getD-take 3 (drop at book) i 0 h) ∙ ap (λ (l : List ℕ). getD l i 0) (f .begins)
 
   -- and together
-  begins-from : at + 13 ≤ length book → getD book at 0 ≡ 0x21 → getD book (suc at) 0 ≡ 0x00 → getD book (suc (suc at)) 0 ≡ 0x0a
+  begins-from : at + 13 ≤ length book → getD book at 0 ≡ 0x21 → getD book (at + 1) 0 ≡ 0x00 → getD book (at + 2) 0 ≡ 0x0a
       → take 3 (drop at book) ≡ 0x21 ∷ 0x00 ∷ 0x0a ∷ []
-  begins-from fits a b c =
-      ap (take 3)
-      (drop-cons book at 0 (omega arith)
-      ∙ ap₂ (λ (x : ℕ) (l : List ℕ). x ∷ l) a
-      (drop-cons book (suc at) 0 (omega arith)
-      ∙ ap₂ (λ (x : ℕ) (l : List ℕ). x ∷ l) b
-      (drop-cons book (suc (suc at)) 0 (omega arith) ∙ ap (λ (x : ℕ). x ∷ drop (suc (suc (suc at))) book) c)))
+  begins-from fits a b c = rw (drop-three book at (omega arith), a, b, c)
 
   -- the number in the two length bytes
-  length-is : numberAt 2 book (at + 1) ≡ getD book (suc at) 0 * 256 + getD book (suc (suc at)) 0
+  length-is : numberAt 2 book (at + 1) ≡ getD book (at + 1) 0 * 256 + getD book (at + 2) 0
   unfolding numberAt
   length-is =
-      let first : at + 1 + 0 ≡ suc at = omega arith in
-      let second : at + 1 + 1 ≡ suc (suc at) = omega arith in
-      ap₂ (λ (i j : ℕ). (0 + getD book i 0) * 256 + getD book j 0) first second ∙ omega arith
+      let first : at + 1 + 0 ≡ at + 1 = omega arith in
+      let second : at + 1 + 1 ≡ at + 2 = omega arith in
+      rw (first, second) (omega arith)
 
   -- the bytes of a field pass the three tests
   field-tests : IsField book at → (getD book at 0 ≡ 0x21) × (numberAt 2 book (at + 1) ≡ 10) × (at + headLength + 10 ≤ length book)
   field-tests f =
-      let none-more : at ≡ at + 0 = omega arith in
-      let one-more : suc at ≡ at + 1 = omega arith in
-      let two-more : suc (suc at) ≡ at + 2 = omega arith in
-      let high-is : getD book (suc at) 0 ≡ 0 = ap (λ (i : ℕ). getD book i 0) one-more ∙ begins-are f 1 (omega arith) in
-      let low-is : getD book (suc (suc at)) 0 ≡ 10 = ap (λ (i : ℕ). getD book i 0) two-more ∙ begins-are f 2 (omega arith) in
-      (ap (λ (i : ℕ). getD book i 0) none-more ∙ begins-are f 0 (omega arith), omega (arith, length-is), omega (arith, f .not-cut))
+      (rw add-zero at (begins-are f 0 (omega arith)), omega (arith, length-is, begins-are f 1 (omega arith), begins-are f 2 (omega arith)), omega (arith, f .not-cut))
 
   -- what passes them is a field: two bytes make 10 only as 00 0A
   tests-field : getD book at 0 ≡ 0x21 → numberAt 2 book (at + 1) ≡ 10 → at + headLength + 10 ≤ length book → IsField book at
@@ -58,13 +49,17 @@ module _ (book : List ℕ) (at : ℕ) where
       record { begins = begins-from (omega arith) tag (omega (arith, length-is)) (omega (arith, length-is)); not-cut = omega arith }
 
   -- where a field stands, it is whole; where none stands, it is faulty
-  field-cases : (IsField book at × (fieldAt book at ≡ whole (silenceAt book (at + headLength)) (at + 13))) ⊎ ((IsField book at → ⊥) × (fieldAt book at ≡ faulty))
+  abbrev FieldCases : Type 0
+  FieldCases = (IsField book at × (fieldAt book at ≡ whole (silenceAt book (at + headLength)) (at + 13))) ⊎ ((IsField book at → ⊥) × (fieldAt book at ≡ faulty))
+
+  -- one or the other, by the three tests
+  field-cases : FieldCases
   unfolding fieldAt fieldBy lengthByTag isWhole
   field-cases = go (eqb (getD book at 0) silenceTag) (eqb (numberAt 2 book (at + 1)) 10) (leb (at + headLength + 10) (length book)) refl refl refl
     where
       go : (tag-test length-test end-test : Bool) → eqb (getD book at 0) silenceTag ≡ tag-test → eqb (numberAt 2 book (at + 1)) 10 ≡ length-test
           → leb (at + headLength + 10) (length book) ≡ end-test
-          → (IsField book at × (fieldAt book at ≡ whole (silenceAt book (at + headLength)) (at + 13))) ⊎ ((IsField book at → ⊥) × (fieldAt book at ≡ faulty))
+          → FieldCases
       go false length-test end-test t l e = inr (λ f. eqb-false (getD book at 0) silenceTag t (field-tests f .0), simp t)
       go true false end-test t l e = inr (λ f. eqb-false (numberAt 2 book (at + 1)) 10 l (field-tests f .1), simp (t, l))
       go true true false t l e = inr (λ f. omega (arith, leb-false (at + headLength + 10) (length book) e, field-tests f .2), simp (t, l, e))

@@ -1,23 +1,24 @@
 -- Reading as a walk: from a byte offset whole fields are read, each above the one before it, as far as an offset where reading stops (`FieldsRead`). It
--- stops at the book's end, at a faulty field, or at a record that isn't above the last (`ReadsAs`), and these three fix what `readFrom` gives.
+-- stops at the book's end, at a faulty field, or at a record that isn't above the last (`ReadsAs`), and these three fix what `readFrom` gives. So a whole book
+-- gives row 5, or what the walk from its first byte gives (`book-reads`).
 -- Assumes nothing.
 use Prim.Native.Nat.{ℕ, _+_, _≤_, _<_}
-use mathlib.Core.Logic.{⊎-elim}
+use mathlib.Core.Logic.{_⊎_, inl, inr, ⊎-elim}
 use mathlib.Core.Path.{_≡_, refl, sym, ap, subst, _∙_}
 use mathlib.Core.Bool.{Bool, true, false}
 use mathlib.Core.List.{List, [], _∷_, _++_}
-use mathlib.Core.Option.{Option, some}
+use mathlib.Core.Option.{Option, none, some}
 use native.Mathlib.Omega.{arith}
 use lib.ListN.{length}
 use Rattle.meaning.proofs.Cases.{le-or-lt}
 use Rattle.answers.specs.declared.refusals.Refusal.{Refusal}
-use Rattle.answers.specs.declared.refusals.Refusal.the-variants.{Field, NotAbove}
+use Rattle.answers.specs.declared.refusals.Refusal.the-variants.{BookLength, Field, NotAbove}
 use Rattle.answers.specs.Paper.{Answer, accepted, refused}
 use Rattle.silences.specs.Silences.{Silence, isAbove}
-use Rattle.silences.specs.Reading.{FieldAt, whole, faulty, fieldAt, before, readFrom}
+use Rattle.silences.specs.Reading.{FieldAt, whole, faulty, fieldAt, before, readFrom, mostBytes, readBook}
 use Rattle.silences.proofs.FieldEnds.{field-ends}
 use Rattle.silences.proofs.FieldInduction.{field-induction}
-use Rattle.silences.proofs.ReadFrom.{readFrom-end, readFrom-faulty, readFrom-not-above, readFrom-above}
+use Rattle.silences.proofs.ReadFrom.{readFrom-end, readFrom-faulty, readFrom-not-above, readFrom-above, readBook-long, readBook-fields}
 use Rattle.silences.proofs.AscendingAfter.{lastAfter}
 
 -- From `at` to `stop` whole fields of these silences are read, each above the one before it, the first above `last`.
@@ -85,7 +86,7 @@ module _ (book : List ℕ) where
 
   -- at the end nothing more is read
   walk-end : (last : Option Silence) (at : ℕ) → length book ≤ at → ReadsAs book last at (readFrom book last at)
-  walk-end last at h = subst (ReadsAs book last at) (sym (readFrom-end book last at h)) (read-all none-read h)
+  walk-end last at h = rw (readFrom-end book last at h) (read-all none-read h)
 
   -- before it one field, and then the walk from just past it
   walk-field : (last : Option Silence) (at : ℕ)
@@ -94,11 +95,11 @@ module _ (book : List ℕ) where
   walk-field last at more l = by-field (fieldAt book at) refl
     where
       by-order : (s : Silence) (next : ℕ) → fieldAt book at ≡ whole s next → (t : Bool) → isAbove last s ≡ t → ReadsAs book last at (readFrom book last at)
-      by-order s next e false above = subst (ReadsAs book last at) (sym (readFrom-not-above book last at e above)) (stopped-order none-read e above)
-      by-order s next e true above = subst (ReadsAs book last at) (sym (readFrom-above book last at e above)) (reads-before e above (more s next e))
+      by-order s next e false above = rw (readFrom-not-above book last at e above) (stopped-order none-read e above)
+      by-order s next e true above = rw (readFrom-above book last at e above) (reads-before e above (more s next e))
 
       by-field : (f : FieldAt) → fieldAt book at ≡ f → ReadsAs book last at (readFrom book last at)
-      by-field faulty e = subst (ReadsAs book last at) (sym (readFrom-faulty book last at l e)) (stopped-faulty none-read l e)
+      by-field faulty e = rw (readFrom-faulty book last at l e) (stopped-faulty none-read l e)
       by-field (whole s next) e = by-order s next e (isAbove last s) refl
 
   -- the walk from any offset
@@ -110,3 +111,12 @@ module _ (book : List ℕ) where
   -- And what `readFrom` gives is what the walk gives.
   pub reads-as : (last : Option Silence) (at : ℕ) (a : Answer (List Silence)) → readFrom book last at ≡ a → ReadsAs book last at a
   reads-as last at a e = subst (ReadsAs book last at) e (walk at last)
+
+  -- What a book gives: row 5 where it is longer than 13,000 bytes, else what the walk from its first byte gives.
+  pub book-reads : (a : Answer (List Silence)) → readBook book ≡ a
+      → ((mostBytes < length book) × (a ≡ refused BookLength)) ⊎ ((length book ≤ mostBytes) × ReadsAs book none 0 a)
+  book-reads a e =
+      ⊎-elim
+      (λ h. inr (h, reads-as none 0 a (sym (readBook-fields book h) ∙ e)))
+      (λ h. inl (h, sym e ∙ readBook-long book h))
+      (le-or-lt (length book) mostBytes)

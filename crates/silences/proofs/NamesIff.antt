@@ -45,8 +45,8 @@ module _ (cell ringNumber start : ℕ) where
   -- a silence that stands in the list, and is the address, is found
   names-of : {s : Silence} {ss : List Silence} → List·Memᴰ s ss → s ≡ address → names ss cell ringNumber start ≡ true
   unfolding names address
-  names-of (List·Memᴰ·head {x = x} {xs = xs} e) is = ap (λ (t : Bool). t || names xs cell ringNumber start) (ap (λ (t : Silence). isSame t address) (sym e ∙ is) ∙ isSame-iff address address .1 refl)
-  names-of (List·Memᴰ·tail {x = x} {xs = xs} m) is = ap (λ (t : Bool). isSame x address || t) (names-of m is) ∙ or-true (isSame x address)
+  names-of (List·Memᴰ·head e) is = rw (sym e ∙ is, isSame-iff address address .1 refl)
+  names-of (List·Memᴰ·tail {x = x} m) is = rw (names-of m is) (or-true (isSame x address))
 
   -- The test is the proposition.
   pub names-iff : (ss : List Silence) → (names ss cell ringNumber start ≡ true) ↔ Names ss cell ringNumber start

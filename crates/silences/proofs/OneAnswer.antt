@@ -19,6 +19,7 @@ abbrev soughtBack : FieldAt → Sought
 soughtBack (whole s next) = Field (record { cell = s .cell; «ring_number» = s .ringNumber; start = s .start }) next
 soughtBack faulty = Nothing
 
+-- it is read back
 sought-back : (r : Sought) → soughtBack (soughtOf r) ≡ r
 sought-back (Field address next) = refl
 sought-back Nothing = refl

@@ -4,7 +4,7 @@
 use Prim.Native.Nat.{ℕ, _%_, _≤_, _<_}
 use mathlib.Core.Logic.{_⊎_, inl, inr, ⊎-elim, _↔_, Iff·rfl, Iff·trans, Iff·and}
 use mathlib.Core.Path.{_≡_, refl, sym, ap, _∙_}
-use mathlib.Core.Bool.{Bool, true, false, cond}
+use mathlib.Core.Bool.{Bool, true, false}
 use mathlib.Core.List.{List}
 use native.Mathlib.Omega.{arith}
 use lib.Dec.{leb, eqb}
@@ -22,20 +22,24 @@ use Rattle.silences.proofs.AnswerCases.{accepted-not-refused, row-uniqu
 use Rattle.silences.proofs.RoomRows.{in-room-accepted-iff, in-room-row-iff, in-room-10-iff}
 use Rattle.silences.proofs.RecordRows.{packedRecords, records-rows, records-accepted-iff, records-9-iff, records-7-iff}
 
--- The words have a right number, or "aren't a multiple of 3, or exceed 3,000"; and so says the test
+-- The words to pack "aren't a multiple of 3, or exceed 3,000": row 8.
+abbrev pub HasWrongCount : List ℕ → Type 0
+HasWrongCount words = (length words % 3 ≡ 0 → ⊥) ⊎ (3000 < length words)
+
+-- The words have a right number, or a wrong one; and so says the test.
 pub word-count-cases : (words : List ℕ)
-    → ((isWordCount words ≡ true) × HasWordCount words) ⊎ ((isWordCount words ≡ false) × ((length words % 3 ≡ 0 → ⊥) ⊎ (3000 < length words)))
+    → ((isWordCount words ≡ true) × HasWordCount words) ⊎ ((isWordCount words ≡ false) × HasWrongCount words)
 unfolding isWordCount
 word-count-cases words = go (eqb (length words % recordWords) 0) (leb (length words) mostWords) refl refl
   where
     go : (m l : Bool) → eqb (length words % recordWords) 0 ≡ m → leb (length words) mostWords ≡ l
-        → ((isWordCount words ≡ true) × HasWordCount words) ⊎ ((isWordCount words ≡ false) × ((length words % 3 ≡ 0 → ⊥) ⊎ (3000 < length words)))
+        → ((isWordCount words ≡ true) × HasWordCount words) ⊎ ((isWordCount words ≡ false) × HasWrongCount words)
     go true true e f = inl (simp (e, f), record { multiple = eqb-true (length words % recordWords) 0 e; words-le = leb-true (length words) mostWords f })
     go true false e f = inr (simp (e, f), inr (leb-false (length words) mostWords f))
     go false l e f = inr (simp e, inl (eqb-false (length words % recordWords) 0 e))
 
 -- a wrong number is not a right one
-not-both-counts : (words : List ℕ) → HasWordCount words → ((length words % 3 ≡ 0 → ⊥) ⊎ (3000 < length words)) → ⊥
+not-both-counts : (words : List ℕ) → HasWordCount words → HasWrongCount words → ⊥
 not-both-counts words h n = ⊎-elim (λ m. m (h .multiple)) (λ l. omega (arith, h .words-le)) n
 
 -- What is accepted of the records of a right number of words is all their silences, and they can be packed.
@@ -54,17 +58,17 @@ module _ (words : List ℕ) (room : ℕ) where
   unfolding packed
   packed-counted h =
       ⊎-elim
-      (λ c. ap (λ (t : Bool). cond t (inRoom layout room (packedRecords words)) (refused WordCount)) (c .0))
+      (λ c. rw (c .0))
       (λ n. absurd (not-both-counts words h (n .1)))
       (word-count-cases words)
 
   -- With a wrong one it is row 8.
-  pub packed-uncounted : ((length words % 3 ≡ 0 → ⊥) ⊎ (3000 < length words)) → packed words room ≡ refused WordCount
+  pub packed-uncounted : HasWrongCount words → packed words room ≡ refused WordCount
   unfolding packed
   packed-uncounted h =
       ⊎-elim
       (λ c. absurd (not-both-counts words (c .1) h))
-      (λ n. ap (λ (t : Bool). cond t (inRoom layout room (packedRecords words)) (refused WordCount)) (n .0))
+      (λ n. rw (n .0))
       (word-count-cases words)
 
   -- Row 8, exactly when the words "aren't a multiple of 3, or exceed 3,000".

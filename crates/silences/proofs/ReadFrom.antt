@@ -2,7 +2,7 @@
 -- (`count-step`), so nothing after this file looks at it. Then the same by what the field is, and of a whole book: row 5 comes before all others.
 -- Assumes nothing.
 use Prim.Native.Nat.{ℕ, zero, suc, _-_, _≤_, _<_}
-use mathlib.Core.Path.{_≡_, refl, ap, _∙_}
+use mathlib.Core.Path.{_≡_, refl, _∙_}
 use mathlib.Core.Bool.{Bool, true, false, cond}
 use mathlib.Core.List.{List, []}
 use mathlib.Core.Option.{Option, none, some}
@@ -27,8 +27,7 @@ module _ (book : List ℕ) where
   -- reading goes on only past a whole field
   read-goes-on : GoesOnPast readStep
   read-goes-on last at faulty rest rest′ h = refl
-  read-goes-on last at (whole s next) rest rest′ h =
-      ap (λ (a : Answer (List Silence)). cond (leb (length book) at) (accepted []) (cond (isAbove last s) (before s a) (refused (NotAbove at)))) (h (some s) s next refl)
+  read-goes-on last at (whole s next) rest rest′ h = rw (h (some s) s next refl)
 
   -- at the end nothing is read, whatever the count
   fields-end : (left : ℕ) (last : Option Silence) (at : ℕ) → length book ≤ at → fieldsFrom left book last at ≡ accepted []
@@ -47,20 +46,18 @@ module _ (book : List ℕ) where
     unfolding readFrom fieldsFrom
     readFrom-step h =
         count-step book readStep (λ left l i. fieldsFrom left book l i) read-goes-on (λ left l i. refl) fields-end last at
-        ∙ ap (λ (t : Bool). cond t (accepted []) (readField last at (fieldAt book at) (readFrom book))) (lt-leb (length book) at h)
+        ∙ rw (lt-leb (length book) at h)
 
     -- Row 6: a faulty field.
     pub readFrom-faulty : at < length book → fieldAt book at ≡ faulty → readFrom book last at ≡ refused (Field at)
-    readFrom-faulty h e = readFrom-step h ∙ ap (λ (f : FieldAt). readField last at f (readFrom book)) e
+    readFrom-faulty h e = readFrom-step h ∙ rw e
 
     module _ {s : Silence} {next : ℕ} (e : fieldAt book at ≡ whole s next) where
       -- a whole field, by its order
       read-whole : (t : Bool) → isAbove last s ≡ t → readFrom book last at ≡ cond t (before s (readFrom book (some s) next)) (refused (NotAbove at))
       read-whole t above =
           let ends : (at < next) × (next ≤ length book) = field-ends book at s next e in
-          readFrom-step (omega arith)
-          ∙ ap (λ (f : FieldAt). readField last at f (readFrom book)) e
-          ∙ ap (λ (u : Bool). cond u (before s (readFrom book (some s) next)) (refused (NotAbove at))) above
+          readFrom-step (omega arith) ∙ rw (e, above)
 
       -- Row 7: a whole field whose record is not above the last.
       pub readFrom-not-above : isAbove last s ≡ false → readFrom book last at ≡ refused (NotAbove at)

@@ -22,27 +22,14 @@ abbrev pub packedRecords : List ℕ → Answer (List Silence)
 packedRecords words = packRecords none 0 (silencesOf words)
 
 module _ (words : List ℕ) where
-  -- a record that stands among those of the words
-  record-of : {fine : List Silence} {j : ℕ} {s : Silence} → RecordStands none 0 (silencesOf words) fine j s → IsRecord words j fine s
-  record-of {fine} r =
-      record {
-        later = r .later;
-        records-are = r .records-are;
-        number-is = omega (arith, r .number-is);
-        ring-numbers = r .ring-numbers;
-        ascending = ascending-after-iff fine .1 (r .ascends);
-      }
+  -- where packing all records stops is a record of the words, and those before it are fine; and back
+  record-iff : {fine : List Silence} {j : ℕ} {s : Silence} → RecordStands none 0 (silencesOf words) fine j s ↔ IsRecord words j fine s
+  record-iff {fine} = (
+    λ r. record { later = r .later; records-are = r .records-are; number-is = omega (arith, r .number-is); ring-numbers = r .ring-numbers; ascending = ascending-after-iff fine .1 (r .ascends) },
+    λ r. record { later = r .later; records-are = r .records-are; number-is = omega (arith, r .number-is); ring-numbers = r .ring-numbers; ascends = ascending-after-iff fine .0 (r .ascending) },
+  )
 
-  stands-of : {fine : List Silence} {j : ℕ} {s : Silence} → IsRecord words j fine s → RecordStands none 0 (silencesOf words) fine j s
-  stands-of {fine} r =
-      record {
-        later = r .later;
-        records-are = r .records-are;
-        number-is = omega (arith, r .number-is);
-        ring-numbers = r .ring-numbers;
-        ascends = ascending-after-iff fine .0 (r .ascending);
-      }
-
+  -- where it stops, row 9 or 7 is given
   walk-rows : (r : Refusal) → PacksAs none 0 (silencesOf words) (refused r) → (7 ≤ numberOf r) × (numberOf r ≤ 9) × (numberOf r ≡ 8 → ⊥)
   walk-rows _ (stopped-ring r g) = omega arith
   walk-rows _ (stopped-order r g o) = omega arith
@@ -51,6 +38,7 @@ module _ (words : List ℕ) where
   pub records-rows : (r : Refusal) → packedRecords words ≡ refused r → (7 ≤ numberOf r) × (numberOf r ≤ 9) × (numberOf r ≡ 8 → ⊥)
   records-rows r e = walk-rows r (packs-as none 0 (silencesOf words) (refused r) e)
 
+  -- where it does not stop, every record is fine
   walk-accepted : (ss : List Silence) → PacksAs none 0 (silencesOf words) (accepted ss)
       → (ss ≡ silencesOf words) × AllRingNumbers (silencesOf words) × Ascending (silencesOf words)
   walk-accepted _ (packed-all rings ascends) = (refl, rings, ascending-after-iff (silencesOf words) .1 ascends)
@@ -63,23 +51,25 @@ module _ (words : List ℕ) where
     λ h. packs-as-is (packed-all (h .1) (ascending-after-iff (silencesOf words) .0 (h .2))) ∙ ap accepted (sym (h .0)),
   )
 
+  -- where it stops with row 9, that row's fault stands
   ring-fault : (j : ℕ) → PacksAs none 0 (silencesOf words) (refused (RingNumber j)) → IsRingFault words j
-  ring-fault j (stopped-ring {fine = fine} {s = s} r g) = record { fine = fine; here = s; is-record = record-of r; ring-number-gt = g }
+  ring-fault j (stopped-ring {fine = fine} {s = s} r g) = record { fine = fine; here = s; is-record = record-iff .0 r; ring-number-gt = g }
 
+  -- and where it stops with row 7, that row's
   record-fault : (j : ℕ) → PacksAs none 0 (silencesOf words) (refused (NotAbove j)) → IsRecordFault words j
   record-fault j (stopped-order {fine = fine} {s = s} r g o) =
-      record { fine = fine; here = s; is-record = record-of r; ring-number-le = g; not-above = not-above-iff fine s .0 o }
+      record { fine = fine; here = s; is-record = record-iff .0 r; ring-number-le = g; not-above = not-above-iff fine s .0 o }
 
   -- Row 9 at a record, exactly when that is the first faulty one and its ring number is above 65,535.
   pub records-9-iff : (j : ℕ) → (packedRecords words ≡ refused (RingNumber j)) ↔ IsRingFault words j
   records-9-iff j = (
     λ e. ring-fault j (packs-as none 0 (silencesOf words) (refused (RingNumber j)) e),
-    λ f. packs-as-is (stopped-ring (stands-of (f .is-record)) (f .ring-number-gt)),
+    λ f. packs-as-is (stopped-ring (record-iff .1 (f .is-record)) (f .ring-number-gt)),
   )
 
   -- Row 7 at a record, exactly when that is the first faulty one, its ring number is not above 65,535, and it isn't above the one before it.
   pub records-7-iff : (j : ℕ) → (packedRecords words ≡ refused (NotAbove j)) ↔ IsRecordFault words j
   records-7-iff j = (
     λ e. record-fault j (packs-as none 0 (silencesOf words) (refused (NotAbove j)) e),
-    λ f. packs-as-is (stopped-order (stands-of (f .is-record)) (f .ring-number-le) (not-above-iff (f .fine) (f .here) .1 (f .not-above))),
+    λ f. packs-as-is (stopped-order (record-iff .1 (f .is-record)) (f .ring-number-le) (not-above-iff (f .fine) (f .here) .1 (f .not-above))),
   )

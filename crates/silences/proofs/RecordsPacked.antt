@@ -10,6 +10,7 @@ use native.Mathlib.Omega.{arith}
 use lib.Dec.{ltb}
 use lib.ListN.{length}
 use borrow.Author.Tests.{ltb-true, ltb-false, lt-ltb, le-ltb}
+use Rattle.answers.specs.declared.refusals.Refusal.{Refusal}
 use Rattle.answers.specs.declared.refusals.Refusal.the-variants.{NotAbove, RingNumber}
 use Rattle.answers.specs.Paper.{Answer, accepted, refused}
 use Rattle.silences.specs.Silences.{Silence, isAbove}
@@ -85,13 +86,13 @@ module _ (last : Option Silence) (i : ℕ) (s : Silence) (ss : List Silence) whe
   walk-record more = by-ring (ltb 65535 (s .ringNumber)) refl
     where
       by-order : s .ringNumber ≤ 65535 → (t : Bool) → isAbove last s ≡ t → PacksAs last i (s ∷ ss) (packRecords last i (s ∷ ss))
-      by-order h true above = subst (PacksAs last i (s ∷ ss)) (sym (packRecords-step h above)) (packs-before h above more)
-      by-order h false above = subst (PacksAs last i (s ∷ ss)) (sym (packRecords-not-above h above)) (stopped-order stands-first h above)
+      by-order h true above = rw (packRecords-step h above) (packs-before h above more)
+      by-order h false above = rw (packRecords-not-above h above) (stopped-order stands-first h above)
 
       by-ring : (t : Bool) → ltb 65535 (s .ringNumber) ≡ t → PacksAs last i (s ∷ ss) (packRecords last i (s ∷ ss))
       by-ring true g =
           let above : 65535 < s .ringNumber = ltb-true 65535 (s .ringNumber) g in
-          subst (PacksAs last i (s ∷ ss)) (sym (packRecords-ring-number above)) (stopped-ring stands-first above)
+          rw (packRecords-ring-number above) (stopped-ring stands-first above)
       by-ring false g = by-order (ltb-false 65535 (s .ringNumber) g) (isAbove last s) refl
 
 -- the walk over all records
@@ -111,18 +112,19 @@ pack-on [] rest last i j rings ascends e = let same : i ≡ j = omega arith in a
 pack-on (s ∷ fine) rest last i j rings ascends e =
     packRecords-step last i s (fine ++ rest) (rings .0) (ascends .0) ∙ ap (before s) (pack-on fine rest (some s) (suc i) j (rings .1) (ascends .1) (omega arith))
 
+-- a record at which packing stops, with this refusal
+stopped-is : {last : Option Silence} {i : ℕ} {ss fine : List Silence} {j : ℕ} {s : Silence} {q : Refusal} (r : RecordStands last i ss fine j s)
+    → packRecords (lastAfter last fine) j (s ∷ r .later) ≡ refused q → packRecords last i ss ≡ refused q
+stopped-is {last} {i} {fine = fine} {j = j} {s = s} {q = q} r e =
+    ap (packRecords last i) (r .records-are)
+    ∙ pack-on fine (s ∷ r .later) last i j (r .ring-numbers) (r .ascends) (r .number-is)
+    ∙ ap (beforeAll fine) e
+    ∙ beforeAll-refused fine q
+
 -- And what the walk gives is what `packRecords` gives.
 pub packs-as-is : {last : Option Silence} {i : ℕ} {ss : List Silence} {a : Answer (List Silence)} → PacksAs last i ss a → packRecords last i ss ≡ a
 unfolding packRecords
 packs-as-is {last} {i} {ss} (packed-all rings ascends) =
     ap (packRecords last i) (sym (append-nil ss)) ∙ pack-on ss [] last i (i + length ss) rings ascends refl ∙ beforeAll-accepted ss
-packs-as-is {last} {i} (stopped-ring {fine = fine} {j = j} {s = s} r g) =
-    ap (packRecords last i) (r .records-are)
-    ∙ pack-on fine (s ∷ r .later) last i j (r .ring-numbers) (r .ascends) (r .number-is)
-    ∙ ap (beforeAll fine) (packRecords-ring-number (lastAfter last fine) j s (r .later) g)
-    ∙ beforeAll-refused fine (RingNumber j)
-packs-as-is {last} {i} (stopped-order {fine = fine} {j = j} {s = s} r g o) =
-    ap (packRecords last i) (r .records-are)
-    ∙ pack-on fine (s ∷ r .later) last i j (r .ring-numbers) (r .ascends) (r .number-is)
-    ∙ ap (beforeAll fine) (packRecords-not-above (lastAfter last fine) j s (r .later) g o)
-    ∙ beforeAll-refused fine (NotAbove j)
+packs-as-is {last} (stopped-ring {fine = fine} {j = j} {s = s} r g) = stopped-is r (packRecords-ring-number (lastAfter last fine) j s (r .later) g)
+packs-as-is {last} (stopped-order {fine = fine} {j = j} {s = s} r g o) = stopped-is r (packRecords-not-above (lastAfter last fine) j s (r .later) g o)

@@ -4,7 +4,6 @@
 use Prim.Native.Nat.{ℕ, _≤_, _<_}
 use mathlib.Core.Logic.{_↔_}
 use mathlib.Core.Path.{_≡_, refl, ap, _∙_}
-use mathlib.Core.Bool.{Bool, cond}
 use mathlib.Core.List.{List}
 use native.Mathlib.Omega.{arith}
 use lib.Dec.{leb}
@@ -22,11 +21,11 @@ use Rattle.silences.proofs.AnswerCases.{accepted-not-refused, accepted-
 module _ (output : List Silence → List ℕ) (room : ℕ) where
   -- With room for the output, it is accepted.
   pub in-room : (ss : List Silence) → length (output ss) ≤ room → inRoom output room (accepted ss) ≡ accepted ss
-  in-room ss h = ap (λ (t : Bool). cond t (accepted ss) (refused OutputRoom)) (le-leb (length (output ss)) room h)
+  in-room ss h = rw (le-leb (length (output ss)) room h)
 
   -- With less, it is row 10.
   pub in-less-room : (ss : List Silence) → room < length (output ss) → inRoom output room (accepted ss) ≡ refused OutputRoom
-  in-less-room ss h = ap (λ (t : Bool). cond t (accepted ss) (refused OutputRoom)) (lt-leb (length (output ss)) room h)
+  in-less-room ss h = rw (lt-leb (length (output ss)) room h)
 
   -- It is accepted exactly when it was accepted before and there is room for its output.
   pub in-room-accepted-iff : (a : Answer (List Silence)) (ss : List Silence)

@@ -7,6 +7,7 @@ use mathlib.Core.Bool.{Bool, true, false, _&&_, _||_, false≢true}
 use native.Mathlib.Omega.{arith}
 use lib.Dec.{ltb, eqb}
 use borrow.Author.Tests.{ltb-true, eqb-true, lt-ltb, le-ltb, eq-eqb, ne-eqb}
+use Rattle.meaning.proofs.Cases.{and-true}
 use Rattle.silences.specs.Silences.{Silence, isBelow, Below, by-cell, by-ring-number, by-start, isSame}
 
 -- what the test finds below is below
@@ -58,16 +59,14 @@ isBelow-start a b same-cell same-ring =
 -- what the test finds the same is the same
 isSame-yes : (a b : Silence) → isSame a b ≡ true → a ≡ b
 unfolding isSame
-isSame-yes a b =
-    go (eqb (a .cell) (b .cell)) (eqb (a .ringNumber) (b .ringNumber)) (eqb (a .start) (b .start)) refl refl refl
-  where
-    go : (cell-eq ring-eq start-eq : Bool) → eqb (a .cell) (b .cell) ≡ cell-eq → eqb (a .ringNumber) (b .ringNumber) ≡ ring-eq → eqb (a .start) (b .start) ≡ start-eq
-        → (cell-eq && (ring-eq && start-eq)) ≡ true → a ≡ b
-    go false ring-eq start-eq c r s e = absurd (false≢true e)
-    go true false start-eq c r s e = absurd (false≢true e)
-    go true true false c r s e = absurd (false≢true e)
-    go true true true c r s e =
-        λ i. record { cell = eqb-true (a .cell) (b .cell) c i; ringNumber = eqb-true (a .ringNumber) (b .ringNumber) r i; start = eqb-true (a .start) (b .start) s i }
+isSame-yes a b e =
+    let by-cell-test = and-true (eqb (a .cell) (b .cell)) (eqb (a .ringNumber) (b .ringNumber) && eqb (a .start) (b .start)) e in
+    let by-ring-test = and-true (eqb (a .ringNumber) (b .ringNumber)) (eqb (a .start) (b .start)) (by-cell-test .1) in
+    λ i. record {
+      cell = eqb-true (a .cell) (b .cell) (by-cell-test .0) i;
+      ringNumber = eqb-true (a .ringNumber) (b .ringNumber) (by-ring-test .0) i;
+      start = eqb-true (a .start) (b .start) (by-ring-test .1) i;
+    }
 
 -- a silence is the same as itself
 isSame-refl : (a : Silence) → isSame a a ≡ true

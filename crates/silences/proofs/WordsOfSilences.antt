@@ -7,7 +7,7 @@ use mathlib.Core.Path.{_≡_, refl, sym, ap, _∙_}
 use mathlib.Core.List.{List, [], _∷_, _++_}
 use native.Mathlib.Omega.{arith}
 use lib.ListN.{length, getD, drop, length-drop}
-use lib.Seq.{drop-cons}
+use Rattle.meaning.proofs.WordsInThrees.{drop-three}
 use Rattle.silences.specs.Silences.{Silence, silence, AllInRange}
 use Rattle.silences.specs.Packing.{silenceWords, wordsOfSilences, silencesOf, recordWords}
 use Rattle.silences.specs.Books.{IsWords}
@@ -60,14 +60,7 @@ module _ (words : List ℕ) (at : ℕ) where
   pub silencesOf-step : at + recordWords ≤ length words
       → silencesOf (drop at words) ≡ silenceOfWords words at ∷ silencesOf (drop (at + recordWords) words)
   unfolding silencesOf
-  silencesOf-step h =
-      let second : suc at ≡ at + 1 = omega arith in
-      let third : suc (suc at) ≡ at + 2 = omega arith in
-      let past : suc (suc (suc at)) ≡ at + recordWords = omega arith in
-      ap silencesOf (drop-cons words at 0 (omega arith))
-      ∙ ap (λ (l : List ℕ). silencesOf (getD words at 0 ∷ l)) (drop-cons words (suc at) 0 (omega arith))
-      ∙ ap (λ (l : List ℕ). silencesOf (getD words at 0 ∷ getD words (suc at) 0 ∷ l)) (drop-cons words (suc (suc at)) 0 (omega arith))
-      ∙ (λ i. silence (getD words at 0) (getD words (second i) 0) (getD words (third i) 0) ∷ silencesOf (drop (past i) words))
+  silencesOf-step h = ap silencesOf (drop-three words at h)
 
   -- Where fewer are left, there is none.
   pub silencesOf-end : length words < at + recordWords → silencesOf (drop at words) ≡ []

@@ -1,5 +1,5 @@
--- Document 01's samples of books, computed: the book of the report program's example, what stands at the edges of rows 6, 7, 9 and 10, what a silence names,
--- and numbers within and past the bytes.
+-- Document 01's samples of books, computed: the book of the report program's example, what stands at the edges of rows 5 to 10, what a silence names, and numbers within
+-- and past the bytes.
 use Prim.Native.Nat.{ℕ}
 use mathlib.Core.Path.{_≡_, refl}
 use mathlib.Core.Bool.{true, false}

@@ -1,8 +1,9 @@
 // The bytes of a silence's field, part by part, and the words of a record.
 
-// "one-byte tag, two-byte length, value"
+// "one-byte tag"
 pub const TAG_BYTES: usize = 1;
 
+// "two-byte length"
 pub const LENGTH_BYTES: usize = 2;
 
 // The bytes of a field before its value.
@@ -11,11 +12,13 @@ pub const HEAD_LENGTH: usize = TAG_BYTES + LENGTH_BYTES;
 // "tag 21 hex"
 pub const SILENCE_TAG: u8 = 0x21;
 
-// "cell (4 bytes), ring number (2), start (4)"
+// "cell (4 bytes)"
 pub const CELL_BYTES: usize = 4;
 
+// "ring number (2)"
 pub const RING_NUMBER_BYTES: usize = 2;
 
+// "start (4)"
 pub const START_BYTES: usize = 4;
 
 // "length 10": the bytes of a silence's value.

@@ -17,12 +17,12 @@ use Rattle.vectors.proofs.WordByWord.{vectorOf-length, vectorOf-word}
 
 module _ (x next : ℕ) where
   -- Below the top of the word each bit is the next higher one.
-  pub carry-low : (j : ℕ) → j < wordBits - 1 → bit (shiftedWord x next) j ≡ bit x (j + 1)
+  carry-low : (j : ℕ) → j < wordBits - 1 → bit (shiftedWord x next) j ≡ bit x (j + 1)
   carry-low j h = bit-or (x / 2 ^ 1) (next * 2 ^ (wordBits - 1) % 2 ^ wordBits) j
       ∙ rw (bit-shr x 1 j, bit-mod (next * 2 ^ (wordBits - 1)) j wordBits (omega arith), bit-shl-low next (wordBits - 1) j h, max-zero, add-comm 1 j) refl
 
   -- The top of the word is the next word's lowest bit.
-  pub carry-top : x < 2 ^ wordBits → bit (shiftedWord x next) (wordBits - 1) ≡ bit next 0
+  carry-top : x < 2 ^ wordBits → bit (shiftedWord x next) (wordBits - 1) ≡ bit next 0
   carry-top h = bit-or (x / 2 ^ 1) (next * 2 ^ (wordBits - 1) % 2 ^ wordBits) (wordBits - 1)
       ∙ rw (
         bit-shr x 1 (wordBits - 1),

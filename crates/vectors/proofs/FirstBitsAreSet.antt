@@ -16,12 +16,12 @@ use Rattle.vectors.proofs.WordBits.{bit-ones, bit-ones-past}
 use Rattle.vectors.proofs.WordByWord.{vectorOf-length, vectorOf-word, vectorOf-vector, vectorOf-isSet, vectorOf-isSet-past}
 
 -- In word w the bits whose place in the vector is below m are set.
-pub first-word-low : (m w j : ℕ) → j < wordBits → wordBits * w + j < m → bit (firstWord m w) j ≡ 1
+first-word-low : (m w j : ℕ) → j < wordBits → wordBits * w + j < m → bit (firstWord m w) j ≡ 1
 unfolding firstWord
 first-word-low m w j h l = bit-ones (min wordBits (m - wordBits * w)) j (omega arith)
 
 -- In word w the bits whose place in the vector is m or more are 0.
-pub first-word-rest : (m w j : ℕ) → m ≤ wordBits * w + j → bit (firstWord m w) j ≡ 0
+first-word-rest : (m w j : ℕ) → m ≤ wordBits * w + j → bit (firstWord m w) j ≡ 0
 unfolding firstWord
 first-word-rest m w j l = bit-ones-past (min wordBits (m - wordBits * w)) j (omega arith)
 

@@ -7,22 +7,20 @@ use mathlib.Core.Logic.{dite}
 use Prim.Native.Nat.{ℕ, _+_, _-_, _/_, _%_, _^_, _≤_, _<_, min}
 use native.Mathlib.Decide.{decLt}
 use native.Mathlib.Omega.{arith}
-use lib.ListN.{length, getD}
+use lib.ListN.{getD}
 use lib.Seq.{ext-getD}
 use lib.Bits.{or-zero-r}
-use Rattle.vectors.specs.Bits.{wordBits, wordCount, Vector}
-use Rattle.vectors.specs.Rotating.{Within}
+use Rattle.vectors.specs.Bits.{wordBits, wordCount}
 use Rattle.vectors.specs.Holding.{grown, Grown}
-use Rattle.vectors.specs.ByValue.{vectorWords, vectorBits, lastPlace, grownWords}
+use Rattle.vectors.specs.ByValue.{vectorWords, vectorBits, HeldVector, lastBitPlace, grownWords}
 use Rattle.vectors.proofs.NoBitIsSet.{within-spare}
 use Rattle.vectors.proofs.HeldVectorGrows.{grown-length, grown-word-inner, grown-word-last, grown-is}
 use Rattle.vectors.proofs.GrownWords.{carry-next, carry-last, grown-words-word, grown-words-past, grown-words-length}
 
-module _ (m count : ℕ) (occurs held : List ℕ) (some : 0 < m) (most : m ≤ vectorBits) (few : count ≡ wordCount m) (size : length held ≡ vectorWords)
-    (vector : Vector held) (within : Within m held) where
+module _ (m count : ℕ) (occurs held : List ℕ) (some : 0 < m) (most : m ≤ vectorBits) (few : count ≡ wordCount m) (is : HeldVector m held) where
   -- The held vector's words from `count` on are 0.
   held-spare : (w : ℕ) → count ≤ w → getD held w 0 ≡ 0
-  held-spare w h = within-spare m held vector within w (omega arith)
+  held-spare w h = within-spare m held (is .words) (is .within) w (omega arith)
 
   -- A word that does not hold bit m − 1, of the first `count`.
   word-inner : (w : ℕ) → w + 1 < count → getD (grownWords m count occurs held) w 0 ≡ getD (grown m occurs held) w 0
@@ -35,7 +33,7 @@ module _ (m count : ℕ) (occurs held : List ℕ) (some : 0 < m) (most : m ≤ v
   word-last : (w : ℕ) → w + 1 ≡ count → getD (grownWords m count occurs held) w 0 ≡ getD (grown m occurs held) w 0
   word-last w h =
       let all : min count vectorWords ≡ count = omega arith in
-      let place : lastPlace m ≡ (m - 1) % wordBits = omega arith in
+      let place : lastBitPlace m ≡ (m - 1) % wordBits = omega arith in
       grown-words-word m count occurs held w (omega arith)
       ∙ rw (all, carry-last m count held w (omega arith), place)
       (sym (grown-word-last m occurs held w (omega arith) (omega arith)
@@ -48,13 +46,13 @@ module _ (m count : ℕ) (occurs held : List ℕ) (some : 0 < m) (most : m ≤ v
       ∙ sym (grown-word-inner m occurs held w (omega arith) (λ e. omega arith) ∙ rw (held-spare w h, held-spare (w + 1) (omega arith)) refl)
 
   -- Grown word by word it is the grown vector.
-  pub grown-words-are : grownWords m count occurs held ≡ grown m occurs held
+  grown-words-are : grownWords m count occurs held ≡ grown m occurs held
   grown-words-are = ext-getD 0 (grownWords m count occurs held) (grown m occurs held)
-      (grown-words-length m count occurs held ∙ (sym size ∙ sym (grown-length m occurs held)))
+      (grown-words-length m count occurs held ∙ (sym (is .size) ∙ sym (grown-length m occurs held)))
       (λ w h. dite (decLt (w + 1) count) (word-inner w)
       (λ not-inner. dite (decLt w count) (λ last. word-last w (omega (arith, not-inner)))
       (λ past. word-spare w (omega (arith, past)) (omega (arith, grown-words-length m count occurs held)))))
 
   -- So bit r of it is set exactly when bit (r + 1) mod m was and the edge occurs at r, and no bit from m on is.
   pub grown-words-is : Grown m occurs held (grownWords m count occurs held)
-  grown-words-is = rw grown-words-are (grown-is m occurs held vector some (omega arith) within)
+  grown-words-is = rw grown-words-are (grown-is m occurs held (is .words) some (omega (arith, is .size)) (is .within))

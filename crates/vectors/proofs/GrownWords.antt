@@ -11,7 +11,7 @@ use lib.ListN.{length, getD}
 use lib.Bits.{bitAnd, bitOr, and-le-r}
 use borrow.Author.Tests.{lt-ltb, le-ltb}
 use Rattle.vectors.specs.Bits.{wordBits, Vector, bit, vectorOf}
-use Rattle.vectors.specs.ByValue.{vectorWords, lastPlace, carryInto, grownWord, grownWords}
+use Rattle.vectors.specs.ByValue.{vectorWords, lastBitPlace, carryInto, grownWord, grownWords}
 use Rattle.vectors.proofs.WordByWord.{vectorOf-length, vectorOf-word, vectorOf-past}
 
 module _ (m count : ℕ) (held : List ℕ) (w : ℕ) where
@@ -21,7 +21,7 @@ module _ (m count : ℕ) (held : List ℕ) (w : ℕ) where
   carry-next h = rw (lt-ltb (w + 1) count h) refl
 
   -- Into the last word comes what was bit 0, at the place of bit m − 1.
-  pub carry-last : count ≤ w + 1 → carryInto m count held w ≡ bit (getD held 0 0) 0 * 2 ^ lastPlace m % 2 ^ wordBits
+  pub carry-last : count ≤ w + 1 → carryInto m count held w ≡ bit (getD held 0 0) 0 * 2 ^ lastBitPlace m % 2 ^ wordBits
   unfolding carryInto
   carry-last h = rw (le-ltb (w + 1) count h) refl
 

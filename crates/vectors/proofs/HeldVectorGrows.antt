@@ -18,17 +18,17 @@ use Rattle.vectors.proofs.WrapToLastBit.{rotated-is, rotated-length, ro
 
 module _ (xs ys : List ℕ) where
   -- The vector of both has as many words as the first.
-  pub both-length : length (both xs ys) ≡ length xs
+  both-length : length (both xs ys) ≡ length xs
   unfolding both
   both-length = vectorOf-length (length xs) (λ w. bitAnd (getD xs w 0) (getD ys w 0))
 
   -- Each of its words is the AND of the two.
-  pub both-word : (w : ℕ) → w < length xs → getD (both xs ys) w 0 ≡ bitAnd (getD xs w 0) (getD ys w 0)
+  both-word : (w : ℕ) → w < length xs → getD (both xs ys) w 0 ≡ bitAnd (getD xs w 0) (getD ys w 0)
   unfolding both
   both-word w h = vectorOf-word (length xs) (λ w. bitAnd (getD xs w 0) (getD ys w 0)) w h
 
   -- In it a bit is set exactly when it is set in both.
-  pub both-is : Both xs ys (both xs ys)
+  both-is : Both xs ys (both xs ys)
   unfolding both
   both-is = record {
     each = λ i. dite (decLt i (wordBits * length xs))
@@ -40,7 +40,7 @@ module _ (xs ys : List ℕ) where
   }
 
 -- Rotated, and then AND the occurrence vector: grown, however the words are kept.
-pub grown-of : (m : ℕ) (occurs old mid new : List ℕ) → Rotated m old mid → Both mid occurs new → Grown m occurs old new
+grown-of : (m : ℕ) (occurs old mid new : List ℕ) → Rotated m old mid → Both mid occurs new → Grown m occurs old new
 grown-of m occurs old mid new turn and = record {
   each = λ r h. and .each r ∙ rw (turn .next r h) refl;
   rest = λ i h. and .each i ∙ rw (turn .rest i h) refl;

@@ -35,16 +35,12 @@ module _ (m : ℕ) (most : m ≤ vectorBits) where
   first-set r h = first-bits-is m vectorWords most .low r h
 
 module _ (m count : ℕ) (occurs held : List ℕ) (some : 0 < m) (most : m ≤ vectorBits) (few : count ≡ wordCount m) (is : HeldVector m held) where
-  -- What `grown` answers is the held vector grown by one edge.
-  pub grown-is : Grown m occurs held (grownWords m count occurs held)
-  grown-is = grown-words-is m count occurs held some most few (is .size) (is .words) (is .within)
-
-  -- It is again a vector of m bits.
-  pub grown-held : Vector occurs → HeldVector m (grownWords m count occurs held)
+  -- What `grown` answers is again a vector of m bits.
+  grown-held : Vector occurs → HeldVector m (grownWords m count occurs held)
   grown-held vector = record {
     size = grown-words-length m count occurs held;
     words = grown-words-vector m count occurs held vector;
-    within = grown-within m occurs held (grownWords m count occurs held) grown-is;
+    within = grown-within m occurs held (grownWords m count occurs held) (grown-words-is m count occurs held some most few is);
   }
 
 module _ (m count : ℕ) (held : List ℕ) (few : count ≡ wordCount m) (is : HeldVector m held) where
@@ -62,7 +58,7 @@ module _ (ring table : List ℕ) (code : ℕ) (is : Occurrences ring table) wher
   vector-occurs most = rw (take-all vectorBits ring most) at (is .each .each code)
 
   -- Its words are machine words.
-  pub vector-words : Vector (vectorAt table (code * vectorWords) vectorWords)
+  vector-words : Vector (vectorAt table (code * vectorWords) vectorWords)
   vector-words = part-vector table (code * vectorWords) vectorWords (is .words)
 
 -- One turn of the loop that reads a window: the grown vector is again one of m bits, and its bit r is set exactly when bit (r + 1) mod m was and
@@ -78,7 +74,7 @@ pub grown-by-edge : (m count code : ℕ) (ring table occurs held new : List ℕ)
 grown-by-edge m count code ring table occurs held new whole some most few of-ring is-held is-occurs is-new =
     let words : Vector occurs = rw is-occurs (vector-words ring table code of-ring) in
     let edge : Occurs ring code occurs = rw is-occurs (vector-occurs ring table code of-ring (omega arith)) in
-    let turn : Grown m occurs held new = rw is-new (grown-is m count occurs held some most few is-held) in
+    let turn : Grown m occurs held new = rw is-new (grown-words-is m count occurs held some most few is-held) in
     record {
       vector = rw is-new (grown-held m count occurs held some most few is-held words);
       each = λ r h. turn .each r h ∙ rw (edge .each r (omega arith)) refl;

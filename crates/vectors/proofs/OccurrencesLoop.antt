@@ -1,5 +1,5 @@
--- The loop over a ring's first places that makes the table of its occurrence vectors out of a table of zeros: before turn r each code's vector is right
--- below r (`TableBelow`), and the table is still one of as many machine words. A table is known by its bits, so only one is the ring's.
+-- The loop over a ring's first places that makes the table of its occurrence vectors, four words each, out of a table of zeros: before turn r each code's
+-- vector is right below r (`TableBelow`), and the table is still one of as many machine words.
 -- Assumes nothing.
 use mathlib.Core.Path.{_≡_, refl, sym, _∙_}
 use mathlib.Core.List.{List}
@@ -12,13 +12,11 @@ use lib.ListN.{length, getD, set, take, replicate, length-take, length-set, leng
 use lib.Seq.{getD-take}
 use lib.Bits.{or-lt}
 use lib.Pow.{pow-pos}
-use Rattle.vectors.specs.Bits.{wordBits, Vector, isSet, putWord}
-use Rattle.vectors.specs.Holding.{vectorAt, Occurs}
+use Rattle.vectors.specs.Bits.{wordBits, Vector, putWord}
 use Rattle.vectors.specs.ByValue.{vectorWords, vectorBits, edgeCodes, Occurrences}
-use Rattle.vectors.proofs.VectorBits.{vector-set, vector-unique}
+use Rattle.vectors.proofs.VectorBits.{vector-set}
 use Rattle.vectors.proofs.NoBitIsSet.{no-bit-of-words}
-use Rattle.vectors.proofs.PartOfTable.{part-isSet}
-use Rattle.vectors.proofs.OccurrenceTableLoop.{TableBelow, table-below-start, table-below-turn, table-below-end}
+use Rattle.vectors.proofs.EveryCodeOccurs.{TableBelow, table-below-start, table-below-turn, table-below-end}
 
 -- Before turn r of the loop over the ring's places.
 pub record OccurrencesBelow (ring table : List ℕ) (r : ℕ) : Type 0 where
@@ -66,21 +64,3 @@ module _ (ring : List ℕ) where
     words = known .words;
     each = table-below-end (take vectorBits ring) vectorWords (room ring) table r (known .below) h;
   }
-
-module _ (ring a b : List ℕ) (is-a : Occurrences ring a) (is-b : Occurrences ring b) where
-  -- Bit q of a code's vector is the same in two tables of one ring.
-  same-bit : (code q : ℕ) → q < vectorBits → isSet a (wordBits * (code * vectorWords) + q) ≡ isSet b (wordBits * (code * vectorWords) + q)
-  same-bit code q h =
-      let at-a : Occurs (take vectorBits ring) code (vectorAt a (code * vectorWords) vectorWords) = is-a .each .each code in
-      let at-b : Occurs (take vectorBits ring) code (vectorAt b (code * vectorWords) vectorWords) = is-b .each .each code in
-      sym (part-isSet a (code * vectorWords) vectorWords q h)
-      ∙ (dite (decLt q (length (take vectorBits ring)))
-      (λ l. at-a .each q l ∙ sym (at-b .each q l))
-      (λ past. at-a .rest q (omega (arith, past)) ∙ sym (at-b .rest q (omega (arith, past))))
-      ∙ part-isSet b (code * vectorWords) vectorWords q h)
-
-  -- A ring has one table only.
-  pub occurrences-unique : a ≡ b
-  occurrences-unique = vector-unique a b (is-a .words) (is-b .words) (is-a .size ∙ sym (is-b .size))
-      (λ i. let e : wordBits * (i / vectorBits * vectorWords) + i % vectorBits ≡ i = omega arith in
-      rw e at (same-bit (i / vectorBits) (i % vectorBits) (mod-lt i (omega arith))))

@@ -1,12 +1,20 @@
--- Any two answers of a function on vectors held by value are equal: each contract is one equation. (`occurrences` has its law beside its table.)
+-- Any two answers of a function on vectors are equal. Of those held by value each contract is one equation; a table of occurrence vectors is known by its bits, so only
+-- one is the ring's.
 -- Assumes nothing.
 use mathlib.Core.Path.{_≡_, sym, _∙_}
 use mathlib.Core.Bool.{Bool}
 use mathlib.Core.List.{List}
-use Prim.Native.Nat.{ℕ, _*_}
-use Rattle.vectors.specs.Bits.{firstBits, noBit}
-use Rattle.vectors.specs.Holding.{vectorAt}
-use Rattle.vectors.specs.ByValue.{vectorWords, grownWords}
+use mathlib.Core.Logic.{dite}
+use Prim.Native.Nat.{ℕ, _+_, _*_, _/_, _%_, _<_}
+use native.Mathlib.Nat.{mod-lt}
+use native.Mathlib.Decide.{decLt}
+use native.Mathlib.Omega.{arith}
+use lib.ListN.{length, take}
+use Rattle.vectors.specs.Bits.{wordBits, isSet, firstBits, noBit}
+use Rattle.vectors.specs.Holding.{vectorAt, Occurs}
+use Rattle.vectors.specs.ByValue.{vectorWords, vectorBits, grownWords, Occurrences}
+use Rattle.vectors.proofs.VectorBits.{vector-unique}
+use Rattle.vectors.proofs.PartOfTable.{part-isSet}
 
 -- Any two answers of `first_bits` are equal.
 pub first-bits-unique : (m : ℕ) (a b : List ℕ) → a ≡ firstBits m vectorWords → b ≡ firstBits m vectorWords → a ≡ b
@@ -24,3 +32,21 @@ no-bit-unique held count a b p q = p ∙ sym q
 pub vector-of-unique : (table : List ℕ) (code : ℕ) (a b : List ℕ) → a ≡ vectorAt table (code * vectorWords) vectorWords
     → b ≡ vectorAt table (code * vectorWords) vectorWords → a ≡ b
 vector-of-unique table code a b p q = p ∙ sym q
+
+module _ (ring a b : List ℕ) (is-a : Occurrences ring a) (is-b : Occurrences ring b) where
+  -- bit q of a code's vector is the same in two tables of one ring
+  same-bit : (code q : ℕ) → q < vectorBits → isSet a (wordBits * (code * vectorWords) + q) ≡ isSet b (wordBits * (code * vectorWords) + q)
+  same-bit code q h =
+      let at-a : Occurs (take vectorBits ring) code (vectorAt a (code * vectorWords) vectorWords) = is-a .each .each code in
+      let at-b : Occurs (take vectorBits ring) code (vectorAt b (code * vectorWords) vectorWords) = is-b .each .each code in
+      sym (part-isSet a (code * vectorWords) vectorWords q h)
+      ∙ (dite (decLt q (length (take vectorBits ring)))
+      (λ l. at-a .each q l ∙ sym (at-b .each q l))
+      (λ past. at-a .rest q (omega (arith, past)) ∙ sym (at-b .rest q (omega (arith, past))))
+      ∙ part-isSet b (code * vectorWords) vectorWords q h)
+
+  -- Any two tables that `occurrences` leaves are equal: a ring has one only.
+  pub occurrences-unique : a ≡ b
+  occurrences-unique = vector-unique a b (is-a .words) (is-b .words) (is-a .size ∙ sym (is-b .size))
+      (λ i. let e : wordBits * (i / vectorBits * vectorWords) + i % vectorBits ≡ i = omega arith in
+      rw e at (same-bit (i / vectorBits) (i % vectorBits) (mod-lt i (omega arith))))

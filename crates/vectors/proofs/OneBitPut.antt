@@ -9,7 +9,7 @@ use Prim.Native.Nat.{ℕ, _*_, _/_, _%_, _^_, _<_}
 use native.Mathlib.Nat.{mod-lt}
 use native.Mathlib.Decide.{ℕ-discrete}
 use native.Mathlib.Omega.{arith}
-use lib.ListN.{length, getD, length-set}
+use lib.ListN.{length, getD}
 use lib.Dec.{eqb}
 use Rattle.vectors.specs.Bits.{wordBits, bit, putWord, putBit, Put}
 use Rattle.vectors.proofs.WordBits.{bit-mod, bit-lone-there, bit-lone-else}
@@ -17,11 +17,11 @@ use Rattle.vectors.proofs.VectorBits.{isSet-word, isSet-set-same, isSet
 
 module _ (x j b : ℕ) (bit-b : b < 2) where
   -- In a word, the place put in is set if it was or if b is 1.
-  pub put-word-there : j < wordBits → eqb (bit (putWord x j b) j) 1 ≡ (eqb (bit x j) 1 || eqb b 1)
+  put-word-there : j < wordBits → eqb (bit (putWord x j b) j) 1 ≡ (eqb (bit x j) 1 || eqb b 1)
   put-word-there h = test-or x (b * 2 ^ j % 2 ^ wordBits) j ∙ rw (bit-mod (b * 2 ^ j) j wordBits h, bit-lone-there b j bit-b) refl
 
   -- In a word, every other place is as it was.
-  pub put-word-else : (l : ℕ) → l < wordBits → (l ≡ j → ⊥) → eqb (bit (putWord x j b) l) 1 ≡ eqb (bit x l) 1
+  put-word-else : (l : ℕ) → l < wordBits → (l ≡ j → ⊥) → eqb (bit (putWord x j b) l) 1 ≡ eqb (bit x l) 1
   put-word-else l h other =
       test-or x (b * 2 ^ j % 2 ^ wordBits) l ∙ rw (bit-mod (b * 2 ^ j) l wordBits h, bit-lone-else b j l bit-b other) (or-false (eqb (bit x l) 1))
 
@@ -41,8 +41,3 @@ put-is ws i b bit-b h =
           ∙ sym (isSet-word ws l (i / wordBits) (l % wordBits) same refl)))
           (isSet-set-other ws (i / wordBits) new l);
     }
-
--- The vector with one bit put in has as many words.
-pub put-length : (ws : List ℕ) (i b : ℕ) → length (putBit ws i b) ≡ length ws
-unfolding putBit
-put-length ws i b = simp length-set refl

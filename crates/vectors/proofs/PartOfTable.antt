@@ -18,11 +18,11 @@ use Rattle.vectors.proofs.WordByWord.{vectorOf-length, vectorOf-word, v
 
 module _ (table : List ℕ) (base count : ℕ) where
   -- Word w of the part is word base + w of the list.
-  pub part-word : (w : ℕ) → w < count → getD (vectorAt table base count) w 0 ≡ getD table (base + w) 0
+  part-word : (w : ℕ) → w < count → getD (vectorAt table base count) w 0 ≡ getD table (base + w) 0
   part-word w h = vectorOf-word count (λ w. getD table (base + w) 0) w h
 
   -- It has `count` words.
-  pub part-length : length (vectorAt table base count) ≡ count
+  part-length : length (vectorAt table base count) ≡ count
   part-length = vectorOf-length count (λ w. getD table (base + w) 0)
 
   -- They are machine words where the list's are.
@@ -30,7 +30,7 @@ module _ (table : List ℕ) (base count : ℕ) where
   part-vector vector = vectorOf-vector count (λ w. getD table (base + w) 0) (λ w h. vector .word-lt (base + w))
 
   -- Past its words no bit is set.
-  pub part-past : (i : ℕ) → wordBits * count ≤ i → isSet (vectorAt table base count) i ≡ false
+  part-past : (i : ℕ) → wordBits * count ≤ i → isSet (vectorAt table base count) i ≡ false
   part-past i h = isSet-past (vectorAt table base count) i (omega (arith, part-length))
 
   -- Bit i of the part is bit 64 · base + i of the list.

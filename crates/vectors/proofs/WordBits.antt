@@ -24,10 +24,12 @@ pub bit-first : (x : ℕ) → bit x 0 ≡ x % 2
 unfolding bit
 bit-first x = rw (div-one x) refl
 
+-- The lowest bit of `a & b` is the lesser of the two,
 and-low : (a b : ℕ) → bitAnd a b % 2 ≡ min (a % 2) (b % 2)
 and-low a b =
     rw (and-step a b) (digits-mod (bitAnd (a / 2) (b / 2)) (omega (arith, min-le-left (a % 2) (b % 2), mod-lt a {m = 2} (omega arith))))
 
+-- and that of `a | b` the greater.
 or-low : (a b : ℕ) → bitOr a b % 2 ≡ max (a % 2) (b % 2)
 or-low a b =
     let a-lt : a % 2 < 2 = mod-lt a (omega arith) in
@@ -63,6 +65,7 @@ pub bit-shl-high : (x s j : ℕ) → bit (x * 2 ^ s) (s + j) ≡ bit x j
 unfolding bit
 bit-shl-high x s j = rw (sym (shr-shr (x * 2 ^ s) s j)) (rw (shl-shr x s) refl)
 
+-- The cut to a width of 1 or more leaves the lowest bit.
 mod-low : (x j : ℕ) → x % 2 ^ suc j % 2 ≡ x % 2
 mod-low x j = rw (sym (add-one j)) (mod-mod-pow x j 1)
 
@@ -82,6 +85,7 @@ bit-high x width j h l = rw (div-eq-of-lt (lt-of-lt-of-le h (pow-mono {i = width
 pub bit-zero : (j : ℕ) → bit 0 j ≡ 0
 bit-zero j = bit-high 0 0 j (pow-pos 0) (omega arith)
 
+-- In 2 ^ s - 1 the lowest bit is set, for an s of 1 or more.
 ones-odd : (s : ℕ) → (2 ^ suc s - 1) % 2 ≡ 1
 ones-odd s = rw (sym (add-one s)) (rw (ones-split s 1) (digits-mod (2 ^ s - 1) {m = 2} {r = 1} (omega arith)))
 

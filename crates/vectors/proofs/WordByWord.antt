@@ -1,8 +1,7 @@
 -- A vector given word by word, and a loop that builds one so. `vectorOf count f` has f w at word w and nothing behind. Before turn w of the loop
--- (`Building`) the words below w are made and the others are the old ones. At the end it is the vector to be made, if the words that the loop
--- leaves alone were that vector's already.
+-- (`Building`) the words below w are made; after the last it is the vector to be made.
 -- Assumes nothing.
-use mathlib.Core.Path.{_≡_, refl, sym, _∙_, ap}
+use mathlib.Core.Path.{_≡_, refl, _∙_, ap}
 use mathlib.Core.Bool.{false}
 use mathlib.Core.List.{List}
 use mathlib.Core.Logic.{dite}
@@ -49,32 +48,25 @@ vectorOf-vector count f each-lt = record {
       (λ past. omega (arith, vectorOf-past count f w (omega (arith, past))));
 }
 
--- Before turn w of a loop that makes `goal` out of `old`: the words below w are the goal's, the others are still the old ones.
-pub record Building (goal old : List ℕ) (count : ℕ) (ws : List ℕ) (w : ℕ) : Type 0 where
-  pub size : length ws ≡ length old
-  pub turn-le : w ≤ count
+-- Before turn w of a loop that makes `goal`: the list has as many words, and those below w are the goal's.
+pub record Building (goal ws : List ℕ) (w : ℕ) : Type 0 where
+  pub size : length ws ≡ length goal
   pub made : (v : ℕ) → v < w → getD ws v 0 ≡ getD goal v 0
-  pub kept : (v : ℕ) → w ≤ v → getD ws v 0 ≡ getD old v 0
 
-module _ (goal old : List ℕ) (count : ℕ) where
+module _ (goal ws : List ℕ) where
   -- Before the first turn nothing is made.
-  pub building-start : Building goal old count old 0
-  building-start = record { size = refl; turn-le = omega arith; made = λ v h. absurd (omega arith); kept = λ v h. refl }
+  pub building-start : length ws ≡ length goal → Building goal ws 0
+  building-start same = record { size = same; made = λ v h. absurd (omega arith) }
 
   -- A turn stores the goal's word w.
-  pub building-turn : (ws : List ℕ) (w x : ℕ) → Building goal old count ws w → w < count → w < length old → x ≡ getD goal w 0
-      → Building goal old count (set ws w x) (w + 1)
-  building-turn ws w x b h within is = record {
+  pub building-turn : (w x : ℕ) → Building goal ws w → w < length goal → x ≡ getD goal w 0 → Building goal (set ws w x) (w + 1)
+  building-turn w x b h is = record {
     size = length-set ws w x ∙ b .size;
-    turn-le = omega arith;
     made = λ v l. dite (ℕ-discrete v w)
         (λ e. rw (e, getD-set-same ws w x 0 (omega (arith, b .size))) is)
         (λ other. getD-set-other ws w v x 0 other ∙ b .made v (omega (arith, other)));
-    kept = λ v l. getD-set-other ws w v x 0 (λ e. omega arith) ∙ b .kept v (omega arith);
   }
 
-  -- At the end the list is the goal, if the old words from `count` on were the goal's already.
-  pub building-end : (ws : List ℕ) (w : ℕ) → Building goal old count ws w → count ≤ w → length goal ≡ length old
-      → ((v : ℕ) → count ≤ v → v < length old → getD old v 0 ≡ getD goal v 0) → ws ≡ goal
-  building-end ws w b h size right = ext-getD 0 ws goal (b .size ∙ sym size) (λ v l. dite (decLt v w) (b .made v)
-      (λ past. b .kept v (omega (arith, past)) ∙ right v (omega (arith, past)) (omega (arith, b .size))))
+  -- At the end the list is the goal.
+  pub building-end : (w : ℕ) → Building goal ws w → length goal ≤ w → ws ≡ goal
+  building-end w b h = ext-getD 0 ws goal (b .size) (λ v l. b .made v (omega (arith, b .size)))

@@ -31,7 +31,7 @@ module _ (m b : ℕ) (old mid new : List ℕ) (some : 0 < m) (within : Within m 
       wrap .there ∙ rw (shift .each (m - 1), e, within .rest m (omega arith)) first
 
   -- Shifted, and then what was bit 0 put in at bit m − 1: rotated, however the words are kept.
-  pub rotated-of : Rotated m old new
+  rotated-of : Rotated m old new
   rotated-of = record {
     next = λ r h. dite (decLt (r + 1) m) (below-last r)
         (λ last. let e : r ≡ m - 1 = omega (arith, last) in let f : r + 1 ≡ m = omega (arith, last) in

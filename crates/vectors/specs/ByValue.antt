@@ -3,7 +3,7 @@
 -- their answers are what `Bits` and `Holding` mean: the laws are in proofs/HeldVectors.
 --     vectorWords, vectorBits     a vector's words and bits            HeldVector     a vector of m bits held by value
 --     edgeCodes     "every byte value 0 to 255 is an edge code"
---     carryInto, grownWord, grownWords     the held vector grown by one edge, word by word
+--     lastBitPlace, carryInto, grownWord, grownWords     the held vector grown by one edge, word by word
 --     Occurrences     the occurrence vectors of a ring's edge codes, in one table
 -- `first_bits` answers `firstBits`, `no_bit` answers `noBit`, both of `Bits`, and `vector_of` answers `vectorAt` of `Holding`.
 -- Assumes nothing.
@@ -37,15 +37,15 @@ abbrev pub edgeCodes : ℕ
 edgeCodes = 256
 
 -- The place of bit m − 1 in its word; where m is 0, the top of a word.
-abbrev pub lastPlace : ℕ → ℕ
-lastPlace m = (m % wordBits + (wordBits - 1)) % wordBits
+abbrev pub lastBitPlace : ℕ → ℕ
+lastBitPlace m = (m % wordBits + (wordBits - 1)) % wordBits
 
 -- What comes into word w of the first `count` as they are shifted down by one: the next word's lowest bit, at the top; into the last of them
 -- what was bit 0, at the place of bit m − 1.
 unfoldable pub carryInto : ℕ → ℕ → List ℕ → ℕ → ℕ
 carryInto m count held w =
     let next : ℕ = getD held (w + 1) 0 * 2 ^ (wordBits - 1) % 2 ^ wordBits in
-    let first : ℕ = bit (getD held 0 0) 0 * 2 ^ lastPlace m % 2 ^ wordBits in
+    let first : ℕ = bit (getD held 0 0) 0 * 2 ^ lastBitPlace m % 2 ^ wordBits in
     cond (ltb (w + 1) count) next first
 
 -- Word w of the held vector grown by one edge: `(x >> 1 | carry) & occurs`; from `count` on it is 0.

@@ -119,10 +119,11 @@ pub all-samples-right : map computed samples ≡ samples
 unfolding computed placesBelow rotated shifted putBit vectorOf bit isSet both grown orBelow noBit firstBits firstWord
 all-samples-right = refl
 
--- A vector with bit 0 alone, and one with every bit.
+-- A vector with bit 0 alone.
 abbrev bit-zero : List ℕ
 bit-zero = 1 ∷ 0 ∷ 0 ∷ 0 ∷ []
 
+-- A vector with every bit.
 abbrev every-bit : List ℕ
 every-bit = 0xffff_ffff_ffff_ffff ∷ 0xffff_ffff_ffff_ffff ∷ 0xffff_ffff_ffff_ffff ∷ 0xffff_ffff_ffff_ffff ∷ []
 

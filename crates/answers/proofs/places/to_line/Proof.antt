@@ -3,7 +3,6 @@
 use native.Mathlib.Nat.{mod-lt}
 use native.Mathlib.Omega.{arith}
 use borrow.Author.Needs.{needs}
-use Rattle.answers.proofs.AroundRing.{pos-of-ne}
 use Rattle.answers.proofs.Conversions.{line-place-none, line-place-within, line-place-past}
 use Rattle.answers.proofs.places.to_line.Statement.{statement}
 use Rattle.answers.proofs.places.to_line.Tie as tie
@@ -15,7 +14,7 @@ rem-sum-around : tie.Need-rem-sum-around
 rem-sum-around c = search needs
 
 sub-sum-around : tie.Need-sub-sum-around
-sub-sum-around c = omega (arith, mod-lt (c .before .before .args .rotation .0) (pos-of-ne (c .before .if1 .left)))
+sub-sum-around c = omega (arith, mod-lt (c .before .before .args .rotation .0) {m = c .before .before .args .m} (omega arith))
 
 sum-around-requires : tie.Need-sum-around-requires
 sum-around-requires c κs = search needs

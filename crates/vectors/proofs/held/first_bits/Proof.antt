@@ -14,13 +14,13 @@ use Rattle.vectors.proofs.held.first_bits.Statement.{statement}
 use Rattle.vectors.proofs.held.first_bits.Tie as tie
 
 abbrev Inv-loop : tie.InvT-loop
-Inv-loop m new₀ w₀ new w = Building (firstBits m vectorWords) new₀ vectorWords new w
+Inv-loop m new₀ w₀ new w = Building (firstBits m vectorWords) new w
 
 abbrev μ-loop : tie.MeasureT-loop
 μ-loop m new₀ w₀ new w = vectorWords - w
 
 loop-holds : tie.Need-loop-holds Inv-loop μ-loop
-loop-holds c = building-start _ _ _
+loop-holds c = building-start _ _ (omega (arith, first-bits-length (c .args .m) vectorWords))
 
 mul-from : tie.Need-mul-from Inv-loop μ-loop
 mul-from c = search needs
@@ -48,12 +48,11 @@ loop-again c =
     let at-turn = c .before .before in
     let left-is : c .before .if1 .left ≡ at-turn .before .before .args .m - wordBits * at-turn .before .loop .w =
     ⊎-elim (λ some. omega arith) (λ none. omega arith) (c .before .if1 .came) in
-    building-turn _ _ _ _ _ _ (at-turn .before .loop .inv) (at-turn .loop-test .taken) (search needs)
+    building-turn _ _ _ _ (at-turn .before .loop .inv) (omega (arith, first-bits-length (at-turn .before .before .args .m) vectorWords))
     (c .low-bits .ensures ∙ (first-word-left _ _ _ left-is ∙ first-bits-word _ vectorWords _ (at-turn .loop-test .taken)))
 
 returns : tie.Need-returns Inv-loop μ-loop
-returns c =
-    building-end _ _ _ _ _ (c .before .loop .inv) (c .loop-test .left) (first-bits-length _ vectorWords) (λ v past within. absurd (omega arith))
+returns c = building-end _ _ _ (c .before .loop .inv) (omega (arith, first-bits-length (c .before .before .args .m) vectorWords))
 
 pub first-bits-spec : {M : Type 1} → statement M
 first-bits-spec =

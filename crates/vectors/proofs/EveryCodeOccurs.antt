@@ -12,7 +12,7 @@ use native.Mathlib.Omega.{arith}
 use lib.ListN.{length, getD, set}
 use Rattle.vectors.specs.Bits.{wordBits, putWord, putBit, Put, NoBit}
 use Rattle.vectors.specs.Holding.{vectorAt, OccurrenceTable}
-use Rattle.vectors.proofs.OccurrenceLoop.{OccursBelow, occurs-below-start, occurs-below-turn-yes, occurs-below-turn-no, occurs-below-end, occurs-below-same}
+use Rattle.vectors.proofs.OneCodeOccurs.{OccursBelow, occurs-below-start, occurs-below-turn-yes, occurs-below-turn-no, occurs-below-end, occurs-below-same}
 use Rattle.vectors.proofs.PartOfTable.{part-no-bit, part-put, part-put-outside, part-put-word}
 use Rattle.vectors.proofs.OneBitPut.{put-is}
 
@@ -25,22 +25,19 @@ vectors-apart code other count i j differ h l e = dite (decLt code other)
 
 -- Before turn r of the loop over the ring's places: each code's vector is right below r.
 pub record TableBelow (ring : List ℕ) (count : ℕ) (table : List ℕ) (r : ℕ) : Type 0 where
-  pub turn-le : r ≤ length ring
   pub each : (code : ℕ) → OccursBelow ring code (vectorAt table (code * count) count) r
 
 module _ (ring : List ℕ) (count : ℕ) (room : length ring ≤ wordBits * count) where
   -- Before the first turn no bit of the table is set.
   pub table-below-start : (table : List ℕ) → NoBit table → TableBelow ring count table 0
   table-below-start table no-bit = record {
-    turn-le = omega arith;
     each = λ code. occurs-below-start ring code (vectorAt table (code * count) count) (part-no-bit table (code * count) count no-bit);
   }
 
   -- A place's turn, however the bit is put in: bit r of the vector of the code at place r.
-  pub table-below-put : (table new : List ℕ) (r : ℕ) → TableBelow ring count table r → r < length ring
+  table-below-put : (table new : List ℕ) (r : ℕ) → TableBelow ring count table r → r < length ring
       → Put table (wordBits * (getD ring r 0 * count) + r) 1 new → TableBelow ring count new (r + 1)
   table-below-put table new r known h put = record {
-    turn-le = omega arith;
     each = λ code. dite (ℕ-discrete (getD ring r 0) code)
         (λ same. occurs-below-turn-yes ring code (vectorAt table (code * count) count) (vectorAt new (code * count) count) r (known .each code) h same
         (part-put table new (code * count) count r 1 (omega arith) (rw same at put)))
@@ -52,7 +49,7 @@ module _ (ring : List ℕ) (count : ℕ) (room : length ring ≤ wordBits * coun
   }
 
   -- The word that holds a place's bit lies within a table with a vector for each of `codes` codes.
-  pub table-word-lt : (codes code r : ℕ) → code < codes → r < length ring → code * count + r / wordBits < codes * count
+  table-word-lt : (codes code r : ℕ) → code < codes → r < length ring → code * count + r / wordBits < codes * count
   table-word-lt codes code r h l = omega (arith, mul-le-mul-right count h, suc-mul code count)
 
   -- A turn stores the word that holds the place's bit, with that bit put in.
