@@ -46,7 +46,7 @@ pub record Moving (ring line : List ℕ) (from steps below : ℕ) (old counts : 
   pub still : moveOn ring line below (from + steps - i) (record { start = i; counts = counts; least = least; looks = looks })
       ≡ moveOn ring line below steps (placeAt from old)
 
-module _ (ring line : List ℕ) (from steps below : ℕ) (old : List ℕ) (can : CanMove ring line from steps old) where
+module _ (ring line : List ℕ) (from steps below : ℕ) (old : List ℕ) (can : CanMove (length ring) (length old) (length line) from steps) where
   abbrev m : ℕ
   m = length ring
 
@@ -58,7 +58,7 @@ module _ (ring line : List ℕ) (from steps below : ℕ) (old : List ℕ) (can :
 
   module _ (counts : List ℕ) (least looks i : ℕ) (before : Moving ring line from steps below old counts least looks i) where
     -- The counts still have room for the ring.
-    pub moving-fits : RingFits m counts
+    pub moving-fits : RingFits m (length counts)
     moving-fits = record { some-edge = can .fits .some-edge; most = can .fits .most; room = omega (arith, before .size, can .fits .room) }
 
     abbrev here-at : Place

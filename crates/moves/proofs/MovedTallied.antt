@@ -10,7 +10,6 @@ use native.Mathlib.Nat.{add-mul, zero-mul}
 use native.Mathlib.Decide.{decLt, ℕ-discrete}
 use native.Mathlib.Omega.{arith}
 use lib.ListN.{length}
-use borrow.Author.Tests.{lt-ltb, le-leb}
 use Rattle.meaning.specs.Meanings.{leastDistance}
 use Rattle.meaning.specs.Looks.{stepLooks}
 use Rattle.moves.specs.declared.steps.Reached.{Reached}
@@ -19,6 +18,7 @@ use Rattle.moves.specs.Moves.{Place, placeAt, placeOf, stepOn, moveOn, c
 use Rattle.tally.specs.Tallied.{Tallied}
 use Rattle.tally.proofs.LeastIsOne.{leastOf-is}
 use Rattle.moves.proofs.MoveLoop.{move-none, move-stops, move-goes-on}
+use Rattle.moves.proofs.MoveCases.{can-move-iff}
 use Rattle.moves.proofs.StepTallied.{tallied-step}
 use Rattle.tally.proofs.TallyFinding.{least-is}
 
@@ -120,12 +120,11 @@ module _ (ring line : List ℕ) (below : ℕ) (some : 0 < length ring) (most : l
 
   module _ (from steps : ℕ) (old : List ℕ) (tallied : Tallied ring line from old) (some-step : 0 < steps) (in-line : from + steps + m ≤ length line)
       (most-line : length line ≤ mostPlaces) where
-    -- The test passes.
+    -- The tally can be moved.
     can-be : canMove m (length old) (length line) from steps ≡ true
-    unfolding canMove
     can-be =
-        rw (tallied .size)
-        (rw (lt-ltb 0 m some, le-leb m mostCounts most, le-leb (length line) mostPlaces most-line, le-leb (from + steps + m) (length line) in-line) refl)
+        can-move-iff m (length old) (length line) from steps .1
+        (record { fits = record { some-edge = some; most = most; room = omega (arith, tallied .size) }; most-line = most-line; in-line = in-line })
 
     -- The tally moved from a start is the tally of the start that it came to.
     pub moved-tallied : (new : List ℕ) (r : Reached) → IsMoved ring line from steps below old new r → IsReached ring line from steps below new r

@@ -75,7 +75,8 @@ moveOn ring line below (suc left) at =
 abbrev pub mostPlaces : ℕ
 mostPlaces = 4294967296
 
--- Whether the counts of a ring of m edges can be moved so many steps: a count for each rotation, and a window in the line after each step.
+-- Whether the counts of a ring of m edges, `room` of them, can be moved so many steps along a line of n edges: one edge at least, a count for each rotation, and a
+-- window in the line after each step.
 unfoldable pub canMove : ℕ → ℕ → ℕ → ℕ → ℕ → Bool
 canMove m room n from steps = (ltb 0 m && (leb m mostCounts && leb m room)) && (leb n mostPlaces && leb (from + steps + m) n)
 
@@ -116,11 +117,11 @@ pub record IsStepped (ring : List ℕ) (leaving entering : ℕ) (old new : List 
   pub least-is : z .least ≡ leastOf (length ring) new
   pub looks-are : z .looks ≡ stepLooks (length ring)
 
--- What moving asks: counts with room for the ring, and a window in the line after each step.
-pub record CanMove (ring line : List ℕ) (from steps : ℕ) (counts : List ℕ) : Type 0 where
-  pub fits : RingFits (length ring) counts
-  pub in-line : from + steps + length ring ≤ length line
-  pub most-line : length line ≤ mostPlaces
+-- What `canMove` tests, as facts.
+pub record CanMove (m room n from steps : ℕ) : Type 0 where
+  pub fits : RingFits m room
+  pub most-line : n ≤ mostPlaces
+  pub in-line : from + steps + m ≤ n
 
 -- So many steps are made, or fewer.
 pub record IsMovedOn (ring line : List ℕ) (from steps below : ℕ) (old new : List ℕ) (r : Reached) : Type 0 where

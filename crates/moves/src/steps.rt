@@ -5,7 +5,6 @@ use tally::MOST_COUNTS;
 use tally::differing;
 use tally::window;
 ghost use mathlib.Core.Path.{_≡_};
-ghost use Prim.Native.Nat.{_<_, _≤_};
 ghost use lib.ListN.{length};
 ghost use Rattle.meaning.specs.Looks.{stepLooks};
 ghost use Rattle.tally.specs.Counts.{RingFits, IsLeast};
@@ -26,7 +25,7 @@ fn changed(count: u16, lost: u16, won: u16) -> u16
 // The leaving and the entering edge, each against every ring edge. Rotation r at this start stands over the ring as the
 // next rotation does at the next start, so both meet the ring's edge at r. Counts that are no tally may wrap.
 fn change(counts: &mut [u16; MOST_COUNTS], ring: &[u8], leaving: u8, entering: u8) -> Least
-    requires { ⌜ RingFits (length (now ring)) (now counts) ⌝ }
+    requires { ⌜ RingFits (length (now ring)) (length (now counts)) ⌝ }
     ensures { λ z. ⌜ Changed (now (ring .entry)) leaving entering (now (counts .entry)) (now (counts .exit))
         × IsLeast (length (now (ring .entry))) (now (counts .exit)) (z .least)
         × (z .looks ≡ stepLooks (length (now (ring .entry)))) ⌝ }
@@ -53,7 +52,7 @@ fn change(counts: &mut [u16; MOST_COUNTS], ring: &[u8], leaving: u8, entering: u
 
 // Each count moves on to the next rotation's number, from the last down so that none is overwritten before it is moved.
 fn renumber(counts: &mut [u16; MOST_COUNTS], m: usize)
-    requires { ⌜ RingFits m (now counts) ⌝ }
+    requires { ⌜ RingFits m (length (now counts)) ⌝ }
     ensures { λ _. ⌜ Renumbered m (now (counts .entry)) (now (counts .exit)) ⌝ }
 {
     let last = counts[m - 1];
@@ -67,7 +66,7 @@ fn renumber(counts: &mut [u16; MOST_COUNTS], m: usize)
 
 // One step. That the least was found before the renumbering does not matter: it moves no count's value.
 fn step(counts: &mut [u16; MOST_COUNTS], ring: &[u8], leaving: u8, entering: u8) -> Least
-    requires { ⌜ RingFits (length (now ring)) (now counts) ⌝ }
+    requires { ⌜ RingFits (length (now ring)) (length (now counts)) ⌝ }
     ensures { λ z. ⌜ IsStepped (now (ring .entry)) leaving entering (now (counts .entry)) (now (counts .exit)) z ⌝ }
 {
     let least = change(counts, ring, leaving, entering);
@@ -92,7 +91,7 @@ pub fn move_along(
     steps: usize,
     below: usize,
 ) -> Reached
-    requires { ⌜ CanMove (now ring) (now line) from steps (now counts) ⌝ }
+    requires { ⌜ CanMove (length (now ring)) (length (now counts)) (length (now line)) from steps ⌝ }
     ensures { λ z. ⌜ IsMovedOn (now (ring .entry)) (now (line .entry)) from steps below (now (counts .entry)) (now (counts .exit)) z ⌝ }
 {
     let m = ring.len();

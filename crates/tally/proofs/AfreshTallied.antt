@@ -9,7 +9,6 @@ use mathlib.Core.List.{List}
 use native.Mathlib.Nat.{zero-add, add-comm}
 use native.Mathlib.Omega.{arith}
 use lib.ListN.{length, getD}
-use borrow.Author.Tests.{lt-ltb, le-leb}
 use Rattle.meaning.specs.Numbers.{count}
 use Rattle.meaning.specs.Meanings.{unequal, differs, distance}
 use Rattle.meaning.specs.Looks.{afreshLooks}
@@ -23,6 +22,7 @@ use Rattle.tally.proofs.WindowEdges.{start-window, start-length}
 use Rattle.tally.proofs.PlaceByPlace.{listOf-length, listOf-first-at}
 use Rattle.tally.proofs.LeastIsOne.{leastOf-is}
 use Rattle.tally.proofs.DoubledLoop.{doubled-edge, doubled-length}
+use Rattle.tally.proofs.CountCases.{can-count-iff}
 
 module _ (ring doubled window : List ℕ) (some : 0 < length ring) (most : length ring ≤ mostCounts) (twice : IsDoubled ring doubled)
     (long : length window ≡ length ring) where
@@ -42,12 +42,11 @@ module _ (ring doubled window : List ℕ) (some : 0 < length ring) (most : lengt
       ap (count (differsThere doubled window r) 0) long
       ∙ count-same (differsThere doubled window r) (differs ring window 0 r) 0 m (λ q _ h. there-differs r q below (omega arith))
 
-  -- The test passes.
+  -- The window can be counted.
   can-be : (old : List ℕ) → length old ≡ mostCounts → canCount (length window) (length old) (length doubled) ≡ true
-  unfolding canCount
   can-be old size =
-      rw (long, size, doubled-length ring doubled twice)
-      (rw (lt-ltb 0 m some, le-leb m mostCounts most, le-leb (2 * m) (2 * mostCounts) (omega arith)) refl)
+      can-count-iff (length window) (length old) (length doubled) .1
+      (record { fits = record { some-edge = omega (arith, long); most = omega (arith, long); room = omega (arith, long) }; twice = omega (arith, long, doubled-length ring doubled twice) })
 
   -- The window is verified.
   pub afresh-verified : (old new : List ℕ) (z : Least) → length old ≡ mostCounts → IsCounted doubled window old new z

@@ -64,7 +64,8 @@ unfoldable pub afreshCounts : List ℕ → List ℕ → List ℕ → List ℕ
 afreshCounts doubled window old =
     listOf (length old) (λ r. cond (ltb r (length window)) (afreshCount doubled window r) (getD old r 0))
 
--- Whether a window of m edges can be counted: one edge at least, no more than there are counts, and a ring of m edges twice.
+-- Whether a window of m edges can be counted with `room` counts and `long` edges of a doubled ring: one edge at least, no more than 256 and no more than there are
+-- counts, and a ring of m edges twice.
 unfoldable pub canCount : ℕ → ℕ → ℕ → Bool
 canCount m room long = (ltb 0 m && leb m mostCounts) && (leb m room && leb (2 * m) long)
 
@@ -89,16 +90,16 @@ pub record IsLowestWith (m : ℕ) (counts : List ℕ) (least r : ℕ) : Type 0 w
 
 -- From here on: what private functions ask and promise.
 
--- A ring of m edges that the counts have room for.
-pub record RingFits (m : ℕ) (counts : List ℕ) : Type 0 where
+-- A ring of m edges, and room for its rotations in so many counts.
+pub record RingFits (m counts : ℕ) : Type 0 where
   pub some-edge : 0 < m
   pub most : m ≤ mostCounts
-  pub room : m ≤ length counts
+  pub room : m ≤ counts
 
--- A ring of m edges that can be counted: the counts have room, and it is there twice.
-pub record CanCount (m : ℕ) (doubled counts : List ℕ) : Type 0 where
-  pub fits : RingFits m counts
-  pub twice : 2 * m ≤ length doubled
+-- What `canCount` tests, as facts.
+pub record CanCount (m room long : ℕ) : Type 0 where
+  pub fits : RingFits m room
+  pub twice : 2 * m ≤ long
 
 -- Every rotation's count is 0, the others are kept.
 pub record Cleared (m : ℕ) (old new : List ℕ) : Type 0 where
@@ -106,7 +107,7 @@ pub record Cleared (m : ℕ) (old new : List ℕ) : Type 0 where
   pub each : (r : ℕ) → r < m → getD new r 0 ≡ 0
   pub kept : (r : ℕ) → m ≤ r → getD new r 0 ≡ getD old r 0
 
--- One window edge, at the place that rotation 0 has over ring place `place`, compared with every rotation's edge there.
+-- One window edge, at the place where rotation 0 has ring place `place`, compared with every rotation's edge there.
 pub record EdgeCounted (m : ℕ) (doubled old : List ℕ) (place edge : ℕ) (new : List ℕ) : Type 0 where
   pub size : length new ≡ length old
   pub each : (r : ℕ) → r < m → getD new r 0 ≡ getD old r 0 + oneIf (unequal edge (getD doubled (place + r) 0))

@@ -148,7 +148,7 @@ module _ {M : Type 1} (𝓤 : URA M) (H : Heap 𝓤) (A : Atoms 𝓤) (W : Given
   )
 
   -- What the call asks.
-  goes : (ν : ℕ) (δ : GName) → CanMove (ring .now) (line .now) start steps counts
+  goes : (ν : ℕ) (δ : GName) → CanMove (length (ring .now)) (length counts) (length (line .now)) start steps
       → ent 𝓤 (⋆ 𝓤 H A ((‵ (flft (ν ∷ []) fullShare) ⊛ (‵ (flft κ′ q′) ⊛ (‵ (flft κ″ q″) ⊛ ‵ ftrue))) ∷ ‵ (Lent ν δ) ∷ (‵ OwnRing ⊛ ‵ OwnLine) ∷ []))
       (Called 𝓤 H A at-mem run .pre (to-callee ν δ))
   goes ν δ can =
@@ -181,7 +181,7 @@ module _ {M : Type 1} (𝓤 : URA M) (H : Heap 𝓤) (A : Atoms 𝓤) (W : Given
       move ! (3 ∷ 0 ∷ []) $ fjoin ! $ move ! (3 ∷ 0 ∷ []) $ fjoin ! $ move ! (1 ∷ 0 ∷ []) $ fjoin ! $ frame ! $ done !
 
   module _ (C : Calls 𝓤 H) (Λ : Loops 𝓤 H) (fm : FmC 𝓤 H (W .laws) C) (known : Triple 𝓤 (C #move-along) (Called 𝓤 H A at-mem run)) where
-    walk : Is (ShrSlice (named 1) κ′ u8) ring (ringVal ∷ []) → Is (ShrSlice (named 2) κ″ u8) line (lineVal ∷ []) → CanMove (ring .now) (line .now) start steps counts
+    walk : Is (ShrSlice (named 1) κ′ u8) ring (ringVal ∷ []) → Is (ShrSlice (named 2) κ″ u8) line (lineVal ∷ []) → CanMove (length (ring .now)) (length counts) (length (line .now)) start steps
         → ent 𝓤 (onEntry 𝓤 H A this.signature (κ, (κ′, (κ″, tt))) (q, (q′, (q″, tt))) args vals)
         (WpFn 𝓤 H C Λ code.function (vptr b o ∷ ringVal ∷ lineVal ∷ vint w64 start ∷ vint w64 steps ∷ vint w64 below ∷ []) Post)
     walk is-ring is-line can =
@@ -253,7 +253,7 @@ module _ {M : Type 1} (𝓤 : URA M) (H : Heap 𝓤) (A : Atoms 𝓤) (W : Given
           (shr-slice-tells (named 2) (κs .1 .1 .0) u8, (uint-tells w64, (uint-tells w64, (uint-tells w64, tt)))),
         ),
       ))
-      (λ κs qs bounds a g are. needs 𝓤 (CanMove (a .1 .0 .now) (a .1 .1 .0 .now) (a .1 .1 .1 .0) (a .1 .1 .1 .1 .0) (a .0 .now .counts)) _
+      (λ κs qs bounds a g are. needs 𝓤 (CanMove (length (a .1 .0 .now)) (length (a .0 .now .counts)) (length (a .1 .1 .0 .now)) (a .1 .1 .1 .0) (a .1 .1 .1 .1 .0)) _
       (walk 𝓤 H A W mem run (κs .0) (κs .1 .0) (κs .1 .1 .0) bounds (qs .0) (qs .1 .0) (qs .1 .1 .0) (a .0 .ptr .0) (a .0 .ptr .1) (a .0 .name) (a .0 .now .counts)
       (a .1 .0) (a .1 .1 .0) (a .1 .1 .1 .0) (a .1 .1 .1 .1 .0) (a .1 .1 .1 .1 .1 .0)
       (are .1 .1 .1 .0 .1) (are .1 .1 .1 .1 .0 .1) (are .1 .1 .1 .1 .1 .0 .1) C Λ fm known (are .1 .0) (are .1 .1 .0)))

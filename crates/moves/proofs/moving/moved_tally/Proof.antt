@@ -134,7 +134,7 @@ module _ {M : Type 1} (𝓤 : URA M) (H : Heap 𝓤) (A : Atoms 𝓤) (W : Given
   )
 
   -- What the call asks.
-  goes : (l ν : ℕ) (δ : GName) → CanMove (ring .now) (line .now) start steps (tally .counts)
+  goes : (l ν : ℕ) (δ : GName) → CanMove (length (ring .now)) (length (tally .counts)) (length (line .now)) start steps
       → ent 𝓤 (⋆ 𝓤 H A ((‵ (flft (ν ∷ []) fullShare) ⊛ (‵ (flft κ q) ⊛ (‵ (flft κ′ q′) ⊛ ‵ ftrue))) ∷ ‵ (Lent l ν δ)
       ∷ (‵ (ShrSlice (named 1) κ u8 .own ring (ringVal ∷ [])) ⊛ ‵ (ShrSlice (named 2) κ′ u8 .own line (lineVal ∷ []))) ∷ []))
       (Called 𝓤 H A at-mem run .pre (to-callee l ν δ))
@@ -177,7 +177,7 @@ module _ {M : Type 1} (𝓤 : URA M) (H : Heap 𝓤) (A : Atoms 𝓤) (W : Given
 
   module _ (C : Calls 𝓤 H) (Λ : Loops 𝓤 H) (fm : FmC 𝓤 H (W .laws) C) (known : Triple 𝓤 (C #move-tally) (Called 𝓤 H A at-mem run)) where
     walk : Is R tally (tallyVal ∷ []) → Holds (hasTy T′.mir tallyVal) × WT tallyVal → Is (ShrSlice (named 0) κ u8) ring (ringVal ∷ [])
-        → Is (ShrSlice (named 1) κ′ u8) line (lineVal ∷ []) → CanMove (ring .now) (line .now) start steps (tally .counts)
+        → Is (ShrSlice (named 1) κ′ u8) line (lineVal ∷ []) → CanMove (length (ring .now)) (length (tally .counts)) (length (line .now)) start steps
         → ent 𝓤 (onEntry 𝓤 H A this.signature (κ, (κ′, tt)) (q, (q′, tt)) args vals)
         (WpFn 𝓤 H C Λ code.function (tallyVal ∷ ringVal ∷ lineVal ∷ vint w64 start ∷ vint w64 steps ∷ vint w64 below ∷ []) Post)
     walk is-tally typed is-ring is-line can =
@@ -256,7 +256,7 @@ module _ {M : Type 1} (𝓤 : URA M) (H : Heap 𝓤) (A : Atoms 𝓤) (W : Given
           (shr-slice-tells (named 1) (κs .1 .0) u8, (uint-tells w64, (uint-tells w64, (uint-tells w64, tt)))),
         ),
       ))
-      (λ κs qs bounds a g are. needs 𝓤 (CanMove (a .1 .0 .now) (a .1 .1 .0 .now) (a .1 .1 .1 .0) (a .1 .1 .1 .1 .0) (a .0 .counts)) _
+      (λ κs qs bounds a g are. needs 𝓤 (CanMove (length (a .1 .0 .now)) (length (a .0 .counts)) (length (a .1 .1 .0 .now)) (a .1 .1 .1 .0) (a .1 .1 .1 .1 .0)) _
       (walk 𝓤 H A W mem run (κs .0) (κs .1 .0) (qs .0) (qs .1 .0) (a .0) (a .1 .0) (a .1 .1 .0) (a .1 .1 .1 .0) (a .1 .1 .1 .1 .0) (a .1 .1 .1 .1 .1 .0)
       (are .1 .1 .1 .0 .1) (are .1 .1 .1 .1 .0 .1) (are .1 .1 .1 .1 .1 .0 .1) C Λ fm known
       (are .0) (laws.lawful T.the-type T′.the-laws 𝓤 H A W .typed (a .0) _ (are .0) .0) (are .1 .0) (are .1 .1 .0)))
