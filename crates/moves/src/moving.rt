@@ -1,4 +1,4 @@
-// "The tally of one count per rotation is kept and moved along the line."
+// Rule 5: "the tally of one count per rotation is kept and moved along the line."
 use crate::steps::Reached;
 use crate::steps::move_along;
 use tally::MOST_COUNTS;

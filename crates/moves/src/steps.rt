@@ -1,5 +1,5 @@
 // Rule 5: the tally moved along the line, each step 2·m looks. The counts stand under the rotations' own numbers
-// (specs/Tallied.antt), so a step renumbers them.
+// (specs/Tallied.antt of crates/tally), so a step renumbers them.
 use tally::Least;
 use tally::MOST_COUNTS;
 use tally::differing;

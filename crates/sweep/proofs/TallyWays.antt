@@ -3,18 +3,18 @@
 -- Assumes nothing.
 use Prim.Native.Nat.{ℕ, _-_, _*_, _≤_, _<_}
 use mathlib.Core.Path.{_≡_, ap, _∙_}
-use mathlib.Core.Bool.{_&&_}
 use mathlib.Core.List.{List}
 use native.Mathlib.Nat.{mul-le-mul, mul-le-mul-right}
 use native.Mathlib.Omega.{arith}
 use lib.Dec.{ltb, leb}
 use lib.ListN.{length}
-use borrow.Author.Tests.{lt-ltb, le-ltb, le-leb, lt-leb, ltb-false, leb-true}
-use Rattle.meaning.proofs.Cases.{by-test, and-true}
+use borrow.Author.Tests.{lt-ltb, le-ltb, le-leb, lt-leb, ltb-false}
+use Rattle.meaning.proofs.Cases.{by-test}
 use Rattle.tally.specs.Windows.{windowAt, IsWindow}
 use Rattle.tally.specs.Counts.{mostCounts, canCount, IsCounted}
 use Rattle.moves.specs.Moves.{Place, placeAt, canMove, IsMoved}
 use Rattle.tally.specs.declared.counts.Least.{Least}
+use Rattle.tally.proofs.CountCases.{can-count-iff}
 use Rattle.moves.specs.declared.steps.Reached.{Reached}
 use Rattle.moves.proofs.MoveLoop.{move-looks-le}
 use Rattle.sweep.specs.declared.verifying.LastVerified.{LastVerified}
@@ -68,13 +68,10 @@ module _ (ring doubled line : List ℕ) (i : ℕ) (old : List ℕ) where
   mostTally = mostCounts * mostCounts
 
   afresh-looks : (window : List ℕ) → afreshTo doubled window old .looks ≤ mostTally
-  unfolding afreshTo canCount
+  unfolding afreshTo
   afresh-looks window =
       by-test (λ (looks : ℕ). looks ≤ mostTally) (canCount (length window) (length old) (length doubled))
-      (λ e.
-      let both = and-true (ltb 0 (length window) && leb (length window) mostCounts) (leb (length window) (length old) && leb (2 * length window) (length doubled)) e in
-      let most : length window ≤ mostCounts = leb-true (length window) mostCounts (and-true (ltb 0 (length window)) (leb (length window) mostCounts) (both .0) .1) in
-      mul-le-mul most most)
+      (λ e. let most = can-count-iff (length window) (length old) (length doubled) .0 e .fits .most in mul-le-mul most most)
       (λ _. omega arith)
 
   moved-looks : (from : ℕ) → m ≤ mostCounts → 2 * (i - from) ≤ m → movedTo ring line from (i - from) old .looks ≤ mostTally

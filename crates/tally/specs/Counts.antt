@@ -55,7 +55,7 @@ doubledRing ring = listOf (2 * mostCounts) (doubledEdge ring)
 abbrev pub differsThere : List ℕ → List ℕ → ℕ → ℕ → Bool
 differsThere doubled window r q = unequal (getD window q 0) (getD doubled (q + r) 0)
 
--- "The number of places where window and rotation r differ."
+-- "the number of places where window and rotation r differ", counted over the doubled ring.
 unfoldable pub afreshCount : List ℕ → List ℕ → ℕ → ℕ
 afreshCount doubled window r = count (differsThere doubled window r) 0 (length window)
 
