@@ -5,6 +5,8 @@ pub mod RenumberLoop
 pub mod StepIsOne
 pub mod MoveLoop
 pub mod MoveCases
+-- What the two walks share.
+pub mod WalkArguments
 -- What the counts hold at the start reached.
 pub mod StepTallied
 pub mod MovedTallied
