@@ -2,7 +2,7 @@
 pub mod NextRotation
 pub mod ChangeLoop
 pub mod RenumberLoop
-pub mod StepIsOne
+pub mod SteppedCounts
 pub mod MoveLoop
 pub mod MoveCases
 -- What the two walks share.

@@ -4,7 +4,6 @@
 -- Assumes nothing.
 use Prim.Native.Nat.{ℕ, _+_, _-_, _*_, _≤_, _<_}
 use mathlib.Core.Path.{_≡_, refl}
-use mathlib.Core.Bool.{cond}
 use mathlib.Core.List.{List}
 use mathlib.Core.Logic.{⊎-elim}
 use mathlib.Core.Option.{Option, none, some}
@@ -17,7 +16,7 @@ use Rattle.tally.specs.Windows.{windowAt}
 use Rattle.tally.specs.Tallied.{Verified}
 use Rattle.tally.proofs.AfreshTallied.{counted-verified}
 use Rattle.moves.specs.declared.steps.Reached.{Reached}
-use Rattle.moves.specs.Moves.{Place, placeAt, moveOn, canMove, IsReached}
+use Rattle.moves.specs.Moves.{CountsAt, movedFrom, IsReached}
 use Rattle.moves.proofs.MovedTallied.{moved-tallied}
 use Rattle.sweep.specs.declared.verifying.LastVerified.{LastVerified}
 use Rattle.sweep.specs.declared.verifying.LastVerified.the-variants.{Nothing, At}
@@ -51,7 +50,7 @@ module _ (ring doubled line : List ℕ) (i : ℕ) (old : List ℕ) where
   unfolding movedTo
   moved-by-rules from can =
       let before : from < i = can .before .0 in
-      let to : Place = cond (canMove m (length old) (length line) from (i - from)) (moveOn ring line 0 (i - from) (placeAt from old)) (placeAt from old) in
+      let to : CountsAt = movedFrom ring line from (i - from) 0 old in
       let r : Reached = record { start = to .start; least = to .least; looks = to .looks } in
       let reached : IsReached ring line from (i - from) 0 (to .counts) r =
       moved-tallied ring line 0 (can .fits .some-edge) (can .fits .most) from (i - from) old (can .before .1) (omega arith)

@@ -12,7 +12,7 @@ use borrow.Author.Tests.{lt-ltb, le-ltb, le-leb, lt-leb, ltb-false}
 use Rattle.meaning.proofs.Cases.{by-test}
 use Rattle.tally.specs.Windows.{windowAt, IsWindow}
 use Rattle.tally.specs.Counts.{mostCounts, canCount, IsCounted}
-use Rattle.moves.specs.Moves.{Place, placeAt, canMove, IsMoved}
+use Rattle.moves.specs.Moves.{CountsAt, unmoved, canMove, IsMoved}
 use Rattle.tally.specs.declared.counts.Least.{Least}
 use Rattle.tally.proofs.CountCases.{can-count-iff}
 use Rattle.moves.specs.declared.steps.Reached.{Reached}
@@ -60,7 +60,7 @@ module _ (ring doubled line : List ℕ) (i : ℕ) (old : List ℕ) where
     unfolding tallyBy movedTo
     tallied-moved new r beyond near moved = record {
       is = rw (after, lt-leb i from beyond, le-ltb m (2 * (i - from)) near)
-          (ap (λ (p : Place). record { counts = p .counts; least = p .least; looks = p .looks }) (moved .is));
+          (ap (λ (p : CountsAt). record { counts = p .counts; least = p .least; looks = p .looks }) (moved .is));
     }
 
   -- A fresh count of the longest ring.
@@ -77,8 +77,8 @@ module _ (ring doubled line : List ℕ) (i : ℕ) (old : List ℕ) where
   moved-looks : (from : ℕ) → m ≤ mostCounts → 2 * (i - from) ≤ m → movedTo ring line from (i - from) old .looks ≤ mostTally
   unfolding movedTo
   moved-looks from most near =
-      by-test (λ (p : Place). p .looks ≤ mostTally) (canMove m (length old) (length line) from (i - from))
-      (λ _. omega (arith, move-looks-le ring line 0 (i - from) (placeAt from old), mul-le-mul-right m near, mul-le-mul most most))
+      by-test (λ (p : CountsAt). p .looks ≤ mostTally) (canMove m (length old) (length line) from (i - from))
+      (λ _. omega (arith, move-looks-le ring line 0 (i - from) (unmoved from old), mul-le-mul-right m near, mul-le-mul most most))
       (λ _. omega arith)
 
   -- No verification takes more looks.

@@ -16,7 +16,7 @@ use Rattle.meaning.specs.Looks.{afreshLooks}
 use Rattle.answers.specs.declared.places.Finding.{Finding as FindingStruct}
 use Rattle.tally.specs.Windows.{windowAt}
 use Rattle.tally.specs.Counts.{mostCounts, leastOf, afreshCounts, canCount, lowestWith}
-use Rattle.moves.specs.Moves.{Place, placeAt, moveOn, canMove, mostPlaces}
+use Rattle.moves.specs.Moves.{CountsAt, movedFrom, mostPlaces}
 use Rattle.tally.specs.declared.counts.Least.{Least}
 use Rattle.sweep.specs.declared.verifying.LastVerified.{LastVerified}
 use Rattle.sweep.specs.declared.verifying.LastVerified.the-variants.{Nothing, At}
@@ -42,10 +42,10 @@ afreshTo doubled window old =
       looks = cond can (afreshLooks (length window)) 0;
     }
 
--- Moved s steps, as `move_counts` promises.
+-- Moved s steps, as `move_counts` promises: no least count is below 0, so it moves all of them.
 unfoldable pub movedTo : List ℕ → List ℕ → ℕ → ℕ → List ℕ → TallyTo
 movedTo ring line from s old =
-    let to : Place = cond (canMove (length ring) (length old) (length line) from s) (moveOn ring line 0 s (placeAt from old)) (placeAt from old) in
+    let to : CountsAt = movedFrom ring line from s 0 old in
     record { counts = to .counts; least = to .least; looks = to .looks }
 
 -- Rule 5: "With no earlier tally, or if the new start is s beyond the last verified one and 2·s > m, it is counted afresh: m·m looks. Otherwise it moves s
