@@ -8,7 +8,7 @@ use mathlib.Core.List.{List}
 use native.Mathlib.Omega.{arith}
 use lib.ListN.{length}
 use borrow.Author.Tests.{lt-ltb, le-ltb}
-use Rattle.tally.specs.Counts.{mostCounts, IsLowestWith}
+use Rattle.tally.specs.Counts.{mostCounts, TallyTo, IsLowestWith}
 use Rattle.moves.specs.Moves.{mostPlaces}
 use Rattle.tally.specs.declared.counts.Least.{Least}
 use Rattle.sweep.specs.declared.verifying.LastVerified.the-variants.{At}
@@ -16,7 +16,7 @@ use Rattle.sweep.specs.declared.sweeping.Sweep.{Sweep}
 use Rattle.sweep.specs.declared.sweeping.Swept.the-variants.{Ended, NoFinding, Found}
 use Rattle.sweep.specs.declared.sweeping.WindowsRead.{WindowsRead}
 use Rattle.sweep.specs.Reads.{windowsBy}
-use Rattle.sweep.specs.Sweeps.{TallyTo, sweepBy, mostLooks, CanSweep, IsTallied, IsSweptTo}
+use Rattle.sweep.specs.Sweeps.{sweepBy, mostLooks, CanSweep, IsTallied, IsSweptTo}
 use Rattle.sweep.proofs.WindowTurns.{WindowsGo, windows-within}
 use Rattle.sweep.proofs.TallyWays.{mostTally, tally-looks}
 

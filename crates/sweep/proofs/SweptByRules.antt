@@ -14,7 +14,7 @@ use Rattle.meaning.specs.Findings.{foundAt}
 use Rattle.meaning.specs.Rules.{readWindow}
 use Rattle.meaning.specs.Looks.{tallyLooks}
 use Rattle.meaning.proofs.Cases.{by-test}
-use Rattle.tally.specs.Counts.{lowestWith}
+use Rattle.tally.specs.Counts.{lowestWith, TallyTo}
 use Rattle.tally.specs.Tallied.{Verified}
 use Rattle.tally.proofs.LowestLoop.{lowest-at}
 use Rattle.tally.proofs.TallyFinding.{least-no, least-yes}
@@ -24,7 +24,7 @@ use Rattle.sweep.specs.declared.sweeping.Swept.{Swept}
 use Rattle.sweep.specs.declared.sweeping.Swept.the-variants.{Ended, NoFinding, Found}
 use Rattle.sweep.specs.declared.sweeping.WindowsRead.{WindowsRead}
 use Rattle.sweep.specs.Reads.{windowsBy}
-use Rattle.sweep.specs.Sweeps.{TallyTo, tallyBy, SweptTo, sweepBy, canSweep, IsSweptBy}
+use Rattle.sweep.specs.Sweeps.{tallyBy, SweptTo, sweepBy, canSweep, IsSweptBy}
 use Rattle.sweep.specs.Verifying.{lastOf, TalliedBefore}
 use Rattle.sweep.specs.Sweep.{stateOf, foundOf, hasEnded, IsCandidateRead, IsWindowsRead, CanSweepOn, IsSweptOn}
 use Rattle.sweep.proofs.SweepCases.{can-sweep-iff}

@@ -13,6 +13,7 @@ use borrow.Author.Tests.{lt-ltb, le-ltb, lt-leb}
 use Rattle.meaning.specs.Looks.{afreshLooks, stepLooks, tallyLooks}
 use Rattle.meaning.proofs.Cases.{le-or-lt}
 use Rattle.tally.specs.Windows.{windowAt}
+use Rattle.tally.specs.Counts.{TallyTo, countedTo}
 use Rattle.tally.specs.Tallied.{Verified}
 use Rattle.tally.proofs.AfreshTallied.{counted-verified}
 use Rattle.moves.specs.declared.steps.Reached.{Reached}
@@ -21,7 +22,7 @@ use Rattle.moves.proofs.MovedTallied.{moved-tallied}
 use Rattle.sweep.specs.declared.verifying.LastVerified.{LastVerified}
 use Rattle.sweep.specs.declared.verifying.LastVerified.the-variants.{Nothing, At}
 use Rattle.sweep.specs.Verifying.{lastOf, TalliedBefore, CanVerify}
-use Rattle.sweep.specs.Sweeps.{TallyTo, afreshTo, movedTo, tallyBy}
+use Rattle.sweep.specs.Sweeps.{movedTo, tallyBy}
 
 -- The tally of the last verified start stays that at every later start.
 pub before-later : (ring line counts : List ℕ) (i i′ : ℕ) (last : Option ℕ) → i ≤ i′ → TalliedBefore ring line i counts last → TalliedBefore ring line i′ counts last
@@ -37,10 +38,9 @@ module _ (ring doubled line : List ℕ) (i : ℕ) (old : List ℕ) where
   VerifiedAt looks t = Verified ring line i looks (t .counts) (t .least) (t .looks)
 
   -- Counted afresh.
-  afresh-by-rules : (last : Option ℕ) → CanVerify ring doubled line i old last → VerifiedAt (afreshLooks m) (afreshTo doubled (windowAt m line i) old)
-  unfolding afreshTo
+  afresh-by-rules : (last : Option ℕ) → CanVerify ring doubled line i old last → VerifiedAt (afreshLooks m) (countedTo doubled (windowAt m line i) old)
   afresh-by-rules last can =
-      let t : TallyTo = afreshTo doubled (windowAt m line i) old in
+      let t : TallyTo = countedTo doubled (windowAt m line i) old in
       counted-verified ring line i doubled old (t .counts) (windowAt m line i) (record { least = t .least; looks = t .looks })
       (can .fits .size) (can .fits .some-edge) (can .fits .most) (can .twice) (can .in-line) (record { is = refl })
       (record { written = refl; least-is = refl; looks-are = refl })

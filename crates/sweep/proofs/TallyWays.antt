@@ -11,7 +11,7 @@ use lib.ListN.{length}
 use borrow.Author.Tests.{lt-ltb, le-ltb, le-leb, lt-leb, ltb-false}
 use Rattle.meaning.proofs.Cases.{by-test}
 use Rattle.tally.specs.Windows.{windowAt, IsWindow}
-use Rattle.tally.specs.Counts.{mostCounts, canCount, IsCounted}
+use Rattle.tally.specs.Counts.{mostCounts, canCount, TallyTo, countedTo, IsCounted}
 use Rattle.moves.specs.Moves.{CountsAt, unmoved, canMove, IsMoved}
 use Rattle.tally.specs.declared.counts.Least.{Least}
 use Rattle.tally.proofs.CountCases.{can-count-iff}
@@ -19,7 +19,7 @@ use Rattle.moves.specs.declared.steps.Reached.{Reached}
 use Rattle.moves.proofs.MoveLoop.{move-looks-le}
 use Rattle.sweep.specs.declared.verifying.LastVerified.{LastVerified}
 use Rattle.sweep.specs.declared.verifying.LastVerified.the-variants.{Nothing, At}
-use Rattle.sweep.specs.Sweeps.{TallyTo, afreshTo, movedTo, tallyBy, IsTallied}
+use Rattle.sweep.specs.Sweeps.{movedTo, tallyBy, IsTallied}
 
 module _ (ring doubled line : List ℕ) (i : ℕ) (old : List ℕ) where
   abbrev m : ℕ
@@ -27,11 +27,10 @@ module _ (ring doubled line : List ℕ) (i : ℕ) (old : List ℕ) where
 
   -- What `count_afresh` answers of the window that was handed out.
   afresh-is : (edges new : List ℕ) (z : Least) → IsWindow line i m edges → IsCounted doubled edges old new z
-      → record { counts = new; least = z .least; looks = z .looks } ≡ afreshTo doubled (windowAt m line i) old
-  unfolding afreshTo
+      → record { counts = new; least = z .least; looks = z .looks } ≡ countedTo doubled (windowAt m line i) old
   afresh-is edges new z handed counted =
       (λ j. record { counts = counted .written j; least = counted .least-is j; looks = counted .looks-are j })
-      ∙ ap (λ (w : List ℕ). afreshTo doubled w old) (handed .is)
+      ∙ ap (λ (w : List ℕ). countedTo doubled w old) (handed .is)
 
   -- With no earlier tally.
   pub tallied-first : (last : LastVerified) (edges new : List ℕ) (z : Least) → last ≡ Nothing → IsWindow line i m edges → IsCounted doubled edges old new z
@@ -67,10 +66,10 @@ module _ (ring doubled line : List ℕ) (i : ℕ) (old : List ℕ) where
   abbrev pub mostTally : ℕ
   mostTally = mostCounts * mostCounts
 
-  afresh-looks : (window : List ℕ) → afreshTo doubled window old .looks ≤ mostTally
-  unfolding afreshTo
+  afresh-looks : (window : List ℕ) → countedTo doubled window old .looks ≤ mostTally
+  unfolding countedTo
   afresh-looks window =
-      by-test (λ (looks : ℕ). looks ≤ mostTally) (canCount (length window) (length old) (length doubled))
+      by-test (λ (t : TallyTo). t .looks ≤ mostTally) (canCount (length window) (length old) (length doubled))
       (λ e. let most = can-count-iff (length window) (length old) (length doubled) .0 e .fits .most in mul-le-mul most most)
       (λ _. omega arith)
 

@@ -12,10 +12,9 @@ use mathlib.Core.Bool.{Bool, cond, _&&_}
 use mathlib.Core.List.{List}
 use lib.Dec.{ltb, leb}
 use lib.ListN.{length}
-use Rattle.meaning.specs.Looks.{afreshLooks}
 use Rattle.answers.specs.declared.places.Finding.{Finding as FindingStruct}
 use Rattle.tally.specs.Windows.{windowAt}
-use Rattle.tally.specs.Counts.{mostCounts, leastOf, afreshCounts, canCount, lowestWith}
+use Rattle.tally.specs.Counts.{mostCounts, lowestWith, TallyTo, countedTo}
 use Rattle.moves.specs.Moves.{CountsAt, movedFrom, mostPlaces}
 use Rattle.tally.specs.declared.counts.Least.{Least}
 use Rattle.sweep.specs.declared.verifying.LastVerified.{LastVerified}
@@ -26,22 +25,6 @@ use Rattle.sweep.specs.declared.sweeping.Swept.the-variants.{Ended, NoFi
 use Rattle.sweep.specs.declared.sweeping.WindowsRead.{WindowsRead}
 use Rattle.sweep.specs.Reads.{windowsBy, CanReadWindows}
 
--- The counts of a start once it is verified, their least, and the looks that it took.
-pub record TallyTo : Type 0 where
-  pub counts : List ℕ
-  pub least : ℕ
-  pub looks : ℕ
-
--- Counted afresh, as `count_afresh` promises.
-unfoldable pub afreshTo : List ℕ → List ℕ → List ℕ → TallyTo
-afreshTo doubled window old =
-    let can : Bool = canCount (length window) (length old) (length doubled) in
-    record {
-      counts = cond can (afreshCounts doubled window old) old;
-      least = cond can (leastOf (length window) (afreshCounts doubled window old)) 0;
-      looks = cond can (afreshLooks (length window)) 0;
-    }
-
 -- Moved s steps, as `move_counts` promises: no least count is below 0, so it moves all of them.
 unfoldable pub movedTo : List ℕ → List ℕ → ℕ → ℕ → List ℕ → TallyTo
 movedTo ring line from s old =
@@ -51,9 +34,9 @@ movedTo ring line from s old =
 -- Rule 5: "With no earlier tally, or if the new start is s beyond the last verified one and 2·s > m, it is counted afresh: m·m looks. Otherwise it moves s
 -- steps". A start that is not beyond the last verified one is counted afresh too.
 unfoldable pub tallyBy : List ℕ → List ℕ → List ℕ → ℕ → LastVerified → List ℕ → TallyTo
-tallyBy ring doubled line i Nothing old = afreshTo doubled (windowAt (length ring) line i) old
+tallyBy ring doubled line i Nothing old = countedTo doubled (windowAt (length ring) line i) old
 tallyBy ring doubled line i (At from) old =
-    let afresh : TallyTo = afreshTo doubled (windowAt (length ring) line i) old in
+    let afresh : TallyTo = countedTo doubled (windowAt (length ring) line i) old in
     let moved : TallyTo = movedTo ring line from (i - from) old in
     let beyond : TallyTo = cond (ltb (length ring) (2 * (i - from))) afresh moved in
     cond (leb i from) afresh beyond

@@ -16,7 +16,7 @@ use Rattle.meaning.proofs.Count.{count-same}
 use Rattle.meaning.proofs.WindowAlone.{alone-distance}
 use Rattle.tally.specs.declared.counts.Least.{Least}
 use Rattle.tally.specs.Windows.{IsWindow}
-use Rattle.tally.specs.Counts.{mostCounts, differsThere, afreshCount, afreshCounts, canCount, IsDoubled, IsCounted}
+use Rattle.tally.specs.Counts.{mostCounts, differsThere, afreshCount, afreshCounts, canCount, countedTo, IsDoubled, IsCounted}
 use Rattle.tally.specs.Tallied.{Verified}
 use Rattle.tally.proofs.WindowEdges.{start-window, start-length}
 use Rattle.tally.proofs.PlaceByPlace.{listOf-length, listOf-first-at}
@@ -51,7 +51,7 @@ module _ (ring doubled window : List ℕ) (some : 0 < length ring) (most : lengt
   -- The window is verified.
   pub afresh-verified : (old new : List ℕ) (z : Least) → length old ≡ mostCounts → IsCounted doubled window old new z
       → Verified ring window 0 (afreshLooks m) new (z .least) (z .looks)
-  unfolding afreshCounts
+  unfolding afreshCounts countedTo
   afresh-verified old new z size counted =
       let can = can-be old size in
       let is : new ≡ afreshCounts doubled window old = rw can at (counted .written) in

@@ -9,7 +9,7 @@ use mathlib.Core.Logic.{_↔_}
 use lib.Dec.{leb}
 use lib.ListN.{length}
 use Rattle.tally.specs.declared.counts.Least.{Least}
-use Rattle.tally.specs.Counts.{mostCounts, canCount, RingFits, CanCount, IsCountedAfresh, IsCounted}
+use Rattle.tally.specs.Counts.{mostCounts, canCount, countedTo, RingFits, CanCount, IsCountedAfresh, IsCounted}
 use Rattle.tally.proofs.SizesTested.{lt-iff, le-iff, and-iff, test-same}
 
 -- The test passes exactly where the window can be counted.
@@ -32,8 +32,10 @@ module _ (doubled window old : List ℕ) where
 
   -- A window that passes the test is counted.
   pub counted-yes : (new : List ℕ) (z : Least) → test ≡ true → IsCountedAfresh doubled window old new z → IsCounted doubled window old new z
+  unfolding countedTo
   counted-yes new z passed counted = record { written = rw passed (counted .written); least-is = rw passed (counted .least-is); looks-are = rw passed (counted .looks-are) }
 
   -- Any other is not, and nothing changes.
   pub counted-no : test ≡ false → IsCounted doubled window old old (record { least = 0; looks = 0 })
+  unfolding countedTo
   counted-no failed = record { written = rw failed refl; least-is = rw failed refl; looks-are = rw failed refl }

@@ -6,6 +6,7 @@
 --   doubledRing     the ring twice, end to end: each rotation is a part of it, so no place has to be taken mod m
 --   afreshCount     how many edges of a window differ from a rotation's
 --   afreshCounts    the counts after that: one for each rotation, the others kept
+--   countedTo       what counting comes to: those counts, their least, and the looks
 --   IsComparison, IsDoubled, IsCounted, IsLowestWith    what `differing`, `double`, `count_afresh` and `lowest_rotation` promise
 -- Assumes nothing.
 use Prim.Native.Nat.{ℕ, zero, suc, _+_, _*_, _%_, _≤_, _<_, min}
@@ -69,6 +70,20 @@ afreshCounts doubled window old =
 unfoldable pub canCount : ℕ → ℕ → ℕ → Bool
 canCount m room long = (ltb 0 m && leb m mostCounts) && (leb m room && leb (2 * m) long)
 
+-- What counting comes to: the counts, their least, and the looks that it took.
+pub record TallyTo : Type 0 where
+  pub counts : List ℕ
+  pub least : ℕ
+  pub looks : ℕ
+
+-- A window counted afresh, at m·m looks. One that cannot be counted changes no count, and takes no look.
+unfoldable pub countedTo : List ℕ → List ℕ → List ℕ → TallyTo
+countedTo doubled window old =
+    let new : List ℕ = afreshCounts doubled window old in
+    let counted : TallyTo = record { counts = new; least = leastOf (length window) new; looks = afreshLooks (length window) } in
+    let unchanged : TallyTo = record { counts = old; least = 0; looks = 0 } in
+    cond (canCount (length window) (length old) (length doubled)) counted unchanged
+
 -- What `differing` promises: one comparison counts 1 where the two edges differ.
 pub record IsComparison (a b r : ℕ) : Type 0 where
   pub is : r ≡ oneIf (unequal a b)
@@ -77,12 +92,11 @@ pub record IsComparison (a b r : ℕ) : Type 0 where
 pub record IsDoubled (ring doubled : List ℕ) : Type 0 where
   pub is : doubled ≡ doubledRing ring
 
--- What `count_afresh` promises: of the doubled ring, a window, the counts, the counts at exit and the answer. Where the window cannot be counted, no
--- count changes.
+-- What `count_afresh` promises: of the doubled ring, a window, the counts, the counts at exit and the answer.
 pub record IsCounted (doubled window old new : List ℕ) (z : Least) : Type 0 where
-  pub written : new ≡ cond (canCount (length window) (length old) (length doubled)) (afreshCounts doubled window old) old
-  pub least-is : z .least ≡ cond (canCount (length window) (length old) (length doubled)) (leastOf (length window) (afreshCounts doubled window old)) 0
-  pub looks-are : z .looks ≡ cond (canCount (length window) (length old) (length doubled)) (afreshLooks (length window)) 0
+  pub written : new ≡ countedTo doubled window old .counts
+  pub least-is : z .least ≡ countedTo doubled window old .least
+  pub looks-are : z .looks ≡ countedTo doubled window old .looks
 
 -- What `lowest_rotation` promises.
 pub record IsLowestWith (m : ℕ) (counts : List ℕ) (least r : ℕ) : Type 0 where
