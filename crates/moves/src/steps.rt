@@ -12,6 +12,8 @@ ghost use Rattle.moves.specs.Moves.{changedCount, Changed, Renumbered, I
 
 // How many numbers a count of sixteen bits can be.
 const SIXTEEN_BITS: u32 = 65536;
+// The largest of them. The least count starts with it, since no count is above it.
+const LAST_COUNT: u16 = 65535;
 
 // A count that has lost one comparison and won another. One that has nothing to lose wraps: the sum is taken in more bits,
 // of which the compiler keeps sixteen.
@@ -30,7 +32,7 @@ fn change(counts: &mut [u16; MOST_COUNTS], ring: &[u8], leaving: u8, entering: u
         × IsLeast (length (now (ring .entry))) (now (counts .exit)) (z .least)
         × (z .looks ≡ stepLooks (length (now (ring .entry)))) ⌝ }
 {
-    let mut least: u16 = 65535;
+    let mut least = LAST_COUNT;
     let mut looks: usize = 0;
     let mut r = 0;
     while r < ring.len() {

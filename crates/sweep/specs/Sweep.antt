@@ -90,8 +90,8 @@ pub record IsWindowsRead (ring line : List ℕ) (k from : ℕ) (r : WindowsRead)
   pub ended : r .candidate ≡ false → (length line < r .start + length ring) × (r .next ≡ r .start) × (r .looks ≡ looks)
 
 -- What sweeping by the rules asks: a ring and a line within the limits, the ring's vectors and its double, a start in the line or just past it, the tally of the last
--- verified start, and room for more looks. It holds for every allowance.
-pub record CanSweepOn (ring doubled table line : List ℕ) (counts : List ℕ) (at : Sweep) : Type 0 where
+-- verified start, and room for more looks. The allowance may be any.
+pub record CanSweepOn (ring doubled table line counts : List ℕ) (at : Sweep) : Type 0 where
   pub fits : TallyFits ring counts
   pub most-line : length line < mostPlaces
   pub occurs : Occurrences ring table
