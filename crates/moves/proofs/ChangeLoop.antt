@@ -47,7 +47,7 @@ module _ (ring : List ℕ) (leaving entering : ℕ) (old : List ℕ) where
     least-le = omega arith;
   }
 
-  module _ (fits : RingFits (length ring) old) (new : List ℕ) (least looks r lost won count : ℕ)
+  module _ (fits : RingFits (length ring) (length old)) (new : List ℕ) (least looks r lost won count : ℕ)
       (before : Changing ring leaving entering old new least looks r) (below : r < length ring)
       (lost-is : lost ≡ oneIf (unequal leaving (getD ring r 0))) (won-is : won ≡ oneIf (unequal entering (getD ring r 0)))
       (count-is : count ≡ changedCount (getD new r 0) lost won) where
@@ -102,7 +102,7 @@ module _ (ring : List ℕ) (leaving entering : ℕ) (old : List ℕ) where
         (λ later. least-so-far-turn-kept (set new r count) least r before-stored (omega (arith, later)) (omega (arith, stored)))))
 
   -- After the last turn every count is changed, and the least of them is found.
-  pub changing-end : (new : List ℕ) (least looks r : ℕ) → RingFits (length ring) old → Changing ring leaving entering old new least looks r
+  pub changing-end : (new : List ℕ) (least looks r : ℕ) → RingFits (length ring) (length old) → Changing ring leaving entering old new least looks r
       → length ring ≤ r → Changed ring leaving entering old new × IsLeast (length ring) new least × (looks ≡ stepLooks (length ring))
   changing-end new least looks r fits end l =
       let all : r ≡ length ring = omega (arith, end .turn-le) in (

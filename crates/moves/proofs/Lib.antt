@@ -2,9 +2,11 @@
 pub mod NextRotation
 pub mod ChangeLoop
 pub mod RenumberLoop
-pub mod StepIsOne
+pub mod SteppedCounts
 pub mod MoveLoop
 pub mod MoveCases
+-- What the two walks share.
+pub mod WalkArguments
 -- What the counts hold at the start reached.
 pub mod StepTallied
 pub mod MovedTallied

@@ -16,23 +16,23 @@ use Rattle.meaning.specs.Looks.{stepLooks}
 use Rattle.tally.specs.declared.counts.Least.{Least}
 use Rattle.tally.specs.Windows.{IsWindow}
 use Rattle.tally.specs.Counts.{mostCounts, leastOf, RingFits}
-use Rattle.moves.specs.Moves.{steppedCounts, Place, placeAt, stepOn, moveOn, CanMove, IsStepped, IsMovedOn}
+use Rattle.moves.specs.Moves.{steppedCounts, CountsAt, unmoved, stepOn, moveOn, CanMove, IsStepped, IsMovedOn}
 use Rattle.tally.proofs.PlaceByPlace.{listOf-length}
 use Rattle.tally.proofs.WindowEdges.{start-edge}
 
 module _ (ring line : List ℕ) (below : ℕ) where
   -- No step is left.
-  pub move-none : (at : Place) → moveOn ring line below 0 at ≡ at
+  pub move-none : (at : CountsAt) → moveOn ring line below 0 at ≡ at
   unfolding moveOn
   move-none at = refl
 
   -- A step whose least count is below the bound ends the way.
-  pub move-stops : (left : ℕ) (at : Place) → stepOn ring line at .least < below → moveOn ring line below (suc left) at ≡ stepOn ring line at
+  pub move-stops : (left : ℕ) (at : CountsAt) → stepOn ring line at .least < below → moveOn ring line below (suc left) at ≡ stepOn ring line at
   unfolding moveOn
   move-stops left at near = rw (lt-ltb (stepOn ring line at .least) below near) refl
 
   -- Any other goes on.
-  pub move-goes-on : (left : ℕ) (at : Place) → below ≤ stepOn ring line at .least
+  pub move-goes-on : (left : ℕ) (at : CountsAt) → below ≤ stepOn ring line at .least
       → moveOn ring line below (suc left) at ≡ moveOn ring line below left (stepOn ring line at)
   unfolding moveOn
   move-goes-on left at far = rw (le-ltb (stepOn ring line at .least) below far) refl
@@ -44,9 +44,9 @@ pub record Moving (ring line : List ℕ) (from steps below : ℕ) (old counts : 
   pub size : length counts ≡ length old
   pub looks-le : looks ≤ (i - from) * stepLooks mostCounts
   pub still : moveOn ring line below (from + steps - i) (record { start = i; counts = counts; least = least; looks = looks })
-      ≡ moveOn ring line below steps (placeAt from old)
+      ≡ moveOn ring line below steps (unmoved from old)
 
-module _ (ring line : List ℕ) (from steps below : ℕ) (old : List ℕ) (can : CanMove ring line from steps old) where
+module _ (ring line : List ℕ) (from steps below : ℕ) (old : List ℕ) (can : CanMove (length ring) (length old) (length line) from steps) where
   abbrev m : ℕ
   m = length ring
 
@@ -58,10 +58,10 @@ module _ (ring line : List ℕ) (from steps below : ℕ) (old : List ℕ) (can :
 
   module _ (counts : List ℕ) (least looks i : ℕ) (before : Moving ring line from steps below old counts least looks i) where
     -- The counts still have room for the ring.
-    pub moving-fits : RingFits m counts
+    pub moving-fits : RingFits m (length counts)
     moving-fits = record { some-edge = can .fits .some-edge; most = can .fits .most; room = omega (arith, before .size, can .fits .room) }
 
-    abbrev here-at : Place
+    abbrev here-at : CountsAt
     here-at = record { start = i; counts = counts; least = least; looks = looks }
 
     module _ (goes-on : i < from + steps) (here next new : List ℕ) (z : Least) (here-is : IsWindow line i m here) (next-is : IsWindow line (i + 1) m next)
@@ -77,7 +77,7 @@ module _ (ring line : List ℕ) (from steps below : ℕ) (old : List ℕ) (can :
           stepped .written ∙ ap (λ (e : ℕ). steppedCounts ring e (getD next (m - 1) 0) counts) leaves
           ∙ ap (λ (e : ℕ). steppedCounts ring (windowEdge line i 0) e counts) enters
 
-      abbrev there : Place
+      abbrev there : CountsAt
       there = record { start = i + 1; counts = new; least = z .least; looks = looks + z .looks }
 
       -- The turn is one step.
@@ -94,7 +94,7 @@ module _ (ring line : List ℕ) (from steps below : ℕ) (old : List ℕ) (can :
       one-less = omega arith
 
       least-of-step : stepOn ring line here-at .least ≡ z .least
-      least-of-step = ap (λ (p : Place). p .least) step-is
+      least-of-step = ap (λ (p : CountsAt). p .least) step-is
 
       -- It ends the way.
       pub moving-stops : z .least < below → IsMovedOn ring line from steps below old new (record { start = i + 1; least = z .least; looks = looks + z .looks })
@@ -125,10 +125,10 @@ module _ (ring line : List ℕ) (from steps below : ℕ) (old : List ℕ) (can :
         }
 
 -- So many steps take at most so many looks.
-pub move-looks-le : (ring line : List ℕ) (below left : ℕ) (at : Place) → moveOn ring line below left at .looks ≤ at .looks + left * stepLooks (length ring)
+pub move-looks-le : (ring line : List ℕ) (below left : ℕ) (at : CountsAt) → moveOn ring line below left at .looks ≤ at .looks + left * stepLooks (length ring)
 unfolding moveOn stepOn
 move-looks-le ring line below zero at = omega arith
 move-looks-le ring line below (suc left) at =
-    by-test (λ (p : Place). p .looks ≤ at .looks + suc left * stepLooks (length ring)) (ltb (stepOn ring line at .least) below)
+    by-test (λ (p : CountsAt). p .looks ≤ at .looks + suc left * stepLooks (length ring)) (ltb (stepOn ring line at .least) below)
     (λ _. omega (arith, add-mul 1 left (stepLooks (length ring))))
     (λ _. omega (arith, move-looks-le ring line below left (stepOn ring line at), add-mul 1 left (stepLooks (length ring))))

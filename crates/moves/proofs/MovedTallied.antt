@@ -10,15 +10,15 @@ use native.Mathlib.Nat.{add-mul, zero-mul}
 use native.Mathlib.Decide.{decLt, ℕ-discrete}
 use native.Mathlib.Omega.{arith}
 use lib.ListN.{length}
-use borrow.Author.Tests.{lt-ltb, le-leb}
 use Rattle.meaning.specs.Meanings.{leastDistance}
 use Rattle.meaning.specs.Looks.{stepLooks}
 use Rattle.moves.specs.declared.steps.Reached.{Reached}
 use Rattle.tally.specs.Counts.{mostCounts, IsLeast}
-use Rattle.moves.specs.Moves.{Place, placeAt, placeOf, stepOn, moveOn, canMove, mostPlaces, IsMoved, IsReached}
+use Rattle.moves.specs.Moves.{CountsAt, unmoved, reachedWith, stepOn, moveOn, canMove, mostPlaces, IsMoved, IsReached}
 use Rattle.tally.specs.Tallied.{Tallied}
 use Rattle.tally.proofs.LeastIsOne.{leastOf-is}
 use Rattle.moves.proofs.MoveLoop.{move-none, move-stops, move-goes-on}
+use Rattle.moves.proofs.MoveCases.{can-move-iff}
 use Rattle.moves.proofs.StepTallied.{tallied-step}
 use Rattle.tally.proofs.TallyFinding.{least-is}
 
@@ -27,7 +27,7 @@ module _ (ring line : List ℕ) (below : ℕ) (some : 0 < length ring) (most : l
   m = length ring
 
   -- From one place the tally came to another, in at most so many steps.
-  record CameTo (at : Place) (left : ℕ) (to : Place) : Type 0 where
+  record CameTo (at : CountsAt) (left : ℕ) (to : CountsAt) : Type 0 where
     pub start-le : to .start ≤ at .start + left
     pub at-le : at .start ≤ to .start
     pub tallied : Tallied ring line (to .start) (to .counts)
@@ -39,7 +39,7 @@ module _ (ring line : List ℕ) (below : ℕ) (some : 0 < length ring) (most : l
     pub some-step : 0 < left → at .start < to .start
 
   -- No step.
-  came-none : (at : Place) → Tallied ring line (at .start) (at .counts) → CameTo at 0 at
+  came-none : (at : CountsAt) → Tallied ring line (at .start) (at .counts) → CameTo at 0 at
   came-none at tallied =
       let none : at .start - at .start ≡ 0 = omega arith in
       record {
@@ -54,8 +54,8 @@ module _ (ring line : List ℕ) (below : ℕ) (some : 0 < length ring) (most : l
         some-step = λ l. absurd (omega arith);
       }
 
-  module _ (at : Place) (tallied : Tallied ring line (at .start) (at .counts)) where
-    abbrev next : Place
+  module _ (at : CountsAt) (tallied : Tallied ring line (at .start) (at .counts)) where
+    abbrev next : CountsAt
     next = stepOn ring line at
 
     next-start : next .start ≡ at .start + 1
@@ -91,7 +91,7 @@ module _ (ring line : List ℕ) (below : ℕ) (some : 0 < length ring) (most : l
         }
 
     -- One step and on from there.
-    came-on : (left : ℕ) (to : Place) → below ≤ next .least → CameTo next left to → CameTo at (suc left) to
+    came-on : (left : ℕ) (to : CountsAt) → below ≤ next .least → CameTo next left to → CameTo at (suc left) to
     came-on left to far on =
         let more : to .start - at .start ≡ 1 + (to .start - next .start) = omega (arith, next-start, on .at-le) in
         record {
@@ -109,7 +109,7 @@ module _ (ring line : List ℕ) (below : ℕ) (some : 0 < length ring) (most : l
         }
 
   -- So many steps, or fewer.
-  came : (left : ℕ) (at : Place) → Tallied ring line (at .start) (at .counts) → CameTo at left (moveOn ring line below left at)
+  came : (left : ℕ) (at : CountsAt) → Tallied ring line (at .start) (at .counts) → CameTo at left (moveOn ring line below left at)
   came zero at tallied = rw (move-none ring line below at) (came-none at tallied)
   came (suc left) at tallied = dite (decLt (stepOn ring line at .least) below)
       (λ near. rw (move-stops ring line below left at near) (came-one at tallied left near))
@@ -120,18 +120,17 @@ module _ (ring line : List ℕ) (below : ℕ) (some : 0 < length ring) (most : l
 
   module _ (from steps : ℕ) (old : List ℕ) (tallied : Tallied ring line from old) (some-step : 0 < steps) (in-line : from + steps + m ≤ length line)
       (most-line : length line ≤ mostPlaces) where
-    -- The test passes.
+    -- The tally can be moved.
     can-be : canMove m (length old) (length line) from steps ≡ true
-    unfolding canMove
     can-be =
-        rw (tallied .size)
-        (rw (lt-ltb 0 m some, le-leb m mostCounts most, le-leb (length line) mostPlaces most-line, le-leb (from + steps + m) (length line) in-line) refl)
+        can-move-iff m (length old) (length line) from steps .1
+        (record { fits = record { some-edge = some; most = most; room = omega (arith, tallied .size) }; most-line = most-line; in-line = in-line })
 
     -- The tally moved from a start is the tally of the start that it came to.
     pub moved-tallied : (new : List ℕ) (r : Reached) → IsMoved ring line from steps below old new r → IsReached ring line from steps below new r
     moved-tallied new r moved =
-        let is : placeOf r new ≡ moveOn ring line below steps (placeAt from old) = rw can-be at (moved .is) in
-        let to : CameTo (placeAt from old) steps (placeOf r new) = rw is (came steps (placeAt from old) tallied) in
+        let is : reachedWith r new ≡ moveOn ring line below steps (unmoved from old) = rw can-be at (moved .is) in
+        let to : CameTo (unmoved from old) steps (reachedWith r new) = rw is (came steps (unmoved from old) tallied) in
         record {
           after = to .some-step some-step;
           start-le = to .start-le;

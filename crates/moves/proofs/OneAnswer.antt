@@ -4,13 +4,13 @@ use Prim.Native.Nat.{ℕ}
 use mathlib.Core.Path.{_≡_, sym, ap, _∙_}
 use mathlib.Core.List.{List}
 use Rattle.moves.specs.declared.steps.Reached.{Reached}
-use Rattle.moves.specs.Moves.{Place, placeOf, IsMoved}
+use Rattle.moves.specs.Moves.{CountsAt, reachedWith, IsMoved}
 
 -- `move_counts`
 pub one-move : (ring line : List ℕ) (from steps below : ℕ) (old new new′ : List ℕ) (r r′ : Reached) → IsMoved ring line from steps below old new r
     → IsMoved ring line from steps below old new′ r′ → (r ≡ r′) × (new ≡ new′)
 one-move ring line from steps below old new new′ r r′ a b =
-    let same : placeOf r new ≡ placeOf r′ new′ = a .is ∙ sym (b .is) in (
-      λ i. record { start = ap (λ (p : Place). p .start) same i; least = ap (λ (p : Place). p .least) same i; looks = ap (λ (p : Place). p .looks) same i },
-      ap (λ (p : Place). p .counts) same,
+    let same : reachedWith r new ≡ reachedWith r′ new′ = a .is ∙ sym (b .is) in (
+      λ i. record { start = ap (λ (p : CountsAt). p .start) same i; least = ap (λ (p : CountsAt). p .least) same i; looks = ap (λ (p : CountsAt). p .looks) same i },
+      ap (λ (p : CountsAt). p .counts) same,
     )

@@ -4,8 +4,9 @@
 --   changedCount     a count that has lost one comparison and won another
 --   earlier          the rotation before a rotation
 --   steppedCounts    the counts after a step
---   Place            where moved counts stand: the start, the counts, their least, the looks
+--   CountsAt         where moved counts stand: the start, the counts, their least, the looks
 --   stepOn, moveOn   one step, and so many of them or fewer
+--   movedFrom        that, where the counts can be moved
 --   IsMoved          what `move_counts` promises
 --   IsReached        where a tally that was moved came to
 -- Assumes nothing.
@@ -47,46 +48,51 @@ steppedCounts ring leaving entering old =
     (λ r. cond (ltb r (length ring)) (changedAt ring leaving entering old (earlier (length ring) r)) (getD old r 0))
 
 -- Where moved counts stand: the start, the counts there, their least (0 before the first step), and the looks so far.
-pub record Place : Type 0 where
+pub record CountsAt : Type 0 where
   pub start : ℕ
   pub counts : List ℕ
   pub least : ℕ
   pub looks : ℕ
 
--- Before the first step.
-abbrev pub placeAt : ℕ → List ℕ → Place
-placeAt from counts = record { start = from; counts = counts; least = 0; looks = 0 }
+-- Counts before the first step.
+abbrev pub unmoved : ℕ → List ℕ → CountsAt
+unmoved from counts = record { start = from; counts = counts; least = 0; looks = 0 }
 
 -- One step: the first edge of the window leaves, the last edge of the next one enters.
-unfoldable pub stepOn : List ℕ → List ℕ → Place → Place
+unfoldable pub stepOn : List ℕ → List ℕ → CountsAt → CountsAt
 stepOn ring line at =
     let new : List ℕ = steppedCounts ring (windowEdge line (at .start) 0) (windowEdge line (at .start + 1) (length ring - 1)) (at .counts) in
     record { start = at .start + 1; counts = new; least = leastOf (length ring) new; looks = at .looks + stepLooks (length ring) }
 
 -- So many steps, or fewer: to the first start on the way whose least count is below `below`.
-unfoldable pub moveOn : List ℕ → List ℕ → ℕ → ℕ → Place → Place
+unfoldable pub moveOn : List ℕ → List ℕ → ℕ → ℕ → CountsAt → CountsAt
 moveOn ring line below zero at = at
 moveOn ring line below (suc left) at =
-    let next : Place = stepOn ring line at in
-    let later : Place = moveOn ring line below left next in
+    let next : CountsAt = stepOn ring line at in
+    let later : CountsAt = moveOn ring line below left next in
     cond (ltb (next .least) below) next later
 
 -- A line place goes out as one word of 32 bits, so no line has more places.
 abbrev pub mostPlaces : ℕ
 mostPlaces = 4294967296
 
--- Whether the counts of a ring of m edges can be moved so many steps: a count for each rotation, and a window in the line after each step.
+-- Whether the counts of a ring of m edges, `room` of them, can be moved so many steps along a line of n edges: one edge at least, a count for each rotation, and a
+-- window in the line after each step.
 unfoldable pub canMove : ℕ → ℕ → ℕ → ℕ → ℕ → Bool
 canMove m room n from steps = (ltb 0 m && (leb m mostCounts && leb m room)) && (leb n mostPlaces && leb (from + steps + m) n)
 
--- The place that an answer and the counts stand for.
-abbrev pub placeOf : Reached → List ℕ → Place
-placeOf r counts = record { start = r .start; counts = counts; least = r .least; looks = r .looks }
+-- Counts moved from a start so many steps or fewer. Where they cannot be moved, no count changes.
+abbrev pub movedFrom : List ℕ → List ℕ → ℕ → ℕ → ℕ → List ℕ → CountsAt
+movedFrom ring line from steps below old =
+    cond (canMove (length ring) (length old) (length line) from steps) (moveOn ring line below steps (unmoved from old)) (unmoved from old)
 
--- What `move_counts` promises: of ring, line, the start to move from, the steps, the bound, the counts, the counts at exit and the answer. Where they
--- cannot be moved, no count changes.
+-- Where an answer and the counts say that they came to.
+abbrev pub reachedWith : Reached → List ℕ → CountsAt
+reachedWith r counts = record { start = r .start; counts = counts; least = r .least; looks = r .looks }
+
+-- What `move_counts` promises: of ring, line, the start to move from, the steps, the bound, the counts, the counts at exit and the answer.
 pub record IsMoved (ring line : List ℕ) (from steps below : ℕ) (old new : List ℕ) (r : Reached) : Type 0 where
-  pub is : placeOf r new ≡ cond (canMove (length ring) (length old) (length line) from steps) (moveOn ring line below steps (placeAt from old)) (placeAt from old)
+  pub is : reachedWith r new ≡ movedFrom ring line from steps below old
 
 -- Where a tally moved from start `from` came to: so many steps on, or sooner, at the first start on the way whose least count is below `below`.
 pub record IsReached (ring line : List ℕ) (from steps below : ℕ) (counts : List ℕ) (r : Reached) : Type 0 where
@@ -116,12 +122,12 @@ pub record IsStepped (ring : List ℕ) (leaving entering : ℕ) (old new : List 
   pub least-is : z .least ≡ leastOf (length ring) new
   pub looks-are : z .looks ≡ stepLooks (length ring)
 
--- What moving asks: counts with room for the ring, and a window in the line after each step.
-pub record CanMove (ring line : List ℕ) (from steps : ℕ) (counts : List ℕ) : Type 0 where
-  pub fits : RingFits (length ring) counts
-  pub in-line : from + steps + length ring ≤ length line
-  pub most-line : length line ≤ mostPlaces
+-- What `canMove` tests, as facts.
+pub record CanMove (m room n from steps : ℕ) : Type 0 where
+  pub fits : RingFits m room
+  pub most-line : n ≤ mostPlaces
+  pub in-line : from + steps + m ≤ n
 
 -- So many steps are made, or fewer.
 pub record IsMovedOn (ring line : List ℕ) (from steps below : ℕ) (old new : List ℕ) (r : Reached) : Type 0 where
-  pub is : placeOf r new ≡ moveOn ring line below steps (placeAt from old)
+  pub is : reachedWith r new ≡ moveOn ring line below steps (unmoved from old)

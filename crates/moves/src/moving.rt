@@ -1,8 +1,9 @@
-// "The tally of one count per rotation is kept and moved along the line."
+// Rule 5: "the tally of one count per rotation is kept and moved along the line."
 use crate::steps::Reached;
 use crate::steps::move_along;
 use tally::MOST_COUNTS;
 ghost use mathlib.Core.Path.{_≡_};
+ghost use lib.ListN.{length};
 ghost use Rattle.moves.specs.Moves.{canMove, CanMove, IsMovedOn, IsMoved};
 
 // A line place goes out as one word of 32 bits, so no line has more places.
@@ -28,7 +29,7 @@ fn move_tally(
     steps: usize,
     below: usize,
 ) -> Reached
-    requires { ⌜ CanMove (now ring) (now line) from steps (now tally .counts) ⌝ }
+    requires { ⌜ CanMove (length (now ring)) (length (now tally .counts)) (length (now line)) from steps ⌝ }
     ensures { λ z. ⌜ IsMovedOn (now (ring .entry)) (now (line .entry)) from steps below (now (tally .entry) .counts) (now (tally .exit) .counts) z ⌝ }
 {
     move_along(&mut tally.counts, ring, line, from, steps, below)
@@ -43,7 +44,7 @@ fn moved_tally(
     steps: usize,
     below: usize,
 ) -> Moved
-    requires { ⌜ CanMove (now ring) (now line) from steps (tally .counts) ⌝ }
+    requires { ⌜ CanMove (length (now ring)) (length (tally .counts)) (length (now line)) from steps ⌝ }
     ensures { λ z. ⌜ IsMovedOn (now (ring .entry)) (now (line .entry)) from steps below (tally .counts) (z .tally .counts) (z .reached) ⌝ }
 {
     let mut kept = tally;
@@ -54,8 +55,9 @@ fn moved_tally(
     }
 }
 
-// Whether the tally of a ring of m edges can be moved so many steps: a window in the line after each step, and a count for
-// each rotation.
+// Whether the tally of a ring of m edges can be moved so many steps: a count for each rotation, and a window in the line
+// after each step. The places are compared before anything is added to them, so nothing overflows. The counts are always
+// 256; their length is asked since a contract does not know it of an array that is lent.
 fn can_move(m: usize, room: usize, n: usize, from: usize, steps: usize) -> bool
     ensures { λ r. ⌜ r ≡ canMove m room n from steps ⌝ }
 {

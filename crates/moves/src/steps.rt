@@ -1,11 +1,10 @@
 // Rule 5: the tally moved along the line, each step 2·m looks. The counts stand under the rotations' own numbers
-// (specs/Tallied.antt), so a step renumbers them.
+// (specs/Tallied.antt of crates/tally), so a step renumbers them.
 use tally::Least;
 use tally::MOST_COUNTS;
 use tally::differing;
 use tally::window;
 ghost use mathlib.Core.Path.{_≡_};
-ghost use Prim.Native.Nat.{_<_, _≤_};
 ghost use lib.ListN.{length};
 ghost use Rattle.meaning.specs.Looks.{stepLooks};
 ghost use Rattle.tally.specs.Counts.{RingFits, IsLeast};
@@ -13,6 +12,8 @@ ghost use Rattle.moves.specs.Moves.{changedCount, Changed, Renumbered, I
 
 // How many numbers a count of sixteen bits can be.
 const SIXTEEN_BITS: u32 = 65536;
+// The largest of them. The least count starts with it, since no count is above it.
+const LAST_COUNT: u16 = 65535;
 
 // A count that has lost one comparison and won another. One that has nothing to lose wraps: the sum is taken in more bits,
 // of which the compiler keeps sixteen.
@@ -26,12 +27,12 @@ fn changed(count: u16, lost: u16, won: u16) -> u16
 // The leaving and the entering edge, each against every ring edge. Rotation r at this start stands over the ring as the
 // next rotation does at the next start, so both meet the ring's edge at r. Counts that are no tally may wrap.
 fn change(counts: &mut [u16; MOST_COUNTS], ring: &[u8], leaving: u8, entering: u8) -> Least
-    requires { ⌜ RingFits (length (now ring)) (now counts) ⌝ }
+    requires { ⌜ RingFits (length (now ring)) (length (now counts)) ⌝ }
     ensures { λ z. ⌜ Changed (now (ring .entry)) leaving entering (now (counts .entry)) (now (counts .exit))
         × IsLeast (length (now (ring .entry))) (now (counts .exit)) (z .least)
         × (z .looks ≡ stepLooks (length (now (ring .entry)))) ⌝ }
 {
-    let mut least: u16 = 65535;
+    let mut least = LAST_COUNT;
     let mut looks: usize = 0;
     let mut r = 0;
     while r < ring.len() {
@@ -53,7 +54,7 @@ fn change(counts: &mut [u16; MOST_COUNTS], ring: &[u8], leaving: u8, entering: u
 
 // Each count moves on to the next rotation's number, from the last down so that none is overwritten before it is moved.
 fn renumber(counts: &mut [u16; MOST_COUNTS], m: usize)
-    requires { ⌜ RingFits m (now counts) ⌝ }
+    requires { ⌜ RingFits m (length (now counts)) ⌝ }
     ensures { λ _. ⌜ Renumbered m (now (counts .entry)) (now (counts .exit)) ⌝ }
 {
     let last = counts[m - 1];
@@ -67,7 +68,7 @@ fn renumber(counts: &mut [u16; MOST_COUNTS], m: usize)
 
 // One step. That the least was found before the renumbering does not matter: it moves no count's value.
 fn step(counts: &mut [u16; MOST_COUNTS], ring: &[u8], leaving: u8, entering: u8) -> Least
-    requires { ⌜ RingFits (length (now ring)) (now counts) ⌝ }
+    requires { ⌜ RingFits (length (now ring)) (length (now counts)) ⌝ }
     ensures { λ z. ⌜ IsStepped (now (ring .entry)) leaving entering (now (counts .entry)) (now (counts .exit)) z ⌝ }
 {
     let least = change(counts, ring, leaving, entering);
@@ -92,7 +93,7 @@ pub fn move_along(
     steps: usize,
     below: usize,
 ) -> Reached
-    requires { ⌜ CanMove (now ring) (now line) from steps (now counts) ⌝ }
+    requires { ⌜ CanMove (length (now ring)) (length (now counts)) (length (now line)) from steps ⌝ }
     ensures { λ z. ⌜ IsMovedOn (now (ring .entry)) (now (line .entry)) from steps below (now (counts .entry)) (now (counts .exit)) z ⌝ }
 {
     let m = ring.len();

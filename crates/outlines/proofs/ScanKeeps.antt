@@ -23,7 +23,7 @@ use Rattle.findings.specs.Putting.{CanPut, wordsPut}
 use Rattle.outlines.specs.Scan.{CanScan}
 use Rattle.sweep.proofs.WindowsLeft.{left-from-le, left-start-le}
 use Rattle.sweep.specs.Sweeps.{IsSweptBy}
-use Rattle.sweep.proofs.SweepCases.{before-later}
+use Rattle.sweep.proofs.TallyByRules.{before-later}
 use Rattle.sweep.proofs.SweptByRules.{swept-by-rules}
 use Rattle.meaning.proofs.LookBound.{quickLooks-most}
 use Rattle.outlines.proofs.ScanWindows.{ScanWindows, scanning-start, scanning-end, scanning-looks-le, scanning-left, scanning-room, scanning-found-le, scanning-length, scanning-none, scanning-put, scanning-passed, swept-finding}
@@ -57,10 +57,9 @@ module _ {ring doubled table line : List ℕ} {k : ℕ} {counts₀ area : List �
     keeps-end past = scanning-end (can .admitted .some-edge) (h .scanned) past
 
     -- The sweep can go on.
-    pub keeps-can-sweep : CanSweepOn ring doubled table line k counts at
+    pub keeps-can-sweep : CanSweepOn ring doubled table line counts at
     keeps-can-sweep = record {
       fits = record { size = h .size; some-edge = can .admitted .some-edge; most = can .admitted .most-ring };
-      allowed = can .admitted .allowed;
       most-line = omega (arith, can .admitted .most-line);
       occurs = can .occurs;
       twice = can .twice;

@@ -4,13 +4,12 @@ pub mod ReadTurns
 pub mod WindowTurns
 pub mod TallyWays
 pub mod SweepWays
--- What the rules give, with the ring's own vectors, double and tally.
-pub mod WindowsLeft
-pub mod ReadingLoop
-pub mod LeavingLoop
-pub mod VerifyCases
 pub mod SweepCases
--- The two are the same.
+-- What that is by the rules, with the ring's own vectors, double and tally.
+pub mod ReadByRules
+pub mod WindowsLeft
+pub mod WindowsByRules
+pub mod TallyByRules
 pub mod SweptByRules
 -- Any two answers are equal.
 pub mod OneAnswer

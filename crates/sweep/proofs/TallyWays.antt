@@ -3,23 +3,23 @@
 -- Assumes nothing.
 use Prim.Native.Nat.{ℕ, _-_, _*_, _≤_, _<_}
 use mathlib.Core.Path.{_≡_, ap, _∙_}
-use mathlib.Core.Bool.{_&&_}
 use mathlib.Core.List.{List}
 use native.Mathlib.Nat.{mul-le-mul, mul-le-mul-right}
 use native.Mathlib.Omega.{arith}
 use lib.Dec.{ltb, leb}
 use lib.ListN.{length}
-use borrow.Author.Tests.{lt-ltb, le-ltb, le-leb, lt-leb, ltb-false, leb-true}
-use Rattle.meaning.proofs.Cases.{by-test, and-true}
+use borrow.Author.Tests.{lt-ltb, le-ltb, le-leb, lt-leb, ltb-false}
+use Rattle.meaning.proofs.Cases.{by-test}
 use Rattle.tally.specs.Windows.{windowAt, IsWindow}
-use Rattle.tally.specs.Counts.{mostCounts, canCount, IsCounted}
-use Rattle.moves.specs.Moves.{Place, placeAt, canMove, IsMoved}
+use Rattle.tally.specs.Counts.{mostCounts, canCount, TallyTo, countedTo, IsCounted}
+use Rattle.moves.specs.Moves.{CountsAt, unmoved, canMove, IsMoved}
 use Rattle.tally.specs.declared.counts.Least.{Least}
+use Rattle.tally.proofs.CountCases.{can-count-iff}
 use Rattle.moves.specs.declared.steps.Reached.{Reached}
 use Rattle.moves.proofs.MoveLoop.{move-looks-le}
 use Rattle.sweep.specs.declared.verifying.LastVerified.{LastVerified}
 use Rattle.sweep.specs.declared.verifying.LastVerified.the-variants.{Nothing, At}
-use Rattle.sweep.specs.Sweeps.{TallyTo, afreshTo, movedTo, tallyBy, IsTallied}
+use Rattle.sweep.specs.Sweeps.{movedTo, tallyBy, IsTallied}
 
 module _ (ring doubled line : List ℕ) (i : ℕ) (old : List ℕ) where
   abbrev m : ℕ
@@ -27,11 +27,10 @@ module _ (ring doubled line : List ℕ) (i : ℕ) (old : List ℕ) where
 
   -- What `count_afresh` answers of the window that was handed out.
   afresh-is : (edges new : List ℕ) (z : Least) → IsWindow line i m edges → IsCounted doubled edges old new z
-      → record { counts = new; least = z .least; looks = z .looks } ≡ afreshTo doubled (windowAt m line i) old
-  unfolding afreshTo
+      → record { counts = new; least = z .least; looks = z .looks } ≡ countedTo doubled (windowAt m line i) old
   afresh-is edges new z handed counted =
       (λ j. record { counts = counted .written j; least = counted .least-is j; looks = counted .looks-are j })
-      ∙ ap (λ (w : List ℕ). afreshTo doubled w old) (handed .is)
+      ∙ ap (λ (w : List ℕ). countedTo doubled w old) (handed .is)
 
   -- With no earlier tally.
   pub tallied-first : (last : LastVerified) (edges new : List ℕ) (z : Least) → last ≡ Nothing → IsWindow line i m edges → IsCounted doubled edges old new z
@@ -60,28 +59,25 @@ module _ (ring doubled line : List ℕ) (i : ℕ) (old : List ℕ) where
     unfolding tallyBy movedTo
     tallied-moved new r beyond near moved = record {
       is = rw (after, lt-leb i from beyond, le-ltb m (2 * (i - from)) near)
-          (ap (λ (p : Place). record { counts = p .counts; least = p .least; looks = p .looks }) (moved .is));
+          (ap (λ (p : CountsAt). record { counts = p .counts; least = p .least; looks = p .looks }) (moved .is));
     }
 
   -- A fresh count of the longest ring.
   abbrev pub mostTally : ℕ
   mostTally = mostCounts * mostCounts
 
-  afresh-looks : (window : List ℕ) → afreshTo doubled window old .looks ≤ mostTally
-  unfolding afreshTo canCount
+  afresh-looks : (window : List ℕ) → countedTo doubled window old .looks ≤ mostTally
+  unfolding countedTo
   afresh-looks window =
-      by-test (λ (looks : ℕ). looks ≤ mostTally) (canCount (length window) (length old) (length doubled))
-      (λ e.
-      let both = and-true (ltb 0 (length window) && leb (length window) mostCounts) (leb (length window) (length old) && leb (2 * length window) (length doubled)) e in
-      let most : length window ≤ mostCounts = leb-true (length window) mostCounts (and-true (ltb 0 (length window)) (leb (length window) mostCounts) (both .0) .1) in
-      mul-le-mul most most)
+      by-test (λ (t : TallyTo). t .looks ≤ mostTally) (canCount (length window) (length old) (length doubled))
+      (λ e. let most = can-count-iff (length window) (length old) (length doubled) .0 e .fits .most in mul-le-mul most most)
       (λ _. omega arith)
 
   moved-looks : (from : ℕ) → m ≤ mostCounts → 2 * (i - from) ≤ m → movedTo ring line from (i - from) old .looks ≤ mostTally
   unfolding movedTo
   moved-looks from most near =
-      by-test (λ (p : Place). p .looks ≤ mostTally) (canMove m (length old) (length line) from (i - from))
-      (λ _. omega (arith, move-looks-le ring line 0 (i - from) (placeAt from old), mul-le-mul-right m near, mul-le-mul most most))
+      by-test (λ (p : CountsAt). p .looks ≤ mostTally) (canMove m (length old) (length line) from (i - from))
+      (λ _. omega (arith, move-looks-le ring line 0 (i - from) (unmoved from old), mul-le-mul-right m near, mul-le-mul most most))
       (λ _. omega arith)
 
   -- No verification takes more looks.

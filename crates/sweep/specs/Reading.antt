@@ -1,25 +1,24 @@
--- Reading one window by rules 1 to 3 with the ring's own vectors: what it asks, and what it gives. A window is handed out as a part of
--- the line and read as a line of its own, at start 0; that this is the same is `alone-reading` of crates/meaning.
+-- Rules 1 to 3 for one window, with the ring's own vectors. A window is handed out as a part of the line and read as a line of its own, at start 0; that this is the
+-- same is `alone-reading` of crates/meaning. What reading computes with any table is `readBy` of Reads; that with the ring's own it is this, `read-by-rules` in
+-- proofs/ReadByRules.
+-- Assumes nothing.
 use Prim.Native.Nat.{ℕ, _+_, _≤_, _<_}
 use mathlib.Core.Path.{_≡_}
 use mathlib.Core.List.{List}
 use lib.ListN.{length}
 use Rattle.meaning.specs.Rules.{readWindow}
-use Rattle.vectors.specs.Bits.{wordCount}
 use Rattle.vectors.specs.ByValue.{Occurrences}
 use Rattle.tally.specs.Counts.{mostCounts}
+use Rattle.sweep.specs.declared.reading.WindowRead.{WindowRead}
 
--- What reading asks: a ring within the limit, an allowance below m, a window of m edges, the ring's occurrence vectors, and the word count of m bits.
-pub record CanRead (ring window table : List ℕ) (k words : ℕ) : Type 0 where
+-- A ring within the limit, and a table that holds its occurrence vectors.
+pub record OwnVectors (ring table : List ℕ) : Type 0 where
   pub some-edge : 0 < length ring
   pub most : length ring ≤ mostCounts
-  pub allowed : k < length ring
-  pub long : length window ≡ length ring
   pub occurs : Occurrences ring table
-  pub words-are : words ≡ wordCount (length ring)
 
 -- The window is read as rules 1 to 3 say: its edges read, each one look; those left; its breaks.
-pub record IsWindowRead (ring window : List ℕ) (k left breaks looks : ℕ) : Type 0 where
-  pub read-is : looks ≡ readWindow ring window k 0 .read
-  pub left-is : looks + left ≡ length ring
-  pub breaks-is : breaks ≡ readWindow ring window k 0 .breaks
+pub record IsWindowRead (ring window : List ℕ) (k : ℕ) (r : WindowRead) : Type 0 where
+  pub read-is : r .looks ≡ readWindow ring window k 0 .read
+  pub left-is : r .looks + r .left ≡ length ring
+  pub breaks-is : r .breaks ≡ readWindow ring window k 0 .breaks

@@ -1,8 +1,9 @@
--- Windows read with a table of occurrence vectors, as `sweep_on` reads them, whatever the table holds: rules 1 to 3 with the stretch held as a vector of bits (source
--- document 003). With the ring's own table this is what the rules give: `read-by-rules` and `windows-by-rules` in proofs/.
+-- What reading computes, on every input: rules 1 to 3 with the stretch held as a vector of bits (source document 003), read with whatever table is lent. With the ring's
+-- own table this is what the rules give, `IsWindowRead` of Reading and `IsWindowsRead` of Sweep: `read-by-rules` and `windows-by-rules` in proofs/.
 --
 --   readOn, readWith, readBy    one window
 --   windowsOn, windowsBy        window after window, to the next candidate
+-- Assumes nothing.
 use Prim.Native.Nat.{ℕ, zero, suc, _+_, _-_, _*_, _≤_, _<_}
 use mathlib.Core.Bool.{true, false, cond}
 use mathlib.Core.List.{List}
@@ -62,9 +63,11 @@ windowsOn m table line k (suc left) i looks =
 abbrev pub windowsBy : ℕ → List ℕ → List ℕ → ℕ → ℕ → WindowsRead
 windowsBy m table line k from = windowsOn m table line k (length line + 1 - from) from 0
 
+-- From here on: what private functions ask.
+
 -- What reading windows asks: a ring within the limit, a line that has places for its starts, and a start in it or just past it.
-pub record CanReadWindows (m : ℕ) (line : List ℕ) (from : ℕ) : Type 0 where
+pub record CanReadWindows (m n from : ℕ) : Type 0 where
   pub some-edge : 0 < m
   pub most : m ≤ mostCounts
-  pub most-line : length line < mostPlaces
-  pub start-le : from ≤ length line + 1
+  pub most-line : n < mostPlaces
+  pub start-le : from ≤ n + 1

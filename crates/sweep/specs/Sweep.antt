@@ -1,11 +1,14 @@
--- The sweep, on to the next candidate: what it asks, and what it gives, in the rules' own terms. Scan and report are loops over it.
+-- The sweep by rules 1 to 5, on to the next candidate: what it asks, and what it gives, in the words of crates/meaning. Scan and report are loops over it. What
+-- `sweep_on` computes on every input is `sweepBy` of Sweeps; that it is this, `swept-by-rules` in proofs/.
 --
 --   sweptStart, sweptLast, sweptLooks    where the sweep stands after a window
 --   sweptFound                           what the window reports
 --   LeftTo                               windows left at break k + 1, one after the other
 --   IsWindowsRead                        where reading windows came to
+--   CanSweepOn                           what sweeping by the rules asks
 --   IsSwept                              one window swept
 --   IsSweptOn                            the sweep to the next candidate
+-- Assumes nothing.
 use Prim.Native.Nat.{ℕ, _+_, _-_, _≤_, _<_}
 use mathlib.Core.Path.{_≡_}
 use mathlib.Core.Bool.{Bool, true, false, cond}
@@ -71,15 +74,6 @@ pub data LeftTo (ring line : List ℕ) (k from : ℕ) : ℕ → ℕ → Type 0 w
   one-left : {i looks : ℕ} → LeftTo ring line k from i looks → i + length ring ≤ length line → k < readWindow ring line k i .breaks
       → LeftTo ring line k from (sweptStart ring line k i) (looks + readWindow ring line k i .read)
 
--- What reading windows asks: a call within the limits, the ring's vectors, and a start in the line or just past it.
-pub record CanReadOn (ring table line : List ℕ) (k from : ℕ) : Type 0 where
-  pub some-edge : 0 < length ring
-  pub most : length ring ≤ mostCounts
-  pub allowed : k < length ring
-  pub most-line : length line < mostPlaces
-  pub occurs : Occurrences ring table
-  pub start-le : from ≤ length line + 1
-
 -- Rule 4, "A window with all m edges read and at most k breaks is a candidate": the one at which reading stopped, the start after it, and its reads among
 -- the looks.
 pub record IsCandidateRead (ring line : List ℕ) (k looks : ℕ) (r : WindowsRead) : Type 0 where
@@ -95,11 +89,10 @@ pub record IsWindowsRead (ring line : List ℕ) (k from : ℕ) (r : WindowsRead)
   pub candidate-is : r .candidate ≡ true → IsCandidateRead ring line k looks r
   pub ended : r .candidate ≡ false → (length line < r .start + length ring) × (r .next ≡ r .start) × (r .looks ≡ looks)
 
--- What sweeping on asks: a call within the limits, the ring's vectors and its double, a start in the line or just past it, the tally of the last verified
--- start, and room for more looks.
-pub record CanSweepOn (ring doubled table line : List ℕ) (k : ℕ) (counts : List ℕ) (at : Sweep) : Type 0 where
+-- What sweeping by the rules asks: a ring and a line within the limits, the ring's vectors and its double, a start in the line or just past it, the tally of the last
+-- verified start, and room for more looks. The allowance may be any.
+pub record CanSweepOn (ring doubled table line counts : List ℕ) (at : Sweep) : Type 0 where
   pub fits : TallyFits ring counts
-  pub allowed : k < length ring
   pub most-line : length line < mostPlaces
   pub occurs : Occurrences ring table
   pub twice : IsDoubled ring doubled

@@ -1,21 +1,21 @@
--- What `sweep_on` answers on every input, with whatever tables and counts it is lent. Where they are the ring's own this is what the rules give:
--- `swept-by-rules` in proofs/.
+-- What `sweep_on` computes, on every input, with whatever vectors, doubled ring and counts it is lent. Where they are the ring's own and the last verified start's tally
+-- this is what the rules give, `IsSweptOn` of Sweep: `swept-by-rules` in proofs/.
 --
 --   tallyBy      a start verified: counted afresh, or the tally moved (rule 5)
 --   sweepBy      the sweep to the next candidate, which is verified (rule 4)
 --   canSweep     whether the sweep can go on
 --   IsSweptBy    what `sweep_on` promises
-use Prim.Native.Nat.{ℕ, _+_, _-_, _*_, _≤_, _<_}
+-- Assumes nothing.
+use Prim.Native.Nat.{ℕ, _+_, _-_, _*_, _≤_}
 use mathlib.Core.Path.{_≡_}
 use mathlib.Core.Bool.{Bool, cond, _&&_}
 use mathlib.Core.List.{List}
 use lib.Dec.{ltb, leb}
 use lib.ListN.{length}
-use Rattle.meaning.specs.Looks.{afreshLooks}
 use Rattle.answers.specs.declared.places.Finding.{Finding as FindingStruct}
 use Rattle.tally.specs.Windows.{windowAt}
-use Rattle.tally.specs.Counts.{mostCounts, leastOf, afreshCounts, canCount, lowestWith}
-use Rattle.moves.specs.Moves.{Place, placeAt, moveOn, canMove, mostPlaces}
+use Rattle.tally.specs.Counts.{mostCounts, lowestWith, TallyTo, countedTo}
+use Rattle.moves.specs.Moves.{CountsAt, movedFrom, mostPlaces}
 use Rattle.tally.specs.declared.counts.Least.{Least}
 use Rattle.sweep.specs.declared.verifying.LastVerified.{LastVerified}
 use Rattle.sweep.specs.declared.verifying.LastVerified.the-variants.{Nothing, At}
@@ -23,36 +23,20 @@ use Rattle.sweep.specs.declared.sweeping.Sweep.{Sweep}
 use Rattle.sweep.specs.declared.sweeping.Swept.{Swept}
 use Rattle.sweep.specs.declared.sweeping.Swept.the-variants.{Ended, NoFinding, Found}
 use Rattle.sweep.specs.declared.sweeping.WindowsRead.{WindowsRead}
-use Rattle.sweep.specs.Reads.{windowsBy}
+use Rattle.sweep.specs.Reads.{windowsBy, CanReadWindows}
 
--- The counts of a start once it is verified, their least, and the looks that it took.
-pub record TallyTo : Type 0 where
-  pub counts : List ℕ
-  pub least : ℕ
-  pub looks : ℕ
-
--- Counted afresh, as `count_afresh` promises.
-unfoldable pub afreshTo : List ℕ → List ℕ → List ℕ → TallyTo
-afreshTo doubled window old =
-    let can : Bool = canCount (length window) (length old) (length doubled) in
-    record {
-      counts = cond can (afreshCounts doubled window old) old;
-      least = cond can (leastOf (length window) (afreshCounts doubled window old)) 0;
-      looks = cond can (afreshLooks (length window)) 0;
-    }
-
--- Moved s steps, as `move_counts` promises.
+-- Moved s steps, as `move_counts` promises: no least count is below 0, so it moves all of them.
 unfoldable pub movedTo : List ℕ → List ℕ → ℕ → ℕ → List ℕ → TallyTo
 movedTo ring line from s old =
-    let to : Place = cond (canMove (length ring) (length old) (length line) from s) (moveOn ring line 0 s (placeAt from old)) (placeAt from old) in
+    let to : CountsAt = movedFrom ring line from s 0 old in
     record { counts = to .counts; least = to .least; looks = to .looks }
 
--- Rule 5: "With no earlier tally, or if the new start is s beyond the last verified one and 2·s > m, it is counted afresh. Otherwise it moves s steps." A
--- start that is not beyond the last verified one is counted afresh too.
+-- Rule 5: "With no earlier tally, or if the new start is s beyond the last verified one and 2·s > m, it is counted afresh: m·m looks. Otherwise it moves s
+-- steps". A start that is not beyond the last verified one is counted afresh too.
 unfoldable pub tallyBy : List ℕ → List ℕ → List ℕ → ℕ → LastVerified → List ℕ → TallyTo
-tallyBy ring doubled line i Nothing old = afreshTo doubled (windowAt (length ring) line i) old
+tallyBy ring doubled line i Nothing old = countedTo doubled (windowAt (length ring) line i) old
 tallyBy ring doubled line i (At from) old =
-    let afresh : TallyTo = afreshTo doubled (windowAt (length ring) line i) old in
+    let afresh : TallyTo = countedTo doubled (windowAt (length ring) line i) old in
     let moved : TallyTo = movedTo ring line from (i - from) old in
     let beyond : TallyTo = cond (ltb (length ring) (2 * (i - from))) afresh moved in
     cond (leb i from) afresh beyond
@@ -77,7 +61,7 @@ sweepBy ring doubled table line k at old =
     let verified : SweptTo = cond (ltb k (tally .least)) none found in
     cond (read .candidate) verified ended
 
--- More looks than any sweep takes.
+-- More looks than any sweep takes: 2^62.
 abbrev pub mostLooks : ℕ
 mostLooks = 4611686018427387904
 
@@ -94,17 +78,14 @@ pub record IsSweptBy (ring doubled table line : List ℕ) (k : ℕ) (at : Sweep)
 
 -- From here on: what private functions ask and promise.
 
--- A start is verified.
+-- A start is verified: the counts, their least, and the looks.
 pub record IsTallied (ring doubled line : List ℕ) (i : ℕ) (last : LastVerified) (old new : List ℕ) (z : Least) : Type 0 where
   pub is : record { counts = new; least = z .least; looks = z .looks } ≡ tallyBy ring doubled line i last old
 
--- A sweep that can go on.
-pub record CanSweep (m n : ℕ) (at : Sweep) : Type 0 where
-  pub some-edge : 0 < m
-  pub most : m ≤ mostCounts
-  pub most-line : n < mostPlaces
-  pub start-le : at .start ≤ n + 1
-  pub looks-le : at .looks ≤ mostLooks
+-- What `canSweep` tests, as facts: windows can be read from the start on, and there is room for more looks.
+pub record CanSweep (m n start looks : ℕ) : Type 0 where
+  pub windows : CanReadWindows m n start
+  pub looks-le : looks ≤ mostLooks
 
 -- The sweep to the next candidate.
 pub record IsSweptTo (ring doubled table line : List ℕ) (k : ℕ) (at : Sweep) (old new : List ℕ) (r : Swept) : Type 0 where

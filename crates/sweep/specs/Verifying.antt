@@ -1,8 +1,10 @@
--- Rule 5, which of the two: the tally is counted afresh or moved, with the ring's own double and the last verified start's tally.
+-- What verifying by rule 5 asks: the ring's own double, and counts that hold the last verified start's tally. Whether it is then counted afresh or moved, and at how
+-- many looks, is `tallyLooks` of crates/meaning; that `tallyBy` of Sweeps does that, `tally-by-rules` in proofs/.
 --
 --   lastOf           the last verified start, if there is one
 --   TalliedBefore    what the counts hold then
 --   CanVerify        what verifying a start asks
+-- Assumes nothing.
 use Prim.Native.Nat.{ℕ, _+_, _≤_, _<_}
 use mathlib.Core.List.{List}
 use mathlib.Core.Option.{Option, none, some}

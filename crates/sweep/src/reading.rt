@@ -18,7 +18,7 @@ pub struct WindowRead {
     pub looks: usize,
 }
 
-// Rule 2 and 3, with the held vector in its first `words` words. At break k + 1 the window is left; the test stands at
+// Rules 1 to 3, with the held vector in its first `words` words. At break k + 1 the window is left; the test stands at
 // the break, since nowhere else the count of breaks changes.
 fn read_words(window: &[u8], table: &[u64; TABLE_WORDS], k: usize, words: usize) -> WindowRead
     ensures { λ z. ⌜ z ≡ readWith (now (table .entry)) (now (window .entry)) k words ⌝ }

@@ -16,7 +16,7 @@ ghost use lib.ListN.{length};
 ghost use Rattle.sweep.specs.Reads.{CanReadWindows, windowsBy};
 ghost use Rattle.sweep.specs.Sweeps.{canSweep, CanSweep, IsSweptTo, IsSweptBy};
 
-// More looks than any sweep takes: those of the next windows are added without a look being lost.
+// 2^62, more looks than any sweep takes: those of the next windows are added without a look being lost.
 const MOST_LOOKS: usize = 4611686018427387904;
 
 // Where a sweep stands: the start of the window to be read next, the last verified start, the looks so far.
@@ -53,7 +53,7 @@ fn read_windows(
     k: usize,
     from: usize,
 ) -> WindowsRead
-    requires { ⌜ CanReadWindows m (now line) from ⌝ }
+    requires { ⌜ CanReadWindows m (length (now line)) from ⌝ }
     ensures { λ z. ⌜ z ≡ windowsBy m (now (table .entry)) (now (line .entry)) k from ⌝ }
 {
     let mut i = from;
@@ -90,7 +90,7 @@ fn to_candidate(
     k: usize,
     counts: &mut [u16; MOST_COUNTS],
 ) -> Swept
-    requires { ⌜ CanSweep (length (now ring)) (length (now line)) at ⌝ }
+    requires { ⌜ CanSweep (length (now ring)) (length (now line)) (at .start) (at .looks) ⌝ }
     ensures { λ r. ⌜ IsSweptTo (now (ring .entry)) (now (doubled .entry)) (now (table .entry)) (now (line .entry)) k at (now (counts .entry)) (now (counts .exit)) r ⌝ }
 {
     let last = at.last;

@@ -15,7 +15,7 @@ pub enum LastVerified {
 }
 
 // Rule 5: "With no earlier tally, or if the new start is s beyond the last verified one and 2·s > m, it is counted
-// afresh. Otherwise it moves s steps." A start that is not beyond the last verified one is counted afresh too.
+// afresh: m·m looks. Otherwise it moves s steps". A start that is not beyond the last verified one is counted afresh too.
 pub fn verify(
     counts: &mut [u16; MOST_COUNTS],
     ring: &[u8],

@@ -28,12 +28,12 @@ pub record CountingAfresh (doubled window old counts : List ℕ) (looks q : ℕ)
   pub looks-are : looks ≡ q * length window
   pub looks-le : looks ≤ mostCounts * q
 
-module _ (doubled window first old : List ℕ) (can-first : CanCount (length window) doubled first) (cleared : Cleared (length window) first old) where
+module _ (doubled window first old : List ℕ) (can-first : CanCount (length window) (length first) (length doubled)) (cleared : Cleared (length window) first old) where
   abbrev m : ℕ
   m = length window
 
   -- Clearing leaves as many counts.
-  can : CanCount m doubled old
+  can : CanCount m (length old) (length doubled)
   can = record {
     fits = record { some-edge = can-first .fits .some-edge; most = can-first .fits .most; room = omega (arith, cleared .size, can-first .fits .room) };
     twice = can-first .twice;
@@ -53,7 +53,7 @@ module _ (doubled window first old : List ℕ) (can-first : CanCount (length win
 
   module _ (counts : List ℕ) (looks q : ℕ) (known : CountingAfresh doubled window old counts looks q) where
     -- The counts stay as many, so the window can still be counted.
-    pub counting-afresh-can : CanCount m doubled counts
+    pub counting-afresh-can : CanCount m (length counts) (length doubled)
     counting-afresh-can = record {
       fits = record { some-edge = can .fits .some-edge; most = can .fits .most; room = omega (arith, known .size, can .fits .room) };
       twice = can .twice;

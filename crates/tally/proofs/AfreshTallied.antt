@@ -2,14 +2,13 @@
 -- is the distance of the window, read as a line of its own, under its rotation. A window that is handed out alone has at 0 the distances that it has in the
 -- line at its start.
 -- Assumes nothing.
-use Prim.Native.Nat.{ℕ, _+_, _*_, _≤_, _<_}
-use mathlib.Core.Path.{_≡_, refl, sym, ap, _∙_}
+use Prim.Native.Nat.{ℕ, _+_, _≤_, _<_}
+use mathlib.Core.Path.{_≡_, sym, ap, _∙_}
 use mathlib.Core.Bool.{true}
 use mathlib.Core.List.{List}
 use native.Mathlib.Nat.{zero-add, add-comm}
 use native.Mathlib.Omega.{arith}
 use lib.ListN.{length, getD}
-use borrow.Author.Tests.{lt-ltb, le-leb}
 use Rattle.meaning.specs.Numbers.{count}
 use Rattle.meaning.specs.Meanings.{unequal, differs, distance}
 use Rattle.meaning.specs.Looks.{afreshLooks}
@@ -17,12 +16,13 @@ use Rattle.meaning.proofs.Count.{count-same}
 use Rattle.meaning.proofs.WindowAlone.{alone-distance}
 use Rattle.tally.specs.declared.counts.Least.{Least}
 use Rattle.tally.specs.Windows.{IsWindow}
-use Rattle.tally.specs.Counts.{mostCounts, differsThere, afreshCount, afreshCounts, canCount, IsDoubled, IsCounted}
+use Rattle.tally.specs.Counts.{mostCounts, differsThere, afreshCount, afreshCounts, canCount, countedTo, IsDoubled, IsCounted}
 use Rattle.tally.specs.Tallied.{Verified}
 use Rattle.tally.proofs.WindowEdges.{start-window, start-length}
 use Rattle.tally.proofs.PlaceByPlace.{listOf-length, listOf-first-at}
 use Rattle.tally.proofs.LeastIsOne.{leastOf-is}
 use Rattle.tally.proofs.DoubledLoop.{doubled-edge, doubled-length}
+use Rattle.tally.proofs.CountCases.{can-count-iff}
 
 module _ (ring doubled window : List ℕ) (some : 0 < length ring) (most : length ring ≤ mostCounts) (twice : IsDoubled ring doubled)
     (long : length window ≡ length ring) where
@@ -42,17 +42,16 @@ module _ (ring doubled window : List ℕ) (some : 0 < length ring) (most : lengt
       ap (count (differsThere doubled window r) 0) long
       ∙ count-same (differsThere doubled window r) (differs ring window 0 r) 0 m (λ q _ h. there-differs r q below (omega arith))
 
-  -- The test passes.
+  -- The window can be counted.
   can-be : (old : List ℕ) → length old ≡ mostCounts → canCount (length window) (length old) (length doubled) ≡ true
-  unfolding canCount
   can-be old size =
-      rw (long, size, doubled-length ring doubled twice)
-      (rw (lt-ltb 0 m some, le-leb m mostCounts most, le-leb (2 * m) (2 * mostCounts) (omega arith)) refl)
+      can-count-iff (length window) (length old) (length doubled) .1
+      (record { fits = record { some-edge = omega (arith, long); most = omega (arith, long); room = omega (arith, long) }; twice = omega (arith, long, doubled-length ring doubled twice) })
 
   -- The window is verified.
   pub afresh-verified : (old new : List ℕ) (z : Least) → length old ≡ mostCounts → IsCounted doubled window old new z
       → Verified ring window 0 (afreshLooks m) new (z .least) (z .looks)
-  unfolding afreshCounts
+  unfolding afreshCounts countedTo
   afresh-verified old new z size counted =
       let can = can-be old size in
       let is : new ≡ afreshCounts doubled window old = rw can at (counted .written) in

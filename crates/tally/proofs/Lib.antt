@@ -1,10 +1,11 @@
 -- Laws behind the tally, one module for each idea; the functions' proofs cite them. In the order in which they build on each other.
 pub mod WindowEdges
+pub mod SizesTested
 -- Lists given place by place, and loops over counts.
 pub mod PlaceByPlace
 pub mod StoredBelow
 pub mod LeastSoFar
-pub mod LeastCount
+pub mod LeastLoop
 pub mod LeastIsOne
 pub mod ClearLoop
 pub mod LowestLoop

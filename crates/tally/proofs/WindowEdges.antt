@@ -1,15 +1,28 @@
--- A window handed out as a list: at a start it has m edges, and they are the line's from its start on.
+-- A window handed out as a part of the line: at a start the part from i to i + m, at any other place the empty part. At a start it has m edges, and they are the
+-- line's from its start on.
 -- Assumes nothing.
-use Prim.Native.Nat.{ℕ, _+_, _≤_, _<_}
-use mathlib.Core.Path.{_≡_, refl, ap, _∙_}
-use mathlib.Core.List.{List}
+use Prim.Native.Nat.{ℕ, _+_, _-_, _≤_, _<_}
+use mathlib.Core.Path.{_≡_, refl, sym, ap, _∙_}
+use mathlib.Core.List.{List, []}
 use native.Mathlib.Omega.{arith}
-use lib.ListN.{length, getD, drop, length-drop}
+use lib.ListN.{length, getD, take, drop, length-drop}
 use lib.Seq.{length-take-le}
-use borrow.Author.Tests.{le-leb}
+use borrow.Author.Tests.{le-leb, lt-leb}
 use Rattle.meaning.specs.Meanings.{window, windowEdge}
 use Rattle.meaning.proofs.Places.{window-edge-is}
 use Rattle.tally.specs.Windows.{IsWindow}
+
+module _ (line : List ℕ) (i m : ℕ) where
+  -- Where it would end past the line there is none.
+  pub no-window : length line < i + m → IsWindow line i m []
+  no-window past = record { is = rw (lt-leb (i + m) (length line) past) refl }
+
+  -- At a start it is the part from i to i + m.
+  pub part-window : i + m ≤ length line → IsWindow line i m (take (i + m - i) (drop i line))
+  unfolding window
+  part-window in-line =
+      let size : i + m - i ≡ m = omega arith in
+      record { is = ap (λ (n : ℕ). take n (drop i line)) size ∙ sym (rw (le-leb (i + m) (length line) in-line) refl) }
 
 module _ (line : List ℕ) (i m : ℕ) (edges : List ℕ) (answer : IsWindow line i m edges) (in-line : i + m ≤ length line) where
   -- At a start the window is there.

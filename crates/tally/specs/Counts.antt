@@ -6,6 +6,7 @@
 --   doubledRing     the ring twice, end to end: each rotation is a part of it, so no place has to be taken mod m
 --   afreshCount     how many edges of a window differ from a rotation's
 --   afreshCounts    the counts after that: one for each rotation, the others kept
+--   countedTo       what counting comes to: those counts, their least, and the looks
 --   IsComparison, IsDoubled, IsCounted, IsLowestWith    what `differing`, `double`, `count_afresh` and `lowest_rotation` promise
 -- Assumes nothing.
 use Prim.Native.Nat.{ℕ, zero, suc, _+_, _*_, _%_, _≤_, _<_, min}
@@ -55,7 +56,7 @@ doubledRing ring = listOf (2 * mostCounts) (doubledEdge ring)
 abbrev pub differsThere : List ℕ → List ℕ → ℕ → ℕ → Bool
 differsThere doubled window r q = unequal (getD window q 0) (getD doubled (q + r) 0)
 
--- "The number of places where window and rotation r differ."
+-- "the number of places where window and rotation r differ", counted over the doubled ring.
 unfoldable pub afreshCount : List ℕ → List ℕ → ℕ → ℕ
 afreshCount doubled window r = count (differsThere doubled window r) 0 (length window)
 
@@ -64,9 +65,24 @@ unfoldable pub afreshCounts : List ℕ → List ℕ → List ℕ → List ℕ
 afreshCounts doubled window old =
     listOf (length old) (λ r. cond (ltb r (length window)) (afreshCount doubled window r) (getD old r 0))
 
--- Whether a window of m edges can be counted: one edge at least, no more than there are counts, and a ring of m edges twice.
+-- Whether a window of m edges can be counted with `room` counts and `long` edges of a doubled ring: one edge at least, no more than 256 and no more than there are
+-- counts, and a ring of m edges twice.
 unfoldable pub canCount : ℕ → ℕ → ℕ → Bool
 canCount m room long = (ltb 0 m && leb m mostCounts) && (leb m room && leb (2 * m) long)
+
+-- What counting comes to: the counts, their least, and the looks that it took.
+pub record TallyTo : Type 0 where
+  pub counts : List ℕ
+  pub least : ℕ
+  pub looks : ℕ
+
+-- A window counted afresh, at m·m looks. One that cannot be counted changes no count, and takes no look.
+unfoldable pub countedTo : List ℕ → List ℕ → List ℕ → TallyTo
+countedTo doubled window old =
+    let new : List ℕ = afreshCounts doubled window old in
+    let counted : TallyTo = record { counts = new; least = leastOf (length window) new; looks = afreshLooks (length window) } in
+    let unchanged : TallyTo = record { counts = old; least = 0; looks = 0 } in
+    cond (canCount (length window) (length old) (length doubled)) counted unchanged
 
 -- What `differing` promises: one comparison counts 1 where the two edges differ.
 pub record IsComparison (a b r : ℕ) : Type 0 where
@@ -76,12 +92,11 @@ pub record IsComparison (a b r : ℕ) : Type 0 where
 pub record IsDoubled (ring doubled : List ℕ) : Type 0 where
   pub is : doubled ≡ doubledRing ring
 
--- What `count_afresh` promises: of the doubled ring, a window, the counts, the counts at exit and the answer. Where the window cannot be counted, no
--- count changes.
+-- What `count_afresh` promises: of the doubled ring, a window, the counts, the counts at exit and the answer.
 pub record IsCounted (doubled window old new : List ℕ) (z : Least) : Type 0 where
-  pub written : new ≡ cond (canCount (length window) (length old) (length doubled)) (afreshCounts doubled window old) old
-  pub least-is : z .least ≡ cond (canCount (length window) (length old) (length doubled)) (leastOf (length window) (afreshCounts doubled window old)) 0
-  pub looks-are : z .looks ≡ cond (canCount (length window) (length old) (length doubled)) (afreshLooks (length window)) 0
+  pub written : new ≡ countedTo doubled window old .counts
+  pub least-is : z .least ≡ countedTo doubled window old .least
+  pub looks-are : z .looks ≡ countedTo doubled window old .looks
 
 -- What `lowest_rotation` promises.
 pub record IsLowestWith (m : ℕ) (counts : List ℕ) (least r : ℕ) : Type 0 where
@@ -89,16 +104,16 @@ pub record IsLowestWith (m : ℕ) (counts : List ℕ) (least r : ℕ) : Type 0 w
 
 -- From here on: what private functions ask and promise.
 
--- A ring of m edges that the counts have room for.
-pub record RingFits (m : ℕ) (counts : List ℕ) : Type 0 where
+-- A ring of m edges, and room for its rotations in so many counts.
+pub record RingFits (m counts : ℕ) : Type 0 where
   pub some-edge : 0 < m
   pub most : m ≤ mostCounts
-  pub room : m ≤ length counts
+  pub room : m ≤ counts
 
--- A ring of m edges that can be counted: the counts have room, and it is there twice.
-pub record CanCount (m : ℕ) (doubled counts : List ℕ) : Type 0 where
-  pub fits : RingFits m counts
-  pub twice : 2 * m ≤ length doubled
+-- What `canCount` tests, as facts.
+pub record CanCount (m room long : ℕ) : Type 0 where
+  pub fits : RingFits m room
+  pub twice : 2 * m ≤ long
 
 -- Every rotation's count is 0, the others are kept.
 pub record Cleared (m : ℕ) (old new : List ℕ) : Type 0 where
@@ -106,7 +121,7 @@ pub record Cleared (m : ℕ) (old new : List ℕ) : Type 0 where
   pub each : (r : ℕ) → r < m → getD new r 0 ≡ 0
   pub kept : (r : ℕ) → m ≤ r → getD new r 0 ≡ getD old r 0
 
--- One window edge, at the place that rotation 0 has over ring place `place`, compared with every rotation's edge there.
+-- One window edge, at the place where rotation 0 has ring place `place`, compared with every rotation's edge there.
 pub record EdgeCounted (m : ℕ) (doubled old : List ℕ) (place edge : ℕ) (new : List ℕ) : Type 0 where
   pub size : length new ≡ length old
   pub each : (r : ℕ) → r < m → getD new r 0 ≡ getD old r 0 + oneIf (unequal edge (getD doubled (place + r) 0))

@@ -11,7 +11,7 @@ use answers::to_ring;
 ghost use mathlib.Core.Path.{_≡_};
 ghost use Prim.Native.Nat.{ℕ, _<_, _≤_};
 ghost use lib.ListN.{length, getD};
-ghost use Rattle.tally.specs.Counts.{RingFits, canCount, CanCount, IsDoubled, EdgeCounted, IsCountedAfresh, IsCounted};
+ghost use Rattle.tally.specs.Counts.{canCount, CanCount, IsDoubled, EdgeCounted, IsCountedAfresh, IsCounted};
 
 // The edges of the longest ring twice.
 const DOUBLED: usize = 2 * MOST_COUNTS;
@@ -44,7 +44,7 @@ fn count_edge(
     place: usize,
     edge: u8,
 ) -> usize
-    requires { ⌜ CanCount m (now doubled) (now counts) × (place < m) × ((r : ℕ) → r < m → getD (now counts) r 0 ≤ 256) ⌝ }
+    requires { ⌜ CanCount m (length (now counts)) (length (now doubled)) × (place < m) × ((r : ℕ) → r < m → getD (now counts) r 0 ≤ 256) ⌝ }
     ensures { λ looks. ⌜ EdgeCounted m (now (doubled .entry)) (now (counts .entry)) place edge (now (counts .exit)) × (looks ≡ m) ⌝ }
 {
     let mut looks: usize = 0;
@@ -60,7 +60,7 @@ fn count_edge(
 // Every rotation counted afresh: m edges, each against m ring edges. The window is a line of its own, from place 0 on; the
 // line place of an edge is turned into the ring place that rotation 0 has over it once, outside the loop over the rotations.
 fn count_edges(counts: &mut [u16; MOST_COUNTS], doubled: &[u8], window: &[u8]) -> Least
-    requires { ⌜ CanCount (length (now window)) (now doubled) (now counts) ⌝ }
+    requires { ⌜ CanCount (length (now window)) (length (now counts)) (length (now doubled)) ⌝ }
     ensures { λ z. ⌜ IsCountedAfresh (now (doubled .entry)) (now (window .entry)) (now (counts .entry)) (now (counts .exit)) z ⌝ }
 {
     let m = window.len();
@@ -76,7 +76,8 @@ fn count_edges(counts: &mut [u16; MOST_COUNTS], doubled: &[u8], window: &[u8]) -
     Least { least, looks }
 }
 
-// Whether a window of m edges can be counted: one edge at least, no more than there are counts, and the ring twice.
+// Whether a window of m edges can be counted: one edge at least, no more than there are counts, and the ring twice. The
+// counts are always 256; their length is asked since a contract does not know it of an array that is lent.
 fn can_count(m: usize, room: usize, long: usize) -> bool
     ensures { λ r. ⌜ r ≡ canCount m room long ⌝ }
 {

@@ -1,6 +1,6 @@
 // Counts of differing edges, one for each rotation. A count is at most 256, which eight bits do not hold.
 ghost use mathlib.Core.Path.{_≡_};
-ghost use Prim.Native.Nat.{_<_, _≤_, _^_, min};
+ghost use Prim.Native.Nat.{min};
 ghost use lib.ListN.{length};
 ghost use Rattle.tally.specs.Counts.{mostCounts, IsComparison, RingFits, Cleared, IsLeast, IsLowestWith};
 
@@ -29,7 +29,7 @@ pub fn wide(count: u16) -> usize
 
 // Every count of m rotations starts at 0.
 pub fn clear(counts: &mut [u16; MOST_COUNTS], m: usize)
-    requires { ⌜ RingFits m (now counts) ⌝ }
+    requires { ⌜ RingFits m (length (now counts)) ⌝ }
     ensures { λ _. ⌜ Cleared m (now (counts .entry)) (now (counts .exit)) ⌝ }
 {
     let mut r = 0;
@@ -41,7 +41,7 @@ pub fn clear(counts: &mut [u16; MOST_COUNTS], m: usize)
 
 // The least of the first m counts.
 pub fn least_of(counts: &[u16; MOST_COUNTS], m: usize) -> u16
-    requires { ⌜ RingFits m (now counts) ⌝ }
+    requires { ⌜ RingFits m (length (now counts)) ⌝ }
     ensures { λ z. ⌜ IsLeast m (now (counts .entry)) z ⌝ }
 {
     let mut least = counts[0];

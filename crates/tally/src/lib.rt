@@ -2,8 +2,7 @@
 // the line by crates/moves.
 //
 // What the counts hold at a start stands in specs/Tallied.antt, what each function answers in specs/Windows.antt and
-// specs/Counts.antt. No public
-// function has a `requires`: each takes every input, whatever the counts hold.
+// specs/Counts.antt. No public function has a `requires`: each takes every input, whatever the counts hold.
 mod afresh;
 mod counts;
 mod windows;

@@ -1,34 +1,35 @@
--- `moves::moving::can_move` meets its contract: each return is one case of the test.
+-- `moves::moving::can_move` meets its contract: it answers false where one of the test's comparisons fails, and else the last of them (`SizesTested` of crates/tally).
 -- Assumes nothing.
 use native.Mathlib.Omega.{arith}
 use borrow.Author.Needs.{needs}
-use Rattle.moves.proofs.MoveCases.{can-not-move, same-end}
+use Rattle.tally.proofs.SizesTested.{test-fails}
+use Rattle.moves.proofs.MoveCases.{can-move-iff, can-move-last}
 use Rattle.moves.proofs.moving.can_move.Statement.{statement}
 use Rattle.moves.proofs.moving.can_move.Tie as tie
 
 -- No edge.
 returns : tie.Need-returns
-returns c = can-not-move _ _ _ _ _ (λ can. omega (arith, can .0, c .if1 .taken))
+returns c = test-fails (can-move-iff _ _ _ _ _) (λ can. omega (arith, can .fits .some-edge, c .if1 .taken))
 
 -- More than there are counts.
 returns-2 : tie.Need-returns-2
-returns-2 c = can-not-move _ _ _ _ _ (λ can. omega (arith, can .1, c .if2 .taken))
+returns-2 c = test-fails (can-move-iff _ _ _ _ _) (λ can. omega (arith, can .fits .most, c .if2 .taken))
 
 -- More than the counts at hand.
 returns-3 : tie.Need-returns-3
-returns-3 c = can-not-move _ _ _ _ _ (λ can. omega (arith, can .2, c .if3 .taken))
+returns-3 c = test-fails (can-move-iff _ _ _ _ _) (λ can. omega (arith, can .fits .room, c .if3 .taken))
 
 -- More places than a line has.
 returns-4 : tie.Need-returns-4
-returns-4 c = can-not-move _ _ _ _ _ (λ can. omega (arith, can .3, c .if4 .taken))
+returns-4 c = test-fails (can-move-iff _ _ _ _ _) (λ can. omega (arith, can .most-line, c .if4 .taken))
 
 -- No window fits.
 returns-5 : tie.Need-returns-5
-returns-5 c = can-not-move _ _ _ _ _ (λ can. omega (arith, can .4, c .if5 .taken))
+returns-5 c = test-fails (can-move-iff _ _ _ _ _) (λ can. omega (arith, can .in-line, c .if5 .taken))
 
 -- No window from there on.
 returns-6 : tie.Need-returns-6
-returns-6 c = can-not-move _ _ _ _ _ (λ can. omega (arith, can .4, c .if6 .taken))
+returns-6 c = test-fails (can-move-iff _ _ _ _ _) (λ can. omega (arith, can .in-line, c .if6 .taken))
 
 sub-result : tie.Need-sub-result
 sub-result c = search needs
@@ -40,7 +41,9 @@ returns-7 c =
     let places = fits .before in
     let counts = places .before in
     let most = counts .before in
-    same-end _ _ _ _ _ (omega (arith, most .before .if1 .left)) (most .if2 .left) (counts .if3 .left) (places .if4 .left) (fits .if5 .left) (c .if6 .left)
+    can-move-last _ _ _ _ _
+    (record { some-edge = omega (arith, most .before .if1 .left); most = omega (arith, most .if2 .left); room = omega (arith, counts .if3 .left) })
+    (omega (arith, places .if4 .left)) (omega (arith, fits .if5 .left)) (omega (arith, c .if6 .left))
 
 pub can-move-spec : {M : Type 1} → statement M
 can-move-spec = tie.close (tie.spec returns returns-2 returns-3 returns-4 returns-5 returns-6 sub-result returns-7)

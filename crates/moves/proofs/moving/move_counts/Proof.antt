@@ -3,7 +3,7 @@
 use mathlib.Core.Path.{_∙_, sym}
 use borrow.Author.Needs.{needs}
 use borrow.Author.Tests.{not-true, not-false}
-use Rattle.moves.proofs.MoveCases.{can-move, moved-yes, moved-no}
+use Rattle.moves.proofs.MoveCases.{can-move-iff, moved-yes, moved-no}
 use Rattle.moves.proofs.moving.move_counts.Statement.{statement}
 use Rattle.moves.proofs.moving.move_counts.Tie as tie
 
@@ -17,7 +17,7 @@ returns c = moved-no _ _ _ _ _ _ (sym (c .before .can-move .ensures) ∙ not-tru
 moved-tally-requires : tie.Need-moved-tally-requires
 moved-tally-requires c κs =
     let tested = c .before in
-    can-move _ _ _ _ 0 _ (sym (tested .before .can-move .ensures) ∙ not-false _ (tested .if1 .left))
+    can-move-iff _ _ _ _ _ .0 (sym (tested .before .can-move .ensures) ∙ not-false _ (tested .if1 .left))
 
 -- They are moved.
 returns-2 : tie.Need-returns-2

@@ -19,7 +19,7 @@ use ghost.Atoms.{Atoms}
 use contract.Monad.{Fun, fact}
 use contract.Running.{givenOf, tables, tablesOf}
 use contract.Lifetimes.{AllOutlive}
-use types.Kit.{Given, ‵, raw, some, later, _⊛_, ⋆, _$_, _∵_, !, qed, by, move, keep, drop, use1, use2, use3, split, join, pick, rewrite, fsplit, fsplit3, fjoin, fjoin3, feqI, suffices, frame, await, done}
+use types.Kit.{Given, Item, ‵, raw, some, later, _⊛_, ⋆, _$_, _∵_, !, qed, by, move, keep, drop, use1, use2, use3, split, join, pick, rewrite, fsplit, fsplit3, fjoin3, feqI, suffices, frame, await, done}
 use types.Run.{look, init, forget, stop, hop, fld, from, load, addr, and-then, no-more, assigns, land, returns, enter, alloc1, alloc0, params1, pass1, pass0, free1, free0}
 use types.Mut.{open-ref, close-ref}
 use types.SemTy.{Body}
@@ -30,11 +30,11 @@ use denote.Array.{Array}
 use denote.Memory.{mem, partAt}
 use denote.Laws.{Is, shows}
 use denote.Lend.{lends-ref, ref-back}
-use denote.Plain.{uint-makes, uint-vals, uint-tells}
+use denote.Plain.{uint-vals, uint-tells}
 use denote.Builtin.{u8, u16, usize}
 use denote.Ref.{RefT, MutRef, ptr-vals, mut-tells}
 use denote.Slice.{sliceVal, ShrSlice, slice-vals, shr-slice-tells, shr-slice-lawful, shr-slice-copy}
-use denote.Steps.{owned, peeks, heard, nothing}
+use denote.Steps.{peeks, heard}
 use denote.Struct.Laws.{lawfuls, lawful}
 use denote.Struct.Members.{Member}
 use denote.Struct.Parts.{PartsBack}
@@ -51,6 +51,7 @@ use denote.Signature.{plain}
 use Rattle.moves.specs.declared.moving.Tally.{Tally}
 use Rattle.moves.specs.declared.steps.Reached.{Reached}
 use Rattle.moves.specs.Moves.{CanMove, IsMovedOn}
+use Rattle.moves.proofs.WalkArguments.{six-owned}
 use Rattle.moves.proofs.moving.Tally as T
 use Rattle.moves.proofs.moving.Tally.Laws as T′
 use Rattle.moves.proofs.steps.Reached as Out
@@ -117,6 +118,10 @@ module _ {M : Type 1} (𝓤 : URA M) (H : Heap 𝓤) (A : Atoms 𝓤) (W : Given
   abbrev OwnLine : Fml
   OwnLine = ShrSlice (named 2) κ″ u8 .own line (lineVal ∷ [])
 
+  -- The tokens of the ring's and the line's lifetimes.
+  abbrev Tokens : Item 𝓤
+  Tokens = ‵ (flft κ′ q′) ⊛ (‵ (flft κ″ q″) ⊛ ‵ ftrue)
+
   abbrev Post : Val → SProp 𝓤
   Post = walkOf 𝓤 H A this.ended stayed (this.clauses 𝓤 H A at-mem run) .post (((κ, (κ′, (κ″, tt))), (q, (q′, (q″, tt))), bounds, args, vals), tt)
 
@@ -147,45 +152,41 @@ module _ {M : Type 1} (𝓤 : URA M) (H : Heap 𝓤) (A : Atoms 𝓤) (W : Given
     tt,
   )
 
-  -- What the call asks.
-  goes : (ν : ℕ) (δ : GName) → CanMove (ring .now) (line .now) start steps counts
-      → ent 𝓤 (⋆ 𝓤 H A ((‵ (flft (ν ∷ []) fullShare) ⊛ (‵ (flft κ′ q′) ⊛ (‵ (flft κ″ q″) ⊛ ‵ ftrue))) ∷ ‵ (Lent ν δ) ∷ (‵ OwnRing ⊛ ‵ OwnLine) ∷ []))
-      (Called 𝓤 H A at-mem run .pre (to-callee ν δ))
+  -- What is had for the call, and that it is what the call asks.
+  abbrev had : ℕ → GName → List (Item 𝓤)
+  had ν δ = (‵ (flft (ν ∷ []) fullShare) ⊛ Tokens) ∷ ‵ (Lent ν δ) ∷ (‵ OwnRing ⊛ ‵ OwnLine) ∷ []
+
+  goes : (ν : ℕ) (δ : GName) → CanMove (length (ring .now)) (length counts) (length (line .now)) start steps
+      → ent 𝓤 (⋆ 𝓤 H A (had ν δ)) (Called 𝓤 H A at-mem run .pre (to-callee ν δ))
   goes ν δ can =
-      qed W ((‵ (flft (ν ∷ []) fullShare) ⊛ (‵ (flft κ′ q′) ⊛ (‵ (flft κ″ q″) ⊛ ‵ ftrue))) ∷ ‵ (Lent ν δ) ∷ (‵ OwnRing ⊛ ‵ OwnLine) ∷ []) ∵
-      says ! can $ frame ! $ move ! (1 ∷ []) $ split ! $
-      nothing ! $ owned ! usize (Is usize) (uint-makes 𝓤 H A W w64) below _ (refl, below-fits) $ fjoin ! $
-      owned ! usize (Is usize) (uint-makes 𝓤 H A W w64) steps _ (refl, steps-fits) $ fjoin ! $
-      owned ! usize (Is usize) (uint-makes 𝓤 H A W w64) start _ (refl, start-fits) $ fjoin ! $
-      move ! (2 ∷ 0 ∷ []) $ fjoin ! $ move ! (1 ∷ 0 ∷ []) $ fjoin ! $ move ! (1 ∷ 0 ∷ []) $ fjoin ! $ done !
+      qed W (had ν δ) ∵
+      says ! can $ frame ! $ six-owned ! start steps below start-fits steps-fits below-fits $ done !
 
   -- What the callee ensures, and so what the function does.
   abbrev Said : Reached → List ℕ → Type 0
   Said r after = IsMovedOn (ring .now) (line .now) start steps below counts after r
 
-  -- What is had at exit is what the contract says.
-  exits : (r : Reached) (w : Val) (after : List ℕ) → Said r after
-      → ent 𝓤 (⋆ 𝓤 H A (‵ (fobs γ (R .coded .code (tallyOf after))) ∷ ‵ (fbor κ (Body (mem R) b o γ)) ∷ ‵ (flft κ q)
-      ∷ (‵ (flft κ′ q′) ⊛ (‵ (flft κ″ q″) ⊛ ‵ ftrue)) ∷ ‵ (Out.the-row .own r (w ∷ [])) ∷ ‵ OwnLine ∷ ‵ OwnRing ∷ [])) (Post w)
+  -- What is had at exit, and that it is what the contract says.
+  abbrev left : Reached → Val → List ℕ → List (Item 𝓤)
+  left r w after =
+      ‵ (fobs γ (R .coded .code (tallyOf after))) ∷ ‵ (fbor κ (Body (mem R) b o γ)) ∷ ‵ (flft κ q) ∷ Tokens ∷ ‵ (Out.the-row .own r (w ∷ [])) ∷ ‵ OwnLine ∷ ‵ OwnRing ∷ []
+
+  exits : (r : Reached) (w : Val) (after : List ℕ) → Said r after → ent 𝓤 (⋆ 𝓤 H A (left r w after)) (Post w)
   exits r w after e =
-      qed W (‵ (fobs γ (R .coded .code (tallyOf after))) ∷ ‵ (fbor κ (Body (mem R) b o γ)) ∷ ‵ (flft κ q)
-      ∷ (‵ (flft κ′ q′) ⊛ (‵ (flft κ″ q″) ⊛ ‵ ftrue)) ∷ ‵ (Out.the-row .own r (w ∷ [])) ∷ ‵ OwnLine ∷ ‵ OwnRing ∷ []) ∵
+      qed W (left r w after) ∵
       suffices ! _
       (ends-at 𝓤 H A this.ended stayed (this.clauses 𝓤 H A at-mem run) W (((κ, (κ′, (κ″, tt))), (q, (q′, (q″, tt))), bounds, args, vals), tt) w r
       (tallyOf after, (tt, (tt, (tt, (tt, (tt, tt)))))) (tt, (tt, (tt, (tt, (tt, (tt, tt)))))))
       $ says ! e $
       move ! (2 ∷ 3 ∷ []) $ join ! $ frame ! $ feqI ! (List Val) (vptr b o ∷ []) (vptr b o ∷ []) refl $ fjoin3 ! $
-      nothing ! $ owned ! usize (Is usize) (uint-makes 𝓤 H A W w64) below _ (refl, below-fits) $ fjoin ! $
-      owned ! usize (Is usize) (uint-makes 𝓤 H A W w64) steps _ (refl, steps-fits) $ fjoin ! $
-      owned ! usize (Is usize) (uint-makes 𝓤 H A W w64) start _ (refl, start-fits) $ fjoin ! $
-      move ! (3 ∷ 0 ∷ []) $ fjoin ! $ move ! (3 ∷ 0 ∷ []) $ fjoin ! $ move ! (1 ∷ 0 ∷ []) $ fjoin ! $ frame ! $ done !
+      move ! (3 ∷ 2 ∷ []) $ join ! $ move ! (1 ∷ 0 ∷ []) $ six-owned ! start steps below start-fits steps-fits below-fits $ frame ! $ done !
 
   module _ (C : Calls 𝓤 H) (Λ : Loops 𝓤 H) (fm : FmC 𝓤 H (W .laws) C) (known : Triple 𝓤 (C #move-along) (Called 𝓤 H A at-mem run)) where
-    walk : Is (ShrSlice (named 1) κ′ u8) ring (ringVal ∷ []) → Is (ShrSlice (named 2) κ″ u8) line (lineVal ∷ []) → CanMove (ring .now) (line .now) start steps counts
+    walk : Is (ShrSlice (named 1) κ′ u8) ring (ringVal ∷ []) → Is (ShrSlice (named 2) κ″ u8) line (lineVal ∷ []) → CanMove (length (ring .now)) (length counts) (length (line .now)) start steps
         → ent 𝓤 (onEntry 𝓤 H A this.signature (κ, (κ′, (κ″, tt))) (q, (q′, (q″, tt))) args vals)
         (WpFn 𝓤 H C Λ code.function (vptr b o ∷ ringVal ∷ lineVal ∷ vint w64 start ∷ vint w64 steps ∷ vint w64 below ∷ []) Post)
     walk is-ring is-line can =
-        qed W ((‵ (flft κ q) ⊛ (‵ (flft κ′ q′) ⊛ (‵ (flft κ″ q″) ⊛ ‵ ftrue)))
+        qed W ((‵ (flft κ q) ⊛ Tokens)
         ∷ ‵ (owns (MutRef (named 0) κ R ∷ ShrSlice (named 1) κ′ u8 ∷ ShrSlice (named 2) κ″ u8 ∷ usize ∷ usize ∷ usize ∷ []) args vals) ∷ []) ∵
         enter ! C Λ code.function (vptr b o ∷ ringVal ∷ lineVal ∷ vint w64 start ∷ vint w64 steps ∷ vint w64 below ∷ []) _ $
         alloc1 ! (λ l₀. alloc1 ! (λ l₁. alloc1 ! (λ l₂. alloc1 ! (λ l₃. alloc1 ! (λ l₄. alloc1 ! (λ l₅. alloc1 ! (λ l₆. alloc1 ! (λ l₇. alloc0 ! $ params1 ! $
@@ -217,7 +218,7 @@ module _ {M : Type 1} (𝓤 : URA M) (H : Heap 𝓤) (A : Atoms 𝓤) (W : Given
         (and-then ! (load ! (from ! (stop !)) (look ! 9 refl)) (and-then ! (load ! (from ! (stop !)) (look ! 19 refl))
         (and-then ! (load ! (from ! (stop !)) (look ! 17 refl)) (and-then ! (load ! (from ! (stop !)) (look ! 15 refl))
         (and-then ! (load ! (from ! (stop !)) (look ! 13 refl)) (and-then ! (load ! (from ! (stop !)) (look ! 11 refl)) (no-more !))))))) (λ w.
-        use1 W (later (some (λ (r : Reached). ((‵ (flft (ν ∷ []) fullShare) ⊛ (‵ (flft κ′ q′) ⊛ (‵ (flft κ″ q″) ⊛ ‵ ftrue))) ⊛ ‵ (Out.the-row .own r (w ∷ [])))
+        use1 W (later (some (λ (r : Reached). ((‵ (flft (ν ∷ []) fullShare) ⊛ Tokens) ⊛ ‵ (Out.the-row .own r (w ∷ [])))
         ⊛ raw (ensured 𝓤 H A callee.ended (callee.clauses 𝓤 H A at-mem run) (ν ∷ [], (κ′, (κ″, tt))) (lent δ, (ring, (line, (start, (steps, (below, tt)))))) tt r)))) (id⊢ 𝓤 _) $
         await ! tt $ pick ! (λ r. split ! $ move ! (1 ∷ []) $
         use1 W (some (λ (ends : List ℕ × (Unit {0} × (Unit {0} × (Unit {0} × (Unit {0} × (Unit {0} × Unit {0})))))).
@@ -253,7 +254,7 @@ module _ {M : Type 1} (𝓤 : URA M) (H : Heap 𝓤) (A : Atoms 𝓤) (W : Given
           (shr-slice-tells (named 2) (κs .1 .1 .0) u8, (uint-tells w64, (uint-tells w64, (uint-tells w64, tt)))),
         ),
       ))
-      (λ κs qs bounds a g are. needs 𝓤 (CanMove (a .1 .0 .now) (a .1 .1 .0 .now) (a .1 .1 .1 .0) (a .1 .1 .1 .1 .0) (a .0 .now .counts)) _
+      (λ κs qs bounds a g are. needs 𝓤 (CanMove (length (a .1 .0 .now)) (length (a .0 .now .counts)) (length (a .1 .1 .0 .now)) (a .1 .1 .1 .0) (a .1 .1 .1 .1 .0)) _
       (walk 𝓤 H A W mem run (κs .0) (κs .1 .0) (κs .1 .1 .0) bounds (qs .0) (qs .1 .0) (qs .1 .1 .0) (a .0 .ptr .0) (a .0 .ptr .1) (a .0 .name) (a .0 .now .counts)
       (a .1 .0) (a .1 .1 .0) (a .1 .1 .1 .0) (a .1 .1 .1 .1 .0) (a .1 .1 .1 .1 .1 .0)
       (are .1 .1 .1 .0 .1) (are .1 .1 .1 .1 .0 .1) (are .1 .1 .1 .1 .1 .0 .1) C Λ fm known (are .1 .0) (are .1 .1 .0)))

@@ -19,7 +19,7 @@ use prog.Wp.{Heap, Calls, Loops, WpFn, Tables}
 use ghost.Atoms.{Atoms}
 use contract.Monad.{Fun, fact}
 use contract.Running.{givenOf, tables, tablesOf}
-use types.Kit.{Given, ‵, raw, some, later, _⊛_, ⋆, _$_, _∵_, !, qed, by, move, keep, drop, use1, use2, use3, split, join, pick, fsplit, fjoin, suffices, frame, await, done}
+use types.Kit.{Given, Item, ‵, raw, some, later, _⊛_, ⋆, _$_, _∵_, !, qed, by, move, keep, drop, use1, use2, use3, split, join, pick, fsplit, fjoin, suffices, frame, await, done}
 use types.Run.{look, init, forget, stop, from, load, addr, of-opd, and-then, no-more, assigns, land, returns, enter, alloc1, alloc0, params1, pass1, pass0, free1, free0}
 use types.Part.{agg}
 use types.SemTy.{Body}
@@ -30,7 +30,7 @@ use denote.RattleType.{RattleType, owns}
 use denote.Memory.{mem}
 use denote.Laws.{Is, shows}
 use denote.Lend.{lends-ref, ref-back}
-use denote.Plain.{uint-makes, uint-vals, uint-tells}
+use denote.Plain.{uint-vals, uint-tells}
 use denote.Builtin.{u8, usize}
 use denote.Ref.{RefT, MutRef}
 use denote.Slice.{sliceVal, ShrSlice, slice-vals, shr-slice-tells, shr-slice-lawful, shr-slice-copy}
@@ -50,6 +50,7 @@ use Rattle.moves.specs.declared.moving.Tally.{Tally}
 use Rattle.moves.specs.declared.moving.Moved.{Moved}
 use Rattle.moves.specs.declared.steps.Reached.{Reached}
 use Rattle.moves.specs.Moves.{CanMove, IsMovedOn}
+use Rattle.moves.proofs.WalkArguments.{six-owned}
 use Rattle.moves.proofs.moving.Tally as T
 use Rattle.moves.proofs.moving.Tally.Laws as T′
 use Rattle.moves.proofs.steps.Reached as To
@@ -110,6 +111,10 @@ module _ {M : Type 1} (𝓤 : URA M) (H : Heap 𝓤) (A : Atoms 𝓤) (W : Given
   abbrev OwnLine : Fml
   OwnLine = ShrSlice (named 1) κ′ u8 .own line (lineVal ∷ [])
 
+  -- The tokens of the ring's and the line's lifetimes.
+  abbrev Tokens : Item 𝓤
+  Tokens = ‵ (flft κ q) ⊛ (‵ (flft κ′ q′) ⊛ ‵ ftrue)
+
   abbrev Post : Val → SProp 𝓤
   Post = walkOf 𝓤 H A this.ended stayed (this.clauses 𝓤 H A at-mem run) .post (((κ, (κ′, tt)), (q, (q′, tt)), tt, args, vals), tt)
 
@@ -133,19 +138,15 @@ module _ {M : Type 1} (𝓤 : URA M) (H : Heap 𝓤) (A : Atoms 𝓤) (W : Given
     tt,
   )
 
-  -- What the call asks.
-  goes : (l ν : ℕ) (δ : GName) → CanMove (ring .now) (line .now) start steps (tally .counts)
-      → ent 𝓤 (⋆ 𝓤 H A ((‵ (flft (ν ∷ []) fullShare) ⊛ (‵ (flft κ q) ⊛ (‵ (flft κ′ q′) ⊛ ‵ ftrue))) ∷ ‵ (Lent l ν δ)
-      ∷ (‵ (ShrSlice (named 1) κ u8 .own ring (ringVal ∷ [])) ⊛ ‵ (ShrSlice (named 2) κ′ u8 .own line (lineVal ∷ []))) ∷ []))
-      (Called 𝓤 H A at-mem run .pre (to-callee l ν δ))
+  -- What is had for the call, and that it is what the call asks.
+  abbrev had : ℕ → ℕ → GName → List (Item 𝓤)
+  had l ν δ = (‵ (flft (ν ∷ []) fullShare) ⊛ Tokens) ∷ ‵ (Lent l ν δ) ∷ (‵ OwnRing ⊛ ‵ OwnLine) ∷ []
+
+  goes : (l ν : ℕ) (δ : GName) → CanMove (length (ring .now)) (length (tally .counts)) (length (line .now)) start steps
+      → ent 𝓤 (⋆ 𝓤 H A (had l ν δ)) (Called 𝓤 H A at-mem run .pre (to-callee l ν δ))
   goes l ν δ can =
-      qed W ((‵ (flft (ν ∷ []) fullShare) ⊛ (‵ (flft κ q) ⊛ (‵ (flft κ′ q′) ⊛ ‵ ftrue))) ∷ ‵ (Lent l ν δ)
-      ∷ (‵ (ShrSlice (named 1) κ u8 .own ring (ringVal ∷ [])) ⊛ ‵ (ShrSlice (named 2) κ′ u8 .own line (lineVal ∷ []))) ∷ []) ∵
-      says ! can $ frame ! $ move ! (1 ∷ []) $ split ! $
-      nothing ! $ owned ! usize (Is usize) (uint-makes 𝓤 H A W w64) below _ (refl, below-fits) $ fjoin ! $
-      owned ! usize (Is usize) (uint-makes 𝓤 H A W w64) steps _ (refl, steps-fits) $ fjoin ! $
-      owned ! usize (Is usize) (uint-makes 𝓤 H A W w64) start _ (refl, start-fits) $ fjoin ! $
-      move ! (2 ∷ 0 ∷ []) $ fjoin ! $ move ! (1 ∷ 0 ∷ []) $ fjoin ! $ move ! (1 ∷ 0 ∷ []) $ fjoin ! $ done !
+      qed W (had l ν δ) ∵
+      says ! can $ frame ! $ six-owned ! start steps below start-fits steps-fits below-fits $ done !
 
   -- What the callee ensures.
   abbrev Said : Reached → Tally → Type 0
@@ -155,33 +156,29 @@ module _ {M : Type 1} (𝓤 : URA M) (H : Heap 𝓤) (A : Atoms 𝓤) (W : Given
   made r after = record { tally = after; reached = r }
 
   -- What the result's fields own, at their machine values.
-  abbrev had : Reached → Tally → List Val × (List Val × Unit {0}) → Fml
-  had r after vss = fsep (R .own after (vss .0)) (fsep (To.the-row .own r (vss .1 .0)) ftrue)
+  abbrev fields : Reached → Tally → List Val × (List Val × Unit {0}) → Fml
+  fields r after vss = fsep (R .own after (vss .0)) (fsep (To.the-row .own r (vss .1 .0)) ftrue)
 
-  -- What is had at exit is what the contract says.
-  exits : (r : Reached) (after : Tally) (w : Val) → Said r after
-      → ent 𝓤 (⋆ 𝓤 H A (‵ (Out.the-row .own (made r after) (w ∷ [])) ∷ (‵ (flft κ q) ⊛ (‵ (flft κ′ q′) ⊛ ‵ ftrue)) ∷ ‵ OwnLine ∷ ‵ OwnRing
-      ∷ ‵ (R .own tally (tallyVal ∷ [])) ∷ [])) (Post w)
+  -- What is had at exit, and that it is what the contract says.
+  abbrev left : Reached → Tally → Val → List (Item 𝓤)
+  left r after w = ‵ (Out.the-row .own (made r after) (w ∷ [])) ∷ Tokens ∷ ‵ OwnLine ∷ ‵ OwnRing ∷ ‵ (R .own tally (tallyVal ∷ [])) ∷ []
+
+  exits : (r : Reached) (after : Tally) (w : Val) → Said r after → ent 𝓤 (⋆ 𝓤 H A (left r after w)) (Post w)
   exits r after w e =
-      qed W (‵ (Out.the-row .own (made r after) (w ∷ [])) ∷ (‵ (flft κ q) ⊛ (‵ (flft κ′ q′) ⊛ ‵ ftrue)) ∷ ‵ OwnLine ∷ ‵ OwnRing
-      ∷ ‵ (R .own tally (tallyVal ∷ [])) ∷ []) ∵
+      qed W (left r after w) ∵
       suffices ! _
       (ends-at 𝓤 H A this.ended stayed (this.clauses 𝓤 H A at-mem run) W (((κ, (κ′, tt)), (q, (q′, tt)), tt, args, vals), tt) w (made r after)
       (tt, (tt, (tt, (tt, (tt, (tt, tt)))))) (tt, (tt, (tt, (tt, (tt, (tt, tt)))))))
       $ says ! e $
-      move ! (1 ∷ []) $ frame ! $
-      nothing ! $ owned ! usize (Is usize) (uint-makes 𝓤 H A W w64) below _ (refl, below-fits) $ fjoin ! $
-      owned ! usize (Is usize) (uint-makes 𝓤 H A W w64) steps _ (refl, steps-fits) $ fjoin ! $
-      owned ! usize (Is usize) (uint-makes 𝓤 H A W w64) start _ (refl, start-fits) $ fjoin ! $
-      move ! (2 ∷ 0 ∷ []) $ fjoin ! $ move ! (2 ∷ 0 ∷ []) $ fjoin ! $ move ! (2 ∷ 0 ∷ []) $ fjoin ! $ frame ! $ done !
+      move ! (1 ∷ []) $ frame ! $ move ! (2 ∷ 1 ∷ []) $ join ! $ move ! (2 ∷ 0 ∷ []) $ six-owned ! start steps below start-fits steps-fits below-fits $ frame ! $ done !
 
   module _ (C : Calls 𝓤 H) (Λ : Loops 𝓤 H) (fm : FmC 𝓤 H (W .laws) C) (known : Triple 𝓤 (C #move-tally) (Called 𝓤 H A at-mem run)) where
     walk : Is R tally (tallyVal ∷ []) → Holds (hasTy T′.mir tallyVal) × WT tallyVal → Is (ShrSlice (named 0) κ u8) ring (ringVal ∷ [])
-        → Is (ShrSlice (named 1) κ′ u8) line (lineVal ∷ []) → CanMove (ring .now) (line .now) start steps (tally .counts)
+        → Is (ShrSlice (named 1) κ′ u8) line (lineVal ∷ []) → CanMove (length (ring .now)) (length (tally .counts)) (length (line .now)) start steps
         → ent 𝓤 (onEntry 𝓤 H A this.signature (κ, (κ′, tt)) (q, (q′, tt)) args vals)
         (WpFn 𝓤 H C Λ code.function (tallyVal ∷ ringVal ∷ lineVal ∷ vint w64 start ∷ vint w64 steps ∷ vint w64 below ∷ []) Post)
     walk is-tally typed is-ring is-line can =
-        qed W ((‵ (flft κ q) ⊛ (‵ (flft κ′ q′) ⊛ ‵ ftrue))
+        qed W (Tokens
         ∷ ‵ (owns (R ∷ ShrSlice (named 0) κ u8 ∷ ShrSlice (named 1) κ′ u8 ∷ usize ∷ usize ∷ usize ∷ []) args vals) ∷ []) ∵
         enter ! C Λ code.function (tallyVal ∷ ringVal ∷ lineVal ∷ vint w64 start ∷ vint w64 steps ∷ vint w64 below ∷ []) _ $
         alloc1 ! (λ l₀. alloc1 ! (λ l₁. alloc1 ! (λ l₂. alloc1 ! (λ l₃. alloc1 ! (λ l₄. alloc1 ! (λ l₅. alloc1 ! (λ l₆. alloc1 ! (λ l₇. alloc1 ! (λ l₈. alloc1 ! (λ l₉.
@@ -212,7 +209,7 @@ module _ {M : Type 1} (𝓤 : URA M) (H : Heap 𝓤) (A : Atoms 𝓤) (W : Given
         (and-then ! (load ! (from ! (stop !)) (look ! 8 refl)) (and-then ! (load ! (from ! (stop !)) (look ! 21 refl))
         (and-then ! (load ! (from ! (stop !)) (look ! 19 refl)) (and-then ! (load ! (from ! (stop !)) (look ! 17 refl))
         (and-then ! (load ! (from ! (stop !)) (look ! 15 refl)) (and-then ! (load ! (from ! (stop !)) (look ! 13 refl)) (no-more !))))))) (λ w.
-        use1 W (later (some (λ (r : Reached). ((‵ (flft (ν ∷ []) fullShare) ⊛ (‵ (flft κ q) ⊛ (‵ (flft κ′ q′) ⊛ ‵ ftrue))) ⊛ ‵ (To.the-row .own r (w ∷ [])))
+        use1 W (later (some (λ (r : Reached). ((‵ (flft (ν ∷ []) fullShare) ⊛ Tokens) ⊛ ‵ (To.the-row .own r (w ∷ [])))
         ⊛ raw (ensured 𝓤 H A callee.ended (callee.clauses 𝓤 H A at-mem run) (ν ∷ [], (κ, (κ′, tt))) (lent l₇ δ, (ring, (line, (start, (steps, (below, tt)))))) tt r)))) (id⊢ 𝓤 _) $
         await ! tt $ pick ! (λ r. split ! $ move ! (1 ∷ []) $
         use1 W (some (λ (ends : Tally × (Unit {0} × (Unit {0} × (Unit {0} × (Unit {0} × (Unit {0} × Unit {0})))))).
@@ -230,7 +227,7 @@ module _ {M : Type 1} (𝓤 : URA M) (H : Heap 𝓤) (A : Atoms 𝓤) (W : Given
         assigns ! (of-opd ! (load ! (from ! (stop !)) (look ! 1 refl))) (from ! (stop !)) (init ! 9 refl (laws.lawful T.the-type T′.the-laws 𝓤 H A W .typed (ends .0) _ is′ .0)) $
         nothing ! $ move ! (4 ∷ 0 ∷ []) $ fjoin ! $ move ! (1 ∷ 0 ∷ []) $ fjoin ! $ move ! (3 ∷ []) $ drop ! $
         use1 W (‵ (Out.the-row .own (made r (ends .0)) (vstruct (vcons u (vcons w vnil)) ∷ [])))
-        (makes 𝓤 H A W (T.the-field .row ∷ To.the-field .row ∷ []) (had r (ends .0)) (u ∷ [], (w ∷ [], tt))) $
+        (makes 𝓤 H A W (T.the-field .row ∷ To.the-field .row ∷ []) (fields r (ends .0)) (u ∷ [], (w ∷ [], tt))) $
         peeks ! Out.the-row (Is Out.the-row) (shows 𝓤 H A Out.the-row) (made r (ends .0)) (vstruct (vcons u (vcons w vnil)) ∷ []) (λ is″.
         -- [what the result owns; _7's cell; the tokens; the line; what is left; the ring; what the tally owns; _10; …; _9; …; _8; …; … of _7; _6; …; _1; …; room for _0; …]
         assigns ! (agg ! (and-then ! (load ! (from ! (stop !)) (look ! 7 refl)) (and-then ! (load ! (from ! (stop !)) (look ! 11 refl)) (no-more !)))) (from ! (stop !))
@@ -256,7 +253,7 @@ module _ {M : Type 1} (𝓤 : URA M) (H : Heap 𝓤) (A : Atoms 𝓤) (W : Given
           (shr-slice-tells (named 1) (κs .1 .0) u8, (uint-tells w64, (uint-tells w64, (uint-tells w64, tt)))),
         ),
       ))
-      (λ κs qs bounds a g are. needs 𝓤 (CanMove (a .1 .0 .now) (a .1 .1 .0 .now) (a .1 .1 .1 .0) (a .1 .1 .1 .1 .0) (a .0 .counts)) _
+      (λ κs qs bounds a g are. needs 𝓤 (CanMove (length (a .1 .0 .now)) (length (a .0 .counts)) (length (a .1 .1 .0 .now)) (a .1 .1 .1 .0) (a .1 .1 .1 .1 .0)) _
       (walk 𝓤 H A W mem run (κs .0) (κs .1 .0) (qs .0) (qs .1 .0) (a .0) (a .1 .0) (a .1 .1 .0) (a .1 .1 .1 .0) (a .1 .1 .1 .1 .0) (a .1 .1 .1 .1 .1 .0)
       (are .1 .1 .1 .0 .1) (are .1 .1 .1 .1 .0 .1) (are .1 .1 .1 .1 .1 .0 .1) C Λ fm known
       (are .0) (laws.lawful T.the-type T′.the-laws 𝓤 H A W .typed (a .0) _ (are .0) .0) (are .1 .0) (are .1 .1 .0)))

@@ -1,7 +1,7 @@
 -- `moves::steps::step` meets its contract: the counts are changed, then renumbered, and renumbering leaves the least.
 -- Assumes nothing.
 use borrow.Author.Needs.{needs}
-use Rattle.moves.proofs.StepIsOne.{stepped-is}
+use Rattle.moves.proofs.SteppedCounts.{stepped-is}
 use Rattle.moves.proofs.steps.step.Statement.{statement}
 use Rattle.moves.proofs.steps.step.Tie as tie
 

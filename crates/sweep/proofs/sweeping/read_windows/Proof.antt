@@ -6,22 +6,21 @@ use native.Mathlib.Omega.{arith}
 use borrow.Author.Needs.{needs}
 use lib.ListN.{length}
 use Rattle.tally.proofs.WindowEdges.{start-length}
-use Rattle.sweep.specs.Reads.{CanReadWindows}
-use Rattle.sweep.proofs.WindowTurns.{StillWindows, windows-start, windows-end, windows-reads, windows-stop, windows-turn}
+use Rattle.sweep.proofs.WindowTurns.{StillWindows, windows-start, windows-end, windows-next-le, windows-looks-le, windows-stop, windows-turn}
 use Rattle.sweep.proofs.sweeping.read_windows.Statement.{statement}
 use Rattle.sweep.proofs.sweeping.read_windows.Tie as tie
 
 abbrev Inv-loop : tie.InvT-loop
-Inv-loop m table line k from i₀ looks₀ i looks = (ok : CanReadWindows m line from) × StillWindows m table line k (ok .some-edge) (ok .most) from ok i looks
+Inv-loop m table line k from i₀ looks₀ i looks = StillWindows m table line k from i looks
 
 abbrev μ-loop : tie.MeasureT-loop
 μ-loop m table line k from i₀ looks₀ i looks = length line + 1 - i
 
 loop-holds : tie.Need-loop-holds Inv-loop μ-loop
-loop-holds c = let ok = c .before .pre in (ok, windows-start _ _ _ _ (ok .some-edge) (ok .most) _ ok)
+loop-holds c = windows-start _ _ _ _ _ (c .before .pre)
 
 add-loop : tie.Need-add-loop Inv-loop μ-loop
-add-loop c = let inv = c .loop .inv in omega (arith, inv .1 .start-le, inv .0 .most, inv .0 .most-line)
+add-loop c = let pre = c .before .before .pre in omega (arith, c .loop .inv .start-le, pre .most, pre .most-line)
 
 window-requires : tie.Need-window-requires Inv-loop μ-loop
 window-requires c κs = search needs
@@ -29,58 +28,42 @@ window-requires c κs = search needs
 read-window-requires : tie.Need-read-window-requires Inv-loop μ-loop
 read-window-requires c κs =
     let turn = c .before in
-    let ok = turn .before .loop .inv .0 in (
-      omega (arith, start-length _ _ _ _ (c .window .ensures) (turn .loop-test .taken), ok .some-edge),
-      omega (arith, start-length _ _ _ _ (c .window .ensures) (turn .loop-test .taken), ok .most),
+    let pre = turn .before .before .before .pre in
+    let size = start-length _ _ _ _ (c .window .ensures) (turn .loop-test .taken) in (
+      omega (arith, size, pre .some-edge),
+      omega (arith, size, pre .most),
     )
 
 add-looks : tie.Need-add-looks Inv-loop μ-loop
 add-looks c =
     let read = c .before in
     let turn = read .before .before in
-    let inv = turn .before .loop .inv in
-    omega (
-      arith,
-      windows-reads _ _ _ _ (inv .0 .some-edge) (inv .0 .most) _ (inv .0) _ _ (inv .1) (turn .loop-test .taken) _ (read .before .window .ensures) _ (read .read-window .ensures) .0,
-      inv .1 .looks-le,
-      inv .1 .start-le,
-      inv .0 .most,
-      inv .0 .most-line,
-    )
+    let pre = turn .before .before .before .pre in
+    let known = turn .before .loop .inv in
+    let next-le = windows-next-le _ _ _ _ _ pre _ _ known (turn .loop-test .taken) _ (read .before .window .ensures) _ (read .read-window .ensures) in
+    let looks-le = windows-looks-le _ _ _ _ _ pre _ _ known (turn .loop-test .taken) _ (read .before .window .ensures) _ (read .read-window .ensures) in
+    omega (arith, looks-le, next-le, pre .most-line)
 
 add-next : tie.Need-add-next Inv-loop μ-loop
 add-next c =
     let read = c .before .before in
     let turn = read .before .before in
-    let inv = turn .before .loop .inv in
-    omega (
-      arith,
-      windows-reads _ _ _ _ (inv .0 .some-edge) (inv .0 .most) _ (inv .0) _ _ (inv .1) (turn .loop-test .taken) _ (read .before .window .ensures) _ (read .read-window .ensures) .1,
-      inv .1 .start-le,
-      inv .0 .most,
-      inv .0 .most-line,
-    )
+    let pre = turn .before .before .before .pre in
+    omega (arith, pre .most-line, windows-next-le _ _ _ _ _ pre _ _ (turn .before .loop .inv) (turn .loop-test .taken) _ (read .before .window .ensures) _ (read .read-window .ensures))
 
 add-next-2 : tie.Need-add-next-2 Inv-loop μ-loop
 add-next-2 c =
     let read = c .before .before in
     let turn = read .before .before in
-    let inv = turn .before .loop .inv in
-    omega (
-      arith,
-      windows-reads _ _ _ _ (inv .0 .some-edge) (inv .0 .most) _ (inv .0) _ _ (inv .1) (turn .loop-test .taken) _ (read .before .window .ensures) _ (read .read-window .ensures) .1,
-      inv .1 .start-le,
-      inv .0 .most,
-      inv .0 .most-line,
-    )
+    let pre = turn .before .before .before .pre in
+    omega (arith, pre .most-line, windows-next-le _ _ _ _ _ pre _ _ (turn .before .loop .inv) (turn .loop-test .taken) _ (read .before .window .ensures) _ (read .read-window .ensures))
 
 -- The candidate.
 returns : tie.Need-returns Inv-loop μ-loop
 returns c =
     let read = c .before .before .before .before in
     let turn = read .before .before in
-    let inv = turn .before .loop .inv in
-    windows-stop _ _ _ _ (inv .0 .some-edge) (inv .0 .most) _ (inv .0) _ _ (inv .1) (turn .loop-test .taken) _ (read .before .window .ensures) _
+    windows-stop _ _ _ _ _ (turn .before .before .before .pre) _ _ (turn .before .loop .inv) (turn .loop-test .taken) _ (read .before .window .ensures) _
     (read .read-window .ensures) (omega (arith, c .if1 .taken))
 
 loop-less : tie.Need-loop-less Inv-loop μ-loop
@@ -91,17 +74,12 @@ loop-again : tie.Need-loop-again Inv-loop μ-loop
 loop-again c =
     let read = c .before .before .before .before in
     let turn = read .before .before in
-    let inv = turn .before .loop .inv in (
-      inv .0,
-      windows-turn _ _ _ _ (inv .0 .some-edge) (inv .0 .most) _ (inv .0) _ _ (inv .1) (turn .loop-test .taken) _ (read .before .window .ensures) _
-          (read .read-window .ensures) (omega (arith, c .if1 .left)),
-    )
+    windows-turn _ _ _ _ _ (turn .before .before .before .pre) _ _ (turn .before .loop .inv) (turn .loop-test .taken) _ (read .before .window .ensures) _
+    (read .read-window .ensures) (omega (arith, c .if1 .left))
 
 -- No window is in the line any more.
 returns-2 : tie.Need-returns-2 Inv-loop μ-loop
-returns-2 c =
-    let inv = c .before .loop .inv in
-    windows-end _ _ _ _ (inv .0 .some-edge) (inv .0 .most) _ (inv .0) _ _ (inv .1) (omega (arith, c .loop-test .left))
+returns-2 c = windows-end _ _ _ _ _ (c .before .before .before .pre) _ _ (c .before .loop .inv) (omega (arith, c .loop-test .left))
 
 pub read-windows-spec : {M : Type 1} → statement M
 read-windows-spec =

@@ -1,10 +1,9 @@
--- `sweep::sweeping::sweep_on` meets its contract: its two ways are the two cases of the test (`SweepWays`).
+-- `sweep::sweeping::sweep_on` meets its contract: its two ways are the two cases of the test (`SweepCases`).
 -- Assumes nothing.
 use mathlib.Core.Path.{_∙_, sym}
-use mathlib.Core.List.{[]}
 use borrow.Author.Needs.{needs}
 use borrow.Author.Tests.{not-true, not-false}
-use Rattle.sweep.proofs.SweepWays.{can-sweep, swept-yes, swept-no}
+use Rattle.sweep.proofs.SweepCases.{can-sweep-iff, swept-yes, swept-no}
 use Rattle.sweep.proofs.sweeping.sweep_on.Statement.{statement}
 use Rattle.sweep.proofs.sweeping.sweep_on.Tie as tie
 
@@ -18,8 +17,7 @@ returns c = swept-no _ _ _ _ _ _ _ (sym (c .before .can-sweep .ensures) ∙ not-
 to-candidate-requires : tie.Need-to-candidate-requires
 to-candidate-requires c κs =
     let tested = c .before in
-    let args = tested .before .before .before .before .before .args in
-    can-sweep (args .ring .now) [] [] (args .line .now) 0 (args .at) [] (sym (tested .before .can-sweep .ensures) ∙ not-false _ (tested .if1 .left))
+    can-sweep-iff _ _ _ _ .0 (sym (tested .before .can-sweep .ensures) ∙ not-false _ (tested .if1 .left))
 
 -- It goes on.
 returns-2 : tie.Need-returns-2

@@ -4,12 +4,12 @@ use mathlib.Core.List.{[]}
 use native.Mathlib.Omega.{arith}
 use borrow.Author.Needs.{needs}
 use borrow.Author.Tests.{not-true, not-false}
-use Rattle.sweep.proofs.SweepWays.{sweep-can-read, sweep-looks-le, sweep-start-le, way-ended, sweep-all-looks-le, way-none, way-found}
+use Rattle.sweep.proofs.SweepWays.{sweep-looks-le, sweep-start-le, way-ended, sweep-all-looks-le, way-none, way-found}
 use Rattle.sweep.proofs.sweeping.to_candidate.Statement.{statement}
 use Rattle.sweep.proofs.sweeping.to_candidate.Tie as tie
 
 read-windows-requires : tie.Need-read-windows-requires
-read-windows-requires c κs = let start = c .before .before .before in sweep-can-read (start .args .ring .now) [] [] _ 0 _ [] (start .pre)
+read-windows-requires c κs = c .before .before .before .pre .windows
 
 add-looks : tie.Need-add-looks
 add-looks c =

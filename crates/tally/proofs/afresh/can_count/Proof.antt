@@ -1,51 +1,33 @@
--- `tally::afresh::can_count` meets its contract: each return is one case of the test.
+-- `tally::afresh::can_count` meets its contract: it answers false where one of the test's comparisons fails, and else the last of them (`SizesTested`).
 -- Assumes nothing.
 use native.Mathlib.Omega.{arith}
-use mathlib.Core.Path.{refl}
 use borrow.Author.Needs.{needs}
-use borrow.Author.Tests.{lt-ltb, le-ltb, le-leb, lt-leb}
-use Rattle.tally.specs.Counts.{mostCounts, canCount}
+use Rattle.tally.proofs.SizesTested.{test-fails}
+use Rattle.tally.proofs.CountCases.{can-count-iff, can-count-last}
 use Rattle.tally.proofs.afresh.can_count.Statement.{statement}
 use Rattle.tally.proofs.afresh.can_count.Tie as tie
 
 -- No edge.
 returns : tie.Need-returns
-unfolding canCount
-returns c = let args = c .before .args in rw (le-ltb 0 (args .m) (omega (arith, c .if1 .taken))) refl
+returns c = test-fails (can-count-iff _ _ _) (λ can. omega (arith, can .fits .some-edge, c .if1 .taken))
 
 -- More than there are counts.
 returns-2 : tie.Need-returns-2
-unfolding canCount
-returns-2 c =
-    let args = c .before .before .args in
-    rw (lt-ltb 0 (args .m) (omega (arith, c .before .if1 .left)), lt-leb (args .m) mostCounts (c .if2 .taken)) refl
+returns-2 c = test-fails (can-count-iff _ _ _) (λ can. omega (arith, can .fits .most, c .if2 .taken))
 
 -- More than the counts at hand.
 returns-3 : tie.Need-returns-3
-unfolding canCount
-returns-3 c =
-    let args = c .before .before .before .args in
-    rw (
-      lt-ltb 0 (args .m) (omega (arith, c .before .before .if1 .left)),
-      le-leb (args .m) mostCounts (c .before .if2 .left),
-      lt-leb (args .m) (args .room) (c .if3 .taken),
-    )
-    refl
+returns-3 c = test-fails (can-count-iff _ _ _) (λ can. omega (arith, can .fits .room, c .if3 .taken))
 
 mul-result : tie.Need-mul-result
 mul-result c = search needs
 
 -- All that is left is the ring twice.
 returns-4 : tie.Need-returns-4
-unfolding canCount
 returns-4 c =
-    let args = c .before .before .before .args in
-    rw (
-      lt-ltb 0 (args .m) (omega (arith, c .before .before .if1 .left)),
-      le-leb (args .m) mostCounts (c .before .if2 .left),
-      le-leb (args .m) (args .room) (c .if3 .left),
-    )
-    refl
+    let most = c .before in
+    can-count-last _ _ _
+    (record { some-edge = omega (arith, most .before .if1 .left); most = omega (arith, most .if2 .left); room = omega (arith, c .if3 .left) })
 
 pub can-count-spec : {M : Type 1} → statement M
 can-count-spec = tie.close (tie.spec returns returns-2 returns-3 mul-result returns-4)

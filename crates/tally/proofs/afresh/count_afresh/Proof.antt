@@ -3,7 +3,7 @@
 use mathlib.Core.Path.{_∙_, sym}
 use borrow.Author.Needs.{needs}
 use borrow.Author.Tests.{not-true, not-false}
-use Rattle.tally.proofs.CountCases.{can-count, counted-yes, counted-no}
+use Rattle.tally.proofs.CountCases.{can-count-iff, counted-yes, counted-no}
 use Rattle.tally.proofs.afresh.count_afresh.Statement.{statement}
 use Rattle.tally.proofs.afresh.count_afresh.Tie as tie
 
@@ -17,8 +17,7 @@ returns c = counted-no _ _ _ (sym (c .before .can-count .ensures) ∙ not-true _
 count-edges-requires : tie.Need-count-edges-requires
 count-edges-requires c κs =
     let tested = c .before in
-    let args = tested .before .before .before .before .before .before .args in
-    can-count (args .doubled .now) (args .window .now) (args .counts .now) (sym (tested .before .can-count .ensures) ∙ not-false _ (tested .if1 .left))
+    can-count-iff _ _ _ .0 (sym (tested .before .can-count .ensures) ∙ not-false _ (tested .if1 .left))
 
 -- It is counted.
 returns-2 : tie.Need-returns-2

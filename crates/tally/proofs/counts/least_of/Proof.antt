@@ -1,14 +1,14 @@
--- `tally::counts::least_of` meets its contract: its loop is `LeastCount`, and m - r falls.
+-- `tally::counts::least_of` meets its contract: its loop is `SeekingLeast`, and m - r falls.
 -- Assumes nothing.
 use Prim.Native.Nat.{_-_}
 use mathlib.Core.Logic.{⊎-elim}
 use borrow.Author.Needs.{needs}
-use Rattle.tally.proofs.LeastCount.{LeastCount, least-count-start, least-count-turn-less, least-count-turn-kept, least-count-end}
+use Rattle.tally.proofs.LeastLoop.{SeekingLeast, seeking-least-start, seeking-least-turn-less, seeking-least-turn-kept, seeking-least-end}
 use Rattle.tally.proofs.counts.least_of.Statement.{statement}
 use Rattle.tally.proofs.counts.least_of.Tie as tie
 
 abbrev Inv-loop : tie.InvT-loop
-Inv-loop counts m least₀ r₀ least r = LeastCount counts m least r
+Inv-loop counts m least₀ r₀ least r = SeekingLeast counts m least r
 
 abbrev μ-loop : tie.MeasureT-loop
 μ-loop counts m least₀ r₀ least r = m - r
@@ -17,7 +17,7 @@ element-copy-out-least : tie.Need-element-copy-out-least Inv-loop μ-loop
 element-copy-out-least c = search needs
 
 loop-holds : tie.Need-loop-holds Inv-loop μ-loop
-loop-holds c = least-count-start _ _ (c .before .pre .some-edge)
+loop-holds c = seeking-least-start _ _ (c .before .pre .some-edge)
 
 mul-count : tie.Need-mul-count Inv-loop μ-loop
 mul-count c = search needs
@@ -37,12 +37,12 @@ loop-again c =
     let turn = c .before .before .before .loop in
     let goes-on = c .before .before .loop-test .taken in
     ⊎-elim
-    (λ less. rw (less .1) (least-count-turn-less _ _ _ _ (turn .inv) goes-on (less .0 .taken)))
-    (λ kept. rw (kept .1) (least-count-turn-kept _ _ _ _ (turn .inv) goes-on (kept .0 .left)))
+    (λ less. rw (less .1) (seeking-least-turn-less _ _ _ _ (turn .inv) goes-on (less .0 .taken)))
+    (λ kept. rw (kept .1) (seeking-least-turn-kept _ _ _ _ (turn .inv) goes-on (kept .0 .left)))
     (c .if1 .came)
 
 returns : tie.Need-returns Inv-loop μ-loop
-returns c = least-count-end _ _ _ _ (c .before .loop .inv) (c .loop-test .left)
+returns c = seeking-least-end _ _ _ _ (c .before .loop .inv) (c .loop-test .left)
 
 pub least-of-spec : {M : Type 1} → statement M
 least-of-spec =

@@ -1,0 +1,72 @@
+-- A start verified with the ring's own double and the last verified start's tally is verified by rule 5: it has its own tally then, its least count, and the looks that
+-- the rule says. Counted afresh it has them by `counted-verified` of crates/tally; moved, by `moved-tallied` of crates/moves, and it moves all the steps, since
+-- no least count is below 0.
+-- Assumes nothing.
+use Prim.Native.Nat.{ℕ, _+_, _-_, _*_, _≤_, _<_}
+use mathlib.Core.Path.{_≡_, refl}
+use mathlib.Core.List.{List}
+use mathlib.Core.Logic.{⊎-elim}
+use mathlib.Core.Option.{Option, none, some}
+use native.Mathlib.Omega.{arith}
+use lib.ListN.{length}
+use borrow.Author.Tests.{lt-ltb, le-ltb, lt-leb}
+use Rattle.meaning.specs.Looks.{afreshLooks, stepLooks, tallyLooks}
+use Rattle.meaning.proofs.Cases.{le-or-lt}
+use Rattle.tally.specs.Windows.{windowAt}
+use Rattle.tally.specs.Counts.{TallyTo, countedTo}
+use Rattle.tally.specs.Tallied.{Verified}
+use Rattle.tally.proofs.AfreshTallied.{counted-verified}
+use Rattle.moves.specs.declared.steps.Reached.{Reached}
+use Rattle.moves.specs.Moves.{CountsAt, movedFrom, IsReached}
+use Rattle.moves.proofs.MovedTallied.{moved-tallied}
+use Rattle.sweep.specs.declared.verifying.LastVerified.{LastVerified}
+use Rattle.sweep.specs.declared.verifying.LastVerified.the-variants.{Nothing, At}
+use Rattle.sweep.specs.Verifying.{lastOf, TalliedBefore, CanVerify}
+use Rattle.sweep.specs.Sweeps.{movedTo, tallyBy}
+
+-- The tally of the last verified start stays that at every later start.
+pub before-later : (ring line counts : List ℕ) (i i′ : ℕ) (last : Option ℕ) → i ≤ i′ → TalliedBefore ring line i counts last → TalliedBefore ring line i′ counts last
+before-later ring line counts i i′ none l h = tt
+before-later ring line counts i i′ (some last) l h = (omega arith, h .1)
+
+module _ (ring doubled line : List ℕ) (i : ℕ) (old : List ℕ) where
+  abbrev m : ℕ
+  m = length ring
+
+  -- The start is verified, at so many looks.
+  abbrev VerifiedAt : ℕ → TallyTo → Type 0
+  VerifiedAt looks t = Verified ring line i looks (t .counts) (t .least) (t .looks)
+
+  -- Counted afresh.
+  afresh-by-rules : (last : Option ℕ) → CanVerify ring doubled line i old last → VerifiedAt (afreshLooks m) (countedTo doubled (windowAt m line i) old)
+  afresh-by-rules last can =
+      let t : TallyTo = countedTo doubled (windowAt m line i) old in
+      counted-verified ring line i doubled old (t .counts) (windowAt m line i) (record { least = t .least; looks = t .looks })
+      (can .fits .size) (can .fits .some-edge) (can .fits .most) (can .twice) (can .in-line) (record { is = refl })
+      (record { written = refl; least-is = refl; looks-are = refl })
+
+  -- Moved from the last verified start.
+  moved-by-rules : (from : ℕ) → CanVerify ring doubled line i old (some from) → VerifiedAt ((i - from) * stepLooks m) (movedTo ring line from (i - from) old)
+  unfolding movedTo
+  moved-by-rules from can =
+      let before : from < i = can .before .0 in
+      let to : CountsAt = movedFrom ring line from (i - from) 0 old in
+      let r : Reached = record { start = to .start; least = to .least; looks = to .looks } in
+      let reached : IsReached ring line from (i - from) 0 (to .counts) r =
+      moved-tallied ring line 0 (can .fits .some-edge) (can .fits .most) from (i - from) old (can .before .1) (omega arith)
+      (omega (arith, can .in-line)) (omega (arith, can .most-line)) (to .counts) r (record { is = refl }) in
+      let there : to .start ≡ i =
+      ⊎-elim (λ l. omega (arith, reached .start-le)) (λ l. absurd (omega (arith, reached .stopped l))) (le-or-lt (from + (i - from)) (to .start)) in
+      rw there at (reached .verified)
+
+  -- A start is verified as rule 5 says, at the looks of rule 5.
+  pub tally-by-rules : (last : LastVerified) → CanVerify ring doubled line i old (lastOf last)
+      → VerifiedAt (tallyLooks m (lastOf last) i) (tallyBy ring doubled line i last old)
+  unfolding tallyBy tallyLooks
+  tally-by-rules Nothing can = afresh-by-rules none can
+  tally-by-rules (At from) can =
+      rw (lt-leb i from (can .before .0))
+      (⊎-elim
+      (λ near. rw (le-ltb m (2 * (i - from)) near) (moved-by-rules from can))
+      (λ far. rw (lt-ltb m (2 * (i - from)) far) (afresh-by-rules (some from) can))
+      (le-or-lt (2 * (i - from)) m))

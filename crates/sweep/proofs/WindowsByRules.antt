@@ -1,0 +1,91 @@
+-- Windows read with the ring's own vectors are read by the rules, to the next candidate. By induction on the windows that may still come: every window so far was left
+-- (`LeftTo`). The window at i is read as a line of its own (`read-by-rules`, `alone-reading` of crates/meaning); it is left at break k + 1, and the next one
+-- starts later, or it is the candidate, or none is in the line any more.
+-- Assumes nothing.
+use Prim.Native.Nat.{ℕ, zero, suc, _+_, _-_, _≤_, _<_}
+use mathlib.Core.Path.{_≡_, refl, sym, ap, _∙_}
+use mathlib.Core.Bool.{true, true≢false}
+use mathlib.Core.List.{List}
+use mathlib.Core.Logic.{dite}
+use native.Mathlib.Decide.{decLe}
+use native.Mathlib.Omega.{arith}
+use lib.ListN.{length}
+use Rattle.meaning.specs.Meanings.{window}
+use Rattle.meaning.specs.Rules.{readWindow}
+use Rattle.meaning.proofs.WindowAlone.{alone-reading}
+use Rattle.tally.specs.Windows.{windowAt}
+use Rattle.tally.proofs.WindowEdges.{start-window, start-length}
+use Rattle.sweep.specs.declared.reading.WindowRead.{WindowRead}
+use Rattle.sweep.specs.Reads.{readBy, noneLeft, windowsOn, windowsBy}
+use Rattle.sweep.specs.Reading.{OwnVectors, IsWindowRead}
+use Rattle.sweep.specs.Sweep.{sweptStart, LeftTo, none-left, one-left, IsWindowsRead}
+use Rattle.sweep.proofs.WindowTurns.{windows-none, windows-found, windows-later}
+use Rattle.sweep.proofs.ReadByRules.{read-by-rules}
+
+module _ (ring table line : List ℕ) (k from : ℕ) (own : OwnVectors ring table) where
+  abbrev m : ℕ
+  m = length ring
+
+  abbrev n : ℕ
+  n = length line
+
+  -- How far the window at i is read.
+  abbrev read : ℕ → WindowRead
+  read i = readBy table (windowAt m line i) k
+
+  module _ (i looks : ℕ) (h : LeftTo ring line k from i looks) where
+    -- No window is in the line any more.
+    ended : n < i + m → IsWindowsRead ring line k from (noneLeft i looks)
+    ended past = record { looks = looks; left-to = h; candidate-is = λ e. absurd (true≢false (sym e)); ended = λ _. (past, refl, refl) }
+
+    module _ (in-line : i + m ≤ n) where
+      alone : windowAt m line i ≡ window m line i
+      alone = start-window line i m (windowAt m line i) (record { is = refl }) in-line
+
+      by-rules : IsWindowRead ring (windowAt m line i) k (read i)
+      by-rules = read-by-rules ring (windowAt m line i) table k own (start-length line i m (windowAt m line i) (record { is = refl }) in-line)
+
+      -- The window's reading in the line.
+      reads-are : read i .looks ≡ readWindow ring line k i .read
+      reads-are = by-rules .read-is ∙ ap (λ (w : List ℕ). readWindow ring w k 0 .read) alone ∙ alone-reading ring line i k .read-is
+
+      breaks-are : read i .breaks ≡ readWindow ring line k i .breaks
+      breaks-are = by-rules .breaks-is ∙ ap (λ (w : List ℕ). readWindow ring w k 0 .breaks) alone ∙ alone-reading ring line i k .breaks-is
+
+      next-is : i + read i .left + 1 ≡ sweptStart ring line k i
+      next-is = omega (arith, reads-are, by-rules .left-is)
+
+      -- The window is left at break k + 1.
+      left-here : k < read i .breaks → LeftTo ring line k from (i + read i .left + 1) (looks + read i .looks)
+      left-here many = rw (next-is, reads-are) (one-left h in-line (omega (arith, breaks-are)))
+
+      -- It is the candidate.
+      stops-here : read i .breaks ≤ k
+          → IsWindowsRead ring line k from (record { start = i; next = i + read i .left + 1; looks = looks + read i .looks; candidate = true })
+      stops-here few = record {
+        looks = looks;
+        left-to = h;
+        candidate-is = λ _. record { in-line = in-line; few = omega (arith, breaks-are); next-is = next-is; looks-are = omega (arith, reads-are) };
+        ended = λ e. absurd (true≢false e);
+      }
+
+  -- The windows from a start up to which every window was left.
+  windows-on : (left i looks : ℕ) → n + 1 ≤ i + left → LeftTo ring line k from i looks
+      → IsWindowsRead ring line k from (windowsOn m table line k left i looks)
+  windows-on zero i looks enough h =
+      let past : n < i + m = omega (arith, own .some-edge) in
+      rw (windows-none m table line k 0 i looks past) (ended i looks h past)
+  windows-on (suc left) i looks enough h = dite (decLe (i + m) n)
+      (λ in-line. dite (decLe (read i .breaks) k)
+      (λ few. rw (windows-found m table line k left i looks in-line few) (stops-here i looks h in-line few))
+      (λ more.
+      let many : k < read i .breaks = omega (arith, more) in
+      rw (windows-later m table line k left i looks in-line many)
+      (windows-on left (i + read i .left + 1) (looks + read i .looks) (omega arith) (left-here i looks h in-line many))))
+      (λ out.
+      let past : n < i + m = omega (arith, out) in
+      rw (windows-none m table line k (suc left) i looks past) (ended i looks h past))
+
+  -- Windows read with the ring's vectors are read by the rules, to the next candidate.
+  pub windows-by-rules : from ≤ n + 1 → IsWindowsRead ring line k from (windowsBy m table line k from)
+  windows-by-rules start-le = windows-on (n + 1 - from) from 0 (omega arith) none-left

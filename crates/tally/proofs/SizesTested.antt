@@ -1,0 +1,35 @@
+-- Tests of sizes, as `can_count` of this crate, `can_move` of crates/moves and `can_sweep` of crates/sweep make them. What such a function answers is a conjunction of
+-- comparisons, and a record says the same as facts; that the two agree is put together from the comparisons (`lt-iff`, `le-iff`, `and-iff`). The code answers false at the
+-- first comparison that something lacks (`test-fails`), and else its last comparison, which then decides alone (`test-same`).
+-- Assumes nothing.
+use Prim.Native.Nat.{ℕ, _≤_, _<_}
+use mathlib.Core.Path.{_≡_, refl, sym, _∙_}
+use mathlib.Core.Bool.{Bool, true, false, _&&_, false≢true}
+use mathlib.Core.Logic.{_↔_}
+use lib.Dec.{ltb, leb}
+use borrow.Author.Tests.{ltb-true, leb-true, lt-ltb, le-leb}
+use Rattle.meaning.proofs.Cases.{and-true, and-yes, not-passed}
+
+-- One comparison: below.
+pub lt-iff : (a b : ℕ) → (ltb a b ≡ true) ↔ (a < b)
+lt-iff a b = (ltb-true a b, lt-ltb a b)
+
+-- One comparison: at most.
+pub le-iff : (a b : ℕ) → (leb a b ≡ true) ↔ (a ≤ b)
+le-iff a b = (leb-true a b, le-leb a b)
+
+-- A conjunction of tests passes exactly where both of them do.
+pub and-iff : {s t : Bool} {P Q : Type 0} → ((s ≡ true) ↔ P) → ((t ≡ true) ↔ Q) → ((s && t) ≡ true) ↔ (P × Q)
+and-iff {s = s} {t = t} first second = (
+  λ e. let both = and-true s t e in (first .0 (both .0), second .0 (both .1)),
+  λ h. and-yes s t (first .1 (h .0)) ∙ second .1 (h .1),
+)
+
+-- Where what a test asks does not hold, it fails.
+pub test-fails : {t : Bool} {P : Type 0} → ((t ≡ true) ↔ P) → (P → ⊥) → false ≡ t
+test-fails {t = t} asks lacks = not-passed t (λ e. lacks (asks .0 e))
+
+-- Two tests that ask for the same are equal.
+pub test-same : {s t : Bool} {P Q : Type 0} → ((s ≡ true) ↔ P) → ((t ≡ true) ↔ Q) → (P ↔ Q) → s ≡ t
+test-same {s = true} one other same = sym (other .1 (same .0 (one .0 refl)))
+test-same {s = false} {t = t} one other same = not-passed t (λ e. absurd (false≢true (one .1 (same .1 (other .0 e)))))
