@@ -8,8 +8,6 @@ use lib.ListN.{length, drop, length-append, length-drop}
 use lib.Seq.{take-all}
 use Rattle.meaning.specs.Findings.{written}
 use Rattle.answers.specs.declared.refusals.Refusal.{Refusal}
-use Rattle.silences.specs.Putting.{IsPut}
-use Rattle.silences.proofs.WrittenAt.{writtenAt-zero}
 use Rattle.input.specs.declared.asking.Asked.{Asked}
 use Rattle.input.specs.declared.asking.Asked.the-variants.{Parts as PartsCase, Refused}
 use Rattle.input.specs.declared.asking.Parts.{Parts}
@@ -18,18 +16,18 @@ use Rattle.input.specs.Input.{Request}
 use Rattle.request.specs.Lines.{refusalLine}
 use Rattle.request.specs.Answering.{requestText, textBy, answerText, IsAnswered}
 use Rattle.input.specs.Asking.{askedOf, Within, WithinBy, IsAsked}
-use Rattle.request.specs.Writing.{request}
+use Rattle.request.specs.Writing.{request, IsText}
 
 -- the request of these parts, with this book
 abbrev withBook : List ℕ → Parts → List ℕ → Request
 withBook input p book =
     request (p .cell) (p .«ring_number») (p .allowance) (between input (p .«ring_from») (p .«ring_to»)) (between input (p .«line_from») (p .«line_to»)) book
 
--- A text put at the array's beginning.
-pub answered-by : {input text area out : List ℕ} {long : ℕ} → text ≡ answerText input → IsPut 0 text area long out → IsAnswered input area long out
-answered-by {text = text} {area = area} e is-put = record {
-  long-is = omega (arith, is-put .next-is, ap length e);
-  written = is-put .area-is ∙ writtenAt-zero text area ∙ ap (λ (l : List ℕ). written l area) e;
+-- The text of the input, written whole.
+pub answered-by : {input text area out : List ℕ} {long : ℕ} → text ≡ answerText input → IsText text area long out → IsAnswered input area long out
+answered-by {area = area} e is-text = record {
+  long-is = is-text .long-is ∙ ap length e;
+  written = is-text .written ∙ ap (λ (l : List ℕ). written l area) e;
 }
 
 module _ {input : List ℕ} {r : Asked} (asked : IsAsked input r) where

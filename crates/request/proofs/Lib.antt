@@ -1,9 +1,7 @@
 -- Laws behind the report program's text: what its definitions come to, and what the functions' proofs cite.
 pub mod DecimalDigits
-pub mod BytePut
-pub mod DecimalPut
+pub mod TextWritten
 pub mod BytesLoop
-pub mod PutOneAfterAnother
 pub mod LinePieces
 pub mod WordsOfFindings
 pub mod LinesLoop
@@ -11,7 +9,6 @@ pub mod LineLengths
 pub mod RoomEnough
 pub mod TextRoom
 pub mod RequestAnswered
-pub mod RequestPut
 pub mod AskedParts
 pub mod DecimalReadBack
 pub mod OneText

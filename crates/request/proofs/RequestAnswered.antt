@@ -1,5 +1,5 @@
 -- What a report's answer comes to in the text of a request. A refusal is the text's one line. Counts are three pieces of text: the first line, the lines of the
--- findings whose words the report wrote, and the last line; and there is room for them.
+-- findings whose words the report wrote, and the last line; together they are no longer than the program's array.
 -- Assumes nothing.
 use Prim.Native.Nat.{ℕ, _+_, _-_, _*_, _^_, _≤_, _<_}
 use mathlib.Core.Path.{_≡_, sym, ap, ap₂, _∙_}
@@ -31,7 +31,7 @@ use Rattle.request.proofs.TextRoom.{report-lines-le}
 abbrev pub mostWords : ℕ
 mostWords = 3 * 4096
 
--- What counts and words come to: the pieces of the text, and room for them.
+-- What counts and words come to: the pieces of the text, and how long it is at most.
 pub record Answered (q : Request) (found hid looks : ℕ) (words : List ℕ) : Type 0 where
   pub hidden-le : hid ≤ found
   pub words-le : wordsEach * (found - hid) ≤ length words

@@ -9,9 +9,8 @@ use input::read_request;
 use outlines::Reported;
 use outlines::report;
 ghost use lib.ListN.{length};
-ghost use Rattle.silences.specs.Putting.{IsPut};
 ghost use Rattle.request.specs.Answering.{requestText, IsAnswered};
-ghost use Rattle.request.specs.Writing.{request, CanAnswer};
+ghost use Rattle.request.specs.Writing.{request, CanAnswer, IsText};
 
 // Room for the words of a finding at each place of the longest line, three words each: row 4 never asks for more.
 const MOST_WORDS: usize = 12288;
@@ -31,7 +30,7 @@ fn answer_request(
     text: &mut [u8],
 ) -> usize
     requires { ⌜ CanAnswer (length (now line)) (length (now text)) ⌝ }
-    ensures { λ r. ⌜ IsPut 0 (requestText (request cell «ring_number» allowance (now (ring .entry)) (now (line .entry)) (now (book .entry)))) (now (text .entry)) r (now (text .exit)) ⌝ }
+    ensures { λ r. ⌜ IsText (requestText (request cell «ring_number» allowance (now (ring .entry)) (now (line .entry)) (now (book .entry)))) (now (text .entry)) r (now (text .exit)) ⌝ }
 {
     let mut words = [0u32; MOST_WORDS];
     match report(cell, ring_number, ring, line, allowance, book, &mut words) {
