@@ -17,7 +17,7 @@ use Rattle.input.specs.Fields.{FieldKind, longAt, between}
 use Rattle.input.specs.RowEleven.{IsFieldAt}
 
 -- A number is the same in the bytes from some byte offset on.
-pub numberAt-drop : (count : ℕ) (bytes : List ℕ) (at i : ℕ) → numberAt count bytes (at + i) ≡ numberAt count (drop at bytes) i
+numberAt-drop : (count : ℕ) (bytes : List ℕ) (at i : ℕ) → numberAt count bytes (at + i) ≡ numberAt count (drop at bytes) i
 unfolding numberAt
 numberAt-drop zero bytes at i = refl
 numberAt-drop (suc count) bytes at i =
@@ -26,7 +26,7 @@ numberAt-drop (suc count) bytes at i =
 
 module _ (whole : List ℕ) (at tag : ℕ) (value rest : List ℕ) (laid : drop at whole ≡ field tag value ++ rest) where
   -- The value and the rest come after the head.
-  pub laid-value : drop (at + headLength) whole ≡ value ++ rest
+  laid-value : drop (at + headLength) whole ≡ value ++ rest
   unfolding bytesOf
   laid-value = sym (drop-drop headLength at whole) ∙ ap (drop headLength) laid
 
@@ -41,7 +41,7 @@ module _ (whole : List ℕ) (at tag : ℕ) (value rest : List ℕ) (laid : drop 
       ap₂ (λ (n : ℕ) (l : List ℕ). take n l) long laid-value ∙ take-append-seam value rest
 
   -- Its two length bytes say how long it is.
-  pub laid-long : length value < 65536 → longAt whole at ≡ length value
+  laid-long : length value < 65536 → longAt whole at ≡ length value
   laid-long short =
       let bytes : drop at whole ≡ tag ∷ [] ++ (bytesOf 2 (length value) ++ (value ++ rest)) =
       laid ∙ ap (λ (l : List ℕ). tag ∷ l) (append-assoc (bytesOf 2 (length value)) value rest) in
@@ -86,7 +86,7 @@ module _ (whole : List ℕ) (at tag : ℕ) (value rest : List ℕ) (laid : drop 
 
 module _ (whole : List ℕ) (is-bytes : IsBytes whole) where
   -- The bytes of a number, and then the rest.
-  pub number-then : (count at : ℕ) → at + count ≤ length whole → drop at whole ≡ bytesOf count (numberAt count whole at) ++ drop (at + count) whole
+  number-then : (count at : ℕ) → at + count ≤ length whole → drop at whole ≡ bytesOf count (numberAt count whole at) ++ drop (at + count) whole
   number-then count at fits =
       sym (take-append-drop count (drop at whole))
       ∙ ap₂ (λ (a b : List ℕ). a ++ b) (sym (bytes-of-number whole is-bytes count at fits)) (drop-drop count at whole)

@@ -4,7 +4,7 @@ use Prim.Native.Nat.{ℕ, _-_, _≤_}
 use mathlib.Core.Path.{_≡_, sym, ap, subst, _∙_}
 use mathlib.Core.List.{List}
 use native.Mathlib.Omega.{arith}
-use lib.ListN.{length, drop, length-append, length-drop}
+use lib.ListN.{length, drop, length-drop}
 use lib.Seq.{take-all}
 use Rattle.meaning.specs.Findings.{written}
 use Rattle.answers.specs.declared.refusals.Refusal.{Refusal}
@@ -17,6 +17,7 @@ use Rattle.request.specs.Lines.{refusalLine}
 use Rattle.request.specs.Answering.{requestText, textBy, answerText, IsAnswered}
 use Rattle.input.specs.Asking.{askedOf, Within, WithinBy, IsAsked}
 use Rattle.request.specs.Writing.{request, IsText}
+use Rattle.request.proofs.WrittenFront.{written-le}
 
 -- the request of these parts, with this book
 abbrev withBook : List ℕ → Parts → List ℕ → Request
@@ -53,6 +54,4 @@ module _ {input : List ℕ} {r : Asked} (asked : IsAsked input r) where
 
 -- The text lies within the array.
 pub answer-within : {input area out : List ℕ} {long : ℕ} → IsAnswered input area long out → long ≤ length out
-unfolding written
-answer-within {input} {area} answered =
-    omega (arith, answered .long-is, ap length (answered .written), length-append (answerText input) (drop (length (answerText input)) area))
+answer-within {input} {area} answered = omega (arith, answered .long-is, written-le (answerText input) area (answered .written))

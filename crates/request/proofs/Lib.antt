@@ -6,10 +6,12 @@ pub mod LinePieces
 pub mod WordsOfFindings
 pub mod LinesLoop
 pub mod LineLengths
+pub mod WrittenFront
 pub mod RoomEnough
 pub mod TextRoom
 pub mod RequestAnswered
 pub mod AskedParts
 pub mod DecimalReadBack
+pub mod RowsNeverGiven
 pub mod OneText
 pub mod TextOfInput

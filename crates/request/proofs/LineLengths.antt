@@ -1,16 +1,15 @@
 -- How long each kind of line can be, from how many digits its numbers have (`decimal-length-le`, once for every count of digits).
 -- Assumes nothing.
 use Prim.Native.Nat.{ℕ, suc, _+_, _*_, _^_, _≤_, _<_}
-use mathlib.Core.Path.{ap}
+use mathlib.Core.Path.{refl, ap}
 use mathlib.Core.List.{List, [], _∷_, _++_, List·Memᴰ, List·Memᴰ·head, List·Memᴰ·tail}
-use mathlib.Core.Path.{refl}
 use native.Mathlib.Omega.{arith}
 use lib.ListN.{length, length-append}
 use Rattle.meaning.specs.Samples.{ascii}
 use Rattle.meaning.specs.Findings.{Finding}
 use Rattle.outlines.specs.Report.{ReportCounts}
 use Rattle.request.specs.Decimal.{decimal}
-use Rattle.request.specs.Lines.{space, lf, firstLine, findingLine, findingLines, lastLine, refusalWords}
+use Rattle.request.specs.Lines.{space, lf, firstLine, findingLine, findingLines, lastLine, refusalLineOf}
 use Rattle.request.specs.Writing.{numbered, named}
 use Rattle.request.proofs.DecimalDigits.{decimal-length-le}
 use Rattle.request.proofs.LinePieces.{first-line-is, finding-line-is, last-line-is, refusal-line-is}
@@ -95,7 +94,7 @@ last-line-le counts found-lt hidden-lt looks-lt =
     )
 
 -- The line of a refusal whose number and place fit 64 bits.
-pub refusal-line-le : (number place : ℕ) → number < 2 ^ 64 → place < 2 ^ 64 → length (refusalWords number place) ≤ 56
+pub refusal-line-le : (number place : ℕ) → number < 2 ^ 64 → place < 2 ^ 64 → length (refusalLineOf number place) ≤ 56
 unfolding ascii
 refusal-line-le number place number-lt place-lt =
     let a : List ℕ = named (ascii "refused") number space in

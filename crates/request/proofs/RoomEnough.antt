@@ -1,4 +1,5 @@
--- The words that the program lends are as good as those that row 4 asks: for a line of at most 4,096 edges neither row 4 nor row 3 is ever given.
+-- The words that the program lends are as good as those that row 4 asks: with either row 4 is not given, and no other row looks at the room. So a report goes by the
+-- same silences, or is refused by the same row (`silences-same`).
 -- Assumes nothing.
 use Prim.Native.Nat.{ℕ, _≤_, _<_}
 use mathlib.Core.Path.{_≡_, refl, ap}

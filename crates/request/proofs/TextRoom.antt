@@ -24,7 +24,7 @@ use Rattle.request.proofs.LineLengths.{Short, first-line-le, finding-li
 
 module _ (q : Request) (room : ℕ) (admitted : Admitted (length (q .ring)) (q .allowance) (length (q .line)) room) (line-le : length (q .line) ≤ lineField .most) where
   -- There are at most as many findings as the line has edges.
-  pub findings-le : length (findings (q .ring) (q .line) (q .allowance)) ≤ 4096
+  findings-le : length (findings (q .ring) (q .line) (q .allowance)) ≤ 4096
   findings-le = omega (arith, below-length-le (q .ring) (q .line) (q .allowance) (length (q .line)))
 
   -- Looks are at most 3·256·4,096.

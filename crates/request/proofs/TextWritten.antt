@@ -7,10 +7,11 @@ use mathlib.Core.Path.{_≡_, refl, sym, ap, _∙_}
 use mathlib.Core.List.{List, [], _∷_, _++_}
 use native.Mathlib.Numerals.{add-one}
 use native.Mathlib.Omega.{arith}
-use lib.ListN.{length, drop, set, length-set}
-use lib.Seq.{sets, sets-eq}
+use lib.ListN.{length, set, length-set}
+use lib.Seq.{sets}
 use borrow.Author.Tests.{lt-ltb, le-ltb}
 use Rattle.meaning.specs.Findings.{written}
+use Rattle.meaning.proofs.Words.{written-more}
 use Rattle.request.specs.Writing.{Text, textIn, putByte, putBytes, IsWritten, IsText}
 
 -- Bytes and then more bytes, put at once or one after the other.
@@ -55,8 +56,7 @@ text-stands {text} {area} {out} {long} room is-written =
     let whole : textIn out long ≡ textIn (sets area 0 text) (0 + length text) = is-written .is ∙ putBytes-sets text area 0 (omega arith) in
     let next-is : long ≡ 0 + length text = ap (λ (t : Text). t .next) whole in
     let area-is : out ≡ sets area 0 text = ap (λ (t : Text). t .area) whole in
-    let from-zero : 0 + length text ≡ length text = omega arith in
-    record { long-is = omega arith; written = area-is ∙ sets-eq text area 0 (omega arith) ∙ ap (λ (n : ℕ). text ++ drop n area) from-zero }
+    record { long-is = omega arith; written = area-is ∙ written-more [] text area (omega arith) }
 
 -- What a whole text is, said of equal texts.
 pub text-same : {a b area out : List ℕ} {long : ℕ} → a ≡ b → IsText a area long out → IsText b area long out

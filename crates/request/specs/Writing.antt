@@ -70,8 +70,8 @@ findingsOf (start ∷ rotation ∷ distance ∷ words) = findingOf start rotatio
 abbrev pub countsOf : ℕ → ℕ → ℕ → ReportCounts
 countsOf found hid looks = record { found = found; hidden = hid; looks = looks }
 
--- The longest text of a report: `cell C ring R edges M allow K` with 10, 5, 3 and 3 digits, a line with 4, 3 and 3 for each of 4,096 findings, and
--- `found F hidden H looks L` with 4, 4 and 7. Each line ends in LF.
+-- No text is longer. A report has `cell C ring R edges M allow K` with 10, 5, 3 and 3 digits, a line with 4, 3 and 3 for each of 4,096 findings, and
+-- `found F hidden H looks L` with 4, 4 and 7, at most, each line with its LF; a refusal's line is shorter.
 abbrev pub mostText : ℕ
 mostText = 47 + 4096 * 13 + 37
 
@@ -80,7 +80,7 @@ abbrev pub request : ℕ → ℕ → ℕ → List ℕ → List ℕ → List ℕ 
 request cell ringNumber allowance ring line book =
     record { cell = cell; ringNumber = ringNumber; allowance = allowance; ring = ring; line = line; book = book }
 
--- What answering a request asks, of the line's length and of the room for the text: no line is longer than a field holds, and there is room for the longest text.
+-- What answering a request asks, of the line's length and of the room for the text: no line is longer than a field holds, and there is room for every text.
 pub record CanAnswer (n room : ℕ) : Type 0 where
   pub line-le : n ≤ lineField .most
   pub room-for : mostText ≤ room

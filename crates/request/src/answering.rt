@@ -15,7 +15,7 @@ ghost use Rattle.request.specs.Writing.{request, CanAnswer, IsText};
 // Room for the words of a finding at each place of the longest line, three words each: row 4 never asks for more.
 const MOST_WORDS: usize = 12288;
 
-// The bytes of the longest text: a first line of 47 (10, 5, 3 and 3 digits), a line of 13 (4, 3 and 3) for each of 4,096
+// Bytes enough for every text: a first line of 47 (10, 5, 3 and 3 digits), a line of 13 (4, 3 and 3) for each of 4,096
 // findings, and a last line of 37 (4, 4 and 7).
 pub const MOST_TEXT: usize = 53332;
 
@@ -62,6 +62,7 @@ pub fn answer(input: &[u8], text: &mut [u8; MOST_TEXT]) -> usize
     match read_request(input) {
         Asked::Refused(refusal) => put_refusal(text, refusal),
         Asked::Parts(parts) => {
+            // The kit takes a part of a slice between locals, not between fields.
             let ring_from = parts.ring_from;
             let ring_to = parts.ring_to;
             let line_from = parts.line_from;

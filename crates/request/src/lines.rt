@@ -1,15 +1,18 @@
-// The lines of the text, word after word: one space between two words, and LF at the end.
+// The lines of the text, word after word: one space between two words, and LF at the end. Each function answers the offset of
+// the next byte.
 use crate::bytes::put_byte;
 use crate::bytes::put_bytes;
 use crate::digits::put_decimal;
-ghost use Rattle.request.specs.Lines.{firstLine, lastLine, refusalWords, findingLine, findingLines};
+ghost use Rattle.request.specs.Lines.{firstLine, lastLine, refusalLineOf, findingLine, findingLines};
 ghost use Rattle.request.specs.Writing.{numbered, named, findingOf, findingsOf, countsOf, IsWritten};
 
+// Between two words.
 const SPACE: u8 = 0x20;
 
+// After the last.
 const LF: u8 = 0x0a;
 
-// A finding's words: start, rotation, distance.
+// "three 32-bit words each (start, rotation, distance)"
 pub const WORDS_EACH: usize = 3;
 
 // A number, and the byte that comes after it.
@@ -55,15 +58,15 @@ pub fn put_last_line(text: &mut [u8], at: usize, found: usize, hidden: usize, lo
     put_named(text, looks_at, b"looks", looks, LF)
 }
 
-// "such as `refused 2 place 0`"
+// "A refusal prints a single line, such as `refused 2 place 0`."
 pub fn put_refusal_line(text: &mut [u8], at: usize, number: usize, place: usize) -> usize
-    ensures { λ r. ⌜ IsWritten (refusalWords number place) (now (text .entry)) at (now (text .exit)) r ⌝ }
+    ensures { λ r. ⌜ IsWritten (refusalLineOf number place) (now (text .entry)) at (now (text .exit)) r ⌝ }
 {
     let place_at = put_named(text, at, b"refused", number, SPACE);
     put_named(text, place_at, b"place", place, LF)
 }
 
-// One line for a finding: "(start, rotation, distance)".
+// The line of a finding: "(start, rotation, distance)".
 fn put_finding_line(text: &mut [u8], at: usize, start: u32, rotation: u32, distance: u32) -> usize
     ensures { λ r. ⌜ IsWritten (findingLine (findingOf start rotation distance)) (now (text .entry)) at (now (text .exit)) r ⌝ }
 {
@@ -73,14 +76,14 @@ fn put_finding_line(text: &mut [u8], at: usize, start: u32, rotation: u32, dista
 }
 
 // "one line per shown finding": a line for each three words.
-pub fn put_finding_lines(text: &mut [u8], from: usize, words: &[u32]) -> usize
-    ensures { λ r. ⌜ IsWritten (findingLines (findingsOf (now (words .entry)))) (now (text .entry)) from (now (text .exit)) r ⌝ }
+pub fn put_finding_lines(text: &mut [u8], at: usize, words: &[u32]) -> usize
+    ensures { λ r. ⌜ IsWritten (findingLines (findingsOf (now (words .entry)))) (now (text .entry)) at (now (text .exit)) r ⌝ }
 {
-    let mut at: usize = 0;
-    let mut to = from;
-    while WORDS_EACH <= words.len() - at {
-        to = put_finding_line(text, to, words[at], words[at + 1], words[at + 2]);
-        at += WORDS_EACH;
+    let mut next = at;
+    let mut done: usize = 0;
+    while WORDS_EACH <= words.len() - done {
+        next = put_finding_line(text, next, words[done], words[done + 1], words[done + 2]);
+        done += WORDS_EACH;
     }
-    to
+    next
 }

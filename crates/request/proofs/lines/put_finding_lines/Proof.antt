@@ -8,10 +8,10 @@ use Rattle.request.proofs.lines.put_finding_lines.Statement.{statement}
 use Rattle.request.proofs.lines.put_finding_lines.Tie as tie
 
 abbrev Inv-loop : tie.InvT-loop
-Inv-loop text₀ from words at₀ to₀ text at to = PutLines words text₀ from at text to
+Inv-loop text₀ at words next₀ done₀ text next done = PutLines words text₀ at done text next
 
 abbrev μ-loop : tie.MeasureT-loop
-μ-loop text₀ from words at₀ to₀ text at to = length words - at
+μ-loop text₀ at words next₀ done₀ text next done = length words - done
 
 loop-holds : tie.Need-loop-holds Inv-loop μ-loop
 loop-holds c = lines-start _ _ _
@@ -48,8 +48,8 @@ shared-slice-read-put-finding-line-3 c = omega arith
 put-finding-line-requires : tie.Need-put-finding-line-requires Inv-loop μ-loop
 put-finding-line-requires c κs = tt
 
-add-at : tie.Need-add-at Inv-loop μ-loop
-add-at c = omega arith
+add-done : tie.Need-add-done Inv-loop μ-loop
+add-done c = omega arith
 
 loop-less : tie.Need-loop-less Inv-loop μ-loop
 loop-less c = omega arith
@@ -83,7 +83,7 @@ put-finding-lines-spec =
     mul-put-finding-line-3
     shared-slice-read-put-finding-line-3
     put-finding-line-requires
-    add-at
+    add-done
     loop-less
     loop-again
     same-length

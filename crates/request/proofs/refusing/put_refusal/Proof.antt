@@ -2,7 +2,7 @@
 -- Assumes nothing.
 use mathlib.Core.Path.{ap₂}
 use native.Mathlib.Omega.{arith}
-use Rattle.request.specs.Lines.{refusalWords}
+use Rattle.request.specs.Lines.{refusalLineOf}
 use Rattle.request.proofs.TextWritten.{text-stands, text-same}
 use Rattle.request.proofs.LineLengths.{refusal-line-le}
 use borrow.Author.Needs.{needs}
@@ -28,7 +28,7 @@ returns c =
     let at-number = at-place .before in
     let number-is = at-number .number-of .ensures .is in
     let place-is = at-place .place-of .ensures .is in
-    let line-is = ap₂ refusalWords number-is place-is in
+    let line-is = ap₂ refusalLineOf number-is place-is in
     let short = refusal-line-le (at-number .number-of .result) (at-place .place-of .result) (omega arith) (omega arith) in
     text-same line-is (text-stands (omega arith) (at-line .put-refusal-line .ensures))
 
