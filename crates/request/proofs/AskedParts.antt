@@ -1,4 +1,5 @@
--- What the two cases of a read request come to: its parts, where they lie in the input, and the text; or refusal 11 and its line.
+-- What the two cases of a read request come to: its parts, where they lie in the input, and the text; or refusal 11 and its line. And any text that `answer` gives
+-- lies within the array (`answer-within`).
 -- Assumes nothing.
 use Prim.Native.Nat.{ℕ, _-_, _≤_}
 use mathlib.Core.Path.{_≡_, sym, ap, subst, _∙_}
@@ -13,9 +14,9 @@ use Rattle.input.specs.declared.asking.Asked.the-variants.{Parts as PartsCase, 
 use Rattle.input.specs.declared.asking.Parts.{Parts}
 use Rattle.input.specs.Fields.{between}
 use Rattle.input.specs.Input.{Request}
+use Rattle.input.specs.Asking.{askedOf, Within, WithinBy, IsAsked}
 use Rattle.request.specs.Lines.{refusalLine}
 use Rattle.request.specs.Answering.{requestText, textBy, answerText, IsAnswered}
-use Rattle.input.specs.Asking.{askedOf, Within, WithinBy, IsAsked}
 use Rattle.request.specs.Writing.{request, IsText}
 use Rattle.request.proofs.WrittenFront.{written-le}
 

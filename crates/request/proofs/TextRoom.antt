@@ -1,4 +1,4 @@
--- The longest text of a report: the program's array has room for every accepted request. There are at most as many shown findings as the line has edges, 4,096;
+-- The text of a report is no longer than the program's array. There are at most as many shown findings as the line has edges, 4,096;
 -- each has a start below 4,096, a rotation below 256 and a distance below 256; and looks are at most 3·256·4,096.
 -- Assumes nothing.
 use Prim.Native.Nat.{ℕ, _*_, _^_, _≤_, _<_}

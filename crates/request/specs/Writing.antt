@@ -3,7 +3,9 @@
 --   Text, putByte, putBytes    a text being written, and bytes put one after the other while there is room
 --   IsWritten                  what a writer of bytes promises; it asks for no room
 --   IsText                     what a writer of a whole text promises; that there is room for it is shown once
---   CanAnswer                  what the text of a request asks of its line's length and of the room
+--   numbered, named            the pieces of a line
+--   findingsOf                 the findings of words
+--   mostText, CanAnswer        room for every text, and what the text of a request asks of its line's length and of the room
 use Prim.Native.Nat.{ℕ, _+_, _*_, _≤_}
 use mathlib.Core.Path.{_≡_}
 use mathlib.Core.Bool.{cond}

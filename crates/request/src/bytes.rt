@@ -1,6 +1,6 @@
-// Bytes put into the text one after the other. One that there is no room for is left out: so no writer has to be told of room,
-// and what it writes is its pieces one after the other. That a whole text has room is shown once, where it begins: in
-// refusing.rt and answering.rt.
+// Bytes put into the text one after the other. One that there is no room for is left out: so no writer asks for room, and what
+// it writes is its pieces one after the other. It never happens: that a whole text has room is shown once, where its first byte
+// is put, in refusing.rt and answering.rt.
 ghost use mathlib.Core.List.{[], _∷_};
 ghost use Rattle.request.specs.Writing.{IsWritten};
 
