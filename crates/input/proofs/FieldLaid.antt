@@ -51,15 +51,7 @@ module _ (whole : List ℕ) (at tag : ℕ) (value rest : List ℕ) (laid : drop 
 
   -- All of it is there.
   laid-within : fieldEnd at (length value) ≤ length whole
-  laid-within =
-      omega (
-        arith,
-        length-drop at whole,
-        ap length laid,
-        length-append (bytesOf 2 (length value) ++ value) rest,
-        length-append (bytesOf 2 (length value)) value,
-        bytesOf-length 2 (length value),
-      )
+  laid-within = omega (arith, simp (length-drop, length-append, bytesOf-length) at (ap length laid))
 
   -- So a field of a kind that has this tag, and takes this length, stands.
   pub laid-stands : (least most : ℕ) → least ≤ length value → length value ≤ most → length value < 65536
