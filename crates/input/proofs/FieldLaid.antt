@@ -4,7 +4,6 @@
 use Prim.Native.Nat.{ℕ, zero, suc, _+_, _-_, _*_, _^_, _≤_, _<_}
 use mathlib.Core.Path.{_≡_, refl, sym, ap, ap₂, _∙_}
 use mathlib.Core.List.{List, [], _∷_, _++_, append-assoc}
-use mathlib.Core.Option.{some}
 use native.Mathlib.Omega.{arith}
 use native.Mathlib.Numerals.{add-one}
 use lib.ListN.{length, getD, take, drop, length-append, length-take, length-drop, take-append-drop}
@@ -14,12 +13,11 @@ use Rattle.silences.specs.Layout.{field}
 use Rattle.silences.specs.Reading.{headLength, fieldEnd}
 use Rattle.silences.specs.Books.{IsBytes}
 use Rattle.silences.proofs.NumberBytes.{bytesOf-length, number-of-bytes, bytes-of-number}
-use Rattle.input.specs.Fields.{FieldKind, longAt, fieldEndAt, between}
-use Rattle.input.proofs.FieldEnds.{field-stands}
-use Rattle.input.proofs.AskedCases.{Stands}
+use Rattle.input.specs.Fields.{FieldKind, longAt, between}
+use Rattle.input.specs.RowEleven.{IsFieldAt}
 
 -- A number is the same in the bytes from some byte offset on.
-pub numberAt-drop : (count : ℕ) (bytes : List ℕ) (at i : ℕ) → numberAt count bytes (at + i) ≡ numberAt count (drop at bytes) i
+numberAt-drop : (count : ℕ) (bytes : List ℕ) (at i : ℕ) → numberAt count bytes (at + i) ≡ numberAt count (drop at bytes) i
 unfolding numberAt
 numberAt-drop zero bytes at i = refl
 numberAt-drop (suc count) bytes at i =
@@ -28,7 +26,7 @@ numberAt-drop (suc count) bytes at i =
 
 module _ (whole : List ℕ) (at tag : ℕ) (value rest : List ℕ) (laid : drop at whole ≡ field tag value ++ rest) where
   -- The value and the rest come after the head.
-  pub laid-value : drop (at + headLength) whole ≡ value ++ rest
+  laid-value : drop (at + headLength) whole ≡ value ++ rest
   unfolding bytesOf
   laid-value = sym (drop-drop headLength at whole) ∙ ap (drop headLength) laid
 
@@ -43,7 +41,7 @@ module _ (whole : List ℕ) (at tag : ℕ) (value rest : List ℕ) (laid : drop 
       ap₂ (λ (n : ℕ) (l : List ℕ). take n l) long laid-value ∙ take-append-seam value rest
 
   -- Its two length bytes say how long it is.
-  pub laid-long : length value < 65536 → longAt whole at ≡ length value
+  laid-long : length value < 65536 → longAt whole at ≡ length value
   laid-long short =
       let bytes : drop at whole ≡ tag ∷ [] ++ (bytesOf 2 (length value) ++ (value ++ rest)) =
       laid ∙ ap (λ (l : List ℕ). tag ∷ l) (append-assoc (bytesOf 2 (length value)) value rest) in
@@ -53,26 +51,21 @@ module _ (whole : List ℕ) (at tag : ℕ) (value rest : List ℕ) (laid : drop 
 
   -- All of it is there.
   laid-within : fieldEnd at (length value) ≤ length whole
-  laid-within =
-      omega (
-        arith,
-        length-drop at whole,
-        ap length laid,
-        length-append (bytesOf 2 (length value) ++ value) rest,
-        length-append (bytesOf 2 (length value)) value,
-        bytesOf-length 2 (length value),
-      )
+  laid-within = omega (arith, simp (length-drop, length-append, bytesOf-length) at (ap length laid))
 
   -- So a field of a kind that has this tag, and takes this length, stands.
-  pub laid-end : (least most : ℕ) → least ≤ length value → length value ≤ most → length value < 65536
-      → fieldEndAt (record { tag = tag; least = least; most = most }) whole at ≡ some (fieldEnd at (length value))
-  laid-end least most least-le most-le short =
+  pub laid-stands : (least most : ℕ) → least ≤ length value → length value ≤ most → length value < 65536
+      → IsFieldAt (record { tag = tag; least = least; most = most }) whole at (fieldEnd at (length value))
+  laid-stands least most least-le most-le short =
       let long : longAt whole at ≡ length value = laid-long short in
       let none-more : at + 0 ≡ at = omega arith in
-      let tagged : getD whole at 0 ≡ tag = sym (ap (λ (n : ℕ). getD whole n 0) none-more) ∙ sym (getD-drop at whole 0 0) ∙ ap (λ (l : List ℕ). getD l 0 0) laid in
-      sym
-      (field-stands (record { tag = tag; least = least; most = most }) whole at (fieldEnd at (length value)) (omega arith) tagged (omega arith) (omega arith)
-      (omega (arith, laid-within)))
+      record {
+        tag-is = sym (ap (λ (n : ℕ). getD whole n 0) none-more) ∙ sym (getD-drop at whole 0 0) ∙ ap (λ (l : List ℕ). getD l 0 0) laid;
+        least-le = omega arith;
+        most-le = omega arith;
+        ends-at = omega arith;
+        not-cut = laid-within;
+      }
 
   -- A number in its bytes is read back.
   pub laid-number : (count number : ℕ) → number < 256 ^ count → value ≡ bytesOf count number → numberAt count whole (at + headLength) ≡ number
@@ -85,13 +78,13 @@ module _ (whole : List ℕ) (at tag : ℕ) (value rest : List ℕ) (laid : drop 
 
 module _ (whole : List ℕ) (is-bytes : IsBytes whole) where
   -- The bytes of a number, and then the rest.
-  pub number-then : (count at : ℕ) → at + count ≤ length whole → drop at whole ≡ bytesOf count (numberAt count whole at) ++ drop (at + count) whole
+  number-then : (count at : ℕ) → at + count ≤ length whole → drop at whole ≡ bytesOf count (numberAt count whole at) ++ drop (at + count) whole
   number-then count at fits =
       sym (take-append-drop count (drop at whole))
       ∙ ap₂ (λ (a b : List ℕ). a ++ b) (sym (bytes-of-number whole is-bytes count at fits)) (drop-drop count at whole)
 
   -- A field that stands is laid down, and the rest after it.
-  pub standing-is-laid : (kind : FieldKind) (at next : ℕ) → Stands kind whole at next
+  pub standing-is-laid : (kind : FieldKind) (at next : ℕ) → IsFieldAt kind whole at next
       → drop at whole ≡ field (kind .tag) (between whole (at + headLength) next) ++ drop next whole
   standing-is-laid kind at next stands =
       let value : List ℕ = between whole (at + headLength) next in

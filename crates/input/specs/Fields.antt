@@ -1,4 +1,5 @@
--- Document 01, "The report program": one field of the program's input, "one-byte tag, two-byte length, value; numbers high byte first".
+-- Document 01, "The report program": one field of the program's input. Fields are those of "Silence book": "A house format of tagged fields: one-byte tag,
+-- two-byte length, value; numbers high byte first."
 --
 --   FieldKind     the tag of a field, and how long its value may be
 --   isField       a field of a kind stands at a byte offset

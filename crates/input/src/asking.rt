@@ -12,26 +12,31 @@ const MOST_INPUT: usize = 32768;
 // "34 cell (4 bytes)"
 const CELL_TAG: u8 = 0x34;
 
+// And how many bytes its value has.
 const CELL_BYTES: usize = 4;
 
 // "35 ring number (2)"
 const RING_NUMBER_TAG: u8 = 0x35;
 
+// And how many bytes its value has.
 const RING_NUMBER_BYTES: usize = 2;
 
 // "33 allowance (1)"
 const ALLOWANCE_TAG: u8 = 0x33;
 
+// And how many bytes its value has.
 const ALLOWANCE_BYTES: usize = 1;
 
-// "31 ring (any length)": any that two bytes say.
+// "31 ring (any length)"
 const RING_TAG: u8 = 0x31;
 
+// Any length that two bytes say.
 const MOST_RING_BYTES: usize = 65535;
 
 // "32 line (at most 4,096)"
 const LINE_TAG: u8 = 0x32;
 
+// And how many bytes its value has at most.
 const MOST_LINE_BYTES: usize = 4096;
 
 // The numbers of a request, and the byte offsets between which its ring and its line stand. The book begins where the line

@@ -1,35 +1,35 @@
--- What the two cases of a read request come to: its parts, where they lie in the input, and the text; or refusal 11 and its line.
+-- What the two cases of a read request come to: its parts, where they lie in the input, and the text; or refusal 11 and its line. And any text that `answer` gives
+-- lies within the array (`answer-within`).
 -- Assumes nothing.
 use Prim.Native.Nat.{ℕ, _-_, _≤_}
 use mathlib.Core.Path.{_≡_, sym, ap, subst, _∙_}
 use mathlib.Core.List.{List}
 use native.Mathlib.Omega.{arith}
-use lib.ListN.{length, drop, length-append, length-drop}
+use lib.ListN.{length, drop, length-drop}
 use lib.Seq.{take-all}
 use Rattle.meaning.specs.Findings.{written}
 use Rattle.answers.specs.declared.refusals.Refusal.{Refusal}
-use Rattle.silences.specs.Putting.{IsPut}
-use Rattle.silences.proofs.WrittenAt.{writtenAt-zero}
 use Rattle.input.specs.declared.asking.Asked.{Asked}
 use Rattle.input.specs.declared.asking.Asked.the-variants.{Parts as PartsCase, Refused}
 use Rattle.input.specs.declared.asking.Parts.{Parts}
 use Rattle.input.specs.Fields.{between}
 use Rattle.input.specs.Input.{Request}
+use Rattle.input.specs.Asking.{askedOf, Within, WithinBy, IsAsked}
 use Rattle.request.specs.Lines.{refusalLine}
 use Rattle.request.specs.Answering.{requestText, textBy, answerText, IsAnswered}
-use Rattle.input.specs.Asking.{askedOf, Within, WithinBy, IsAsked}
-use Rattle.request.specs.Writing.{request}
+use Rattle.request.specs.Writing.{request, IsText}
+use Rattle.request.proofs.WrittenFront.{written-le}
 
 -- the request of these parts, with this book
 abbrev withBook : List ℕ → Parts → List ℕ → Request
 withBook input p book =
     request (p .cell) (p .«ring_number») (p .allowance) (between input (p .«ring_from») (p .«ring_to»)) (between input (p .«line_from») (p .«line_to»)) book
 
--- A text put at the array's beginning.
-pub answered-by : {input text area out : List ℕ} {long : ℕ} → text ≡ answerText input → IsPut 0 text area long out → IsAnswered input area long out
-answered-by {text = text} {area = area} e is-put = record {
-  long-is = omega (arith, is-put .next-is, ap length e);
-  written = is-put .area-is ∙ writtenAt-zero text area ∙ ap (λ (l : List ℕ). written l area) e;
+-- The text of the input, written whole.
+pub answered-by : {input text area out : List ℕ} {long : ℕ} → text ≡ answerText input → IsText text area long out → IsAnswered input area long out
+answered-by {area = area} e is-text = record {
+  long-is = is-text .long-is ∙ ap length e;
+  written = is-text .written ∙ ap (λ (l : List ℕ). written l area) e;
 }
 
 module _ {input : List ℕ} {r : Asked} (asked : IsAsked input r) where
@@ -55,6 +55,4 @@ module _ {input : List ℕ} {r : Asked} (asked : IsAsked input r) where
 
 -- The text lies within the array.
 pub answer-within : {input area out : List ℕ} {long : ℕ} → IsAnswered input area long out → long ≤ length out
-unfolding written
-answer-within {input} {area} answered =
-    omega (arith, answered .long-is, ap length (answered .written), length-append (answerText input) (drop (length (answerText input)) area))
+answer-within {input} {area} answered = omega (arith, answered .long-is, written-le (answerText input) area (answered .written))

@@ -1,42 +1,44 @@
--- The loop that writes bytes one after the other: so far the first `done` of them are put. A turn stores one more (`put-byte`).
+-- The loop that puts bytes one after the other. Before each turn those from `done` on are to be put yet: put over the text as it is now they give what all of them
+-- give over the text as it was. A turn puts the first of them.
 -- Assumes nothing.
+--
+--   bytes, area, at     the bytes, and the area and the next offset as they were at the start
+--   done, out, next     how many bytes are put, and the area and the next offset now
 use Prim.Native.Nat.{ℕ, _+_, _≤_, _<_}
-use mathlib.Core.Path.{_≡_, refl, sym, _∙_}
-use mathlib.Core.List.{List, [], _∷_, _++_}
+use mathlib.Core.Path.{_≡_, refl, sym, ap, _∙_}
+use mathlib.Core.List.{List, [], _∷_}
 use native.Mathlib.Numerals.{add-one}
 use native.Mathlib.Omega.{arith}
-use lib.ListN.{length, take, getD, set, length-append, length-set}
-use lib.Seq.{take-suc, take-all, length-take-le}
-use Rattle.silences.specs.Putting.{IsPut}
-use Rattle.silences.proofs.WrittenAt.{writtenAt-none}
-use Rattle.request.proofs.BytePut.{put-byte, put-same}
+use lib.ListN.{length, drop, getD, drop-of-length-le}
+use lib.Seq.{drop-cons}
+use Rattle.request.specs.Writing.{textIn, putBytes, IsWritten}
 
 -- What the loop keeps.
-pub record PutBytes (at : ℕ) (bytes area : List ℕ) (done : ℕ) (out : List ℕ) : Type 0 where
+pub record PutBytes (bytes area : List ℕ) (at done : ℕ) (out : List ℕ) (next : ℕ) : Type 0 where
   pub done-le : done ≤ length bytes
   pub length-is : length out ≡ length area
-  pub is-put : IsPut at (take done bytes) area (at + done) out
+  pub whole-is : putBytes (drop done bytes) (textIn out next) ≡ putBytes bytes (textIn area at)
 
-module _ (at : ℕ) (bytes area : List ℕ) where
-  -- At the start nothing is put.
-  pub bytes-start : PutBytes at bytes area 0 area
-  bytes-start = record { done-le = omega arith; length-is = refl; is-put = record { next-is = refl; area-is = sym (writtenAt-none at area) } }
+module _ (bytes area : List ℕ) (at : ℕ) where
+  -- At the start all bytes are left.
+  pub bytes-start : PutBytes bytes area at 0 area at
+  bytes-start = record { done-le = omega arith; length-is = refl; whole-is = refl }
 
-  module _ {done : ℕ} {out : List ℕ} (now : PutBytes at bytes area done out) where
-    -- A turn stores the next byte.
-    pub bytes-turn : at + length bytes ≤ length area → done < length bytes
-        → PutBytes at bytes area (done + 1) (set out (at + done) (getD bytes done 0))
-    bytes-turn room more =
-        let one : take done bytes ++ getD bytes done 0 ∷ [] ≡ take (done + 1) bytes = rw (add-one done) (sym (take-suc bytes done 0 more)) in
-        let room-here : at + length (take done bytes ++ getD bytes done 0 ∷ []) ≤ length area =
-        omega (arith, length-append (take done bytes) (getD bytes done 0 ∷ []), length-take-le done bytes (now .done-le)) in
-        let assoc : at + done + 1 ≡ at + (done + 1) = omega arith in
+  module _ {done next : ℕ} {out : List ℕ} (now : PutBytes bytes area at done out next) where
+    -- A turn puts the next byte.
+    pub bytes-turn : {last : ℕ} {put : List ℕ} → done < length bytes → length put ≡ length out
+        → IsWritten (getD bytes done 0 ∷ []) out next put last → PutBytes bytes area at (done + 1) put last
+    unfolding putBytes
+    bytes-turn {last} {put} more same byte-put =
         record {
           done-le = omega arith;
-          length-is = length-set out (at + done) (getD bytes done 0) ∙ now .length-is;
-          is-put = rw assoc at (put-same one (put-byte (getD bytes done 0) room-here (now .length-is) (now .is-put)));
+          length-is = same ∙ now .length-is;
+          whole-is = (λ i. putBytes (drop (add-one done i) bytes) (byte-put .is i))
+              ∙ ap (λ (l : List ℕ). putBytes l (textIn out next)) (sym (drop-cons bytes done 0 more))
+              ∙ now .whole-is;
         }
 
-    -- At the end all bytes are put.
-    pub bytes-end : length bytes ≤ done → IsPut at bytes area (at + done) out
-    bytes-end all = put-same (take-all done bytes all) (now .is-put)
+    -- At the end no byte is left: all are put.
+    pub bytes-end : length bytes ≤ done → IsWritten bytes area at out next
+    unfolding putBytes
+    bytes-end all = record { is = ap (λ (l : List ℕ). putBytes l (textIn out next)) (sym (drop-of-length-le bytes all)) ∙ now .whole-is }

@@ -1,8 +1,8 @@
 -- Decimal digits by their two equations: a number below 10 is one digit, and any other is the digits of a tenth of it and then its last digit. These hide that
--- `decimal` counts down: any count above the number gives the same digits (`digits-enough`). A number below 10 to the power of c has at most
--- c digits.
+-- `decimal` counts down: any count above the number gives the same digits (`digits-enough`). And a bound: a number below 10 to the power of
+-- c + 1 has at most c + 1 digits.
 -- Assumes nothing.
-use Prim.Native.Nat.{ℕ, zero, suc, _+_, _/_, _%_, _^_, _≤_, _<_}
+use Prim.Native.Nat.{ℕ, zero, suc, _/_, _%_, _^_, _≤_, _<_}
 use mathlib.Core.Path.{_≡_, sym, ap, _∙_}
 use mathlib.Core.List.{List, [], _∷_, _++_}
 use mathlib.Core.Logic.{⊎-elim}
@@ -47,7 +47,7 @@ unfolding decimal
 decimal-more n h =
     within-more n n h ∙ ap (λ (l : List ℕ). l ++ digit (n % 10) ∷ []) (digits-enough n (suc (n / 10)) (n / 10) (omega arith) (omega arith))
 
--- A number of at most c digits, c at least 1, in as many bytes at most.
+-- A number below 10 to the power of c + 1 has at most c + 1 digits.
 pub decimal-length-le : (c n : ℕ) → n < 10 ^ suc c → length (decimal n) ≤ suc c
 decimal-length-le zero n h = rw (decimal-one n (omega arith)) (omega arith)
 decimal-length-le (suc c) n h =

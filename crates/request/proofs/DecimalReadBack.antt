@@ -1,5 +1,5 @@
--- A number's decimal digits are what the document asks: digits, that read back give the number, without a leading zero. By the number's last digit and a tenth of
--- it: the first digit of both is the same.
+-- A number's decimal digits, said of no division (`IsDecimal`): they are digits, read back they give the number, and none leads that is a zero. By a tenth of the
+-- number and its last digit: the first digit of both is the same.
 -- Assumes nothing.
 use Prim.Native.Nat.{ℕ, zero, suc, _+_, _-_, _*_, _/_, _%_, _≤_, _<_}
 use mathlib.Core.Path.{_≡_, refl, sym, ap, subst, _∙_}
@@ -32,7 +32,7 @@ one-digit n h = record {
   no-leading-zero = λ e. ap (λ (d : ℕ). d ∷ []) e;
 }
 
--- A tenth's digits and one more.
+-- what the digits of a tenth and one more are
 more-digits : (n : ℕ) (ds : List ℕ) → 10 ≤ n → IsDecimal (n / 10) ds → IsDecimal n (ds ++ digit (n % 10) ∷ [])
 unfolding decimalValue
 more-digits n ds h tenth =
@@ -57,6 +57,6 @@ decimal-within (suc most) n h =
     (λ one. subst (IsDecimal n) (sym (decimal-one n one)) (one-digit n one))
     (le-or-lt 10 n)
 
--- "decimal digits without leading zeros"
+-- A number's decimal digits without leading zeros.
 pub decimal-is : (n : ℕ) → IsDecimal n (decimal n)
 decimal-is n = decimal-within (suc n) n (omega arith)

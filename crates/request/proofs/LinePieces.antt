@@ -6,7 +6,7 @@ use mathlib.Core.List.{_++_, append-assoc}
 use Rattle.meaning.specs.Samples.{ascii}
 use Rattle.meaning.specs.Findings.{Finding}
 use Rattle.outlines.specs.Report.{ReportCounts}
-use Rattle.request.specs.Lines.{space, lf, firstLine, findingLine, lastLine, refusalWords}
+use Rattle.request.specs.Lines.{space, lf, firstLine, findingLine, lastLine, refusalLineOf}
 use Rattle.request.specs.Writing.{numbered, named}
 
 -- The first line's four names, each with its number.
@@ -29,6 +29,6 @@ unfolding lastLine
 last-line-is counts = simp append-assoc
 
 -- A refusal's two names, each with its number.
-pub refusal-line-is : (number place : ℕ) → named (ascii "refused") number space ++ named (ascii "place") place lf ≡ refusalWords number place
-unfolding refusalWords
+pub refusal-line-is : (number place : ℕ) → named (ascii "refused") number space ++ named (ascii "place") place lf ≡ refusalLineOf number place
+unfolding refusalLineOf
 refusal-line-is number place = simp append-assoc

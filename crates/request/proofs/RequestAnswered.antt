@@ -1,13 +1,12 @@
 -- What a report's answer comes to in the text of a request. A refusal is the text's one line. Counts are three pieces of text: the first line, the lines of the
--- findings whose words the report wrote, and the last line; and there is room for them.
+-- findings whose words the report wrote, and the last line; together they are no longer than the program's array.
 -- Assumes nothing.
 use Prim.Native.Nat.{ℕ, _+_, _-_, _*_, _^_, _≤_, _<_}
 use mathlib.Core.Path.{_≡_, sym, ap, ap₂, _∙_}
 use mathlib.Core.List.{List, _++_}
 use native.Mathlib.Omega.{arith}
-use lib.ListN.{length, take, drop, length-append}
-use lib.Seq.{take-at}
-use Rattle.meaning.specs.Findings.{Finding, findings, wordsEach, wordsOf, written}
+use lib.ListN.{length, take}
+use Rattle.meaning.specs.Findings.{Finding, findings, wordsEach, wordsOf}
 use Rattle.meaning.proofs.Words.{words-length}
 use Rattle.answers.specs.declared.refusals.Refusal.{Refusal}
 use Rattle.answers.specs.Paper.{Answer, accepted}
@@ -24,15 +23,16 @@ use Rattle.input.specs.Input.{Request}
 use Rattle.request.specs.Lines.{firstLine, findingLines, lastLine, refusalLine}
 use Rattle.request.specs.Answering.{reportLines, linesBy, requestText}
 use Rattle.request.specs.Writing.{findingsOf, countsOf, mostText, request}
+use Rattle.request.proofs.WrittenFront.{written-front, written-le}
 use Rattle.request.proofs.RoomEnough.{silences-same}
 use Rattle.request.proofs.WordsOfFindings.{findingsOf-words}
 use Rattle.request.proofs.TextRoom.{report-lines-le}
 
--- The words that row 4 asks of the longest line.
-abbrev pub mostWords : ℕ
+-- As many words as row 4 asks at most: three for each edge of the longest line.
+abbrev mostWords : ℕ
 mostWords = 3 * 4096
 
--- What counts and words come to: the pieces of the text, and room for them.
+-- What counts and words come to: the pieces of the text, and how long it is at most.
 pub record Answered (q : Request) (found hid looks : ℕ) (words : List ℕ) : Type 0 where
   pub hidden-le : hid ≤ found
   pub words-le : wordsEach * (found - hid) ≤ length words
@@ -40,16 +40,6 @@ pub record Answered (q : Request) (found hid looks : ℕ) (words : List ℕ) : T
       ++ (findingLines (findingsOf (take (wordsEach * (found - hid)) words)) ++ lastLine (countsOf found hid looks))
       ≡ requestText q
   pub length-le : length (requestText q) ≤ mostText
-
--- what was written stands in front
-front-of : {out : List ℕ} (front area : List ℕ) (n : ℕ) → length front ≡ n → out ≡ written front area → take n out ≡ front
-unfolding written
-front-of front area n long is = ap (take n) is ∙ take-at front (drop (length front) area) n long
-
--- and an area has room for what was written
-front-le : (front area : List ℕ) → length front ≤ length (written front area)
-unfolding written
-front-le front area = omega (arith, length-append front (drop (length front) area))
 
 -- the text of a request by what the report goes by, with the words that the program lends
 text-by : (q : Request) (room : ℕ) {a : Answer (List Silence)} → length (q .line) ≤ lineField .most → mostWords ≤ room
@@ -82,14 +72,14 @@ module _ {cell ringNumber k : ℕ} {ring line book words out : List ℕ} {r : Re
       let found-is : found ≡ length all = given .found-is in
       let hidden-is : hid ≡ length (hidden (given .silences) cell ringNumber all) = given .hidden-is in
       let words-are : length (wordsOf seen) ≡ wordsEach * (found - hid) = omega (arith, words-length seen) in
-      let front : take (wordsEach * (found - hid)) out ≡ wordsOf seen = front-of (wordsOf seen) words (wordsEach * (found - hid)) words-are (given .words-are) in
+      let front : take (wordsEach * (found - hid)) out ≡ wordsOf seen = written-front (wordsOf seen) words (given .words-are) (wordsEach * (found - hid)) words-are in
       let text : requestText q ≡ reportLines q (given .silences) =
       text-by q (length words) line-le enough (by-book-iff ring line k book (length words) (accepted (given .silences)) tt .1 (given .admitted, given .book-is)) in
       let counts : countsOf found hid looks ≡ reportCounts ring line k cell ringNumber (given .silences) =
       λ j. countsOf (found-is j) (hidden-is j) (given .looks-are j) in
       record {
         hidden-le = omega arith;
-        words-le = omega (arith, ap length (given .words-are), front-le (wordsOf seen) words);
+        words-le = omega (arith, written-le (wordsOf seen) words (given .words-are));
         pieces =
             ap₂ (λ (fs : List Finding) (c : ReportCounts). firstLine cell ringNumber (length ring) k ++ (findingLines fs ++ lastLine c))
             (ap findingsOf front ∙ findingsOf-words seen) counts

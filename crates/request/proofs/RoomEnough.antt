@@ -1,4 +1,5 @@
--- The words that the program lends are as good as those that row 4 asks: for a line of at most 4,096 edges neither row 4 nor row 3 is ever given.
+-- The words that the program lends are as good as those that row 4 asks: with either, row 4 is not given, and no other row looks at the room. So a report goes by the
+-- same silences, or is refused by the same row (`silences-same`).
 -- Assumes nothing.
 use Prim.Native.Nat.{ℕ, _≤_, _<_}
 use mathlib.Core.Path.{_≡_, refl, ap}
@@ -24,8 +25,8 @@ module _ (m k n room : ℕ) (enough : 0 < m → m ≤ n → roomAsked m n ≤ ro
       go false e = simp e
       go true e = simp (e, le-ltb room (roomAsked m n) (enough some-edge (leb-true m n e)), le-ltb (roomAsked m n) (roomAsked m n) (omega arith))
 
-  -- The first row that is given, with either room.
-  pub refusal-same : refusalOf m k n room ≡ refusalOf m k n (roomAsked m n)
+  -- the first row that is given is the same with either room
+  refusal-same : refusalOf m k n room ≡ refusalOf m k n (roomAsked m n)
   unfolding refusalOf
   refusal-same = go (eqb m 0) refl
     where
@@ -39,7 +40,7 @@ module _ (m k n room : ℕ) (enough : 0 < m → m ≤ n → roomAsked m n ≤ ro
           (cond (isRow2 m k) (some Allowance) (cond (isRow3 n) (some Line) (cond t (some FindingsRoom) none))))
           (row-4-same none-empty)
 
--- The silences that a report goes by, with either room.
+-- The silences that a report goes by, or its refusal, are the same with either room.
 pub silences-same : (ring line : List ℕ) (k : ℕ) (book : List ℕ) (room : ℕ)
     → (0 < length ring → length ring ≤ length line → roomAsked (length ring) (length line) ≤ room)
     → admittedSilences ring line k book room ≡ admittedSilences ring line k book (roomAsked (length ring) (length line))

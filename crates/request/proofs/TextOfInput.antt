@@ -5,13 +5,13 @@ use mathlib.Core.Path.{_≡_, ap}
 use mathlib.Core.List.{List}
 use Rattle.input.specs.Input.{Request, laidDown, CanLayDown}
 use Rattle.input.specs.RowEleven.{IsInputFault}
-use Rattle.request.specs.Lines.{refusalWords}
+use Rattle.request.specs.Lines.{refusalLineOf}
 use Rattle.request.specs.Answering.{requestText, textBy, answerText}
 use Rattle.input.proofs.LaidDownRead.{laid-down-read}
 use Rattle.input.proofs.RowElevenIff.{row-11-iff}
 
 -- "Refusal 11 comes before all others": where the input is not as laid down, the text is the one line `refused 11 place P`.
-pub fault-text-is : (input : List ℕ) (place : ℕ) → IsInputFault input place → answerText input ≡ refusalWords 11 place
+pub fault-text-is : (input : List ℕ) (place : ℕ) → IsInputFault input place → answerText input ≡ refusalLineOf 11 place
 unfolding answerText
 fault-text-is input place fault = ap textBy (row-11-iff input place .1 fault)
 

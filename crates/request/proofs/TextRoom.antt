@@ -1,8 +1,8 @@
--- The longest text of a report: the program's array has room for every accepted request. There are at most as many shown findings as the line has edges, 4,096;
--- each has a start below 4,096, a rotation below 256 and a distance below 256; and looks are at most 3·256·4,096.
+-- The text of a report is no longer than the program's array. There are at most as many shown findings as the line has edges, 4,096; each has a start below 4,096, a
+-- rotation below 256 and a distance below 256; and looks are at most 3·256·4,096.
 -- Assumes nothing.
-use Prim.Native.Nat.{ℕ, _+_, _*_, _^_, _≤_, _<_}
-use mathlib.Core.List.{List, _++_, List·Memᴰ}
+use Prim.Native.Nat.{ℕ, _*_, _^_, _≤_, _<_}
+use mathlib.Core.List.{List, List·Memᴰ}
 use native.Mathlib.Nat.{mul-le-mul}
 use native.Mathlib.Omega.{arith}
 use lib.ListN.{length, length-append}
@@ -17,14 +17,13 @@ use Rattle.outlines.proofs.ShownExactly.{shown-iff}
 use Rattle.outlines.proofs.ShownAndHidden.{shown-hidden-length}
 use Rattle.input.specs.Fields.{lineField}
 use Rattle.input.specs.Input.{Request}
-use Rattle.request.specs.Lines.{firstLine, findingLines, lastLine}
 use Rattle.request.specs.Answering.{reportLines}
 use Rattle.request.specs.Writing.{mostText}
 use Rattle.request.proofs.LineLengths.{Short, first-line-le, finding-lines-le, last-line-le}
 
 module _ (q : Request) (room : ℕ) (admitted : Admitted (length (q .ring)) (q .allowance) (length (q .line)) room) (line-le : length (q .line) ≤ lineField .most) where
   -- There are at most as many findings as the line has edges.
-  pub findings-le : length (findings (q .ring) (q .line) (q .allowance)) ≤ 4096
+  findings-le : length (findings (q .ring) (q .line) (q .allowance)) ≤ 4096
   findings-le = omega (arith, below-length-le (q .ring) (q .line) (q .allowance) (length (q .line)))
 
   -- Looks are at most 3·256·4,096.
@@ -58,15 +57,13 @@ module _ (q : Request) (room : ℕ) (admitted : Admitted (length (q .ring)) (q .
     unfolding reportLines
     report-lines-le cell-lt ring-number-lt =
         let counts : ReportCounts = reportCounts (q .ring) (q .line) (q .allowance) (q .cell) (q .ringNumber) silences in
-        let first : List ℕ = firstLine (q .cell) (q .ringNumber) (length (q .ring)) (q .allowance) in
         let lengths = shown-hidden-length silences (q .cell) (q .ringNumber) all in
-        omega (
+        simp length-append
+        (omega (
           arith,
-          length-append first (findingLines seen ++ lastLine counts),
-          length-append (findingLines seen) (lastLine counts),
           first-line-le (q .cell) (q .ringNumber) (length (q .ring)) (q .allowance) cell-lt ring-number-lt (omega (arith, admitted .most-ring))
               (omega (arith, admitted .allowed, admitted .most-ring)),
           finding-lines-le seen shown-short,
           last-line-le counts (omega (arith, findings-le)) (omega (arith, findings-le)) (omega (arith, looks-le)),
           findings-le,
-        )
+        ))

@@ -5,8 +5,8 @@
 --   IsAnswered     what `answer` promises
 --
 -- What a report goes by, its refusals and its counts are outlines' own, in specs/Report.antt there. "Book places count from the book's first byte": a request
--- has its book apart, so the report's places are the right ones. The program lends the report as many words as row 4 asks, so row 4 is never given; nor
--- is row 3, a line being at most 4,096 edges (`rows-3-4-never` of proofs/OneText.antt).
+-- has its book apart, so the report's places are the right ones. The report meant is one that is lent as many words as row 4 asks, so row 4 is never given;
+-- nor is row 3, a line being at most 4,096 edges (`rows-3-4-never` of proofs/RowsNeverGiven.antt).
 use Prim.Native.Nat.{ℕ}
 use mathlib.Core.Path.{_≡_}
 use mathlib.Core.List.{List, _++_}

@@ -50,9 +50,9 @@ lastLine counts =
     lineOf (ascii "found" ∷ decimal (counts .found) ∷ ascii "hidden" ∷ decimal (counts .hidden) ∷ ascii "looks" ∷ decimal (counts .looks) ∷ [])
 
 -- The line of a refusal's number and place.
-unfoldable pub refusalWords : ℕ → ℕ → List ℕ
-refusalWords number place = lineOf (ascii "refused" ∷ decimal number ∷ ascii "place" ∷ decimal place ∷ [])
+unfoldable pub refusalLineOf : ℕ → ℕ → List ℕ
+refusalLineOf number place = lineOf (ascii "refused" ∷ decimal number ∷ ascii "place" ∷ decimal place ∷ [])
 
 -- "A refusal prints a single line, such as `refused 2 place 0`."
 abbrev pub refusalLine : Refusal → List ℕ
-refusalLine refusal = refusalWords (numberOf refusal) (placeOf refusal)
+refusalLine refusal = refusalLineOf (numberOf refusal) (placeOf refusal)

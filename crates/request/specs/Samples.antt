@@ -19,17 +19,17 @@ use Rattle.outlines.specs.Report.{those, admittedSilences}
 use Rattle.input.specs.Fields.{isField, fieldEndAt}
 use Rattle.input.specs.Input.{fieldsOf, requestOf, laidDown}
 use Rattle.request.specs.Decimal.{digitsWithin, decimal}
-use Rattle.request.specs.Lines.{lf, firstLine, findingLine, findingLines, lastLine, refusalWords}
+use Rattle.request.specs.Lines.{lf, firstLine, findingLine, findingLines, lastLine, refusalLineOf}
 use Rattle.request.specs.Answering.{reportLines, requestText, answerText}
 
 -- The fields of "34 00 04 00 00 00 07 35 00 02 00 02 33 00 01 00 31 00 02 61 61 32 00 03 61 61 61".
-unfoldable pub sampleFields : List ℕ
+unfoldable sampleFields : List ℕ
 sampleFields =
     0x34 ∷ 0x00 ∷ 0x04 ∷ 0x00 ∷ 0x00 ∷ 0x00 ∷ 0x07 ∷ 0x35 ∷ 0x00 ∷ 0x02 ∷ 0x00 ∷ 0x02 ∷ 0x33 ∷ 0x00 ∷ 0x01 ∷ 0x00 ∷ 0x31 ∷ 0x00 ∷ 0x02 ∷ 0x61 ∷ 0x61
     ∷ 0x32 ∷ 0x00 ∷ 0x03 ∷ 0x61 ∷ 0x61 ∷ 0x61 ∷ []
 
 -- Then its book: "21 00 0A 00 00 00 07 00 02 00 00 00 01".
-unfoldable pub sampleBook : List ℕ
+unfoldable sampleBook : List ℕ
 sampleBook = 0x21 ∷ 0x00 ∷ 0x0a ∷ 0x00 ∷ 0x00 ∷ 0x00 ∷ 0x07 ∷ 0x00 ∷ 0x02 ∷ 0x00 ∷ 0x00 ∷ 0x00 ∷ 0x01 ∷ []
 
 -- A text's line as it is read: its letters, and LF.
@@ -57,7 +57,7 @@ row-11 : (answerText [] ≡ printed (ascii "refused 11 place 0"))
     × (answerText (take 21 sampleFields) ≡ printed (ascii "refused 11 place 21"))
     × (answerText (0x35 ∷ sampleFields) ≡ printed (ascii "refused 11 place 0"))
     × (answerText (sampleFields ++ replicate 32742 0x21) ≡ printed (ascii "refused 11 place 0"))
-unfolding sampleFields ascii answerText requestOf fieldsOf isField fieldEndAt numberAt refusalWords digitsWithin decimal
+unfolding sampleFields ascii answerText requestOf fieldsOf isField fieldEndAt numberAt refusalLineOf digitsWithin decimal
 row-11 = (refl, refl, refl, refl, refl, refl, refl, refl)
 
 -- The fields of cell 7, ring number 2, this allowance, this ring and a line of this many edges.
@@ -74,7 +74,7 @@ order-of-rows : (answerText (fieldsWith 0 [] 3) ≡ printed (ascii "refused 1 pl
     × (answerText (sampleFields ++ 0x21 ∷ []) ≡ printed (ascii "refused 6 place 0"))
     × (answerText (sampleFields ++ (sampleBook ++ 0x21 ∷ [])) ≡ printed (ascii "refused 6 place 13"))
     × (answerText (sampleFields ++ (sampleBook ++ sampleBook)) ≡ printed (ascii "refused 7 place 13"))
-unfolding sampleFields sampleBook ascii laidDown bytesOf answerText requestOf fieldsOf isField fieldEndAt numberAt requestText refusalWords digitsWithin decimal admittedSilences refusalOf readBook readFrom fieldsFrom fieldAt fieldBy lengthByTag isWhole silenceAt isBelow
+unfolding sampleFields sampleBook ascii laidDown bytesOf answerText requestOf fieldsOf isField fieldEndAt numberAt requestText refusalLineOf digitsWithin decimal admittedSilences refusalOf readBook readFrom fieldsFrom fieldAt fieldBy lengthByTag isWhole silenceAt isBelow
 order-of-rows = (refl, refl, refl, refl, refl, refl, refl)
 
 -- Digits: no leading zero, and a 0 for zero.

@@ -9,14 +9,13 @@ use input::read_request;
 use outlines::Reported;
 use outlines::report;
 ghost use lib.ListN.{length};
-ghost use Rattle.silences.specs.Putting.{IsPut};
 ghost use Rattle.request.specs.Answering.{requestText, IsAnswered};
-ghost use Rattle.request.specs.Writing.{request, CanAnswer};
+ghost use Rattle.request.specs.Writing.{request, CanAnswer, IsText};
 
 // Room for the words of a finding at each place of the longest line, three words each: row 4 never asks for more.
 const MOST_WORDS: usize = 12288;
 
-// The bytes of the longest text: a first line of 47 (10, 5, 3 and 3 digits), a line of 13 (4, 3 and 3) for each of 4,096
+// Bytes enough for every text: a first line of 47 (10, 5, 3 and 3 digits), a line of 13 (4, 3 and 3) for each of 4,096
 // findings, and a last line of 37 (4, 4 and 7).
 pub const MOST_TEXT: usize = 53332;
 
@@ -31,7 +30,7 @@ fn answer_request(
     text: &mut [u8],
 ) -> usize
     requires { ⌜ CanAnswer (length (now line)) (length (now text)) ⌝ }
-    ensures { λ r. ⌜ IsPut 0 (requestText (request cell «ring_number» allowance (now (ring .entry)) (now (line .entry)) (now (book .entry)))) (now (text .entry)) r (now (text .exit)) ⌝ }
+    ensures { λ r. ⌜ IsText (requestText (request cell «ring_number» allowance (now (ring .entry)) (now (line .entry)) (now (book .entry)))) (now (text .entry)) r (now (text .exit)) ⌝ }
 {
     let mut words = [0u32; MOST_WORDS];
     match report(cell, ring_number, ring, line, allowance, book, &mut words) {
@@ -63,6 +62,7 @@ pub fn answer(input: &[u8], text: &mut [u8; MOST_TEXT]) -> usize
     match read_request(input) {
         Asked::Refused(refusal) => put_refusal(text, refusal),
         Asked::Parts(parts) => {
+            // The kit takes a part of a slice between locals, not between fields.
             let ring_from = parts.ring_from;
             let ring_to = parts.ring_to;
             let line_from = parts.line_from;

@@ -1,49 +1,35 @@
-// The lines of the text, word after word: one space between two words, and LF at the end.
+// The lines of the text, word after word: one space between two words, and LF at the end. Each function answers the offset of
+// the next byte.
+use crate::bytes::put_byte;
+use crate::bytes::put_bytes;
 use crate::digits::put_decimal;
-ghost use Prim.Native.Nat.{_+_, _≤_};
-ghost use lib.ListN.{length};
-ghost use Rattle.silences.specs.Putting.{IsPut};
-ghost use Rattle.request.specs.Lines.{firstLine, lastLine, refusalWords, findingLine, findingLines};
-ghost use Rattle.request.specs.Writing.{numbered, named, findingOf, findingsOf, countsOf};
+ghost use Rattle.request.specs.Lines.{firstLine, lastLine, refusalLineOf, findingLine, findingLines};
+ghost use Rattle.request.specs.Writing.{numbered, named, findingOf, findingsOf, countsOf, IsWritten};
 
+// Between two words.
 const SPACE: u8 = 0x20;
 
+// After the last.
 const LF: u8 = 0x0a;
 
-// A finding's words: start, rotation, distance.
+// "three 32-bit words each (start, rotation, distance)"
 pub const WORDS_EACH: usize = 3;
-
-// Writes bytes from `at` on, and answers the offset just past them.
-fn put_bytes(text: &mut [u8], at: usize, bytes: &[u8]) -> usize
-    requires { ⌜ at + length (now bytes) ≤ length (now text) ⌝ }
-    ensures { λ r. ⌜ IsPut at (now (bytes .entry)) (now (text .entry)) r (now (text .exit)) ⌝ }
-{
-    let mut done: usize = 0;
-    while done < bytes.len() {
-        text[at + done] = bytes[done];
-        done += 1;
-    }
-    at + done
-}
 
 // A number, and the byte that comes after it.
 fn put_number(text: &mut [u8], at: usize, number: usize, after: u8) -> usize
-    requires { ⌜ at + length (numbered number after) ≤ length (now text) ⌝ }
-    ensures { λ r. ⌜ IsPut at (numbered number after) (now (text .entry)) r (now (text .exit)) ⌝ }
+    ensures { λ r. ⌜ IsWritten (numbered number after) (now (text .entry)) at (now (text .exit)) r ⌝ }
 {
     let next = put_decimal(text, at, number);
-    text[next] = after;
-    next + 1
+    put_byte(text, next, after)
 }
 
 // A name, one space, a number, and the byte that comes after it.
 fn put_named(text: &mut [u8], at: usize, name: &[u8], number: usize, after: u8) -> usize
-    requires { ⌜ at + length (named (now name) number after) ≤ length (now text) ⌝ }
-    ensures { λ r. ⌜ IsPut at (named (now (name .entry)) number after) (now (text .entry)) r (now (text .exit)) ⌝ }
+    ensures { λ r. ⌜ IsWritten (named (now (name .entry)) number after) (now (text .entry)) at (now (text .exit)) r ⌝ }
 {
-    let next = put_bytes(text, at, name);
-    text[next] = SPACE;
-    put_number(text, next + 1, number, after)
+    let space_at = put_bytes(text, at, name);
+    let number_at = put_byte(text, space_at, SPACE);
+    put_number(text, number_at, number, after)
 }
 
 // "The first line gives cell, ring number, m and k".
@@ -55,8 +41,7 @@ pub fn put_first_line(
     m: usize,
     k: usize,
 ) -> usize
-    requires { ⌜ at + length (firstLine cell «ring_number» m k) ≤ length (now text) ⌝ }
-    ensures { λ r. ⌜ IsPut at (firstLine cell «ring_number» m k) (now (text .entry)) r (now (text .exit)) ⌝ }
+    ensures { λ r. ⌜ IsWritten (firstLine cell «ring_number» m k) (now (text .entry)) at (now (text .exit)) r ⌝ }
 {
     let ring_at = put_named(text, at, b"cell", cell, SPACE);
     let edges_at = put_named(text, ring_at, b"ring", ring_number, SPACE);
@@ -66,27 +51,24 @@ pub fn put_first_line(
 
 // "the last gives the three counts"
 pub fn put_last_line(text: &mut [u8], at: usize, found: usize, hidden: usize, looks: usize) -> usize
-    requires { ⌜ at + length (lastLine (countsOf found hidden looks)) ≤ length (now text) ⌝ }
-    ensures { λ r. ⌜ IsPut at (lastLine (countsOf found hidden looks)) (now (text .entry)) r (now (text .exit)) ⌝ }
+    ensures { λ r. ⌜ IsWritten (lastLine (countsOf found hidden looks)) (now (text .entry)) at (now (text .exit)) r ⌝ }
 {
     let hidden_at = put_named(text, at, b"found", found, SPACE);
     let looks_at = put_named(text, hidden_at, b"hidden", hidden, SPACE);
     put_named(text, looks_at, b"looks", looks, LF)
 }
 
-// "such as `refused 2 place 0`"
+// "A refusal prints a single line, such as `refused 2 place 0`."
 pub fn put_refusal_line(text: &mut [u8], at: usize, number: usize, place: usize) -> usize
-    requires { ⌜ at + length (refusalWords number place) ≤ length (now text) ⌝ }
-    ensures { λ r. ⌜ IsPut at (refusalWords number place) (now (text .entry)) r (now (text .exit)) ⌝ }
+    ensures { λ r. ⌜ IsWritten (refusalLineOf number place) (now (text .entry)) at (now (text .exit)) r ⌝ }
 {
     let place_at = put_named(text, at, b"refused", number, SPACE);
     put_named(text, place_at, b"place", place, LF)
 }
 
-// One line for a finding: "(start, rotation, distance)".
+// The line of a finding: "(start, rotation, distance)".
 fn put_finding_line(text: &mut [u8], at: usize, start: u32, rotation: u32, distance: u32) -> usize
-    requires { ⌜ at + length (findingLine (findingOf start rotation distance)) ≤ length (now text) ⌝ }
-    ensures { λ r. ⌜ IsPut at (findingLine (findingOf start rotation distance)) (now (text .entry)) r (now (text .exit)) ⌝ }
+    ensures { λ r. ⌜ IsWritten (findingLine (findingOf start rotation distance)) (now (text .entry)) at (now (text .exit)) r ⌝ }
 {
     let rotation_at = put_number(text, at, start as usize, SPACE);
     let distance_at = put_number(text, rotation_at, rotation as usize, SPACE);
@@ -94,15 +76,14 @@ fn put_finding_line(text: &mut [u8], at: usize, start: u32, rotation: u32, dista
 }
 
 // "one line per shown finding": a line for each three words.
-pub fn put_finding_lines(text: &mut [u8], from: usize, words: &[u32]) -> usize
-    requires { ⌜ from + length (findingLines (findingsOf (now words))) ≤ length (now text) ⌝ }
-    ensures { λ r. ⌜ IsPut from (findingLines (findingsOf (now (words .entry)))) (now (text .entry)) r (now (text .exit)) ⌝ }
+pub fn put_finding_lines(text: &mut [u8], at: usize, words: &[u32]) -> usize
+    ensures { λ r. ⌜ IsWritten (findingLines (findingsOf (now (words .entry)))) (now (text .entry)) at (now (text .exit)) r ⌝ }
 {
-    let mut at: usize = 0;
-    let mut to = from;
-    while WORDS_EACH <= words.len() - at {
-        to = put_finding_line(text, to, words[at], words[at + 1], words[at + 2]);
-        at += WORDS_EACH;
+    let mut next = at;
+    let mut done: usize = 0;
+    while WORDS_EACH <= words.len() - done {
+        next = put_finding_line(text, next, words[done], words[done + 1], words[done + 2]);
+        done += WORDS_EACH;
     }
-    to
+    next
 }

@@ -5,14 +5,13 @@ use answers::number_of;
 use answers::place_of;
 ghost use Prim.Native.Nat.{_≤_};
 ghost use lib.ListN.{length};
-ghost use Rattle.silences.specs.Putting.{IsPut};
 ghost use Rattle.request.specs.Lines.{refusalLine};
-ghost use Rattle.request.specs.Writing.{mostText};
+ghost use Rattle.request.specs.Writing.{mostText, IsText};
 
 // "A refusal prints a single line".
 pub fn put_refusal(text: &mut [u8], refusal: Refusal) -> usize
     requires { ⌜ mostText ≤ length (now text) ⌝ }
-    ensures { λ r. ⌜ IsPut 0 (refusalLine refusal) (now (text .entry)) r (now (text .exit)) ⌝ }
+    ensures { λ r. ⌜ IsText (refusalLine refusal) (now (text .entry)) r (now (text .exit)) ⌝ }
 {
     let number = number_of(refusal);
     let place = place_of(refusal);

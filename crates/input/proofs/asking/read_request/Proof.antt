@@ -1,16 +1,20 @@
--- `input::asking::read_request` meets its contract: each return is one case of the five fields (`AskedCases`). What is known of a field that stands is
--- `Stands`, from the end that `field_end` told: so the next field begins within the input, and a number's bytes are there.
+-- `input::asking::read_request` meets its contract: each return is row 11 at a place, or all five fields (`AskedCases`). Where a field was read, it and those before
+-- it stand, by the ends that `field_end` told: so the next field begins within the input.
 -- Assumes nothing.
+use Prim.Native.Nat.{ℕ}
+use mathlib.Core.List.{List}
 use native.Mathlib.Omega.{arith}
 use borrow.Author.Needs.{needs}
 use Rattle.silences.proofs.NumberWithin.{number-read}
-use Rattle.input.proofs.AskedCases.{FiveStand, stands, stands-not, asked-longer, asked-cell-no, asked-ring-number-no, asked-allowance-no, asked-ring-no, asked-line-no, asked-parts}
+use Rattle.input.specs.RowEleven.{CellStands, RingNumberStands, AllowanceStands, RingStands, longer, no-cell, no-ring-number, no-allowance, no-ring, no-line}
+use Rattle.input.proofs.FieldEnds.{told-stands, told-none}
+use Rattle.input.proofs.AskedCases.{LineStands, asked-fault, asked-parts}
 use Rattle.input.proofs.asking.read_request.Statement.{statement}
 use Rattle.input.proofs.asking.read_request.Tie as tie
 
 -- a longer input
 returns : tie.Need-returns
-returns c = asked-longer _ (omega arith)
+returns c = asked-fault (longer (omega arith))
 
 field-end-requires : tie.Need-field-end-requires
 field-end-requires c κs = search needs
@@ -23,13 +27,21 @@ enum-told c = search needs
 
 -- no cell
 returns-2 : tie.Need-returns-2
-returns-2 c =
-    asked-cell-no _ (omega arith) (stands-not (c .enum-told .given .1) (c .before .before .field-end .ensures))
+returns-2 c = asked-fault (no-cell (omega arith) (told-none (c .before .before .field-end .ensures) (c .enum-told .given .1)))
+
+-- the input, from where its cell was read
+abbrev input-of : tie.After-known-told → List ℕ
+input-of c = c .before .before .before .before .before .before .args .input .now
+
+-- there the cell stands
+abbrev cell-stands : (c : tie.After-known-told) → CellStands (input-of c) (c .before .cell-end .given .0 .0)
+cell-stands c = record {
+  not-longer = c .before .before .before .before .if1 .left;
+  cell = told-stands (c .before .before .before .field-end .ensures) (c .before .cell-end .given .1);
+}
 
 field-end-requires-2 : tie.Need-field-end-requires-2
-field-end-requires-2 c κs =
-    let told = c .before .before .before .field-end .ensures in
-    stands (c .before .cell-end .given .1) told .next-le
+field-end-requires-2 c κs = cell-stands c .cell .not-cut
 
 enum-known-ring-number-end : tie.Need-enum-known-ring-number-end
 enum-known-ring-number-end c = search needs
@@ -40,14 +52,22 @@ enum-told-2 c = search needs
 -- no ring number
 returns-3 : tie.Need-returns-3
 returns-3 c =
-    let at-cell = c .before .before .before in
-    let cell = stands (at-cell .before .cell-end .given .1) (at-cell .before .before .before .field-end .ensures) in
-    asked-ring-number-no _ (at-cell .before .before .before .before .if1 .left) _ cell (stands-not (c .enum-told2 .given .1) (c .before .before .field-end2 .ensures))
+    asked-fault (no-ring-number (cell-stands (c .before .before .before)) (told-none (c .before .before .field-end2 .ensures) (c .enum-told2 .given .1)))
+
+-- back from where the ring number was read to where the cell was
+abbrev to-cell : tie.After-known-told2 → tie.After-known-told
+to-cell c = c .before .before .before .before
+
+-- there the ring number stands too
+abbrev ring-number-stands : (c : tie.After-known-told2) → RingNumberStands (input-of (to-cell c)) (c .before .ring-number-end .given .0 .0)
+ring-number-stands c = record {
+  cell-end = to-cell c .before .cell-end .given .0 .0;
+  earlier = cell-stands (to-cell c);
+  ring-number = told-stands (c .before .before .before .field-end2 .ensures) (c .before .ring-number-end .given .1);
+}
 
 field-end-requires-3 : tie.Need-field-end-requires-3
-field-end-requires-3 c κs =
-    let told = c .before .before .before .field-end2 .ensures in
-    stands (c .before .ring-number-end .given .1) told .next-le
+field-end-requires-3 c κs = ring-number-stands c .ring-number .not-cut
 
 enum-known-allowance-end : tie.Need-enum-known-allowance-end
 enum-known-allowance-end c = search needs
@@ -58,16 +78,22 @@ enum-told-3 c = search needs
 -- no allowance
 returns-4 : tie.Need-returns-4
 returns-4 c =
-    let at-ring-number = c .before .before .before in
-    let at-cell = at-ring-number .before .before .before .before in
-    let cell = stands (at-cell .before .cell-end .given .1) (at-cell .before .before .before .field-end .ensures) in
-    let ring-number = stands (at-ring-number .before .ring-number-end .given .1) (at-ring-number .before .before .before .field-end2 .ensures) in
-    asked-allowance-no _ (at-cell .before .before .before .before .if1 .left) _ cell _ ring-number (stands-not (c .enum-told3 .given .1) (c .before .before .field-end3 .ensures))
+    asked-fault (no-allowance (ring-number-stands (c .before .before .before)) (told-none (c .before .before .field-end3 .ensures) (c .enum-told3 .given .1)))
+
+-- back from where the allowance was read to where the ring number was
+abbrev to-ring-number : tie.After-known-told3 → tie.After-known-told2
+to-ring-number c = c .before .before .before .before
+
+-- there the allowance stands too
+abbrev allowance-stands : (c : tie.After-known-told3) → AllowanceStands (input-of (to-cell (to-ring-number c))) (c .before .allowance-end .given .0 .0)
+allowance-stands c = record {
+  ring-number-end = to-ring-number c .before .ring-number-end .given .0 .0;
+  earlier = ring-number-stands (to-ring-number c);
+  allowance = told-stands (c .before .before .before .field-end3 .ensures) (c .before .allowance-end .given .1);
+}
 
 field-end-requires-4 : tie.Need-field-end-requires-4
-field-end-requires-4 c κs =
-    let told = c .before .before .before .field-end3 .ensures in
-    stands (c .before .allowance-end .given .1) told .next-le
+field-end-requires-4 c κs = allowance-stands c .allowance .not-cut
 
 enum-known-ring-end : tie.Need-enum-known-ring-end
 enum-known-ring-end c = search needs
@@ -78,18 +104,22 @@ enum-told-4 c = search needs
 -- no ring
 returns-5 : tie.Need-returns-5
 returns-5 c =
-    let at-allowance = c .before .before .before in
-    let at-ring-number = at-allowance .before .before .before .before in
-    let at-cell = at-ring-number .before .before .before .before in
-    let cell = stands (at-cell .before .cell-end .given .1) (at-cell .before .before .before .field-end .ensures) in
-    let ring-number = stands (at-ring-number .before .ring-number-end .given .1) (at-ring-number .before .before .before .field-end2 .ensures) in
-    let allowance = stands (at-allowance .before .allowance-end .given .1) (at-allowance .before .before .before .field-end3 .ensures) in
-    asked-ring-no _ (at-cell .before .before .before .before .if1 .left) _ cell _ ring-number _ allowance (stands-not (c .enum-told4 .given .1) (c .before .before .field-end4 .ensures))
+    asked-fault (no-ring (allowance-stands (c .before .before .before)) (told-none (c .before .before .field-end4 .ensures) (c .enum-told4 .given .1)))
+
+-- back from where the ring was read to where the allowance was
+abbrev to-allowance : tie.After-known-told4 → tie.After-known-told3
+to-allowance c = c .before .before .before .before
+
+-- there the ring stands too
+abbrev ring-stands : (c : tie.After-known-told4) → RingStands (input-of (to-cell (to-ring-number (to-allowance c)))) (c .before .ring-end .given .0 .0)
+ring-stands c = record {
+  allowance-end = to-allowance c .before .allowance-end .given .0 .0;
+  earlier = allowance-stands (to-allowance c);
+  ring = told-stands (c .before .before .before .field-end4 .ensures) (c .before .ring-end .given .1);
+}
 
 field-end-requires-5 : tie.Need-field-end-requires-5
-field-end-requires-5 c κs =
-    let told = c .before .before .before .field-end4 .ensures in
-    stands (c .before .ring-end .given .1) told .next-le
+field-end-requires-5 c κs = ring-stands c .ring .not-cut
 
 enum-known-line-end : tie.Need-enum-known-line-end
 enum-known-line-end c = search needs
@@ -100,46 +130,25 @@ enum-told-5 c = search needs
 -- no line
 returns-6 : tie.Need-returns-6
 returns-6 c =
-    let at-ring = c .before .before .before in
-    let at-allowance = at-ring .before .before .before .before in
-    let at-ring-number = at-allowance .before .before .before .before in
-    let at-cell = at-ring-number .before .before .before .before in
-    let cell = stands (at-cell .before .cell-end .given .1) (at-cell .before .before .before .field-end .ensures) in
-    let ring-number = stands (at-ring-number .before .ring-number-end .given .1) (at-ring-number .before .before .before .field-end2 .ensures) in
-    let allowance = stands (at-allowance .before .allowance-end .given .1) (at-allowance .before .before .before .field-end3 .ensures) in
-    let ring = stands (at-ring .before .ring-end .given .1) (at-ring .before .before .before .field-end4 .ensures) in
-    asked-line-no _ (at-cell .before .before .before .before .if1 .left) _ cell _ ring-number _ allowance _ ring (stands-not (c .enum-told5 .given .1) (c .before .before .field-end5 .ensures))
+    asked-fault (no-line (ring-stands (c .before .before .before)) (told-none (c .before .before .field-end5 .ensures) (c .enum-told5 .given .1)))
 
--- where the fields before the line were read
-abbrev at-ring : tie.After-known-told5 → tie.After-known-told4
-at-ring c = c .before .before .before .before
+-- back from where the line was read to where the ring was
+abbrev to-ring : tie.After-known-told5 → tie.After-known-told4
+to-ring c = c .before .before .before .before
 
-abbrev at-allowance : tie.After-known-told5 → tie.After-known-told3
-at-allowance c = at-ring c .before .before .before .before
-
-abbrev at-ring-number : tie.After-known-told5 → tie.After-known-told2
-at-ring-number c = at-allowance c .before .before .before .before
-
-abbrev at-cell : tie.After-known-told5 → tie.After-known-told
-at-cell c = at-ring-number c .before .before .before .before
-
--- where all five are read they stand
-five-stand : (c : tie.After-known-told5)
-    → FiveStand (at-cell c .before .before .before .before .before .before .args .input .now) (at-cell c .before .cell-end .given .0 .0) (at-ring-number c .before .ring-number-end .given .0 .0)
-    (at-allowance c .before .allowance-end .given .0 .0) (at-ring c .before .ring-end .given .0 .0) (c .before .line-end .given .0 .0)
-five-stand c = record {
-  cell = stands (at-cell c .before .cell-end .given .1) (at-cell c .before .before .before .field-end .ensures);
-  ring-number = stands (at-ring-number c .before .ring-number-end .given .1) (at-ring-number c .before .before .before .field-end2 .ensures);
-  allowance = stands (at-allowance c .before .allowance-end .given .1) (at-allowance c .before .before .before .field-end3 .ensures);
-  ring = stands (at-ring c .before .ring-end .given .1) (at-ring c .before .before .before .field-end4 .ensures);
-  line = stands (c .before .line-end .given .1) (c .before .before .before .field-end5 .ensures);
+-- there the line stands too
+abbrev line-stands : (c : tie.After-known-told5) → LineStands (input-of (to-cell (to-ring-number (to-allowance (to-ring c))))) (c .before .line-end .given .0 .0)
+line-stands c = record {
+  ring-end = to-ring c .before .ring-end .given .0 .0;
+  earlier = ring-stands (to-ring c);
+  line = told-stands (c .before .before .before .field-end5 .ensures) (c .before .line-end .given .1);
 }
 
 number-at-requires : tie.Need-number-at-requires
 number-at-requires c κs = tt
 
 add-number-at : tie.Need-add-number-at
-add-number-at c = let five = five-stand (c .before) in omega arith
+add-number-at c = let line = line-stands (c .before) in omega arith
 
 number-at-requires-2 : tie.Need-number-at-requires-2
 number-at-requires-2 c κs = tt
@@ -148,7 +157,7 @@ cast-t22 : tie.Need-cast-t22
 cast-t22 c = search needs
 
 add-number-at-2 : tie.Need-add-number-at-2
-add-number-at-2 c = let five = five-stand (c .before .before) in omega arith
+add-number-at-2 c = let line = line-stands (c .before .before) in omega arith
 
 number-at-requires-3 : tie.Need-number-at-requires-3
 number-at-requires-3 c κs = tt
@@ -157,17 +166,16 @@ cast-t25 : tie.Need-cast-t25
 cast-t25 c = search needs
 
 add-t26 : tie.Need-add-t26
-add-t26 c = let five = five-stand (c .before .before .before) in omega arith
+add-t26 c = let line = line-stands (c .before .before .before) in omega arith
 
 add-t27 : tie.Need-add-t27
-add-t27 c = let five = five-stand (c .before .before .before) in omega arith
+add-t27 c = let line = line-stands (c .before .before .before) in omega arith
 
 -- all five fields stand
 returns-7 : tie.Need-returns-7
 returns-7 c =
-    let at-line = c .before .before .before in
-    let five = five-stand at-line in
-    asked-parts (at-cell at-line .before .before .before .before .if1 .left) five
+    let line = line-stands (c .before .before .before) in
+    asked-parts line
     (number-read (c .before .before .number-at .ensures) (omega arith) (omega arith))
     (number-read (c .before .number-at2 .ensures) (omega arith) (omega arith))
     (number-read (c .number-at3 .ensures) (omega arith) (omega arith))

@@ -2,6 +2,7 @@
 -- Assumes nothing.
 use native.Mathlib.Omega.{arith}
 use lib.ListN.{length-take, length-drop}
+use Rattle.input.specs.Asking.{Within}
 use Rattle.request.proofs.AskedParts.{answered-by, parts-within, parts-text, refused-line}
 use borrow.Author.Needs.{needs}
 use Rattle.request.proofs.answering.answer.Statement.{statement}
@@ -19,70 +20,40 @@ put-refusal-requires c κs = search needs
 enum-known-parts : tie.Need-enum-known-parts
 enum-known-parts c = search needs
 
+-- the parts of the request lie in the input
+parts-lie : (c : tie.After-known-told2) → Within (c .before .before .before .before .before .args .input .now) (c .before .parts .given .0 .0)
+parts-lie c = parts-within (c .before .before .before .read-request .ensures) (c .before .parts .given .1)
+
 sub-answer-request : tie.Need-sub-answer-request
-sub-answer-request c =
-    let at-parts = c .before in
-    let asked = at-parts .before .before .read-request .ensures in
-    let within = parts-within asked (at-parts .parts .given .1) in
-    omega arith
+sub-answer-request c = let within = parts-lie c in omega arith
 
 part-answer-request-start : tie.Need-part-answer-request-start
-part-answer-request-start c =
-    let at-parts = c .before in
-    let asked = at-parts .before .before .read-request .ensures in
-    let within = parts-within asked (at-parts .parts .given .1) in
-    omega arith
+part-answer-request-start c = let within = parts-lie c in omega arith
 
 part-answer-request-end : tie.Need-part-answer-request-end
-part-answer-request-end c =
-    let at-parts = c .before in
-    let asked = at-parts .before .before .read-request .ensures in
-    let within = parts-within asked (at-parts .parts .given .1) in
-    omega arith
+part-answer-request-end c = let within = parts-lie c in omega arith
 
 sub-answer-request-2 : tie.Need-sub-answer-request-2
-sub-answer-request-2 c =
-    let at-parts = c .before .before in
-    let asked = at-parts .before .before .read-request .ensures in
-    let within = parts-within asked (at-parts .parts .given .1) in
-    omega arith
+sub-answer-request-2 c = let within = parts-lie (c .before) in omega arith
 
 part-answer-request-start-2 : tie.Need-part-answer-request-start-2
-part-answer-request-start-2 c =
-    let at-parts = c .before .before in
-    let asked = at-parts .before .before .read-request .ensures in
-    let within = parts-within asked (at-parts .parts .given .1) in
-    omega arith
+part-answer-request-start-2 c = let within = parts-lie (c .before) in omega arith
 
 part-answer-request-end-2 : tie.Need-part-answer-request-end-2
-part-answer-request-end-2 c =
-    let at-parts = c .before .before in
-    let asked = at-parts .before .before .read-request .ensures in
-    let within = parts-within asked (at-parts .parts .given .1) in
-    omega arith
+part-answer-request-end-2 c = let within = parts-lie (c .before) in omega arith
 
 sub-answer-request-3 : tie.Need-sub-answer-request-3
-sub-answer-request-3 c =
-    let at-parts = c .before .before .before in
-    let asked = at-parts .before .before .read-request .ensures in
-    let within = parts-within asked (at-parts .parts .given .1) in
-    omega arith
+sub-answer-request-3 c = let within = parts-lie (c .before .before) in omega arith
 
 part-answer-request-start-3 : tie.Need-part-answer-request-start-3
-part-answer-request-start-3 c =
-    let at-parts = c .before .before .before in
-    let asked = at-parts .before .before .read-request .ensures in
-    let within = parts-within asked (at-parts .parts .given .1) in
-    omega arith
+part-answer-request-start-3 c = let within = parts-lie (c .before .before) in omega arith
 
 part-answer-request-end-3 : tie.Need-part-answer-request-end-3
 part-answer-request-end-3 c = search needs
 
 answer-request-requires : tie.Need-answer-request-requires
 answer-request-requires c κs =
-    let at-parts = c .before .before .before .before .before in
-    let asked = at-parts .before .before .read-request .ensures in
-    let within = parts-within asked (at-parts .parts .given .1) in
+    let within = parts-lie (c .before .before .before .before) in
     record { line-le = simp (length-take, length-drop) (omega arith); room-for = search needs }
 
 returns : tie.Need-returns

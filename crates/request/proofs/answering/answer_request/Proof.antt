@@ -4,9 +4,9 @@
 use mathlib.Core.Path.{sym}
 use native.Mathlib.Omega.{arith}
 use lib.Seq.{length-take-le}
-use Rattle.request.proofs.BytePut.{put-same}
-use Rattle.request.proofs.RequestAnswered.{refused-text, counted-text}
-use Rattle.request.proofs.RequestPut.{first-line-room, finding-lines-room, last-line-room, request-put}
+use Rattle.request.specs.Writing.{request}
+use Rattle.request.proofs.TextWritten.{written-then, written-same, text-stands, text-same}
+use Rattle.request.proofs.RequestAnswered.{Answered, refused-text, counted-text}
 use borrow.Author.Needs.{needs}
 use Rattle.request.proofs.answering.answer_request.Statement.{statement}
 use Rattle.request.proofs.answering.answer_request.Tie as tie
@@ -26,91 +26,69 @@ put-refusal-requires c κs = search needs
 enum-known-found : tie.Need-enum-known-found
 enum-known-found c = search needs
 
+-- where the report was made, and where the request was given, before its counts are known
+abbrev at-report : tie.After-known-told2 → tie.After-report
+at-report c = c .before .before .before .before
+
+abbrev at-entry : tie.After-known-told2 → tie.Start
+at-entry c = at-report c .before .before .before .before .before .before
+
+-- what the counts come to
+counted : (c : tie.After-known-told2)
+    → Answered (request (at-entry c .args .cell) (at-entry c .args .ring-number) (at-entry c .args .allowance) (at-entry c .args .ring .now)
+    (at-entry c .args .line .now) (at-entry c .args .book .now)) (c .before .found .given .0 .0) (c .before .found .given .0 .1 .0)
+    (c .before .found .given .0 .1 .1 .0) (at-report c .report .last .1 .1 .1 .1 .1 .1 .0)
+counted c =
+    counted-text (at-report c .report .ensures) (at-entry c .pre .line-le) (search needs) (omega arith) (omega arith) (c .before .found .given .1)
+
 sub-to : tie.Need-sub-to
-sub-to c =
-    let at-found = c .before in
-    let at-report = at-found .before .before .before in
-    let at-entry = at-report .before .before .before .before .before .before in
-    let answered = counted-text (at-report .report .ensures) (at-entry .pre .line-le) (search needs) (omega arith) (omega arith) (at-found .found .given .1) in
-    answered .hidden-le
+sub-to c = counted c .hidden-le
 
 mul-to : tie.Need-mul-to
-mul-to c =
-    let at-found = c .before in
-    let at-report = at-found .before .before .before in
-    let at-entry = at-report .before .before .before .before .before .before in
-    let answered = counted-text (at-report .report .ensures) (at-entry .pre .line-le) (search needs) (omega arith) (omega arith) (at-found .found .given .1) in
-    omega (arith, answered .words-le)
+mul-to c = omega (arith, counted c .words-le)
 
 put-first-line-requires : tie.Need-put-first-line-requires
-put-first-line-requires c κs =
-    let at-found = c .before .before in
-    let at-report = at-found .before .before .before in
-    let at-entry = at-report .before .before .before .before .before .before in
-    let answered = counted-text (at-report .report .ensures) (at-entry .pre .line-le) (search needs) (omega arith) (omega arith) (at-found .found .given .1) in
-    first-line-room answered (at-entry .args .text .now) (at-entry .pre .room-for)
+put-first-line-requires c κs = tt
 
 array-share-prefix-words : tie.Need-array-share-prefix-words
-array-share-prefix-words c =
-    let at-found = c .before .before .before .before .before .before in
-    let at-report = at-found .before .before .before in
-    let at-entry = at-report .before .before .before .before .before .before in
-    let answered = counted-text (at-report .report .ensures) (at-entry .pre .line-le) (search needs) (omega arith) (omega arith) (at-found .found .given .1) in
-    answered .words-le
+array-share-prefix-words c = counted (c .before .before .before .before .before) .words-le
 
 slice-aggregate-put-finding-lines : tie.Need-slice-aggregate-put-finding-lines
 slice-aggregate-put-finding-lines c =
-    let at-found = c .before .before .before .before .before .before .before in
-    let at-report = at-found .before .before .before in
-    let at-entry = at-report .before .before .before .before .before .before in
-    let answered = counted-text (at-report .report .ensures) (at-entry .pre .line-le) (search needs) (omega arith) (omega arith) (at-found .found .given .1) in
-    sym (length-take-le _ _ (answered .words-le))
+    sym (length-take-le _ _ (counted (c .before .before .before .before .before .before) .words-le))
 
 put-finding-lines-requires : tie.Need-put-finding-lines-requires
-put-finding-lines-requires c κs =
-    let at-first = c .before .before .before .before in
-    let at-found = at-first .before .before .before in
-    let at-report = at-found .before .before .before in
-    let at-entry = at-report .before .before .before .before .before .before in
-    let answered = counted-text (at-report .report .ensures) (at-entry .pre .line-le) (search needs) (omega arith) (omega arith) (at-found .found .given .1) in
-    finding-lines-room answered (at-entry .args .text .now) (at-entry .pre .room-for) (at-first .put-first-line .kept .0) (at-first .put-first-line .ensures)
+put-finding-lines-requires c κs = tt
 
 put-last-line-requires : tie.Need-put-last-line-requires
-put-last-line-requires c κs =
-    let at-lines = c .before .before .before in
-    let at-first = at-lines .before .before .before .before .before in
-    let at-found = at-first .before .before .before in
-    let at-report = at-found .before .before .before in
-    let at-entry = at-report .before .before .before .before .before .before in
-    let answered = counted-text (at-report .report .ensures) (at-entry .pre .line-le) (search needs) (omega arith) (omega arith) (at-found .found .given .1) in
-    last-line-room answered (at-entry .args .text .now) (at-entry .pre .room-for) (at-first .put-first-line .kept .0) (at-first .put-first-line .ensures)
-    (at-lines .put-finding-lines .kept .0) (at-lines .put-finding-lines .ensures)
+put-last-line-requires c κs = tt
 
 same-length : tie.Need-same-length
 same-length c = search needs
 
+-- a refusal of the report
 returns : tie.Need-returns
 returns c =
     let at-refused = c .before .before in
     let at-refusal = at-refused .before .before .before in
-    let at-report = at-refusal .before .before .before in
-    let at-entry = at-report .before .before .before .before .before .before in
-    put-same (refused-text (at-report .report .ensures) (at-entry .pre .line-le) (search needs) _ (at-refusal .refusal .given .1)) (at-refused .put-refusal .ensures)
+    let reported = at-refusal .before .before .before in
+    let entry = reported .before .before .before .before .before .before in
+    text-same (refused-text (reported .report .ensures) (entry .pre .line-le) (search needs) _ (at-refusal .refusal .given .1)) (at-refused .put-refusal .ensures)
 
 same-length-2 : tie.Need-same-length-2
 same-length-2 c = search needs
 
+-- its counts
 returns-2 : tie.Need-returns-2
 returns-2 c =
     let at-last = c .before .before in
     let at-lines = at-last .before .before .before .before in
     let at-first = at-lines .before .before .before .before .before in
-    let at-found = at-first .before .before .before in
-    let at-report = at-found .before .before .before in
-    let at-entry = at-report .before .before .before .before .before .before in
-    let answered = counted-text (at-report .report .ensures) (at-entry .pre .line-le) (search needs) (omega arith) (omega arith) (at-found .found .given .1) in
-    request-put answered (at-entry .args .text .now) (at-entry .pre .room-for) (at-first .put-first-line .kept .0) (at-first .put-first-line .ensures)
-    (at-lines .put-finding-lines .kept .0) (at-lines .put-finding-lines .ensures) (at-last .put-last-line .ensures)
+    let at-counts = at-first .before .before in
+    let answered = counted at-counts in
+    text-stands (omega (arith, answered .length-le, at-entry at-counts .pre .room-for))
+    (written-same (answered .pieces)
+    (written-then (at-first .put-first-line .ensures) (written-then (at-lines .put-finding-lines .ensures) (at-last .put-last-line .ensures))))
 
 pub answer-request-spec : {M : Type 1} → statement M
 answer-request-spec =

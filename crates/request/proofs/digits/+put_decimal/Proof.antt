@@ -1,11 +1,15 @@
--- The proof of the cycle of calls {put_decimal}: the number falls, since a tenth of it is less. Each way of the code is one law of `DecimalPut`.
+-- The proof of the cycle of calls {put_decimal}: the number falls, since a tenth of it is less. Its digits are one digit (`decimal-one`), or those of a tenth of it
+-- and one more behind them (`decimal-more`).
 -- Assumes nothing.
 use Prim.Native.Nat.{ℕ, _<_}
+use mathlib.Core.Path.{sym}
 use native.Mathlib.Omega.{arith}
+use borrow.Author.Needs.{needs}
 use borrow.Fn.Kinds.{In}
 use borrow.Fn.PlainCycle.{Measures, is, falls, and}
-use lib.ListN.{length-set}
-use Rattle.request.proofs.DecimalPut.{one-room, one-put, tenth-room, last-room, more-put}
+use Rattle.request.proofs.DecimalDigits.{decimal-one, decimal-more}
+use Rattle.request.proofs.TextWritten.{written-then, written-same}
+use Rattle.request.proofs.bytes.put_byte.Reads as put-byte
 use Rattle.request.proofs.digits.put_decimal.Reads as put-decimal
 use Rattle.request.proofs.digits.put_decimal.Kinds as put-decimal-kinds
 use Rattle.request.proofs.digits.+put_decimal.Lts-put_decimal as put-decimal-lts
@@ -21,71 +25,61 @@ put-decimal-at t = and 1 put-decimal-kinds.ps (is 1 put-decimal-kinds.ps μ-put-
 abbrev put-decimal-below : ℕ → In 1 put-decimal-kinds.ps
 put-decimal-below t = and 1 put-decimal-kinds.ps (falls 1 put-decimal-kinds.ps _<_ μ-put-decimal t) put-decimal.Pre
 
-put-decimal-cast-text : (t : ℕ) → put-decimal-lts.Need-cast-text (put-decimal-below t, put-decimal.Post) (put-decimal-at t) put-decimal.Post
-put-decimal-cast-text t c = omega arith
+-- the contracts of the calls
+abbrev calls : ℕ → put-decimal-lts.Claims
+calls t = (put-byte.Asked, put-byte.Learnt, put-decimal-below t, put-decimal.Post)
 
-put-decimal-add-text : (t : ℕ) → put-decimal-lts.Need-add-text (put-decimal-below t, put-decimal.Post) (put-decimal-at t) put-decimal.Post
-put-decimal-add-text t c = omega arith
+put-decimal-cast-put-byte : (t : ℕ) → put-decimal-lts.Need-cast-put-byte (calls t) (put-decimal-at t) put-decimal.Post
+put-decimal-cast-put-byte t c = omega arith
 
-put-decimal-slice-write-text : (t : ℕ) → put-decimal-lts.Need-slice-write-text (put-decimal-below t, put-decimal.Post) (put-decimal-at t) put-decimal.Post
-put-decimal-slice-write-text t c = one-room _ _ (c .before .before .args .text .now) (c .before .before .pre .1) (omega arith)
+put-decimal-add-put-byte : (t : ℕ) → put-decimal-lts.Need-add-put-byte (calls t) (put-decimal-at t) put-decimal.Post
+put-decimal-add-put-byte t c = omega arith
 
-put-decimal-add-result : (t : ℕ) → put-decimal-lts.Need-add-result (put-decimal-below t, put-decimal.Post) (put-decimal-at t) put-decimal.Post
-put-decimal-add-result t c = omega (arith, one-room _ _ (c .before .before .args .text .now) (c .before .before .pre .1) (omega arith))
+put-decimal-put-byte-requires : (t : ℕ) → put-decimal-lts.Need-put-byte-requires (calls t) (put-decimal-at t) put-decimal.Post
+put-decimal-put-byte-requires t c κs = tt
 
-put-decimal-same-length : (t : ℕ) → put-decimal-lts.Need-same-length (put-decimal-below t, put-decimal.Post) (put-decimal-at t) put-decimal.Post
-put-decimal-same-length t c = simp length-set
+put-decimal-same-length : (t : ℕ) → put-decimal-lts.Need-same-length (calls t) (put-decimal-at t) put-decimal.Post
+put-decimal-same-length t c = search needs
 
-put-decimal-returns : (t : ℕ) → put-decimal-lts.Need-returns (put-decimal-below t, put-decimal.Post) (put-decimal-at t) put-decimal.Post
-put-decimal-returns t c = one-put _ _ _ (c .before .before .pre .1) (omega arith)
+put-decimal-returns : (t : ℕ) → put-decimal-lts.Need-returns (calls t) (put-decimal-at t) put-decimal.Post
+put-decimal-returns t c =
+    let at-digit = c .before .before in
+    written-same (sym (decimal-one _ (omega arith))) (at-digit .put-byte .ensures)
 
-put-decimal-put-decimal-requires : (t : ℕ) → put-decimal-lts.Need-put-decimal-requires (put-decimal-below t, put-decimal.Post) (put-decimal-at t) put-decimal.Post
-put-decimal-put-decimal-requires t c κs =
-    let at-entry = c .before .before .before in
-    (omega arith, tenth-room _ _ (at-entry .args .text .now) (at-entry .pre .1) (omega arith))
+put-decimal-put-decimal-requires : (t : ℕ) → put-decimal-lts.Need-put-decimal-requires (calls t) (put-decimal-at t) put-decimal.Post
+put-decimal-put-decimal-requires t c κs = (omega arith, tt)
 
-put-decimal-cast-text-2 : (t : ℕ) → put-decimal-lts.Need-cast-text-2 (put-decimal-below t, put-decimal.Post) (put-decimal-at t) put-decimal.Post
-put-decimal-cast-text-2 t c = omega arith
+put-decimal-cast-put-byte-2 : (t : ℕ) → put-decimal-lts.Need-cast-put-byte-2 (calls t) (put-decimal-at t) put-decimal.Post
+put-decimal-cast-put-byte-2 t c = omega arith
 
-put-decimal-add-text-2 : (t : ℕ) → put-decimal-lts.Need-add-text-2 (put-decimal-below t, put-decimal.Post) (put-decimal-at t) put-decimal.Post
-put-decimal-add-text-2 t c = omega arith
+put-decimal-add-put-byte-2 : (t : ℕ) → put-decimal-lts.Need-add-put-byte-2 (calls t) (put-decimal-at t) put-decimal.Post
+put-decimal-add-put-byte-2 t c = omega arith
 
-put-decimal-slice-write-text-2 : (t : ℕ) → put-decimal-lts.Need-slice-write-text-2 (put-decimal-below t, put-decimal.Post) (put-decimal-at t) put-decimal.Post
-put-decimal-slice-write-text-2 t c =
-    let at-tenth = c .before .before in
-    let at-entry = at-tenth .before .before .before .before in
-    omega (arith, last-room _ _ (at-entry .args .text .now) (at-entry .pre .1) (omega arith) (at-tenth .put-decimal .ensures), at-tenth .put-decimal .kept .0)
+put-decimal-put-byte-requires-2 : (t : ℕ) → put-decimal-lts.Need-put-byte-requires-2 (calls t) (put-decimal-at t) put-decimal.Post
+put-decimal-put-byte-requires-2 t c κs = tt
 
-put-decimal-add-result-2 : (t : ℕ) → put-decimal-lts.Need-add-result-2 (put-decimal-below t, put-decimal.Post) (put-decimal-at t) put-decimal.Post
-put-decimal-add-result-2 t c =
-    let at-tenth = c .before .before in
-    let at-entry = at-tenth .before .before .before .before in
-    omega (arith, last-room _ _ (at-entry .args .text .now) (at-entry .pre .1) (omega arith) (at-tenth .put-decimal .ensures))
+put-decimal-same-length-2 : (t : ℕ) → put-decimal-lts.Need-same-length-2 (calls t) (put-decimal-at t) put-decimal.Post
+put-decimal-same-length-2 t c = search needs
 
-put-decimal-same-length-2 : (t : ℕ) → put-decimal-lts.Need-same-length-2 (put-decimal-below t, put-decimal.Post) (put-decimal-at t) put-decimal.Post
-put-decimal-same-length-2 t c = simp length-set (c .before .before .put-decimal .kept .0)
-
-put-decimal-returns-2 : (t : ℕ) → put-decimal-lts.Need-returns-2 (put-decimal-below t, put-decimal.Post) (put-decimal-at t) put-decimal.Post
+put-decimal-returns-2 : (t : ℕ) → put-decimal-lts.Need-returns-2 (calls t) (put-decimal-at t) put-decimal.Post
 put-decimal-returns-2 t c =
-    let at-tenth = c .before .before in
-    let at-entry = at-tenth .before .before .before .before in
-    more-put _ _ _ (at-entry .pre .1) (omega arith) (at-tenth .put-decimal .kept .0) (at-tenth .put-decimal .ensures)
+    let at-digit = c .before .before in
+    let at-tenth = at-digit .before .before .before .before in
+    written-same (sym (decimal-more _ (omega arith))) (written-then (at-tenth .put-decimal .ensures) (at-digit .put-byte2 .ensures))
 
 pub +put-decimal-spec : {M : Type 1} → statement M
 +put-decimal-spec =
     close μ-put-decimal
     (λ t.
-    put-decimal-lts.spec (put-decimal-below t, put-decimal.Post) (put-decimal-at t) put-decimal.Post
-    (put-decimal-cast-text t)
-    (put-decimal-add-text t)
-    (put-decimal-slice-write-text t)
-    (put-decimal-add-result t)
+    put-decimal-lts.spec (calls t) (put-decimal-at t) put-decimal.Post
+    (put-decimal-cast-put-byte t)
+    (put-decimal-add-put-byte t)
+    (put-decimal-put-byte-requires t)
     (put-decimal-same-length t)
     (put-decimal-returns t)
     (put-decimal-put-decimal-requires t)
-    (put-decimal-cast-text-2 t)
-    (put-decimal-add-text-2 t)
-    (put-decimal-slice-write-text-2 t)
-    (put-decimal-add-result-2 t)
+    (put-decimal-cast-put-byte-2 t)
+    (put-decimal-add-put-byte-2 t)
+    (put-decimal-put-byte-requires-2 t)
     (put-decimal-same-length-2 t)
     (put-decimal-returns-2 t))

@@ -3,15 +3,15 @@
 use Prim.Native.Nat.{_-_}
 use native.Mathlib.Omega.{arith}
 use lib.ListN.{length}
-use Rattle.request.proofs.LinesLoop.{PutLines, lines-start, lines-room, lines-turn, lines-end}
+use Rattle.request.proofs.LinesLoop.{PutLines, lines-start, lines-turn, lines-end}
 use Rattle.request.proofs.lines.put_finding_lines.Statement.{statement}
 use Rattle.request.proofs.lines.put_finding_lines.Tie as tie
 
 abbrev Inv-loop : tie.InvT-loop
-Inv-loop text₀ from words at₀ to₀ text at to = PutLines words from text₀ at to text
+Inv-loop text₀ at words next₀ done₀ text next done = PutLines words text₀ at done text next
 
 abbrev μ-loop : tie.MeasureT-loop
-μ-loop text₀ from words at₀ to₀ text at to = length words - at
+μ-loop text₀ at words next₀ done₀ text next done = length words - done
 
 loop-holds : tie.Need-loop-holds Inv-loop μ-loop
 loop-holds c = lines-start _ _ _
@@ -46,12 +46,10 @@ shared-slice-read-put-finding-line-3 :
 shared-slice-read-put-finding-line-3 c = omega arith
 
 put-finding-line-requires : tie.Need-put-finding-line-requires Inv-loop μ-loop
-put-finding-line-requires c κs =
-    let at-loop = c .before .before .before .before .before in
-    lines-room _ _ _ (at-loop .loop .inv) (at-loop .before .before .before .pre) (omega arith)
+put-finding-line-requires c κs = tt
 
-add-at : tie.Need-add-at Inv-loop μ-loop
-add-at c = omega arith
+add-done : tie.Need-add-done Inv-loop μ-loop
+add-done c = omega arith
 
 loop-less : tie.Need-loop-less Inv-loop μ-loop
 loop-less c = omega arith
@@ -60,7 +58,7 @@ loop-again : tie.Need-loop-again Inv-loop μ-loop
 loop-again c =
     let at-line = c .before .before in
     let at-loop = at-line .before .before .before .before .before .before in
-    lines-turn _ _ _ (at-loop .loop .inv) (at-loop .before .before .before .pre) (omega arith) (at-line .put-finding-line .kept .0) (at-line .put-finding-line .ensures)
+    lines-turn _ _ _ (at-loop .loop .inv) (omega arith) (at-line .put-finding-line .kept .0) (at-line .put-finding-line .ensures)
 
 same-length : tie.Need-same-length Inv-loop μ-loop
 same-length c = c .before .loop .inv .length-is
@@ -85,7 +83,7 @@ put-finding-lines-spec =
     mul-put-finding-line-3
     shared-slice-read-put-finding-line-3
     put-finding-line-requires
-    add-at
+    add-done
     loop-less
     loop-again
     same-length

@@ -2,8 +2,8 @@
 -- Assumes nothing.
 use mathlib.Core.Path.{ap₂}
 use native.Mathlib.Omega.{arith}
-use Rattle.request.specs.Lines.{refusalWords}
-use Rattle.request.proofs.BytePut.{put-same}
+use Rattle.request.specs.Lines.{refusalLineOf}
+use Rattle.request.proofs.TextWritten.{text-stands, text-same}
 use Rattle.request.proofs.LineLengths.{refusal-line-le}
 use borrow.Author.Needs.{needs}
 use Rattle.request.proofs.refusing.put_refusal.Statement.{statement}
@@ -16,10 +16,7 @@ place-of-requires : tie.Need-place-of-requires
 place-of-requires c κs = search needs
 
 put-refusal-line-requires : tie.Need-put-refusal-line-requires
-put-refusal-line-requires c κs =
-    let at-place = c .before in
-    let at-number = at-place .before in
-    omega (arith, refusal-line-le (at-number .number-of .result) (at-place .place-of .result) (omega arith) (omega arith))
+put-refusal-line-requires c κs = tt
 
 same-length : tie.Need-same-length
 same-length c = search needs
@@ -29,7 +26,11 @@ returns c =
     let at-line = c .before .before in
     let at-place = at-line .before .before in
     let at-number = at-place .before in
-    put-same (ap₂ refusalWords (at-number .number-of .ensures .is) (at-place .place-of .ensures .is)) (at-line .put-refusal-line .ensures)
+    let number-is = at-number .number-of .ensures .is in
+    let place-is = at-place .place-of .ensures .is in
+    let line-is = ap₂ refusalLineOf number-is place-is in
+    let short = refusal-line-le (at-number .number-of .result) (at-place .place-of .result) (omega arith) (omega arith) in
+    text-same line-is (text-stands (omega arith) (at-line .put-refusal-line .ensures))
 
 pub put-refusal-spec : {M : Type 1} → statement M
 put-refusal-spec =

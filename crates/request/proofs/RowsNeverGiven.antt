@@ -1,0 +1,48 @@
+-- Which refusals a request is given: not 3, its line being at most 4,096 edges, and not 4, the report being lent as many words as row 4 asks. So after 11 come
+-- 1, 2, 5, 6 and 7.
+-- Assumes nothing.
+use Prim.Native.Nat.{ℕ, _≤_}
+use mathlib.Core.Path.{_≡_, refl, ap}
+use mathlib.Core.Option.{Option, none, some}
+use native.Mathlib.Omega.{arith}
+use lib.ListN.{length}
+use Rattle.answers.specs.declared.refusals.Refusal.{Refusal}
+use Rattle.answers.specs.declared.refusals.Refusal.the-variants.{Ring, Allowance, Line, FindingsRoom}
+use Rattle.answers.specs.Refusals.{numberOf}
+use Rattle.answers.specs.Paper.{refused}
+use Rattle.silences.specs.Reading.{readBook}
+use Rattle.silences.proofs.BookRows.{book-rows}
+use Rattle.findings.specs.Admitting.{roomAsked, refusalOf}
+use Rattle.findings.proofs.AdmitRows.{RowGiven, row-1, row-2, row-3, row-4, row-given}
+use Rattle.outlines.specs.Report.{silencesBy, admittedSilences}
+use Rattle.input.specs.Fields.{lineField}
+use Rattle.input.specs.Input.{Request}
+
+module _ (q : Request) (line-le : length (q .line) ≤ lineField .most) where
+  abbrev m : ℕ
+  m = length (q .ring)
+
+  abbrev n : ℕ
+  n = length (q .line)
+
+  -- of rows 1 to 4 only 1 and 2
+  early-rows : (refusal : Refusal) → RowGiven m (q .allowance) n (roomAsked m n) (some refusal) → numberOf refusal ≤ 2
+  early-rows Ring (row-1 h) = omega arith
+  early-rows Allowance (row-2 ring h) = omega arith
+  early-rows Line (row-3 ring allowed h) = absurd (omega arith)
+  early-rows FindingsRoom (row-4 ring allowed fits starts h) = absurd (omega arith)
+
+  -- After 11 come 1, 2, 5, 6 and 7: a request's refusal is neither 3 nor 4.
+  pub rows-3-4-never : (refusal : Refusal) → admittedSilences (q .ring) (q .line) (q .allowance) (q .book) (roomAsked m n) ≡ refused refusal
+      → (numberOf refusal ≡ 3 → ⊥) × (numberOf refusal ≡ 4 → ⊥)
+  unfolding admittedSilences
+  rows-3-4-never refusal h = go (refusalOf m (q .allowance) n (roomAsked m n)) refl h
+    where
+      go : (o : Option Refusal) → refusalOf m (q .allowance) n (roomAsked m n) ≡ o → silencesBy o (readBook (q .book)) ≡ refused refusal
+          → (numberOf refusal ≡ 3 → ⊥) × (numberOf refusal ≡ 4 → ⊥)
+      go (some p) e h =
+          let same : p ≡ refusal = cc in
+          let early : numberOf p ≤ 2 = early-rows p (row-given m (q .allowance) n (roomAsked m n) (some p) .0 e) in
+          let number-same : numberOf p ≡ numberOf refusal = ap numberOf same in
+          (λ k. omega arith, λ k. omega arith)
+      go none e h = let late = book-rows (q .book) refusal h .0 in (λ k. omega arith, λ k. omega arith)
