@@ -1,5 +1,9 @@
 -- What the calls on a book promise, each in one record: the answer in document 01's number, place and counts (`paper`), and the lent area at
 -- exit (`written`), on every input, accepted or refused. "Packer and unpacker return the number of records"; so does reading.
+--
+--   answerOf, paperOf          what a call answers, and its paper
+--   recordsOf, recordsPaper    what a definition gives, counted in records, and its paper
+--   IsUnpacked, IsRead, IsSought, IsSoughtOn, IsAskedFor    what `unpack`, `read`, `seek`, `seek_on` and `is_for` promise
 use Prim.Native.Nat.{ℕ}
 use mathlib.Core.Path.{_≡_}
 use mathlib.Core.Bool.{Bool}

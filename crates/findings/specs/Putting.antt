@@ -5,6 +5,7 @@
 --   wordsPut     the words with a finding's three words put
 --   canPut       whether there is room for them, and each is a 32-bit word
 --   IsPut        what `put_finding` promises
+--   CanPut       canPut in words of order
 use Prim.Native.Nat.{ℕ, _+_, _*_, _^_, _≤_, _<_}
 use mathlib.Core.Path.{_≡_}
 use mathlib.Core.Bool.{Bool, cond, _&&_}
@@ -37,7 +38,7 @@ canPut room before f =
 pub record IsPut (words : List ℕ) (before : ℕ) (f : Finding) (out : List ℕ) : Type 0 where
   pub written : out ≡ cond (canPut (length words) before f) (wordsPut before f words) words
 
--- What callers know of their findings: the test in words of order.
+-- There is room for a finding's words behind those of so many findings, and each is a 32-bit word: what a caller knows whose finding is put.
 pub record CanPut (words : List ℕ) (before : ℕ) (f : Finding) : Type 0 where
   pub room : wordsEach * before + wordsEach ≤ length words
   pub start-lt : f .start < 2 ^ 32
