@@ -1,16 +1,16 @@
-// The lines of the text, word after word: one space between two words, and LF at the end. Each function answers the offset of
+// The lines of a report, word after word: one space between two words, and LF at the end. Each function answers the offset of
 // the next byte.
 use crate::bytes::put_byte;
 use crate::bytes::put_bytes;
 use crate::digits::put_decimal;
-ghost use Rattle.request.specs.Lines.{firstLine, lastLine, refusalLineOf, findingLine, findingLines};
+ghost use Rattle.request.specs.Lines.{firstLine, lastLine, findingLine, findingLines};
 ghost use Rattle.request.specs.Writing.{numbered, named, findingOf, findingsOf, countsOf, IsWritten};
 
 // Between two words.
-const SPACE: u8 = 0x20;
+pub const SPACE: u8 = 0x20;
 
 // After the last.
-const LF: u8 = 0x0a;
+pub const LF: u8 = 0x0a;
 
 // "three 32-bit words each (start, rotation, distance)"
 pub const WORDS_EACH: usize = 3;
@@ -24,7 +24,7 @@ fn put_number(text: &mut [u8], at: usize, number: usize, after: u8) -> usize
 }
 
 // A name, one space, a number, and the byte that comes after it.
-fn put_named(text: &mut [u8], at: usize, name: &[u8], number: usize, after: u8) -> usize
+pub fn put_named(text: &mut [u8], at: usize, name: &[u8], number: usize, after: u8) -> usize
     ensures { λ r. ⌜ IsWritten (named (now (name .entry)) number after) (now (text .entry)) at (now (text .exit)) r ⌝ }
 {
     let space_at = put_bytes(text, at, name);
@@ -56,14 +56,6 @@ pub fn put_last_line(text: &mut [u8], at: usize, found: usize, hidden: usize, lo
     let hidden_at = put_named(text, at, b"found", found, SPACE);
     let looks_at = put_named(text, hidden_at, b"hidden", hidden, SPACE);
     put_named(text, looks_at, b"looks", looks, LF)
-}
-
-// "A refusal prints a single line, such as `refused 2 place 0`."
-pub fn put_refusal_line(text: &mut [u8], at: usize, number: usize, place: usize) -> usize
-    ensures { λ r. ⌜ IsWritten (refusalLineOf number place) (now (text .entry)) at (now (text .exit)) r ⌝ }
-{
-    let place_at = put_named(text, at, b"refused", number, SPACE);
-    put_named(text, place_at, b"place", place, LF)
 }
 
 // The line of a finding: "(start, rotation, distance)".
