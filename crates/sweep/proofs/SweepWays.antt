@@ -20,22 +20,24 @@ use Rattle.sweep.specs.Sweeps.{sweepBy, mostLooks, CanSweep, IsTallied, 
 use Rattle.sweep.proofs.WindowTurns.{WindowsGo, windows-within}
 use Rattle.sweep.proofs.TallyWays.{mostTally, tally-looks}
 
-module _ (ring doubled table line : List ℕ) (k : ℕ) (at : Sweep) (old : List ℕ) (can : CanSweep (length ring) (length line) (at .start) (at .looks)) where
+module _ (m : ℕ) (table line : List ℕ) (k : ℕ) (at : Sweep) (can : CanSweep m (length line) (at .start) (at .looks)) (read : WindowsRead)
+    (read-is : read ≡ windowsBy m table line k (at .start)) where
+  within : WindowsGo (length line) 0 (length line + 1 - at .start) read
+  within = rw read-is (windows-within m table line k (at .start) (can .windows))
+
+  -- The looks with those of the windows read.
+  pub sweep-looks-le : at .looks + read .looks ≤ mostLooks + mostCounts * mostPlaces
+  sweep-looks-le = omega (arith, within .looks-le, can .looks-le, can .windows .most-line)
+
+  -- The start fits.
+  pub sweep-start-le : read .start ≤ mostPlaces
+  sweep-start-le = omega (arith, within .start-le, can .windows .most-line)
+
+module _ (ring doubled table line : List ℕ) (k : ℕ) (at : Sweep) (old : List ℕ) where
   abbrev m : ℕ
   m = length ring
 
   module _ (read : WindowsRead) (read-is : read ≡ windowsBy m table line k (at .start)) where
-    within : WindowsGo (length line) 0 (length line + 1 - at .start) read
-    within = rw read-is (windows-within m table line k (at .start) (can .windows))
-
-    -- The looks with those of the windows read.
-    pub sweep-looks-le : at .looks + read .looks ≤ mostLooks + mostCounts * mostPlaces
-    sweep-looks-le = omega (arith, within .looks-le, can .looks-le, can .windows .most-line)
-
-    -- The start fits.
-    pub sweep-start-le : read .start ≤ mostPlaces
-    sweep-start-le = omega (arith, within .start-le, can .windows .most-line)
-
     -- No candidate.
     pub way-ended : read .candidate ≡ false
         → IsSweptTo ring doubled table line k at old old (Ended (record { start = read .start; last = at .last; looks = at .looks + read .looks }))
@@ -44,11 +46,12 @@ module _ (ring doubled table line : List ℕ) (k : ℕ) (at : Sweep) (old : List
 
     module _ (stopped : read .candidate ≡ true) (new : List ℕ) (z : Least) (tallied : IsTallied ring doubled line (read .start) (at .last) old new z) where
       -- The looks with those of its verification.
-      pub sweep-all-looks-le : at .looks + read .looks + z .looks ≤ mostLooks + mostCounts * mostPlaces + mostTally ring doubled line (read .start) old
-      sweep-all-looks-le =
+      pub sweep-all-looks-le : CanSweep m (length line) (at .start) (at .looks)
+          → at .looks + read .looks + z .looks ≤ mostLooks + mostCounts * mostPlaces + mostTally
+      sweep-all-looks-le can =
           omega (
             arith,
-            sweep-looks-le,
+            sweep-looks-le m table line k at can read read-is,
             ap (λ (t : TallyTo). t .looks) (tallied .is),
             tally-looks ring doubled line (read .start) old (at .last) (can .windows .most),
           )

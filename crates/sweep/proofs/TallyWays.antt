@@ -21,6 +21,10 @@ use Rattle.sweep.specs.declared.verifying.LastVerified.{LastVerified}
 use Rattle.sweep.specs.declared.verifying.LastVerified.the-variants.{Nothing, At}
 use Rattle.sweep.specs.Sweeps.{movedTo, tallyBy, IsTallied}
 
+-- The looks of a fresh count of the longest ring.
+abbrev pub mostTally : ℕ
+mostTally = mostCounts * mostCounts
+
 module _ (ring doubled line : List ℕ) (i : ℕ) (old : List ℕ) where
   abbrev m : ℕ
   m = length ring
@@ -61,10 +65,6 @@ module _ (ring doubled line : List ℕ) (i : ℕ) (old : List ℕ) where
       is = rw (after, lt-leb i from beyond, le-ltb m (2 * (i - from)) near)
           (ap (λ (p : CountsAt). record { counts = p .counts; least = p .least; looks = p .looks }) (moved .is));
     }
-
-  -- A fresh count of the longest ring.
-  abbrev pub mostTally : ℕ
-  mostTally = mostCounts * mostCounts
 
   afresh-looks : (window : List ℕ) → countedTo doubled window old .looks ≤ mostTally
   unfolding countedTo

@@ -49,7 +49,7 @@ module _ (ring doubled window : List ℕ) (some : 0 < length ring) (most : lengt
       (record { fits = record { some-edge = omega (arith, long); most = omega (arith, long); room = omega (arith, long) }; twice = omega (arith, long, doubled-length ring doubled twice) })
 
   -- The window is verified.
-  pub afresh-verified : (old new : List ℕ) (z : Least) → length old ≡ mostCounts → IsCounted doubled window old new z
+  afresh-verified : (old new : List ℕ) (z : Least) → length old ≡ mostCounts → IsCounted doubled window old new z
       → Verified ring window 0 (afreshLooks m) new (z .least) (z .looks)
   unfolding afreshCounts countedTo
   afresh-verified old new z size counted =

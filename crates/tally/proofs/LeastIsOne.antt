@@ -19,7 +19,7 @@ module _ (m : ℕ) (counts : List ℕ) where
       record { le = low .least; place = lowest (λ (r : ℕ). getD counts r 0) m; place-lt = low .below; is = refl }
 
   -- There is one least only.
-  pub least-one : (a b : ℕ) → IsLeast m counts a → IsLeast m counts b → a ≡ b
+  least-one : (a b : ℕ) → IsLeast m counts a → IsLeast m counts b → a ≡ b
   least-one a b x y = omega (arith, x .le (y .place) (y .place-lt), y .le (x .place) (x .place-lt), x .is, y .is)
 
   -- So what is the least is what is computed.

@@ -1,6 +1,5 @@
 -- `sweep::sweeping::to_candidate` meets its contract: its three returns are the three ways of `sweepBy` (`SweepWays`).
 -- Assumes nothing.
-use mathlib.Core.List.{[]}
 use native.Mathlib.Omega.{arith}
 use borrow.Author.Needs.{needs}
 use borrow.Author.Tests.{not-true, not-false}
@@ -15,20 +14,19 @@ add-looks : tie.Need-add-looks
 add-looks c =
     let read = c .before .before in
     let start = read .before .before .before .before in
-    omega (arith, sweep-looks-le (start .args .ring .now) [] (start .args .table .now) (start .args .line .now) (start .args .k) (start .args .at) [] (start .pre) _ (read .read-windows .ensures))
+    omega (arith, sweep-looks-le _ (start .args .table .now) (start .args .line .now) (start .args .k) (start .args .at) (start .pre) _ (read .read-windows .ensures))
 
 -- No candidate.
 returns : tie.Need-returns
 returns c =
     let read = c .before .before .before .before in
-    let start = read .before .before .before .before in
-    way-ended _ _ _ _ _ _ _ (start .pre) _ (read .read-windows .ensures) (not-true _ (c .if1 .taken))
+    way-ended _ _ _ _ _ _ _ _ (read .read-windows .ensures) (not-true _ (c .if1 .taken))
 
 verify-requires : tie.Need-verify-requires
 verify-requires c κs =
     let read = c .before .before .before .before .before in
     let start = read .before .before .before .before in
-    sweep-start-le (start .args .ring .now) [] (start .args .table .now) (start .args .line .now) (start .args .k) (start .args .at) [] (start .pre) _ (read .read-windows .ensures)
+    sweep-start-le _ (start .args .table .now) (start .args .line .now) (start .args .k) (start .args .at) (start .pre) _ (read .read-windows .ensures)
 
 add-lowest-rotation : tie.Need-add-lowest-rotation
 add-lowest-rotation c =
@@ -38,7 +36,7 @@ add-lowest-rotation c =
     let start = read .before .before .before .before in
     omega (
       arith,
-      sweep-all-looks-le _ _ _ _ _ _ _ (start .pre) _ (read .read-windows .ensures) (not-false _ (candidate .if1 .left)) _ _ (verified .verify .ensures),
+      sweep-all-looks-le _ _ _ _ _ _ _ _ (read .read-windows .ensures) (not-false _ (candidate .if1 .left)) _ _ (verified .verify .ensures) (start .pre),
     )
 
 -- Verified, and no finding.
@@ -47,8 +45,7 @@ returns-2 c =
     let verified = c .before .before in
     let candidate = verified .before .before in
     let read = candidate .before .before .before .before in
-    let start = read .before .before .before .before in
-    way-none _ _ _ _ _ _ _ (start .pre) _ (read .read-windows .ensures) (not-false _ (candidate .if1 .left)) _ _ (verified .verify .ensures)
+    way-none _ _ _ _ _ _ _ _ (read .read-windows .ensures) (not-false _ (candidate .if1 .left)) _ _ (verified .verify .ensures)
     (omega (arith, c .if2 .taken))
 
 lowest-rotation-requires : tie.Need-lowest-rotation-requires
@@ -61,8 +58,7 @@ returns-3 c =
     let verified = tested .before .before in
     let candidate = verified .before .before in
     let read = candidate .before .before .before .before in
-    let start = read .before .before .before .before in
-    way-found _ _ _ _ _ _ _ (start .pre) _ (read .read-windows .ensures) (not-false _ (candidate .if1 .left)) _ _ (verified .verify .ensures) _
+    way-found _ _ _ _ _ _ _ _ (read .read-windows .ensures) (not-false _ (candidate .if1 .left)) _ _ (verified .verify .ensures) _
     (omega (arith, tested .if2 .left))
     (c .lowest-rotation .ensures)
 
