@@ -26,8 +26,8 @@ fn print_answer(input: &[u8]) {
 
 pub fn answer_row(row: &[u8]) {
     let mut input = no_input();
-    let listed = made::fill(table::field(row, 1), &mut input);
+    let listed = made::edges(table::field(row, 1), &mut input).len();
     let count = table::number_or(row, 2, listed);
     printing::text(b"\n");
-    print_answer(area::first_bytes(&input, count));
+    print_answer(&*area::lend_bytes(&mut input, count));
 }

@@ -1,5 +1,4 @@
 // A lent area with a canary in every word, to see which words a call wrote. Each row has an area of its own.
-ghost use Prim.Native.Nat.{_<_};
 
 // The canary: its byte four times over, so that no row writes it as its last byte or word.
 const CANARY_BYTE: u8 = 0xA5;
@@ -28,10 +27,7 @@ pub fn long() -> [u32; LONG] {
     [CANARY; LONG]
 }
 
-// A modulus small enough that nothing below overflows.
-const CHECKSUM_BELOW: usize = 1000003;
-
-// The first `room` words, to be lent to a call. No row asks for more than there are. (There is one of these for each width, and for each way of lending.)
+// The first `room` words, to be lent to a call. No row asks for more than there are.
 pub fn lend(area: &mut [u32], room: usize) -> &mut [u32] {
     if room <= area.len() {
         &mut area[..room]
@@ -40,30 +36,12 @@ pub fn lend(area: &mut [u32], room: usize) -> &mut [u32] {
     }
 }
 
-// The first `room` bytes, to be lent to a call.
+// The first `room` bytes.
 pub fn lend_bytes(area: &mut [u8], room: usize) -> &mut [u8] {
     if room <= area.len() {
         &mut area[..room]
     } else {
         area
-    }
-}
-
-// The first `count` words, to be read.
-pub fn first(words: &[u32], count: usize) -> &[u32] {
-    if count <= words.len() {
-        &words[..count]
-    } else {
-        words
-    }
-}
-
-// The first `count` bytes, to be read.
-pub fn first_bytes(bytes: &[u8], count: usize) -> &[u8] {
-    if count <= bytes.len() {
-        &bytes[..count]
-    } else {
-        bytes
     }
 }
 
@@ -76,64 +54,36 @@ pub fn byte_at(bytes: &[u8], at: usize) -> u8 {
     }
 }
 
-fn four_times(byte: u8) -> u32 {
-    (byte as u32) * 0x01010101
-}
-
-// Each byte four times over in a word of its own, so that an area of bytes is looked at as one of words.
-pub fn spread(bytes: &[u8], area: &mut [u32]) {
-    let mut at: usize = 0;
-    while at < area.len() {
-        area[at] = four_times(byte_at(bytes, at));
-        at += 1;
-    }
-}
-
-// How many words there are up to the last one written, of the first `room` words: none where all are canaries.
-pub fn written(area: &[u32], room: usize) -> usize {
-    let mut end = room;
-    while 0 < end {
-        if end <= area.len() {
-            if area[end - 1] != CANARY {
-                return end;
-            }
-        }
-        end -= 1;
-    }
-    0
-}
-
-// Whether every word from `room` on is a canary.
-pub fn is_kept(area: &[u32], room: usize) -> bool {
-    let mut at = room;
-    while at < area.len() {
-        if area[at] != CANARY {
-            return false;
-        }
-        at += 1;
-    }
-    true
-}
-
-fn sum_with(sum: usize, word: u32) -> usize
-    requires { ⌜ sum < 1000003 ⌝ }
-    ensures { λ r. ⌜ r < 1000003 ⌝ }
-{
-    (sum * 31 + word as usize) % CHECKSUM_BELOW
-}
-
 // The word at a place; behind the last one, a canary.
 pub fn word_at(area: &[u32], at: usize) -> u32 {
     if at < area.len() { area[at] } else { CANARY }
 }
 
-// A number that tells long runs of words apart: 31 times the number before, and the next word, mod 1,000,003.
-pub fn checksum(area: &[u32], count: usize) -> usize {
-    let mut sum: usize = 0;
+// What a call left of an area.
+pub struct Seen {
+    // How many words there are up to the last one written, of those lent: none where all are canaries.
+    pub written: usize,
+    // Whether every word behind those lent is a canary.
+    pub kept: bool,
+}
+
+// Looks at an area whose first `room` words were lent.
+pub fn look(area: &[u32], room: usize) -> Seen {
+    let mut written: usize = 0;
+    let mut kept = true;
     let mut at: usize = 0;
-    while at < count {
-        sum = sum_with(sum, word_at(area, at));
+    while at < area.len() {
+        if area[at] != CANARY {
+            if at < room {
+                written = at + 1;
+            } else {
+                kept = false;
+            }
+        }
         at += 1;
     }
-    sum
+    Seen {
+        written: written,
+        kept: kept,
+    }
 }

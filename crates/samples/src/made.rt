@@ -1,66 +1,64 @@
 // Rings and lines. Letters stand for their codes; `#` begins a list of codes; `*` begins the first code, the last one and how many edges there
 // are, of codes that rise by one and after the last one begin again at 0.
 use crate::area;
+use crate::filling;
+use crate::filling::Bytes;
 use crate::table;
+ghost use Prim.Native.Nat.{_<_};
 
 // A number cut to a code.
 pub fn code(number: usize) -> u8 {
     (number % 256) as u8
 }
 
-fn next(code: u8, last: u8) -> u8 {
-    if code < last { code + 1 } else { 0 }
-}
-
-// Fills the edges with codes that rise.
-fn rise(edges: &mut [u8], field: &[u8]) {
-    let first = code(table::number(field, 0));
-    let last = code(table::number(field, 1));
-    let mut code = first;
-    let mut at: usize = 0;
-    while at < edges.len() {
-        edges[at] = code;
-        code = next(code, last);
-        at += 1;
-    }
-}
-
-fn code_of(field: &[u8], at: usize) -> u8 {
-    if table::begins(field, b'#') {
-        code(table::number(field, at))
+// How many codes there are from the first one on before they begin again at 0: one where the first is above the last.
+fn rises(first: u8, last: u8) -> usize
+    ensures { λ r. ⌜ r < 257 ⌝ }
+{
+    if first < last {
+        (last - first) as usize + 1
     } else {
-        area::byte_at(field, at)
+        1
     }
 }
 
-// Fills the edges with a list of codes, or with letters.
-fn spell(edges: &mut [u8], field: &[u8]) {
-    let mut at: usize = 0;
-    while at < edges.len() {
-        edges[at] = code_of(field, at);
-        at += 1;
+// The code at a place of those that rise.
+pub fn rising(first: u8, last: u8, at: usize) -> u8 {
+    let rises = rises(first, last);
+    if at < rises {
+        code(first as usize + at)
+    } else {
+        code((at - rises) % (last as usize + 1))
     }
 }
 
-// How many edges a field gives.
-fn count(field: &[u8]) -> usize {
+// What a field gives, and how many.
+fn edges_of(field: &[u8]) -> Bytes {
     if table::begins(field, b'*') {
-        return table::number(field, 2);
+        return Bytes::Rising {
+            first: code(table::number(field, 0)),
+            last: code(table::number(field, 1)),
+        };
     }
     if table::begins(field, b'#') {
-        return table::parts(field, table::NUMBER);
+        Bytes::Codes
+    } else {
+        Bytes::Letters
     }
-    field.len()
 }
 
-// Fills in the edges that a field gives, and says how many there are.
-pub fn fill(field: &[u8], edges: &mut [u8]) -> usize {
-    let count = count(field);
-    let lent = area::lend_bytes(edges, count);
-    if table::begins(field, b'*') {
-        rise(lent, field);
-    } else {
-        spell(lent, field);
+fn count(what: Bytes, field: &[u8]) -> usize {
+    match what {
+        Bytes::Rising { first: _, last: _ } => table::number(field, 2),
+        Bytes::Codes => table::numbers(field),
+        _ => field.len(),
     }
-    count
+}
+
+// The edges that a field gives, in the first bytes of an area.
+pub fn edges<'a>(field: &[u8], area: &'a mut [u8]) -> &'a [u8] {
+    let what = edges_of(field);
+    let edges = area::lend_bytes(area, count(what, field));
+    filling::fill_bytes(what, field, edges);
+    edges
 }

@@ -4,6 +4,7 @@ mod answer_rows;
 mod area;
 mod book_rows;
 mod books;
+mod filling;
 mod made;
 mod pack_rows;
 mod paper;
@@ -57,17 +58,19 @@ fn name_index(call: Call) -> usize {
 
 // Writes the call, and the name of the row.
 fn begin(call: Call, row: &[u8]) {
-    let names = b"pack|read|unpack|seek|scan|survey|report|answer";
-    printing::begin(table::field(names, name_index(call)), table::field(row, 0));
+    let names = b"pack |read |unpack |seek |scan |survey |report |answer ";
+    printing::text(table::field(names, name_index(call)));
+    printing::text(table::field(row, 0));
+    printing::text(b":");
 }
 
-// Every row of a section, through one call. A section's first line is a heading, and nothing follows its last one.
+// Every row of a section, through one call. Each of its lines ends with the mark of rows, and the first one is a heading.
 fn run(call: Call, text: &[u8], index: usize) {
     let section = table::part(text, table::SECTION, index);
-    let rows = table::parts(section, table::ROW);
-    let mut next: usize = 2;
-    while next < rows {
-        let row = table::part(section, table::ROW, next - 1);
+    let lines = table::marks(section, table::ROW);
+    let mut next: usize = 1;
+    while next < lines {
+        let row = table::part(section, table::ROW, next);
         begin(call, row);
         run_row(call, row);
         next += 1;

@@ -47,13 +47,11 @@ fn no_edges() -> [u8; MOST_LINE] {
 
 pub fn search_row(call: SearchCall, row: &[u8]) {
     let mut ring = [0u8; MOST_RING];
-    let m = made::fill(table::field(row, 1), &mut ring);
     let mut line = no_edges();
-    let n = made::fill(table::field(row, 2), &mut line);
     search(
         call,
         row,
-        area::first_bytes(&ring, m),
-        area::first_bytes(&line, n),
+        made::edges(table::field(row, 1), &mut ring),
+        made::edges(table::field(row, 2), &mut line),
     );
 }

@@ -1,7 +1,6 @@
 // Seeking an address in a book's bytes, whole or faulty. A row gives its name, the words of its silences, how many bytes of their layout the book has,
 // the byte offset and the byte of a fault if there is one, the byte offset to seek from, and the address. It says the field that is found and the
 // byte offset just past it.
-use crate::area;
 use crate::books;
 use crate::printing;
 use crate::table;
@@ -20,24 +19,20 @@ fn address(field: &[u8]) -> Address {
 fn print_sought(sought: Sought) {
     match sought {
         Sought::Field { address, next } => {
-            let cell = address.cell as usize;
-            let ring_number = address.ring_number as usize;
-            let start = address.start as usize;
-            let values = [cell, ring_number, start, next];
-            printing::numbers(b"cell|ring number|start|next", &values);
+            printing::number(b" cell ", address.cell as usize);
+            printing::number(b" ring number ", address.ring_number as usize);
+            printing::number(b" start ", address.start as usize);
+            printing::number(b" next ", next);
         }
-        Sought::Nothing => {
-            printing::text(b" nothing");
-        }
+        Sought::Nothing => printing::text(b" nothing"),
     }
 }
 
 pub fn seek_row(row: &[u8]) {
     let mut bytes = books::no_bytes();
-    let count = books::lay_row(row, 1, &mut bytes);
-    let book = area::first_bytes(&bytes, count);
+    let book = books::book(row, 1, &mut bytes);
     let from = table::number_or(row, 5, 0);
-    printing::number(b"from", from);
+    printing::number(b" from ", from);
     print_sought(book::seek(book, from, address(table::field(row, 6))));
     printing::text(b"\n");
 }

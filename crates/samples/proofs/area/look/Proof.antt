@@ -1,16 +1,16 @@
--- `samples::area::is_kept` is safe and ends: what is left of the area falls.
+-- `samples::area::look` is safe and ends: what is left of the area falls.
 -- Assumes nothing.
 use Prim.Native.Nat.{_-_}
 use native.Mathlib.Omega.{arith}
 use lib.ListN.{length}
-use Rattle.samples.proofs.area.is_kept.Statement.{statement}
-use Rattle.samples.proofs.area.is_kept.Tie as tie
+use Rattle.samples.proofs.area.look.Statement.{statement}
+use Rattle.samples.proofs.area.look.Tie as tie
 
 abbrev Inv-loop : tie.InvT-loop
-Inv-loop area room at₀ at = Unit
+Inv-loop area room written₀ kept₀ at₀ written kept at = Unit
 
 abbrev μ-loop : tie.MeasureT-loop
-μ-loop area room at₀ at = length area - at
+μ-loop area room written₀ kept₀ at₀ written kept at = length area - at
 
 loop-holds : tie.Need-loop-holds Inv-loop μ-loop
 loop-holds c = tt
@@ -21,8 +21,8 @@ mul-if1 c = omega arith
 shared-slice-read-if1 : tie.Need-shared-slice-read-if1 Inv-loop μ-loop
 shared-slice-read-if1 c = omega arith
 
-returns : tie.Need-returns Inv-loop μ-loop
-returns c = tt
+add-written : tie.Need-add-written Inv-loop μ-loop
+add-written c = omega arith
 
 add-at : tie.Need-add-at Inv-loop μ-loop
 add-at c = omega arith
@@ -33,11 +33,11 @@ loop-less c = omega arith
 loop-again : tie.Need-loop-again Inv-loop μ-loop
 loop-again c = tt
 
-returns-2 : tie.Need-returns-2 Inv-loop μ-loop
-returns-2 c = tt
+returns : tie.Need-returns Inv-loop μ-loop
+returns c = tt
 
-pub is-kept-spec : {M : Type 1} → statement M
-is-kept-spec =
+pub look-spec : {M : Type 1} → statement M
+look-spec =
     tie.close
     (tie.spec
     Inv-loop
@@ -45,8 +45,8 @@ is-kept-spec =
     loop-holds
     mul-if1
     shared-slice-read-if1
-    returns
+    add-written
     add-at
     loop-less
     loop-again
-    returns-2)
+    returns)
