@@ -6,13 +6,6 @@ use crate::printing;
 use crate::table;
 use request::MOST_TEXT;
 
-// The most bytes of an input: one more than the program reads.
-const MOST_INPUT: usize = 32769;
-
-fn no_input() -> [u8; MOST_INPUT] {
-    [0; MOST_INPUT]
-}
-
 fn no_text() -> [u8; MOST_TEXT] {
     [0; MOST_TEXT]
 }
@@ -25,7 +18,7 @@ fn print_answer(input: &[u8]) {
 }
 
 pub fn answer_row(row: &[u8]) {
-    let mut input = no_input();
+    let mut input = area::zeros();
     let listed = made::edges(table::field(row, 1), &mut input).len();
     let count = table::number_or(row, 2, listed);
     printing::text(b"\n");

@@ -1,18 +1,29 @@
-// A lent area with a canary in every word, to see which words a call wrote. Each row has an area of its own.
+// The areas of a row: bytes to fill in, and what is lent to a call, with a canary in every byte or word to see which of them the call wrote.
+ghost use Prim.Native.Nat.{_≤_};
+ghost use lib.ListN.{length};
 
-// The canary: its byte four times over, so that no row writes it as its last byte or word.
+// How many bytes there are to fill in: as many as the longest line has, one more than a line may. No other input is longer.
+const MOST_BYTES: usize = 65537;
+
+// The canary of bytes. No row's last byte is one, and no row's last word is one of words.
 const CANARY_BYTE: u8 = 0xA5;
 
+// The canary of words: the byte four times over, so that bytes and words are inspected alike.
 const CANARY: u32 = 0xA5A5A5A5;
 
-// How many bytes or words there are to lend: more than any book has, and more than the rows with short lines ask.
+// How many bytes there are to lend to the packer, and words to the unpacker: more than any book has bytes.
 pub const AMPLE: usize = 13040;
 
-// How many words there are to lend for a long line: more than the 3·65,536 that a search asks at most.
+// How many words there are to lend to a search: more than the 3·65,536 that one asks at most.
 pub const LONG: usize = 196640;
 
-// An area of canaries. A function of its own hands it out: a proof has the length of an array that a call returns, where in one that is made in place
+// Bytes to fill in. A function of its own hands them out: a proof has the length of an array that a call returns, where in one that is made in place
 // it counts the elements one by one, which takes seconds for a long one. (So with every array here of more than 10,000 elements.)
+pub fn zeros() -> [u8; MOST_BYTES] {
+    [0; MOST_BYTES]
+}
+
+// An area of canaries.
 pub fn ample() -> [u32; AMPLE] {
     [CANARY; AMPLE]
 }
@@ -22,7 +33,7 @@ pub fn ample_bytes() -> [u8; AMPLE] {
     [CANARY_BYTE; AMPLE]
 }
 
-// The same of words, for a long line.
+// The same of words, for a search.
 pub fn long() -> [u32; LONG] {
     [CANARY; LONG]
 }
@@ -30,7 +41,7 @@ pub fn long() -> [u32; LONG] {
 // The first `room` words, to be lent to a call. No row asks for more than there are.
 pub fn lend(area: &mut [u32], room: usize) -> &mut [u32] {
     if room <= area.len() {
-        &mut area[..room]
+        &mut area[0..room]
     } else {
         area
     }
@@ -39,7 +50,7 @@ pub fn lend(area: &mut [u32], room: usize) -> &mut [u32] {
 // The first `room` bytes.
 pub fn lend_bytes(area: &mut [u8], room: usize) -> &mut [u8] {
     if room <= area.len() {
-        &mut area[..room]
+        &mut area[0..room]
     } else {
         area
     }
@@ -54,21 +65,17 @@ pub fn byte_at(bytes: &[u8], at: usize) -> u8 {
     }
 }
 
-// The word at a place; behind the last one, a canary.
-pub fn word_at(area: &[u32], at: usize) -> u32 {
-    if at < area.len() { area[at] } else { CANARY }
-}
-
-// What a call left of an area.
+// What a call left of an area: how many words there are up to the last one written, of those lent, and whether every word behind those lent is a
+// canary.
 pub struct Seen {
-    // How many words there are up to the last one written, of those lent: none where all are canaries.
     pub written: usize,
-    // Whether every word behind those lent is a canary.
     pub kept: bool,
 }
 
-// Looks at an area whose first `room` words were lent.
-pub fn look(area: &[u32], room: usize) -> Seen {
+// Inspects an area whose first `room` words were lent.
+pub fn inspect(area: &[u32], room: usize) -> Seen
+    ensures { λ r. ⌜ r .written ≤ length (now (area .entry)) ⌝ }
+{
     let mut written: usize = 0;
     let mut kept = true;
     let mut at: usize = 0;

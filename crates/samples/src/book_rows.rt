@@ -23,7 +23,7 @@ fn answer(call: BookCall, book: &[u8], lent: &mut [u32]) -> BookAnswer {
 }
 
 pub fn book_row(call: BookCall, row: &[u8]) {
-    let mut bytes = books::no_bytes();
+    let mut bytes = area::zeros();
     let book = books::book(row, 1, &mut bytes);
     let room = table::number_or(row, 5, AMPLE);
     let mut words = area::ample();

@@ -7,10 +7,11 @@ use crate::made;
 use crate::table;
 ghost use Prim.Native.Nat.{_<_};
 
-// The words of the most records of a row, and the bytes of its book: 1,001 of them.
+// The words of the most records of a row: 1,001 of them.
 pub const MOST_WORDS: usize = 3003;
 
-const MOST_BYTES: usize = 13013;
+// The bytes of their book. No book has a byte there to put a fault at.
+const MOST_BOOK: usize = 13013;
 
 // A number cut to a word.
 pub fn word(number: usize) -> u32 {
@@ -83,11 +84,6 @@ fn put(book: &mut [u8], at: usize, byte: u8) {
     }
 }
 
-// The bytes of a book before it is laid out.
-pub fn no_bytes() -> [u8; MOST_BYTES] {
-    [0; MOST_BYTES]
-}
-
 // The book that a row gives from a field on, in the first bytes of an area: the words of its silences, how many bytes of their layout it has, and the
 // byte offset and the byte of a fault where there is one.
 pub fn book<'a>(row: &[u8], at: usize, area: &'a mut [u8]) -> &'a [u8]
@@ -97,7 +93,7 @@ pub fn book<'a>(row: &[u8], at: usize, area: &'a mut [u8]) -> &'a [u8]
     filling::fill_bytes(Bytes::Book, table::field(row, at), book);
     put(
         book,
-        table::number_or(row, at + 2, MOST_BYTES),
+        table::number_or(row, at + 2, MOST_BOOK),
         made::code(table::number_or(row, at + 3, 0)),
     );
     book

@@ -1,4 +1,4 @@
-// The two loops that fill in what a row gives, its bytes and its words: an element is what its place asks.
+// The two loops that fill in what a row gives: its bytes, and its words. What stands at a place is a function of the place.
 use crate::area;
 use crate::books;
 use crate::made;
@@ -29,8 +29,7 @@ pub fn fill_bytes(what: Bytes, field: &[u8], bytes: &mut [u8]) {
     }
 }
 
-// What words are filled with: the words of the silences that a field gives, or each byte four times over, so that an area of bytes is looked at as one
-// of words.
+// What words are filled with: the words of the silences that a field gives, or each byte of an area four times over, as a canary of words is made.
 pub enum Words {
     Silences,
     Spread,

@@ -32,7 +32,7 @@ pub fn rising(first: u8, last: u8, at: usize) -> u8 {
     }
 }
 
-// What a field gives, and how many.
+// What a field gives.
 fn edges_of(field: &[u8]) -> Bytes {
     if table::begins(field, b'*') {
         return Bytes::Rising {
@@ -47,6 +47,7 @@ fn edges_of(field: &[u8]) -> Bytes {
     }
 }
 
+// How many edges that is.
 fn count(what: Bytes, field: &[u8]) -> usize {
     match what {
         Bytes::Rising { first: _, last: _ } => table::number(field, 2),

@@ -14,9 +14,6 @@ mod search_rows;
 mod seek_rows;
 mod table;
 
-// The most bytes of the rows.
-const MOST_INPUT: usize = 32768;
-
 // Which call the rows of a section go through.
 enum Call {
     Pack,
@@ -77,13 +74,8 @@ fn run(call: Call, text: &[u8], index: usize) {
     }
 }
 
-// The text before the rows are read into it.
-fn no_text() -> [u8; MOST_INPUT] {
-    [0; MOST_INPUT]
-}
-
 fn main() {
-    let mut input = no_text();
+    let mut input = area::zeros();
     let n = io::read_full(0, &mut input);
     let text = &input[..n];
     run(Call::Pack, text, 1);

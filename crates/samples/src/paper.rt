@@ -1,25 +1,34 @@
-// Document 01's number, place and counts of an answer. An accepted one has number 0 and place 0.
+// Document 01's number, place and counts of an answer. An accepted one has number 0 and place 0; "a refusal carries its number and place, zero in
+// every count".
+use crate::printing::FOUND;
+use crate::printing::HIDDEN;
+use crate::printing::LOOKS;
+use crate::printing::NUMBER;
+use crate::printing::PLACE;
+use crate::printing::RECORDS;
 use crate::printing::number;
-use crate::printing::text;
-use answers::Refusal;
 use answers::number_of;
 use answers::place_of;
 use book::BookAnswer;
 use outlines::Reported;
 use outlines::Scanned;
 
-// "A refusal carries its number and place, zero in every count".
-fn print_refusal(refusal: Refusal, counts: &[u8]) {
-    number(b" number ", number_of(refusal));
-    number(b" place ", place_of(refusal));
-    text(counts);
+fn print_refusal(refusal: usize, place: usize) {
+    number(NUMBER, refusal);
+    number(PLACE, place);
 }
 
 // "Packer and unpacker return the number of records".
 pub fn print_book(answer: BookAnswer) {
     match answer {
-        BookAnswer::Records(records) => number(b" number 0 place 0 records ", records),
-        BookAnswer::Refused(refusal) => print_refusal(refusal, b" records 0"),
+        BookAnswer::Records(records) => {
+            print_refusal(0, 0);
+            number(RECORDS, records);
+        }
+        BookAnswer::Refused(refusal) => {
+            print_refusal(number_of(refusal), place_of(refusal));
+            number(RECORDS, 0);
+        }
     }
 }
 
@@ -27,10 +36,15 @@ pub fn print_book(answer: BookAnswer) {
 pub fn print_search(answer: Scanned) {
     match answer {
         Scanned::Counts { found, looks } => {
-            number(b" number 0 place 0 found ", found);
-            number(b" looks ", looks);
+            print_refusal(0, 0);
+            number(FOUND, found);
+            number(LOOKS, looks);
         }
-        Scanned::Refused(refusal) => print_refusal(refusal, b" found 0 looks 0"),
+        Scanned::Refused(refusal) => {
+            print_refusal(number_of(refusal), place_of(refusal));
+            number(FOUND, 0);
+            number(LOOKS, 0);
+        }
     }
 }
 
@@ -42,10 +56,16 @@ pub fn print_report(answer: Reported) {
             hidden,
             looks,
         } => {
-            number(b" number 0 place 0 found ", found);
-            number(b" hidden ", hidden);
-            number(b" looks ", looks);
+            print_refusal(0, 0);
+            number(FOUND, found);
+            number(HIDDEN, hidden);
+            number(LOOKS, looks);
         }
-        Reported::Refused(refusal) => print_refusal(refusal, b" found 0 hidden 0 looks 0"),
+        Reported::Refused(refusal) => {
+            print_refusal(number_of(refusal), place_of(refusal));
+            number(FOUND, 0);
+            number(HIDDEN, 0);
+            number(LOOKS, 0);
+        }
     }
 }

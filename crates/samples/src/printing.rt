@@ -17,14 +17,43 @@ const MOST: usize = 26;
 // A modulus small enough that nothing below overflows.
 const CHECKSUM_BELOW: usize = 1000003;
 
+// The names of numbers, by their places in the text of `number`.
+pub const NUMBER: usize = 0;
+
+pub const PLACE: usize = 1;
+
+pub const RECORDS: usize = 2;
+
+pub const FOUND: usize = 3;
+
+pub const HIDDEN: usize = 4;
+
+pub const LOOKS: usize = 5;
+
+pub const FROM: usize = 6;
+
+pub const CELL: usize = 7;
+
+pub const RING_NUMBER: usize = 8;
+
+pub const START: usize = 9;
+
+pub const NEXT: usize = 10;
+
+const WRITTEN: usize = 11;
+
+const CHECKSUM: usize = 12;
+
 // Writes a text.
 pub fn text(bytes: &[u8]) {
     io::write_all(1, bytes);
 }
 
-// Writes a number behind its name, which has the spaces about it.
-pub fn number(name: &[u8], value: usize) {
-    text(name);
+// Writes a number behind its name. All names stand in one text, since each text in a function takes its check some tenths of a second.
+pub fn number(name: usize, value: usize) {
+    let names =
+        b" number | place | records | found | hidden | looks | from | cell | ring number | start | next | written | checksum ";
+    text(table::field(names, name));
     io::print_decimal(1, value as u64);
 }
 
@@ -49,14 +78,14 @@ fn sum_with(sum: usize, word: u32) -> usize
     (sum * 31 + word as usize) % CHECKSUM_BELOW
 }
 
-// Writes the first words of an area where they are few, and gives a number that tells long runs of words apart: 31 times the number before, and the
-// next word, mod 1,000,003.
-fn values(shown: Shown, area: &[u32], count: usize) -> usize {
+// Writes the words where they are few, and gives a number that tells long runs of words apart: 31 times the number before, and the next word, mod
+// 1,000,003.
+fn values(shown: Shown, words: &[u32]) -> usize {
     let mut sum: usize = 0;
     let mut at: usize = 0;
-    while at < count {
-        let word = area::word_at(area, at);
-        if count <= MOST {
+    while at < words.len() {
+        let word = words[at];
+        if words.len() <= MOST {
             value(shown, at, word);
         }
         sum = sum_with(sum, word);
@@ -67,12 +96,12 @@ fn values(shown: Shown, area: &[u32], count: usize) -> usize {
 
 // Ends the row: what was written of the first `room` words of the area, and whether all words behind them are kept.
 pub fn end(shown: Shown, area: &[u32], room: usize) {
-    let seen = area::look(area, room);
+    let seen = area::inspect(area, room);
     let count = seen.written;
-    number(b" written ", count);
-    let checksum = values(shown, area, count);
+    number(WRITTEN, count);
+    let checksum = values(shown, &area[0..count]);
     if MOST < count {
-        number(b" checksum ", checksum);
+        number(CHECKSUM, checksum);
     }
     if seen.kept {
         text(b" behind kept\n");
@@ -81,7 +110,7 @@ pub fn end(shown: Shown, area: &[u32], room: usize) {
     }
 }
 
-// Ends a row whose call was lent bytes: they are looked at as words.
+// Ends a row whose call was lent bytes: they are inspected as words.
 pub fn end_bytes(bytes: &[u8], room: usize) {
     let mut words = area::ample();
     filling::fill_words(Words::Spread, bytes, &mut words);

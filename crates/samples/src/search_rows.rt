@@ -9,11 +9,6 @@ use crate::printing::Shown;
 use crate::report_rows;
 use crate::table;
 
-// The most edges of a row: one more than a ring or a line may have.
-const MOST_RING: usize = 257;
-
-const MOST_LINE: usize = 65537;
-
 // Which call a row goes through.
 pub enum SearchCall {
     Scan,
@@ -40,14 +35,9 @@ fn search(call: SearchCall, row: &[u8], ring: &[u8], line: &[u8]) {
     printing::end(Shown::Words, space, room);
 }
 
-// The edges of a line before they are filled in.
-fn no_edges() -> [u8; MOST_LINE] {
-    [0; MOST_LINE]
-}
-
 pub fn search_row(call: SearchCall, row: &[u8]) {
-    let mut ring = [0u8; MOST_RING];
-    let mut line = no_edges();
+    let mut ring = area::zeros();
+    let mut line = area::zeros();
     search(
         call,
         row,

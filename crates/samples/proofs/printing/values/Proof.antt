@@ -1,22 +1,26 @@
 -- `samples::printing::values` is safe and ends: the values left fall, and the sum stays below its modulus.
 -- Assumes nothing.
-use Prim.Native.Nat.{_-_, _≤_, _<_}
+use Prim.Native.Nat.{_-_, _<_}
 use native.Mathlib.Omega.{arith}
+use lib.ListN.{length}
 use borrow.Author.Needs.{needs}
 use Rattle.samples.proofs.printing.values.Statement.{statement}
 use Rattle.samples.proofs.printing.values.Tie as tie
 
 abbrev Inv-loop : tie.InvT-loop
-Inv-loop shown area count sum₀ at₀ sum at = (at ≤ count) × (sum < 1000003)
+Inv-loop shown words sum₀ at₀ sum at = sum < 1000003
 
 abbrev μ-loop : tie.MeasureT-loop
-μ-loop shown area count sum₀ at₀ sum at = count - at
+μ-loop shown words sum₀ at₀ sum at = length words - at
 
 loop-holds : tie.Need-loop-holds Inv-loop μ-loop
 loop-holds c = search needs
 
-word-at-requires : tie.Need-word-at-requires Inv-loop μ-loop
-word-at-requires c κs = tt
+mul-word : tie.Need-mul-word Inv-loop μ-loop
+mul-word c = omega arith
+
+shared-slice-read-word : tie.Need-shared-slice-read-word Inv-loop μ-loop
+shared-slice-read-word c = omega arith
 
 value-requires : tie.Need-value-requires Inv-loop μ-loop
 value-requires c κs = tt
@@ -43,7 +47,8 @@ values-spec =
     Inv-loop
     μ-loop
     loop-holds
-    word-at-requires
+    mul-word
+    shared-slice-read-word
     value-requires
     sum-with-requires
     add-at
