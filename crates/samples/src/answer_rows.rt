@@ -1,7 +1,7 @@
 // The report program's input to its text. A row gives its name, the codes of the input's first bytes, and how many bytes the input has if there are
 // more; those are 0. It prints the whole text behind its own line.
 use crate::area;
-use crate::made;
+use crate::edges;
 use crate::printing;
 use crate::table;
 use request::MOST_TEXT;
@@ -19,7 +19,7 @@ fn print_answer(input: &[u8]) {
 
 pub fn answer_row(row: &[u8]) {
     let mut input = area::zeros();
-    let listed = made::edges(table::field(row, 1), &mut input).len();
+    let listed = edges::of_field(table::field(row, 1), &mut input).len();
     let count = table::number_or(row, 2, listed);
     printing::text(b"\n");
     print_answer(&*area::lend_bytes(&mut input, count));

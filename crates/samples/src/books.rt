@@ -1,9 +1,9 @@
 // Silences and books for the rows. A book is laid out here byte by byte, faults and all, without the packer.
 use crate::area;
+use crate::edges;
 use crate::filling;
 use crate::filling::Bytes;
 use crate::filling::Words;
-use crate::made;
 use crate::table;
 ghost use Prim.Native.Nat.{_<_};
 
@@ -94,7 +94,7 @@ pub fn book<'a>(row: &[u8], at: usize, area: &'a mut [u8]) -> &'a [u8]
     put(
         book,
         table::number_or(row, at + 2, MOST_BOOK),
-        made::code(table::number_or(row, at + 3, 0)),
+        edges::code(table::number_or(row, at + 3, 0)),
     );
     book
 }

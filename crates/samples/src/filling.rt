@@ -1,7 +1,7 @@
 // The two loops that fill in what a row gives: its bytes, and its words. What stands at a place is a function of the place.
 use crate::area;
 use crate::books;
-use crate::made;
+use crate::edges;
 use crate::table;
 
 // What bytes are filled with, of a field: codes that rise, a list of codes, letters, or the layout of silences.
@@ -14,8 +14,8 @@ pub enum Bytes {
 
 fn byte(what: Bytes, field: &[u8], at: usize) -> u8 {
     match what {
-        Bytes::Rising { first, last } => made::rising(first, last, at),
-        Bytes::Codes => made::code(table::number(field, at)),
+        Bytes::Rising { first, last } => edges::rising(first, last, at),
+        Bytes::Codes => edges::code(table::number(field, at)),
         Bytes::Letters => area::byte_at(field, at),
         Bytes::Book => books::layout_byte(field, at),
     }

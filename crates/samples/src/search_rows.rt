@@ -2,7 +2,7 @@
 // through the call that is asked for. It says what the call answers, the words written, and whether all words behind the room that was lent are kept.
 use crate::area;
 use crate::area::LONG;
-use crate::made;
+use crate::edges;
 use crate::paper;
 use crate::printing;
 use crate::printing::Shown;
@@ -41,7 +41,7 @@ pub fn search_row(call: SearchCall, row: &[u8]) {
     search(
         call,
         row,
-        made::edges(table::field(row, 1), &mut ring),
-        made::edges(table::field(row, 2), &mut line),
+        edges::of_field(table::field(row, 1), &mut ring),
+        edges::of_field(table::field(row, 2), &mut line),
     );
 }

@@ -33,7 +33,7 @@ pub fn rising(first: u8, last: u8, at: usize) -> u8 {
 }
 
 // What a field gives.
-fn edges_of(field: &[u8]) -> Bytes {
+fn kind_of(field: &[u8]) -> Bytes {
     if table::begins(field, b'*') {
         return Bytes::Rising {
             first: code(table::number(field, 0)),
@@ -57,8 +57,8 @@ fn count(what: Bytes, field: &[u8]) -> usize {
 }
 
 // The edges that a field gives, in the first bytes of an area.
-pub fn edges<'a>(field: &[u8], area: &'a mut [u8]) -> &'a [u8] {
-    let what = edges_of(field);
+pub fn of_field<'a>(field: &[u8], area: &'a mut [u8]) -> &'a [u8] {
+    let what = kind_of(field);
     let edges = area::lend_bytes(area, count(what, field));
     filling::fill_bytes(what, field, edges);
     edges
