@@ -22,6 +22,7 @@ struct Options {
     on_trial: bool,
     calls_only: bool,
     program: Option<Vec<String>>,
+    /// Not among the words above: the trial starts this program with it, to see it end at a guard.
     overstep: Option<String>,
 }
 

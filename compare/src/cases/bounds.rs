@@ -1,6 +1,6 @@
 //! Lines drawn up against the look bound, and the limits that document 01 names.
 
-use super::call::{by_turn, in_turn, Call, Search};
+use super::call::{in_turn, in_turn_as_it_is, Call, Search};
 use super::draw::Draw;
 use super::searches::repeated;
 
@@ -72,5 +72,5 @@ pub fn limits(index: u64, draw: &mut Draw) -> Call {
     }
     let mut search = Search::new(vec![7; m], vec![7; n], m - 1 + above);
     search.room = (search.room + room).saturating_sub(1);
-    by_turn(index, draw, search)
+    in_turn_as_it_is(index, draw, search)
 }

@@ -72,7 +72,7 @@ pub fn cell_and_ring(draw: &mut Draw) -> (u32, u16) {
 }
 
 /// The same search as survey, scan or report in turn.
-pub fn by_turn(index: u64, draw: &mut Draw, search: Search) -> Call {
+pub fn in_turn_as_it_is(index: u64, draw: &mut Draw, search: Search) -> Call {
     match index % 3 {
         0 => Call::Survey(search),
         1 => Call::Scan(search),
@@ -86,10 +86,10 @@ pub fn by_turn(index: u64, draw: &mut Draw, search: Search) -> Call {
     }
 }
 
-/// As above; now and then with more room than it needs.
+/// The same; now and then with more room than the search asks for.
 pub fn in_turn(index: u64, draw: &mut Draw, mut search: Search) -> Call {
     if draw.chance(3) {
         search.room += draw.between(1, 9);
     }
-    by_turn(index, draw, search)
+    in_turn_as_it_is(index, draw, search)
 }

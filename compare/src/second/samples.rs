@@ -15,7 +15,7 @@ pub struct Sample {
     pub candidates: Option<usize>,
 }
 
-const GENOME: &str = "GATACGATACCTAGGGTGATAGAATAG";
+const LINE_OF_P1: &str = "GATACGATACCTAGGGTGATAGAATAG";
 
 const fn sample(
     name: &'static str,
@@ -27,8 +27,8 @@ const fn sample(
 }
 
 pub const SAMPLES: [Sample; 12] = [
-    sample("P1", ("GGGTCTA", GENOME, 0), &[10, 4, 0], None),
-    sample("P2", ("GGGTCTA", GENOME, 1), &[9, 3, 1, 10, 4, 0, 11, 5, 1], None),
+    sample("P1", ("GGGTCTA", LINE_OF_P1, 0), &[10, 4, 0], None),
+    sample("P2", ("GGGTCTA", LINE_OF_P1, 1), &[9, 3, 1, 10, 4, 0, 11, 5, 1], None),
     sample("P3", ("ABCDEFGH", "BCzEzGzA", 3), &[0, 1, 3], None),
     sample("P4", ("ABCDEFGH", "BCzEzGzA", 2), &[], None),
     sample("P5", ("a", "ba", 0), &[1, 0, 0], Some(3)),

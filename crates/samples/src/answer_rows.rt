@@ -1,17 +1,10 @@
 // The report program's input to its text. A row gives its name, the codes of the input's first bytes, and how many bytes the input has if there are
 // more; those are 0. It prints the whole text behind its own line.
 use crate::area;
-use crate::made;
+use crate::edges;
 use crate::printing;
 use crate::table;
 use request::MOST_TEXT;
-
-// The most bytes of an input: one more than the program reads.
-const MOST_INPUT: usize = 32769;
-
-fn no_input() -> [u8; MOST_INPUT] {
-    [0; MOST_INPUT]
-}
 
 fn no_text() -> [u8; MOST_TEXT] {
     [0; MOST_TEXT]
@@ -25,9 +18,9 @@ fn print_answer(input: &[u8]) {
 }
 
 pub fn answer_row(row: &[u8]) {
-    let mut input = no_input();
-    let listed = made::fill(table::field(row, 1), &mut input);
+    let mut input = area::zeros();
+    let listed = edges::of_field(table::field(row, 1), &mut input).len();
     let count = table::number_or(row, 2, listed);
     printing::text(b"\n");
-    print_answer(area::first_bytes(&input, count));
+    print_answer(&*area::lend_bytes(&mut input, count));
 }

@@ -22,17 +22,12 @@ fn answer(call: BookCall, book: &[u8], lent: &mut [u32]) -> BookAnswer {
     }
 }
 
-// Reads or unpacks the row's book, and prints what comes of it.
-fn answer_row(call: BookCall, row: &[u8], book: &[u8]) {
+pub fn book_row(call: BookCall, row: &[u8]) {
+    let mut bytes = area::zeros();
+    let book = books::book(row, 1, &mut bytes);
     let room = table::number_or(row, 5, AMPLE);
     let mut words = area::ample();
     let space: &mut [u32] = &mut words;
     paper::print_book(answer(call, book, area::lend(space, room)));
     printing::end(Shown::Words, space, room);
-}
-
-pub fn book_row(call: BookCall, row: &[u8]) {
-    let mut bytes = books::no_bytes();
-    let count = books::lay_row(row, 1, &mut bytes);
-    answer_row(call, row, area::first_bytes(&bytes, count));
 }

@@ -4,7 +4,8 @@ mod answer_rows;
 mod area;
 mod book_rows;
 mod books;
-mod made;
+mod edges;
+mod filling;
 mod pack_rows;
 mod paper;
 mod printing;
@@ -12,9 +13,6 @@ mod report_rows;
 mod search_rows;
 mod seek_rows;
 mod table;
-
-// The most bytes of the rows.
-const MOST_INPUT: usize = 32768;
 
 // Which call the rows of a section go through.
 enum Call {
@@ -57,30 +55,27 @@ fn name_index(call: Call) -> usize {
 
 // Writes the call, and the name of the row.
 fn begin(call: Call, row: &[u8]) {
-    let names = b"pack|read|unpack|seek|scan|survey|report|answer";
-    printing::begin(table::field(names, name_index(call)), table::field(row, 0));
+    let names = b"pack |read |unpack |seek |scan |survey |report |answer ";
+    printing::text(table::field(names, name_index(call)));
+    printing::text(table::field(row, 0));
+    printing::text(b":");
 }
 
-// Every row of a section, through one call. A section's first line is a heading, and nothing follows its last one.
+// Every row of a section, through one call. Each of its lines ends with the mark of rows, and the first one is a heading.
 fn run(call: Call, text: &[u8], index: usize) {
     let section = table::part(text, table::SECTION, index);
-    let rows = table::parts(section, table::ROW);
-    let mut next: usize = 2;
-    while next < rows {
-        let row = table::part(section, table::ROW, next - 1);
+    let lines = table::marks(section, table::ROW);
+    let mut next: usize = 1;
+    while next < lines {
+        let row = table::part(section, table::ROW, next);
         begin(call, row);
         run_row(call, row);
         next += 1;
     }
 }
 
-// The text before the rows are read into it.
-fn no_text() -> [u8; MOST_INPUT] {
-    [0; MOST_INPUT]
-}
-
 fn main() {
-    let mut input = no_text();
+    let mut input = area::zeros();
     let n = io::read_full(0, &mut input);
     let text = &input[..n];
     run(Call::Pack, text, 1);

@@ -6,24 +6,22 @@ use crate::books;
 use crate::books::MOST_WORDS;
 use crate::paper;
 use crate::printing;
-use crate::printing::Shown;
 use crate::table;
 
 // Packs the words, and prints what comes of it.
-fn pack_words(row: &[u8], words: &[u32]) {
-    let room = table::number_or(row, 3, AMPLE);
+fn pack_words(words: &[u32], room: usize) {
     let mut bytes = area::ample_bytes();
-    let lent: &mut [u8] = &mut bytes;
-    let answer = packing::pack(words, area::lend_bytes(lent, room));
-    let mut seen = area::ample();
-    area::spread(lent, &mut seen);
-    paper::print_book(answer);
-    printing::end(Shown::Bytes, &seen, room);
+    let space: &mut [u8] = &mut bytes;
+    paper::print_book(packing::pack(words, area::lend_bytes(space, room)));
+    printing::end_bytes(space, room);
 }
 
 pub fn pack_row(row: &[u8]) {
     let mut words = [0u32; MOST_WORDS];
-    let given = books::fill(table::field(row, 1), &mut words);
+    let given = books::words(table::field(row, 1), &mut words).len();
     let count = table::number_or(row, 2, given);
-    pack_words(row, area::first(&words, count));
+    pack_words(
+        &*area::lend(&mut words, count),
+        table::number_or(row, 3, AMPLE),
+    );
 }

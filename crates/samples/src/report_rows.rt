@@ -7,10 +7,9 @@ use crate::paper;
 use crate::table;
 
 pub fn report(row: &[u8], ring: &[u8], line: &[u8], k: usize, lent: &mut [u32]) {
-    let mut bytes = books::no_bytes();
-    let count = books::lay_row(row, 7, &mut bytes);
+    let mut bytes = area::zeros();
+    let book = books::book(row, 7, &mut bytes);
     let cell = books::word(table::number_or(row, 5, 0));
     let ring_number = books::ring_number(table::number_or(row, 6, 0));
-    let book = area::first_bytes(&bytes, count);
     paper::print_report(outlines::report(cell, ring_number, ring, line, k, book, lent));
 }

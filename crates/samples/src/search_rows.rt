@@ -2,17 +2,12 @@
 // through the call that is asked for. It says what the call answers, the words written, and whether all words behind the room that was lent are kept.
 use crate::area;
 use crate::area::LONG;
-use crate::made;
+use crate::edges;
 use crate::paper;
 use crate::printing;
 use crate::printing::Shown;
 use crate::report_rows;
 use crate::table;
-
-// The most edges of a row: one more than a ring or a line may have.
-const MOST_RING: usize = 257;
-
-const MOST_LINE: usize = 65537;
 
 // Which call a row goes through.
 pub enum SearchCall {
@@ -40,20 +35,13 @@ fn search(call: SearchCall, row: &[u8], ring: &[u8], line: &[u8]) {
     printing::end(Shown::Words, space, room);
 }
 
-// The edges of a line before they are filled in.
-fn no_edges() -> [u8; MOST_LINE] {
-    [0; MOST_LINE]
-}
-
 pub fn search_row(call: SearchCall, row: &[u8]) {
-    let mut ring = [0u8; MOST_RING];
-    let m = made::fill(table::field(row, 1), &mut ring);
-    let mut line = no_edges();
-    let n = made::fill(table::field(row, 2), &mut line);
+    let mut ring = area::zeros();
+    let mut line = area::zeros();
     search(
         call,
         row,
-        area::first_bytes(&ring, m),
-        area::first_bytes(&line, n),
+        edges::of_field(table::field(row, 1), &mut ring),
+        edges::of_field(table::field(row, 2), &mut line),
     );
 }

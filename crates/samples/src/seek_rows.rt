@@ -4,6 +4,11 @@
 use crate::area;
 use crate::books;
 use crate::printing;
+use crate::printing::CELL;
+use crate::printing::FROM;
+use crate::printing::NEXT;
+use crate::printing::RING_NUMBER;
+use crate::printing::START;
 use crate::table;
 use silences::Address;
 use silences::Sought;
@@ -20,24 +25,20 @@ fn address(field: &[u8]) -> Address {
 fn print_sought(sought: Sought) {
     match sought {
         Sought::Field { address, next } => {
-            let cell = address.cell as usize;
-            let ring_number = address.ring_number as usize;
-            let start = address.start as usize;
-            let values = [cell, ring_number, start, next];
-            printing::numbers(b"cell|ring number|start|next", &values);
+            printing::number(CELL, address.cell as usize);
+            printing::number(RING_NUMBER, address.ring_number as usize);
+            printing::number(START, address.start as usize);
+            printing::number(NEXT, next);
         }
-        Sought::Nothing => {
-            printing::text(b" nothing");
-        }
+        Sought::Nothing => printing::text(b" nothing"),
     }
 }
 
 pub fn seek_row(row: &[u8]) {
-    let mut bytes = books::no_bytes();
-    let count = books::lay_row(row, 1, &mut bytes);
-    let book = area::first_bytes(&bytes, count);
+    let mut bytes = area::zeros();
+    let book = books::book(row, 1, &mut bytes);
     let from = table::number_or(row, 5, 0);
-    printing::number(b"from", from);
+    printing::number(FROM, from);
     print_sought(book::seek(book, from, address(table::field(row, 6))));
     printing::text(b"\n");
 }

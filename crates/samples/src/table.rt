@@ -1,5 +1,6 @@
 // The rows are a text on standard input. Sections, rows, fields and numbers are its parts, each kind with a mark of its own between them.
 ghost use Prim.Native.Nat.{_≤_};
+ghost use lib.ListN.{length};
 
 // Between sections, rows, the fields of a row, and the numbers of a field.
 pub const SECTION: u8 = b'=';
@@ -8,73 +9,60 @@ pub const ROW: u8 = b'\n';
 
 const FIELD: u8 = b'|';
 
-pub const NUMBER: u8 = b' ';
+const NUMBER: u8 = b' ';
 
 // The largest number that a usize holds.
 const LARGEST: usize = 18446744073709551615;
 
-// Where a mark stands, from a place on; the text's end where none does.
-fn find(text: &[u8], mark: u8, from: usize) -> usize {
-    let mut at = from;
+// Where a part lies in its text, and how many marks stand before its end.
+struct Span {
+    begin: usize,
+    end: usize,
+    marks: usize,
+}
+
+// The part of this index, from 0 on; an empty one at the text's end past the last.
+fn find(text: &[u8], mark: u8, index: usize) -> Span
+    ensures { λ r. ⌜ (r .begin ≤ r .end) × (r .end ≤ length (now (text .entry))) ⌝ }
+{
+    let mut begin: usize = 0;
+    let mut marks: usize = 0;
+    let mut at: usize = 0;
     while at < text.len() {
         if text[at] == mark {
-            return at;
+            if marks == index {
+                return Span {
+                    begin: begin,
+                    end: at,
+                    marks: marks,
+                };
+            }
+            marks += 1;
+            begin = at + 1;
         }
         at += 1;
     }
-    text.len()
-}
-
-// The place just past the next mark.
-fn after(text: &[u8], mark: u8, from: usize) -> usize {
-    let at = find(text, mark, from);
-    if at < text.len() { at + 1 } else { at }
-}
-
-// Where a part begins: past so many marks.
-fn begin_of(text: &[u8], mark: u8, index: usize) -> usize {
-    let mut begin: usize = 0;
-    let mut left = index;
-    while 0 < left {
-        begin = after(text, mark, begin);
-        left -= 1;
+    if marks < index {
+        begin = at;
     }
-    begin
-}
-
-fn between(text: &[u8], begin: usize, end: usize) -> &[u8] {
-    if begin <= end {
-        if end <= text.len() {
-            return &text[begin..end];
-        }
+    Span {
+        begin: begin,
+        end: at,
+        marks: marks,
     }
-    text
 }
 
-// The part of this index, from 0 on; an empty one past the last.
+// The part of this index.
 pub fn part(text: &[u8], mark: u8, index: usize) -> &[u8] {
-    let begin = begin_of(text, mark, index);
-    between(text, begin, find(text, mark, begin))
+    let span = find(text, mark, index);
+    let begin = span.begin;
+    let end = span.end;
+    &text[begin..end]
 }
 
-// How many parts a text has: none where it is empty. No text here begins with a mark.
-pub fn parts(text: &[u8], mark: u8) -> usize {
-    if text.len() == 0 {
-        return 0;
-    }
-    let mut count: usize = 1;
-    let mut at: usize = 1;
-    while at < text.len() {
-        count += is_mark(text[at], mark);
-        at += 1;
-    }
-    count
-}
-
-fn is_mark(byte: u8, mark: u8) -> usize
-    ensures { λ r. ⌜ r ≤ 1 ⌝ }
-{
-    if byte == mark { 1 } else { 0 }
+// How many marks a text has.
+pub fn marks(text: &[u8], mark: u8) -> usize {
+    find(text, mark, text.len()).marks
 }
 
 pub fn field(row: &[u8], index: usize) -> &[u8] {
@@ -120,6 +108,16 @@ fn decimal(text: &[u8]) -> usize {
 // One of a field's numbers.
 pub fn number(field: &[u8], index: usize) -> usize {
     decimal(part(field, NUMBER, index))
+}
+
+// How many numbers a field gives: none where it is empty. (No field is all marks.)
+pub fn numbers(field: &[u8]) -> usize {
+    let marks = marks(field, NUMBER);
+    if marks < field.len() {
+        marks + 1
+    } else {
+        marks
+    }
 }
 
 // The number of a row's field, or another one where the row gives none.

@@ -1,4 +1,4 @@
--- `samples::run` is safe and ends: the rows left fall.
+-- `samples::run` is safe and ends: the lines left fall.
 -- Assumes nothing.
 use Prim.Native.Nat.{_-_, _<_}
 use native.Mathlib.Omega.{arith}
@@ -6,22 +6,19 @@ use Rattle.samples.proofs.run.Statement.{statement}
 use Rattle.samples.proofs.run.Tie as tie
 
 abbrev Inv-loop : tie.InvT-loop
-Inv-loop call text index section rows next₀ next = 0 < next
+Inv-loop call text index section lines next₀ next = 0 < next
 
 abbrev μ-loop : tie.MeasureT-loop
-μ-loop call text index section rows next₀ next = rows - next
+μ-loop call text index section lines next₀ next = lines - next
 
 part-requires : tie.Need-part-requires Inv-loop μ-loop
 part-requires c κs = tt
 
-parts-requires : tie.Need-parts-requires Inv-loop μ-loop
-parts-requires c κs = tt
+marks-requires : tie.Need-marks-requires Inv-loop μ-loop
+marks-requires c κs = tt
 
 loop-holds : tie.Need-loop-holds Inv-loop μ-loop
 loop-holds c = omega arith
-
-sub-part : tie.Need-sub-part Inv-loop μ-loop
-sub-part c = omega arith
 
 part-requires-2 : tie.Need-part-requires-2 Inv-loop μ-loop
 part-requires-2 c κs = tt
@@ -51,9 +48,8 @@ run-spec =
     Inv-loop
     μ-loop
     part-requires
-    parts-requires
+    marks-requires
     loop-holds
-    sub-part
     part-requires-2
     begin-requires
     run-row-requires

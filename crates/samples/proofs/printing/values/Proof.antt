@@ -1,24 +1,32 @@
--- `samples::printing::values` is safe and ends: the values left to print fall.
+-- `samples::printing::values` is safe and ends: the values left fall, and the sum stays below its modulus.
 -- Assumes nothing.
-use Prim.Native.Nat.{_-_, _≤_}
+use Prim.Native.Nat.{_-_, _<_}
 use native.Mathlib.Omega.{arith}
+use lib.ListN.{length}
+use borrow.Author.Needs.{needs}
 use Rattle.samples.proofs.printing.values.Statement.{statement}
 use Rattle.samples.proofs.printing.values.Tie as tie
 
 abbrev Inv-loop : tie.InvT-loop
-Inv-loop shown area count at₀ at = at ≤ count
+Inv-loop shown words sum₀ at₀ sum at = sum < 1000003
 
 abbrev μ-loop : tie.MeasureT-loop
-μ-loop shown area count at₀ at = count - at
+μ-loop shown words sum₀ at₀ sum at = length words - at
 
 loop-holds : tie.Need-loop-holds Inv-loop μ-loop
-loop-holds c = omega arith
+loop-holds c = search needs
 
-word-at-requires : tie.Need-word-at-requires Inv-loop μ-loop
-word-at-requires c κs = tt
+mul-word : tie.Need-mul-word Inv-loop μ-loop
+mul-word c = omega arith
+
+shared-slice-read-word : tie.Need-shared-slice-read-word Inv-loop μ-loop
+shared-slice-read-word c = omega arith
 
 value-requires : tie.Need-value-requires Inv-loop μ-loop
 value-requires c κs = tt
+
+sum-with-requires : tie.Need-sum-with-requires Inv-loop μ-loop
+sum-with-requires c κs = omega arith
 
 add-at : tie.Need-add-at Inv-loop μ-loop
 add-at c = omega arith
@@ -27,7 +35,7 @@ loop-less : tie.Need-loop-less Inv-loop μ-loop
 loop-less c = omega arith
 
 loop-again : tie.Need-loop-again Inv-loop μ-loop
-loop-again c = omega arith
+loop-again c = search needs
 
 returns : tie.Need-returns Inv-loop μ-loop
 returns c = tt
@@ -39,8 +47,10 @@ values-spec =
     Inv-loop
     μ-loop
     loop-holds
-    word-at-requires
+    mul-word
+    shared-slice-read-word
     value-requires
+    sum-with-requires
     add-at
     loop-less
     loop-again

@@ -1,27 +1,30 @@
--- `samples::made::spell` is safe and ends: what is left of the edges falls, and no store changes their number.
+-- `samples::filling::fill_words` is safe and ends: what is left of the words falls, and no store changes their number.
 -- Assumes nothing.
 use Prim.Native.Nat.{_-_}
 use mathlib.Core.Path.{_≡_}
 use native.Mathlib.Omega.{arith}
 use lib.ListN.{length}
 use borrow.Author.Needs.{needs}
-use Rattle.samples.proofs.made.spell.Statement.{statement}
-use Rattle.samples.proofs.made.spell.Tie as tie
+use Rattle.samples.proofs.filling.fill_words.Statement.{statement}
+use Rattle.samples.proofs.filling.fill_words.Tie as tie
 
 abbrev Inv-loop : tie.InvT-loop
-Inv-loop edges₀ field at₀ edges at = length edges₀ ≡ length edges
+Inv-loop what from words₀ at₀ words at = length words₀ ≡ length words
 
 abbrev μ-loop : tie.MeasureT-loop
-μ-loop edges₀ field at₀ edges at = length edges₀ - at
+μ-loop what from words₀ at₀ words at = length words₀ - at
 
 loop-holds : tie.Need-loop-holds Inv-loop μ-loop
 loop-holds c = search needs
 
-code-of-requires : tie.Need-code-of-requires Inv-loop μ-loop
-code-of-requires c κs = tt
+word-requires : tie.Need-word-requires Inv-loop μ-loop
+word-requires c κs = tt
 
-slice-write-edges : tie.Need-slice-write-edges Inv-loop μ-loop
-slice-write-edges c = omega arith
+mul-words : tie.Need-mul-words Inv-loop μ-loop
+mul-words c = omega arith
+
+slice-write-words : tie.Need-slice-write-words Inv-loop μ-loop
+slice-write-words c = omega arith
 
 add-at : tie.Need-add-at Inv-loop μ-loop
 add-at c = omega arith
@@ -38,15 +41,16 @@ same-length c = search needs
 returns : tie.Need-returns Inv-loop μ-loop
 returns c = tt
 
-pub spell-spec : {M : Type 1} → statement M
-spell-spec =
+pub fill-words-spec : {M : Type 1} → statement M
+fill-words-spec =
     tie.close
     (tie.spec
     Inv-loop
     μ-loop
     loop-holds
-    code-of-requires
-    slice-write-edges
+    word-requires
+    mul-words
+    slice-write-words
     add-at
     loop-less
     loop-again

@@ -1,30 +1,27 @@
--- `samples::books::make` is safe and ends: what is left of the words falls, and no store changes their number.
+-- `samples::filling::fill_bytes` is safe and ends: what is left of the bytes falls, and no store changes their number.
 -- Assumes nothing.
 use Prim.Native.Nat.{_-_}
 use mathlib.Core.Path.{_≡_}
 use native.Mathlib.Omega.{arith}
 use lib.ListN.{length}
 use borrow.Author.Needs.{needs}
-use Rattle.samples.proofs.books.make.Statement.{statement}
-use Rattle.samples.proofs.books.make.Tie as tie
+use Rattle.samples.proofs.filling.fill_bytes.Statement.{statement}
+use Rattle.samples.proofs.filling.fill_bytes.Tie as tie
 
 abbrev Inv-loop : tie.InvT-loop
-Inv-loop field words₀ at₀ words at = length words₀ ≡ length words
+Inv-loop what field bytes₀ at₀ bytes at = length bytes₀ ≡ length bytes
 
 abbrev μ-loop : tie.MeasureT-loop
-μ-loop field words₀ at₀ words at = length words₀ - at
+μ-loop what field bytes₀ at₀ bytes at = length bytes₀ - at
 
 loop-holds : tie.Need-loop-holds Inv-loop μ-loop
 loop-holds c = search needs
 
-word-of-requires : tie.Need-word-of-requires Inv-loop μ-loop
-word-of-requires c κs = tt
+byte-requires : tie.Need-byte-requires Inv-loop μ-loop
+byte-requires c κs = tt
 
-mul-words : tie.Need-mul-words Inv-loop μ-loop
-mul-words c = omega arith
-
-slice-write-words : tie.Need-slice-write-words Inv-loop μ-loop
-slice-write-words c = omega arith
+slice-write-bytes : tie.Need-slice-write-bytes Inv-loop μ-loop
+slice-write-bytes c = omega arith
 
 add-at : tie.Need-add-at Inv-loop μ-loop
 add-at c = omega arith
@@ -41,16 +38,15 @@ same-length c = search needs
 returns : tie.Need-returns Inv-loop μ-loop
 returns c = tt
 
-pub make-spec : {M : Type 1} → statement M
-make-spec =
+pub fill-bytes-spec : {M : Type 1} → statement M
+fill-bytes-spec =
     tie.close
     (tie.spec
     Inv-loop
     μ-loop
     loop-holds
-    word-of-requires
-    mul-words
-    slice-write-words
+    byte-requires
+    slice-write-bytes
     add-at
     loop-less
     loop-again
