@@ -1,5 +1,5 @@
 -- Laws of the exported calls.
 pub mod BookPlaces
-pub mod SearchPlaces
+pub mod ReportPlaces
 pub mod PassedOn
 pub mod OneAnswer

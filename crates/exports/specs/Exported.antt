@@ -5,6 +5,7 @@
 --   searchCounts     "found and looks"; a search counts nothing hidden
 --   recordCounts     "the number of records", as found
 --   counted          a paper with its counts so held
+--   IsExported       what every call promises, of its paper and of its area
 --   Is..Exported     what each call promises
 use Prim.Native.Nat.{ℕ}
 use mathlib.Core.Path.{_≡_}
@@ -35,27 +36,33 @@ recordCounts records = record { found = records; hidden = 0; looks = 0 }
 abbrev pub counted : {C : Type 0} → (C → ReportCounts) → Paper C → Paper ReportCounts
 counted held p = record { number = p .number; place = p .place; counts = held (p .counts) }
 
+-- What every exported call promises: the struct stands for this paper, and the lent area holds these at exit.
+pub record IsExported (paper-given : Paper ReportCounts) (area-given : List ℕ) (r : Answer) (out : List ℕ) : Type 0 where
+  pub paper : paperOf r ≡ paper-given
+  pub written : out ≡ area-given
+
 -- What `outlines_survey` promises: of the ring, the line, the allowance, the lent words, the answer and the words at exit.
-pub record IsSurveyExported (ring line : List ℕ) (k : ℕ) (words : List ℕ) (r : Answer) (out : List ℕ) : Type 0 where
-  pub paper : paperOf r ≡ counted searchCounts (searchPaper ring line k (length words) (surveyLooks ring line))
-  pub written : out ≡ searchedWords ring line k words
+abbrev pub IsSurveyExported : List ℕ → List ℕ → ℕ → List ℕ → Answer → List ℕ → Type 0
+IsSurveyExported ring line k words r out =
+    IsExported (counted searchCounts (searchPaper ring line k (length words) (surveyLooks ring line))) (searchedWords ring line k words) r out
 
 -- What `outlines_scan` promises, of the same.
-pub record IsScanExported (ring line : List ℕ) (k : ℕ) (words : List ℕ) (r : Answer) (out : List ℕ) : Type 0 where
-  pub paper : paperOf r ≡ counted searchCounts (searchPaper ring line k (length words) (quickLooks ring line k))
-  pub written : out ≡ searchedWords ring line k words
+abbrev pub IsScanExported : List ℕ → List ℕ → ℕ → List ℕ → Answer → List ℕ → Type 0
+IsScanExported ring line k words r out =
+    IsExported (counted searchCounts (searchPaper ring line k (length words) (quickLooks ring line k))) (searchedWords ring line k words) r out
 
 -- What `outlines_report` promises: of cell, ring number, ring, line, allowance, book, the lent words, the answer and the words at exit.
-pub record IsReportExported (cell ringNumber : ℕ) (ring line : List ℕ) (k : ℕ) (book words : List ℕ) (r : Answer) (out : List ℕ) : Type 0 where
-  pub paper : paperOf r ≡ answerPaper noReportCounts (reportedBy ring line k cell ringNumber (admittedSilences ring line k book (length words)))
-  pub written : out ≡ reportedWordsBy ring line k cell ringNumber words (admittedSilences ring line k book (length words))
+abbrev pub IsReportExported : ℕ → ℕ → List ℕ → List ℕ → ℕ → List ℕ → List ℕ → Answer → List ℕ → Type 0
+IsReportExported cell ringNumber ring line k book words r out =
+    IsExported (answerPaper noReportCounts (reportedBy ring line k cell ringNumber (admittedSilences ring line k book (length words))))
+    (reportedWordsBy ring line k cell ringNumber words (admittedSilences ring line k book (length words))) r out
 
 -- What `outlines_pack` promises: of the words, the area lent for the book, the answer and the area at exit.
-pub record IsPackExported (words area : List ℕ) (r : Answer) (out : List ℕ) : Type 0 where
-  pub paper : paperOf r ≡ counted recordCounts (recordsPaper (packed words (length area)))
-  pub written : out ≡ areaAtExit layout (packed words (length area)) area
+abbrev pub IsPackExported : List ℕ → List ℕ → Answer → List ℕ → Type 0
+IsPackExported words area r out =
+    IsExported (counted recordCounts (recordsPaper (packed words (length area)))) (areaAtExit layout (packed words (length area)) area) r out
 
 -- What `outlines_unpack` promises: of the book, the area lent for the words, the answer and the area at exit.
-pub record IsUnpackExported (book area : List ℕ) (r : Answer) (out : List ℕ) : Type 0 where
-  pub paper : paperOf r ≡ counted recordCounts (recordsPaper (unpacked book (length area)))
-  pub written : out ≡ areaAtExit wordsOfSilences (unpacked book (length area)) area
+abbrev pub IsUnpackExported : List ℕ → List ℕ → Answer → List ℕ → Type 0
+IsUnpackExported book area r out =
+    IsExported (counted recordCounts (recordsPaper (unpacked book (length area)))) (areaAtExit wordsOfSilences (unpacked book (length area)) area) r out

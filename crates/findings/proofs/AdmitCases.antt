@@ -1,17 +1,13 @@
--- Rows 1 to 4 by their cases, as code goes by them: each case rewrites the tests of `refusalOf` that led there. And the other way round: what is
--- known of a call that is accepted.
+-- Rows 1 to 4 by their cases, as code goes by them: each case rewrites the tests of `refusalOf` that led there.
 -- Assumes nothing.
 use Prim.Native.Nat.{ℕ, _≤_, _<_}
-use mathlib.Core.Path.{_≡_, _∙_}
+use mathlib.Core.Path.{_≡_}
 use mathlib.Core.Bool.{false, or-true}
-use mathlib.Core.Logic.{⊎-elim}
 use mathlib.Core.Option.{none, some}
 use native.Mathlib.Omega.{arith}
 use borrow.Author.Tests.{lt-ltb, le-ltb, le-leb, lt-leb, eq-eqb, ne-eqb}
-use Rattle.meaning.proofs.Cases.{le-or-lt}
-use Rattle.answers.specs.declared.refusals.Refusal.{Refusal}
 use Rattle.answers.specs.declared.refusals.Refusal.the-variants.{Ring, Allowance, Line, FindingsRoom}
-use Rattle.findings.specs.Admitting.{mostRing, mostLine, roomAsked, isRow1, refusalOf, Admitted}
+use Rattle.findings.specs.Admitting.{mostRing, mostLine, roomAsked, isRow1, refusalOf}
 
 module _ (m k n room : ℕ) where
   -- An empty ring.
@@ -54,26 +50,3 @@ module _ (m k n room : ℕ) where
         pub room-accepted : m ≤ n → roomAsked m n ≤ room → none ≡ refusalOf m k n room
         unfolding refusalOf
         room-accepted fits h = simp (no-row1, lt-leb m k allowed, le-ltb mostLine n in-limit, le-leb m n fits, le-ltb room (roomAsked m n) h)
-
--- A row that is given is not "no row".
-given-not-none : {r : Refusal} → some r ≡ none → ⊥
-given-not-none e = let z : _≡_ {A = ℕ} 0 1 = cc in omega arith
-
--- No row is given: the call is within all limits.
-pub admitted-by : (m k n room : ℕ) → refusalOf m k n room ≡ none → Admitted m k n room
-admitted-by m k n room e =
-    let some-edge : 0 < m = ⊎-elim (λ l. absurd (given-not-none (row1-empty m k n room (omega arith) ∙ e))) (λ l. l) (le-or-lt m 0) in
-    let most-ring : m ≤ mostRing = ⊎-elim (λ l. l) (λ l. absurd (given-not-none (row1-long m k n room l ∙ e))) (le-or-lt m mostRing) in
-    let allowed : k < m = ⊎-elim (λ l. absurd (given-not-none (row2-is m k n room some-edge most-ring l ∙ e))) (λ l. l) (le-or-lt m k) in
-    let most-line : n ≤ mostLine =
-    ⊎-elim (λ l. l) (λ l. absurd (given-not-none (row3-is m k n room some-edge most-ring allowed l ∙ e))) (le-or-lt n mostLine)
-    in
-    record {
-      some-edge = some-edge;
-      most-ring = most-ring;
-      allowed = allowed;
-      most-line = most-line;
-      room-for = λ fits.
-          ⊎-elim (λ l. l) (λ l. absurd (given-not-none (row4-is m k n room some-edge most-ring allowed most-line fits l ∙ e)))
-          (le-or-lt (roomAsked m n) room);
-    }

@@ -11,7 +11,7 @@ use Rattle.answers.specs.declared.refusals.Refusal.{Refusal}
 use Rattle.answers.specs.Paper.{answerPaper}
 use Rattle.findings.specs.declared.searching.Scanned.the-variants.{Counts as CountsCase, Refused}
 use Rattle.findings.specs.Admitting.{refusalOf}
-use Rattle.findings.specs.Searching.{noCounts, answerBy, wordsBy, searched, searchedWords, LineSearched, paperOf, searchPaper, IsSearched}
+use Rattle.findings.specs.Searching.{noCounts, answerBy, wordsBy, searched, searchedWords, LineSearched, searchPaper, IsSearched}
 
 module _ (ring line : List ℕ) (k : ℕ) (words : List ℕ) where
   -- the first row that is given, if one is
@@ -45,20 +45,3 @@ module _ {ring line : List ℕ} {k asked : ℕ} {words : List ℕ} where
             ∙ paper-by ring line k words none asked e;
         written = done .written ∙ words-by ring line k words none e;
       }
-
--- The same of a contract that is a record of its own, as its two equations: the refusal.
-pub search-refused : (ring line : List ℕ) (k : ℕ) (words : List ℕ) (asked : ℕ) (refusal : Refusal) → some refusal ≡ refusalOf (length ring) k (length line) (length words)
-    → (paperOf (Refused refusal) ≡ searchPaper ring line k (length words) asked) × (words ≡ searchedWords ring line k words)
-search-refused ring line k words asked refusal e =
-    let searched : IsSearched ring line k asked words (Refused refusal) words = refused-search e in
-    (searched .paper, searched .written)
-
--- And the accepted answer.
-pub search-accepted : (ring line : List ℕ) (k : ℕ) (words : List ℕ) (asked found looks : ℕ) (out : List ℕ)
-    → none ≡ refusalOf (length ring) k (length line) (length words) → found ≡ length (findings ring line k) → looks ≡ asked
-    → out ≡ written (wordsOf (findings ring line k)) words
-    → (paperOf (CountsCase found looks) ≡ searchPaper ring line k (length words) asked) × (out ≡ searchedWords ring line k words)
-search-accepted ring line k words asked found looks out e found-is looks-are written-is =
-    let searched : IsSearched ring line k asked words (CountsCase found looks) out =
-    accepted-search e (record { found-is = found-is; looks-are = looks-are; written = written-is }) in
-    (searched .paper, searched .written)

@@ -11,12 +11,11 @@ use native.Mathlib.Omega.{arith}
 use lib.ListN.{length}
 use Rattle.meaning.specs.Findings.{findingsBelow, findings}
 use Rattle.meaning.specs.Rules.{Reading, readWindow, nextStart, candidatesOf, reported, quickFindings}
-use Rattle.meaning.proofs.FindingsBelow.{findings-below}
+use Rattle.meaning.proofs.FindingsBelow.{below-same, findings-below}
 use Rattle.meaning.proofs.WindowRead.{window-read, candidate-yes, candidate-no}
 use Rattle.meaning.proofs.NothingLost.{nothing-lost}
 use Rattle.meaning.proofs.WindowSteps.{windows-start, windows-induct}
 -- (handed on: a crate above cites it from here)
-pub use Rattle.meaning.proofs.FindingsBelow.{below-same}
 
 module _ (ring line : List ℕ) (k : ℕ) where
   -- The findings below i, followed by what the windows report, are all of them.

@@ -9,7 +9,6 @@ use lib.ListN.{length, getD, drop, length-append, length-drop}
 use lib.Seq.{sets, sets-eq, getD-append-add, getD-drop, take-append-seam, drop-append-add, drop-drop}
 use Rattle.meaning.specs.Findings.{Finding, wordsEach, findingWords, wordsOf, written}
 -- (handed on: crates above cite them from here)
-pub use Rattle.meaning.proofs.FindingsBelow.{below-length-le, findings-below, findings-length-le}
 
 -- So many words for each finding.
 pub words-length : (fs : List Finding) → length (wordsOf fs) ≡ wordsEach * length fs

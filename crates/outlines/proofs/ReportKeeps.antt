@@ -8,7 +8,7 @@ use mathlib.Core.Option.{none}
 use native.Mathlib.Omega.{arith}
 use lib.ListN.{length}
 use Rattle.meaning.specs.Findings.{Finding, findings, wordsOf, written}
-use Rattle.meaning.proofs.Words.{below-length-le}
+use Rattle.meaning.proofs.FindingsBelow.{below-length-le}
 use Rattle.meaning.proofs.ScanLoop.{scan-found-le}
 use Rattle.answers.specs.Paper.{accepted}
 use Rattle.silences.specs.declared.addresses.Address.{Address}

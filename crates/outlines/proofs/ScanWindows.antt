@@ -16,7 +16,7 @@ use Rattle.meaning.specs.Findings.{Finding, foundAt, findings, wordsEach, words
 use Rattle.meaning.specs.Rules.{readWindow}
 use Rattle.meaning.specs.Looks.{tallyLooks, quickLooks}
 use Rattle.meaning.proofs.Places.{found-small}
-use Rattle.meaning.proofs.Words.{findings-length-le}
+use Rattle.meaning.proofs.FindingsBelow.{findings-length-le}
 use Rattle.meaning.proofs.ScanLoop.{ScanLoop, scan-start, scan-looks-le, scan-found-le, scan-end, scan-verified, scan-left}
 use Rattle.findings.specs.Admitting.{roomAsked}
 use Rattle.sweep.specs.Sweep.{sweptStart, sweptLast, sweptLooks, sweptFound, LeftTo}

@@ -9,10 +9,10 @@ use lib.ListN.{length, length-append}
 use Rattle.silences.specs.Numbers.{bytesOf}
 use Rattle.silences.specs.Silences.{Silence}
 use Rattle.silences.specs.Layout.{silenceTag, valueOf, fieldOf}
-use Rattle.silences.specs.Putting.{IsPut}
+use Rattle.packing.specs.Putting.{IsPut}
 use Rattle.silences.proofs.NumberBytes.{bytesOf-length}
 use Rattle.silences.proofs.FieldBytes.{fieldOf-is}
-use Rattle.silences.proofs.WrittenAt.{put-append}
+use Rattle.packing.proofs.WrittenAt.{put-append}
 
 -- What comes behind a number begins as many bytes on as the number has.
 pub number-next : {at next : ℕ} {area out : List ℕ} (count number : ℕ) → IsPut at (bytesOf count number) area next out → next ≡ at + count

@@ -13,9 +13,9 @@ use Rattle.meaning.specs.Findings.{written}
 use Rattle.silences.specs.Silences.{Silence}
 use Rattle.silences.specs.Layout.{fieldOf, layout}
 use Rattle.silences.specs.Packing.{silencesOf, recordWords}
-use Rattle.silences.specs.Putting.{writtenAt, IsPut}
+use Rattle.packing.specs.Putting.{writtenAt, IsPut}
 use Rattle.silences.proofs.WordsOfSilences.{silenceOfWords, silencesOf-step, silencesOf-end}
-use Rattle.silences.proofs.WrittenAt.{writtenAt-zero, writtenAt-none, writtenAt-append}
+use Rattle.packing.proofs.WrittenAt.{writtenAt-zero, writtenAt-none, writtenAt-append}
 
 -- The layout of the silences of the words from `at` on.
 abbrev pub layoutFrom : List ℕ → ℕ → List ℕ

@@ -10,9 +10,9 @@ use mathlib.Core.List.{List}
 use native.Mathlib.Omega.{arith}
 use lib.ListN.{length, set, length-set}
 use Rattle.silences.specs.Numbers.{bytesOf}
-use Rattle.silences.specs.Putting.{writtenAt, IsPut}
+use Rattle.packing.specs.Putting.{writtenAt, IsPut}
 use Rattle.silences.proofs.NumberBytes.{bytesOf-length}
-use Rattle.silences.proofs.WrittenAt.{writtenAt-none, writtenAt-last}
+use Rattle.packing.proofs.WrittenAt.{writtenAt-none, writtenAt-last}
 
 -- What the loop keeps.
 pub record PutNumber (at count number : ℕ) (area : List ℕ) (rest left : ℕ) (out : List ℕ) : Type 0 where

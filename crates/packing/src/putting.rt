@@ -15,7 +15,7 @@ ghost use Rattle.silences.specs.Numbers.{bytesOf};
 ghost use Rattle.silences.specs.Silences.{silence};
 ghost use Rattle.silences.specs.Layout.{fieldOf, layout};
 ghost use Rattle.silences.specs.Packing.{silencesOf};
-ghost use Rattle.silences.specs.Putting.{IsPut};
+ghost use Rattle.packing.specs.Putting.{IsPut};
 
 // Writes a number into `count` bytes from `at` on, high byte first, and answers the byte offset just past them. It goes
 // from the last byte to the first: the last is the number mod 256, and the others are what is left of it.

@@ -8,7 +8,7 @@ use native.Mathlib.Omega.{arith}
 use lib.ListN.{length, length-append}
 use Rattle.meaning.specs.Findings.{Finding, findings}
 use Rattle.meaning.specs.Looks.{quickLooks}
-use Rattle.meaning.proofs.Words.{below-length-le}
+use Rattle.meaning.proofs.FindingsBelow.{below-length-le}
 use Rattle.meaning.proofs.LookBound.{quickLooks-most}
 use Rattle.silences.specs.Silences.{Silence}
 use Rattle.findings.specs.Admitting.{Admitted}

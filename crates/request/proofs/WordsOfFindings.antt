@@ -1,13 +1,13 @@
 -- The equations of `findingsOf` as a walk through the words meets them: from a word on, the finding of three words there and the findings after it; or, with fewer
 -- than three words left, none. And the findings of the words of findings are those findings.
 -- Assumes nothing.
-use Prim.Native.Nat.{ℕ, suc, _+_, _≤_, _<_}
-use mathlib.Core.Path.{_≡_, refl, ap, _∙_}
+use Prim.Native.Nat.{ℕ, _+_, _≤_, _<_}
+use mathlib.Core.Path.{_≡_, refl, ap}
 use mathlib.Core.List.{List, [], _∷_}
 use native.Mathlib.Omega.{arith}
 use lib.ListN.{length, getD, drop, length-drop}
-use lib.Seq.{drop-cons}
 use Rattle.meaning.specs.Findings.{Finding, wordsEach, wordsOf}
+use Rattle.meaning.proofs.WordsInThrees.{drop-three}
 use Rattle.request.specs.Writing.{findingOf, findingsOf}
 
 -- The findings of findings' words are those findings.
@@ -32,14 +32,7 @@ module _ (words : List ℕ) (at : ℕ) where
   -- Where three words are left, they are the next finding.
   pub findingsOf-step : at + wordsEach ≤ length words → findingsOf (drop at words) ≡ findingOfWords words at ∷ findingsOf (drop (at + wordsEach) words)
   unfolding findingsOf
-  findingsOf-step h =
-      let second : suc at ≡ at + 1 = omega arith in
-      let third : suc (suc at) ≡ at + 2 = omega arith in
-      let past : suc (suc (suc at)) ≡ at + wordsEach = omega arith in
-      ap findingsOf (drop-cons words at 0 (omega arith))
-      ∙ ap (λ (l : List ℕ). findingsOf (getD words at 0 ∷ l)) (drop-cons words (suc at) 0 (omega arith))
-      ∙ ap (λ (l : List ℕ). findingsOf (getD words at 0 ∷ getD words (suc at) 0 ∷ l)) (drop-cons words (suc (suc at)) 0 (omega arith))
-      ∙ (λ i. findingOf (getD words at 0) (getD words (second i) 0) (getD words (third i) 0) ∷ findingsOf (drop (past i) words))
+  findingsOf-step h = ap findingsOf (drop-three words at h)
 
   -- Where fewer are left, there is none.
   pub findingsOf-end : length words < at + wordsEach → findingsOf (drop at words) ≡ []

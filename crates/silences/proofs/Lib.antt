@@ -30,8 +30,6 @@ pub mod PackRows
 pub mod UnpackRows
 pub mod AreaAtExit
 pub mod RoundTrips
--- bytes written from an offset on
-pub mod WrittenAt
 -- what the functions' proofs cite, and that each of them has one answer
 pub mod NumberLoop
 pub mod OneAnswer

@@ -1,5 +1,5 @@
--- Silences and the silence book. Numbers to Packing, Books and Rows state document 01; Addresses is what the functions' types stand for, Putting what
--- whoever writes bytes promises (the packer, the request). Samples are computed.
+-- Silences and the silence book. Numbers to Packing, Books and Rows state document 01; Addresses is what the functions' types stand for.
+-- Samples are computed.
 pub mod Numbers
 pub mod Silences
 pub mod Layout
@@ -8,5 +8,4 @@ pub mod Packing
 pub mod Books
 pub mod Rows
 pub mod Addresses
-pub mod Putting
 pub mod Samples

@@ -12,8 +12,7 @@ use lib.ListN.{length}
 use Rattle.meaning.specs.Findings.{Finding, foundAt, findingsBelow, findings, wordsEach, wordsOf, written}
 use Rattle.meaning.specs.Looks.{afreshLooks, stepLooks, surveyLooksBelow}
 use Rattle.meaning.proofs.Places.{found-no, found-small}
-use Rattle.meaning.proofs.QuickFindsAll.{below-same}
-use Rattle.meaning.proofs.Words.{below-length-le, findings-below}
+use Rattle.meaning.proofs.FindingsBelow.{below-same, below-length-le, findings-below}
 use Rattle.meaning.proofs.SurveyLooks.{surveyLooks-below, surveyLooks-end}
 use Rattle.moves.specs.declared.steps.Reached.{Reached}
 use Rattle.survey.specs.declared.plain.Surveyed.{Surveyed}

@@ -1,6 +1,7 @@
 -- `exports::books::outlines_pack` meets its contract: it passes the answer of `pack` on.
 -- Assumes nothing.
-use Rattle.exports.proofs.PassedOn.{pack-place, pack-passed-on}
+use Rattle.exports.specs.Exported.{recordCounts}
+use Rattle.exports.proofs.PassedOn.{pack-place, passed-on}
 use borrow.Author.Needs.{needs}
 use Rattle.exports.proofs.books.outlines_pack.Statement.{statement}
 use Rattle.exports.proofs.books.outlines_pack.Tie as tie
@@ -9,13 +10,15 @@ pack-requires : tie.Need-pack-requires
 pack-requires c κs = search needs
 
 book-answer-requires : tie.Need-book-answer-requires
-book-answer-requires c κs = pack-place _ _ _ _ (c .before .before .pack .ensures)
+book-answer-requires c κs = pack-place (c .before .before .pack .ensures)
 
 same-length : tie.Need-same-length
 same-length c = search needs
 
 returns : tie.Need-returns
-returns c = pack-passed-on _ _ _ _ (c .before .before .before .pack .ensures) _ (c .book-answer .ensures)
+returns c =
+    let answered = c .before .before .before .pack .ensures in
+    passed-on recordCounts (answered .paper) (answered .written) (c .book-answer .ensures)
 
 pub outlines-pack-spec : {M : Type 1} → statement M
 outlines-pack-spec = tie.close (tie.spec pack-requires book-answer-requires same-length returns)

@@ -1,6 +1,7 @@
 -- `exports::books::outlines_unpack` meets its contract: it passes the answer of `unpack` on.
 -- Assumes nothing.
-use Rattle.exports.proofs.PassedOn.{unpack-place, unpack-passed-on}
+use Rattle.exports.specs.Exported.{recordCounts}
+use Rattle.exports.proofs.PassedOn.{unpack-place, passed-on}
 use borrow.Author.Needs.{needs}
 use Rattle.exports.proofs.books.outlines_unpack.Statement.{statement}
 use Rattle.exports.proofs.books.outlines_unpack.Tie as tie
@@ -9,13 +10,15 @@ unpack-requires : tie.Need-unpack-requires
 unpack-requires c κs = search needs
 
 book-answer-requires : tie.Need-book-answer-requires
-book-answer-requires c κs = unpack-place _ _ _ _ (c .before .before .unpack .ensures)
+book-answer-requires c κs = unpack-place (c .before .before .unpack .ensures)
 
 same-length : tie.Need-same-length
 same-length c = search needs
 
 returns : tie.Need-returns
-returns c = unpack-passed-on _ _ _ _ (c .before .before .before .unpack .ensures) _ (c .book-answer .ensures)
+returns c =
+    let answered = c .before .before .before .unpack .ensures in
+    passed-on recordCounts (answered .paper) (answered .written) (c .book-answer .ensures)
 
 pub outlines-unpack-spec : {M : Type 1} → statement M
 outlines-unpack-spec = tie.close (tie.spec unpack-requires book-answer-requires same-length returns)

@@ -1,6 +1,7 @@
 -- `exports::searches::outlines_survey` meets its contract: it passes the answer of `survey` on.
 -- Assumes nothing.
-use Rattle.exports.proofs.PassedOn.{survey-place, survey-passed-on}
+use Rattle.exports.specs.Exported.{searchCounts}
+use Rattle.exports.proofs.PassedOn.{search-place, passed-on}
 use borrow.Author.Needs.{needs}
 use Rattle.exports.proofs.searches.outlines_survey.Statement.{statement}
 use Rattle.exports.proofs.searches.outlines_survey.Tie as tie
@@ -9,13 +10,15 @@ survey-requires : tie.Need-survey-requires
 survey-requires c κs = search needs
 
 search-answer-requires : tie.Need-search-answer-requires
-search-answer-requires c κs = survey-place _ _ _ _ _ _ (c .before .before .survey .ensures)
+search-answer-requires c κs = search-place (c .before .before .survey .ensures)
 
 same-length : tie.Need-same-length
 same-length c = search needs
 
 returns : tie.Need-returns
-returns c = survey-passed-on _ _ _ _ _ _ (c .before .before .before .survey .ensures) _ (c .search-answer .ensures)
+returns c =
+    let answered = c .before .before .before .survey .ensures in
+    passed-on searchCounts (answered .paper) (answered .written) (c .search-answer .ensures)
 
 pub outlines-survey-spec : {M : Type 1} → statement M
 outlines-survey-spec = tie.close (tie.spec survey-requires search-answer-requires same-length returns)

@@ -1,4 +1,4 @@
--- What functions promise that write bytes from a byte offset on: the packer's private ones, and the request's. Nothing here is a public call's meaning.
+-- What the packer's private functions promise that write bytes from a byte offset on. Nothing here is the public call's meaning.
 use Prim.Native.Nat.{ℕ, _+_}
 use mathlib.Core.Path.{_≡_}
 use mathlib.Core.List.{List, _++_}
