@@ -15,6 +15,7 @@ use Rattle.meaning.proofs.FindingsBelow.{below-same, findings-below}
 use Rattle.meaning.proofs.WindowRead.{window-read, candidate-yes, candidate-no}
 use Rattle.meaning.proofs.NothingLost.{nothing-lost}
 use Rattle.meaning.proofs.WindowSteps.{windows-start, windows-induct}
+
 -- (handed on: a crate above cites it from here)
 
 module _ (ring line : List ℕ) (k : ℕ) where

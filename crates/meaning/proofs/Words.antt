@@ -8,6 +8,7 @@ use native.Mathlib.Omega.{arith}
 use lib.ListN.{length, getD, drop, length-append, length-drop}
 use lib.Seq.{sets, sets-eq, getD-append-add, getD-drop, take-append-seam, drop-append-add, drop-drop}
 use Rattle.meaning.specs.Findings.{Finding, wordsEach, findingWords, wordsOf, written}
+
 -- (handed on: crates above cite them from here)
 
 -- So many words for each finding.
