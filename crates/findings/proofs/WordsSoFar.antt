@@ -1,24 +1,18 @@
 -- The words of the findings so far, as the loop of a search keeps them: how many findings, and the area with their words at its front. `put_finding` puts one more
 -- behind them, where there is room and its three numbers are 32-bit words. What the findings are is the loop's own.
 -- Assumes nothing.
-use Prim.Native.Nat.{ℕ, _+_, _*_, _^_, _≤_, _<_}
+use Prim.Native.Nat.{ℕ, _+_, _*_, _≤_, _<_}
 use mathlib.Core.Path.{_≡_, refl, ap, _∙_}
 use mathlib.Core.List.{List, [], _∷_, _++_}
 use native.Mathlib.Omega.{arith}
 use lib.ListN.{length, length-append}
 use Rattle.meaning.specs.Findings.{Finding, wordsEach, wordsOf, written}
 use Rattle.findings.specs.Admitting.{Admitted}
-use Rattle.findings.specs.Putting.{wordsPut, IsPut}
+use Rattle.findings.specs.Putting.{wordsPut, IsThreeWords, IsPut}
 use Rattle.findings.proofs.WordsPut.{put-more, put-none, put-length}
 use Rattle.findings.proofs.PutCases.{words-are-put}
 
--- A finding's three numbers are 32-bit words.
-pub record IsThreeWords (f : Finding) : Type 0 where
-  pub start-lt : f .start < 2 ^ 32
-  pub rotation-lt : f .rotation < 2 ^ 32
-  pub distance-lt : f .distance < 2 ^ 32
-
--- So are those of any finding of an accepted call.
+-- A finding's three numbers are 32-bit words where the call is accepted.
 pub admitted-three-words : {m k n room : ℕ} {f : Finding} → Admitted m k n room → f .start + m ≤ n → f .rotation < m → f .distance ≤ k → IsThreeWords f
 admitted-three-words admitted in-line is-rotation near =
     record {
@@ -46,12 +40,7 @@ module _ {area : List ℕ} {fs : List Finding} {count : ℕ} {words : List ℕ} 
     more-put : out ≡ wordsPut count f words
     more-put =
         words-are-put words count f out
-        (record {
-          room = omega (arith, so-far-length (omega arith));
-          start-lt = fit .start-lt;
-          rotation-lt = fit .rotation-lt;
-          distance-lt = fit .distance-lt;
-        })
+        (record { room = omega (arith, so-far-length (omega arith)); three-words = fit })
         put
 
     -- One finding more.

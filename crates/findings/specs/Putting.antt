@@ -5,7 +5,7 @@
 --   wordsPut     the words with a finding's three words put
 --   canPut       whether there is room for them, and each is a 32-bit word
 --   IsPut        what `put_finding` promises
---   CanPut       canPut in words of order
+--   CanPut       the same as `canPut`, as facts
 use Prim.Native.Nat.{ℕ, _+_, _*_, _^_, _≤_, _<_}
 use mathlib.Core.Path.{_≡_}
 use mathlib.Core.Bool.{Bool, cond, _&&_}
@@ -28,19 +28,23 @@ wordsPut before f words = sets words (wordsEach * before) (findingWords f)
 abbrev pub isWord : ℕ → Bool
 isWord number = ltb number (2 ^ 32)
 
--- Whether a finding's words can be put behind those of so many findings: room for them, and each a 32-bit word.
+-- Whether a finding's words can be put into so many lent words, behind those of so many findings: room for them, and each a 32-bit word.
 unfoldable pub canPut : ℕ → ℕ → Finding → Bool
-canPut room before f =
-    leb (wordsEach * before + wordsEach) room && (isWord (f .start) && (isWord (f .rotation) && isWord (f .distance)))
+canPut lent before f =
+    leb (wordsEach * before + wordsEach) lent && (isWord (f .start) && (isWord (f .rotation) && isWord (f .distance)))
 
 -- What `put_finding` promises: of the lent words, the findings before, a finding and the words at exit. Where its words cannot be put, nothing is
 -- written.
 pub record IsPut (words : List ℕ) (before : ℕ) (f : Finding) (out : List ℕ) : Type 0 where
   pub written : out ≡ cond (canPut (length words) before f) (wordsPut before f words) words
 
--- There is room for a finding's words behind those of so many findings, and each is a 32-bit word: what a caller knows whose finding is put.
-pub record CanPut (words : List ℕ) (before : ℕ) (f : Finding) : Type 0 where
-  pub room : wordsEach * before + wordsEach ≤ length words
+-- A finding's three numbers are 32-bit words.
+pub record IsThreeWords (f : Finding) : Type 0 where
   pub start-lt : f .start < 2 ^ 32
   pub rotation-lt : f .rotation < 2 ^ 32
   pub distance-lt : f .distance < 2 ^ 32
+
+-- Of so many lent words there is room for a finding's behind those of so many findings, and each is a 32-bit word.
+pub record CanPut (lent before : ℕ) (f : Finding) : Type 0 where
+  pub room : wordsEach * before + wordsEach ≤ lent
+  pub three-words : IsThreeWords f

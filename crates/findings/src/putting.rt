@@ -2,6 +2,7 @@
 use crate::admitting::WORDS_EACH;
 use answers::Finding;
 ghost use mathlib.Core.Path.{_≡_};
+ghost use lib.ListN.{length};
 ghost use Rattle.findings.specs.Putting.{findingOf, canPut, wordsPut, CanPut, IsPut};
 
 // The largest number that a 32-bit word holds.
@@ -28,7 +29,7 @@ fn can_put(room: usize, before: usize, finding: Finding) -> bool
 
 // A finding's three words, behind those of the findings before it.
 fn put_words(words: &mut [u32], before: usize, finding: Finding)
-    requires { ⌜ CanPut (now words) before (findingOf finding) ⌝ }
+    requires { ⌜ CanPut (length (now words)) before (findingOf finding) ⌝ }
     ensures { λ _. ⌜ now (words .exit) ≡ wordsPut before (findingOf finding) (now (words .entry)) ⌝ }
 {
     let at = WORDS_EACH * before;

@@ -77,7 +77,7 @@ module _ {cell ringNumber : ℕ} {ring doubled table line : List ℕ} {k : ℕ} 
     start-is = keeps-finding-start (can .can-scan) (h .keeps) in-line swept is-next e
 
     -- A finding has room for its words, and each is a 32-bit word.
-    pub report-can-put : CanPut words (asked .shown) f
+    pub report-can-put : CanPut (length words) (asked .shown) f
     report-can-put = keeps-can-put (can .can-scan) (h .keeps) in-line swept is-next e
 
     -- The book can be asked for it.
@@ -85,7 +85,7 @@ module _ {cell ringNumber : ℕ} {ring doubled table line : List ℕ} {k : ℕ} 
     report-can-ask =
         let found-le = report-found-le can h in
         record {
-          start-lt = report-can-put .start-lt;
+          start-lt = report-can-put .three-words .start-lt;
           shown-le = omega arith;
           hidden-le = omega arith;
         }

@@ -20,6 +20,7 @@ use Rattle.tally.specs.Counts.{mostCounts}
 use Rattle.sweep.specs.Verifying.{TalliedBefore, lastOf}
 use Rattle.sweep.specs.Sweep.{stateOf, foundOf, hasEnded, sweptStart, sweptLast, sweptLooks, sweptFound, LeftTo, leftState, CanSweepOn, IsSwept, IsSweptOn}
 use Rattle.findings.specs.Putting.{CanPut, wordsPut}
+use Rattle.findings.proofs.WordsSoFar.{admitted-three-words}
 use Rattle.outlines.specs.Scan.{CanScan}
 use Rattle.sweep.proofs.WindowsLeft.{left-from-le, left-start-le}
 use Rattle.sweep.specs.Sweeps.{IsSweptBy}
@@ -169,14 +170,12 @@ module _ {ring doubled table line : List ℕ} {k : ℕ} {counts₀ area : List �
           keeps-finding-start = swept-finding ring line k (at .start) f (can .admitted .some-edge) found-is .0
 
           -- A finding has room for its words, and each is a 32-bit word.
-          pub keeps-can-put : CanPut words count f
+          pub keeps-can-put : CanPut (length words) count f
           keeps-can-put =
               let small = swept-finding ring line k (at .start) f (can .admitted .some-edge) found-is in
               record {
                 room = omega (arith, keeps-length, fits-behind);
-                start-lt = omega (arith, small .0, can .admitted .most-line);
-                rotation-lt = omega (arith, small .1, can .admitted .most-ring);
-                distance-lt = omega (arith, small .2, can .admitted .allowed, can .admitted .most-ring);
+                three-words = admitted-three-words (can .admitted) (omega (arith, small .0)) (small .1) (small .2);
               }
 
           -- Putting them keeps the words' length.

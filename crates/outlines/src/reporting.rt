@@ -20,6 +20,7 @@ use tally::double;
 use vectors::TABLE_WORDS;
 use vectors::occurrences;
 ghost use mathlib.Core.Path.{_≡_};
+ghost use lib.ListN.{length};
 ghost use Prim.Native.Nat.{_<_, _^_};
 ghost use Rattle.silences.specs.Silences.{silence};
 ghost use Rattle.silences.specs.Addresses.{silenceOf};
@@ -92,7 +93,7 @@ fn ask(cell: u32, ring_number: u16, book: &[u8], asked: Asked, finding: Finding)
 
 // A finding that was counted as shown goes behind the shown ones before it; a hidden one leaves no trace.
 fn put_shown(words: &mut [u32], before: usize, shown: usize, finding: Finding)
-    requires { ⌜ CanPut (now words) before (findingOf finding) ⌝ }
+    requires { ⌜ CanPut (length (now words)) before (findingOf finding) ⌝ }
     ensures { λ _. ⌜ now (words .exit) ≡ shownPut before shown (findingOf finding) (now (words .entry)) ⌝ }
 {
     if before < shown {

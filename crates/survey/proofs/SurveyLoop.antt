@@ -19,9 +19,9 @@ use Rattle.survey.specs.declared.plain.Surveyed.{Surveyed}
 use Rattle.findings.specs.Admitting.{mostLine, Admitted}
 use Rattle.tally.specs.Counts.{mostCounts}
 use Rattle.tally.specs.Tallied.{Tallied}
-use Rattle.findings.specs.Putting.{IsPut}
+use Rattle.findings.specs.Putting.{IsThreeWords, IsPut}
 use Rattle.survey.specs.Survey.{CanVerifyOn, IsVerifiedOn, reachedOf, foundOf, IsSurveyedOn, CanSurvey, LineSurveyed}
-use Rattle.findings.proofs.WordsSoFar.{IsThreeWords, admitted-three-words, WordsSoFar, so-far-none, so-far-length, so-far-more}
+use Rattle.findings.proofs.WordsSoFar.{admitted-three-words, WordsSoFar, so-far-none, so-far-length, so-far-more}
 
 -- What the loop keeps before start i.
 pub record SurveyKeeps (ring line : List ℕ) (k : ℕ) (area : List ℕ) (i found looks : ℕ) (counts words : List ℕ) : Type 0 where

@@ -1,6 +1,5 @@
 -- Laws behind the tally, one module for each idea; the functions' proofs cite them. In the order in which they build on each other.
 pub mod WindowEdges
-pub mod SizesTested
 -- Lists given place by place, and loops over counts.
 pub mod PlaceByPlace
 pub mod StoredBelow

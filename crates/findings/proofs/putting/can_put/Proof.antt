@@ -1,28 +1,29 @@
--- `findings::putting::can_put` meets its contract: each return is one case of the test.
+-- `findings::putting::can_put` meets its contract: it answers false where one of the test's comparisons fails, and else the last of them (`SizesTested` of crates/meaning).
 -- Assumes nothing.
 use native.Mathlib.Omega.{arith}
-use Rattle.findings.proofs.PutCases.{can-not-put, same-distance}
+use Rattle.meaning.proofs.SizesTested.{test-fails}
+use Rattle.findings.proofs.PutCases.{can-put-iff, can-put-last}
 use Rattle.findings.proofs.putting.can_put.Statement.{statement}
 use Rattle.findings.proofs.putting.can_put.Tie as tie
 
 -- No room for one finding more.
 returns : tie.Need-returns
-returns c = can-not-put _ _ _ (λ can. omega (arith, can .0, c .if1 .taken))
+returns c = test-fails (can-put-iff _ _ _) (λ can. omega (arith, can .room, c .if1 .taken))
 
 -- A start that is no 32-bit word.
 returns-2 : tie.Need-returns-2
-returns-2 c = can-not-put _ _ _ (λ can. omega (arith, can .1, c .if2 .taken))
+returns-2 c = test-fails (can-put-iff _ _ _) (λ can. omega (arith, can .three-words .start-lt, c .if2 .taken))
 
 -- A rotation that is none.
 returns-3 : tie.Need-returns-3
-returns-3 c = can-not-put _ _ _ (λ can. omega (arith, can .2, c .if3 .taken))
+returns-3 c = test-fails (can-put-iff _ _ _) (λ can. omega (arith, can .three-words .rotation-lt, c .if3 .taken))
 
 -- All that is left is the distance.
 returns-4 : tie.Need-returns-4
 returns-4 c =
     let rotation = c .before in
     let start = rotation .before .before in
-    same-distance _ _ _ (omega (arith, start .before .before .if1 .left)) (omega (arith, start .if2 .left)) (omega (arith, rotation .if3 .left))
+    can-put-last _ _ _ (omega (arith, start .before .before .if1 .left)) (omega (arith, start .if2 .left)) (omega (arith, rotation .if3 .left))
 
 pub can-put-spec : {M : Type 1} → statement M
 can-put-spec = tie.close (tie.spec returns returns-2 returns-3 returns-4)

@@ -2,7 +2,7 @@
 -- Assumes nothing.
 use mathlib.Core.Path.{_∙_, sym}
 use borrow.Author.Needs.{needs}
-use Rattle.findings.proofs.PutCases.{can-put, put-yes, put-no}
+use Rattle.findings.proofs.PutCases.{can-put-iff, put-yes, put-no}
 use Rattle.findings.proofs.putting.put_finding.Statement.{statement}
 use Rattle.findings.proofs.putting.put_finding.Tie as tie
 
@@ -12,7 +12,7 @@ can-put-requires c κs = search needs
 put-words-requires : tie.Need-put-words-requires
 put-words-requires c κs =
     let passed = c .before in
-    can-put _ _ _ (sym (passed .before .can-put .ensures) ∙ passed .if1 .taken)
+    can-put-iff _ _ _ .0 (sym (passed .before .can-put .ensures) ∙ passed .if1 .taken)
 
 same-length : tie.Need-same-length
 same-length c = search needs

@@ -1,6 +1,6 @@
--- Tests of sizes, as `can_count` of this crate, `can_move` of crates/moves and `can_sweep` of crates/sweep make them. What such a function answers is a conjunction of
--- comparisons, and a record says the same as facts; that the two agree is put together from the comparisons (`lt-iff`, `le-iff`, `and-iff`). The code answers false at the
--- first comparison that something lacks (`test-fails`), and else its last comparison, which then decides alone (`test-same`).
+-- Tests of sizes. A function that tests sizes answers a conjunction of comparisons, and a record says the same as facts; that the two agree is put together from the
+-- comparisons (`lt-iff`, `le-iff`, `and-iff`). Code answers false at the first comparison that fails (`test-fails`), and else its last comparison, which then decides
+-- alone (`test-same`). They know no ring.
 -- Assumes nothing.
 use Prim.Native.Nat.{ℕ, _≤_, _<_}
 use mathlib.Core.Path.{_≡_, refl, sym, _∙_}
