@@ -18,7 +18,7 @@ use Rattle.book.specs.Calls.{IsSought}
 use Rattle.sweep.specs.declared.sweeping.Sweep.{Sweep}
 use Rattle.outlines.specs.declared.reporting.Asked.{Asked}
 use Rattle.findings.specs.Admitting.{mostLine}
-use Rattle.sweep.specs.Verifying.{lastOf}
+use Rattle.sweep.specs.VerifyingRules.{lastOf}
 use Rattle.outlines.specs.Report.{those, shown, hidden, reportedBy, reportedWordsBy}
 use Rattle.outlines.specs.Asking.{IsAccepted, CanReport, LineReported}
 use Rattle.outlines.proofs.ScanKeeps.{ScanKeeps, keeps-start, keeps-end}

@@ -16,7 +16,7 @@ use Rattle.silences.specs.Addresses.{soughtOf}
 use Rattle.sweep.specs.declared.sweeping.Sweep.{Sweep}
 use Rattle.sweep.specs.declared.sweeping.Swept.{Swept}
 use Rattle.outlines.specs.declared.reporting.Asked.{Asked}
-use Rattle.sweep.specs.Sweep.{stateOf, foundOf, hasEnded, LeftTo, leftState, IsSwept, IsSweptOn}
+use Rattle.sweep.specs.SweepRules.{stateOf, foundOf, hasEnded, LeftTo, leftState, IsSwept, IsSweptOn}
 use Rattle.findings.specs.Putting.{CanPut, wordsPut}
 use Rattle.outlines.specs.Report.{isHidden, isShown, hidden}
 use Rattle.outlines.specs.Asking.{hides, CanAsk, IsAsked, shownPut, CanReport}

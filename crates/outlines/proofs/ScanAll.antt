@@ -9,7 +9,7 @@ use lib.ListN.{length}
 use Rattle.meaning.specs.Findings.{Finding, wordsOf, written}
 use Rattle.sweep.specs.declared.sweeping.Sweep.{Sweep}
 use Rattle.findings.specs.Admitting.{mostLine}
-use Rattle.sweep.specs.Verifying.{lastOf}
+use Rattle.sweep.specs.VerifyingRules.{lastOf}
 use Rattle.outlines.specs.Scan.{CanScan, LineScanned}
 use Rattle.outlines.proofs.ScanKeeps.{ScanKeeps, keeps-start, keeps-end, keeps-found-le}
 

@@ -17,8 +17,8 @@ use Rattle.sweep.specs.declared.sweeping.Sweep.{Sweep}
 use Rattle.sweep.specs.declared.sweeping.Swept.{Swept}
 use Rattle.findings.specs.Admitting.{mostLine, roomAsked}
 use Rattle.tally.specs.Counts.{mostCounts}
-use Rattle.sweep.specs.Verifying.{TalliedBefore, lastOf}
-use Rattle.sweep.specs.Sweep.{stateOf, foundOf, hasEnded, sweptStart, sweptLast, sweptLooks, sweptFound, LeftTo, leftState, CanSweepOn, IsSwept, IsSweptOn}
+use Rattle.sweep.specs.VerifyingRules.{TalliedBefore, lastOf}
+use Rattle.sweep.specs.SweepRules.{stateOf, foundOf, hasEnded, sweptStart, sweptLast, sweptLooks, sweptFound, LeftTo, leftState, CanSweepOn, IsSwept, IsSweptOn}
 use Rattle.findings.specs.Putting.{CanPut, wordsPut}
 use Rattle.findings.proofs.WordsSoFar.{admitted-three-words}
 use Rattle.outlines.specs.Scan.{CanScan}
@@ -60,18 +60,24 @@ module _ {ring doubled table line : List ℕ} {k : ℕ} {counts₀ area : List �
     -- The sweep can go on.
     pub keeps-can-sweep : CanSweepOn ring doubled table line counts at
     keeps-can-sweep = record {
-      fits = record { size = h .size; some-edge = can .admitted .some-edge; most = can .admitted .most-ring };
-      most-line = omega (arith, can .admitted .most-line);
+      can-sweep = record {
+        windows = record {
+          some-edge = can .admitted .some-edge;
+          most = can .admitted .most-ring;
+          most-line = omega (arith, can .admitted .most-line);
+          start-le = h .start-le;
+        };
+        looks-le = omega (
+          arith,
+          scanning-looks-le (can .admitted .some-edge) (h .scanned),
+          quickLooks-most ring line k (can .admitted .some-edge),
+          mul-le-mul (can .admitted .most-ring) (can .admitted .most-line),
+        );
+      };
+      size = h .size;
       occurs = can .occurs;
       twice = can .twice;
-      start-le = h .start-le;
       before = h .before;
-      looks-le = omega (
-        arith,
-        scanning-looks-le (can .admitted .some-edge) (h .scanned),
-        quickLooks-most ring line k (can .admitted .some-edge),
-        mul-le-mul (can .admitted .most-ring) (can .admitted .most-line),
-      );
     }
 
     -- What it then gives, by the rules.

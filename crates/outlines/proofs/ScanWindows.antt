@@ -19,7 +19,7 @@ use Rattle.meaning.proofs.Places.{found-small}
 use Rattle.meaning.proofs.FindingsBelow.{findings-length-le}
 use Rattle.meaning.proofs.ScanLoop.{ScanLoop, scan-start, scan-looks-le, scan-found-le, scan-end, scan-verified, scan-left}
 use Rattle.findings.specs.Admitting.{roomAsked}
-use Rattle.sweep.specs.Sweep.{sweptStart, sweptLast, sweptLooks, sweptFound, LeftTo}
+use Rattle.sweep.specs.SweepRules.{sweptStart, sweptLast, sweptLooks, sweptFound, LeftTo}
 use Rattle.findings.specs.Putting.{wordsPut}
 use Rattle.sweep.proofs.WindowsLeft.{left-scanned}
 use Rattle.findings.proofs.WordsPut.{put-more, put-none, put-length}

@@ -21,7 +21,7 @@ use Rattle.vectors.specs.Holding.{vectorAt}
 use Rattle.vectors.specs.ByValue.{vectorWords, vectorBits, HeldVector}
 use Rattle.vectors.proofs.HeldVectors.{first-held, first-set, no-bit-iff, no-bit-no, GrownByEdge, grown-by-edge}
 use Rattle.sweep.specs.Reads.{heldWith, readOn, readBy}
-use Rattle.sweep.specs.Reading.{OwnVectors, IsWindowRead}
+use Rattle.sweep.specs.ReadingRules.{OwnVectors, IsWindowRead}
 use Rattle.sweep.proofs.ReadTurns.{read-all, read-stops, read-empties, read-grows}
 
 -- By the two cases of a test.

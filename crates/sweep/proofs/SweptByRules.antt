@@ -23,16 +23,20 @@ use Rattle.sweep.specs.declared.sweeping.Sweep.{Sweep}
 use Rattle.sweep.specs.declared.sweeping.Swept.{Swept}
 use Rattle.sweep.specs.declared.sweeping.Swept.the-variants.{Ended, NoFinding, Found}
 use Rattle.sweep.specs.declared.sweeping.WindowsRead.{WindowsRead}
-use Rattle.sweep.specs.Reads.{windowsBy}
+use Rattle.sweep.specs.Reads.{windowsBy, CanReadWindows}
 use Rattle.sweep.specs.Sweeps.{tallyBy, SweptTo, sweepBy, canSweep, IsSweptBy}
-use Rattle.sweep.specs.Verifying.{lastOf, TalliedBefore}
-use Rattle.sweep.specs.Sweep.{stateOf, foundOf, hasEnded, IsCandidateRead, IsWindowsRead, CanSweepOn, IsSweptOn}
+use Rattle.sweep.specs.VerifyingRules.{lastOf, TalliedBefore}
+use Rattle.sweep.specs.SweepRules.{stateOf, foundOf, hasEnded, IsCandidateRead, IsWindowsRead, CanSweepOn, IsSweptOn}
 use Rattle.sweep.proofs.SweepCases.{can-sweep-iff}
 use Rattle.sweep.proofs.WindowsLeft.{left-from-le}
 use Rattle.sweep.proofs.WindowsByRules.{windows-by-rules}
 use Rattle.sweep.proofs.TallyByRules.{before-later, tally-by-rules}
 
 module _ (ring doubled table line : List ℕ) (k : ℕ) (old : List ℕ) (at : Sweep) (can : CanSweepOn ring doubled table line old at) where
+  -- a ring within the limit, a line that has places for its starts, and a start in it or just past it
+  windows : CanReadWindows (length ring) (length line) (at .start)
+  windows = can .can-sweep .windows
+
   abbrev m : ℕ
   m = length ring
 
@@ -46,7 +50,7 @@ module _ (ring doubled table line : List ℕ) (k : ℕ) (old : List ℕ) (at : S
   reads : IsWindowsRead ring line k (at .start) read
   reads =
       windows-by-rules ring table line k (at .start)
-      (record { some-edge = can .fits .some-edge; most = can .fits .most; occurs = can .occurs }) (can .start-le)
+      (record { some-edge = windows .some-edge; most = windows .most; occurs = can .occurs }) (windows .start-le)
 
   -- The counts still hold the tally of the last verified start.
   tallied-here : TalliedBefore ring line i old (lastOf (at .last))
@@ -64,7 +68,7 @@ module _ (ring doubled table line : List ℕ) (k : ℕ) (old : List ℕ) (at : S
           past = e .0;
           next-is = ap (λ (x : ℕ). record { start = i; last = at .last; looks = at .looks + x }) (e .2);
           before = tallied-here;
-          size = can .fits .size;
+          size = can .size;
         };
         candidate = λ t. absurd (true≢false t);
       }
@@ -79,7 +83,7 @@ module _ (ring doubled table line : List ℕ) (k : ℕ) (old : List ℕ) (at : S
     verified : Verified ring line i (tallyLooks m (lastOf (at .last)) i) (tally .counts) (tally .least) (tally .looks)
     verified =
         tally-by-rules ring doubled line i old (at .last)
-        (record { fits = can .fits; twice = can .twice; in-line = read-is .in-line; most-line = can .most-line; before = tallied-here })
+        (record { fits = record { size = can .size; some-edge = windows .some-edge; most = windows .most }; twice = can .twice; in-line = read-is .in-line; most-line = windows .most-line; before = tallied-here })
 
     abbrev next : Sweep
     next = record { start = read .next; last = At i; looks = at .looks + read .looks + tally .looks }
@@ -111,7 +115,7 @@ module _ (ring doubled table line : List ℕ) (k : ℕ) (old : List ℕ) (at : S
     none : k < tally .least → IsSweptOn ring line k at (NoFinding next) (tally .counts)
     none far =
         after (NoFinding next) refl refl
-        (sym (least-no ring line k i (tally .counts) (tally .least) (can .fits .some-edge) (verified .tallied) (verified .least-is) far))
+        (sym (least-no ring line k i (tally .counts) (tally .least) (windows .some-edge) (verified .tallied) (verified .least-is) far))
 
     abbrev rotation : ℕ
     rotation = lowestWith m (tally .counts) (tally .least)
@@ -121,8 +125,8 @@ module _ (ring doubled table line : List ℕ) (k : ℕ) (old : List ℕ) (at : S
         → IsSweptOn ring line k at (Found next (record { start = record { 0 = i }; rotation = record { 0 = rotation }; distance = tally .least })) (tally .counts)
     found near =
         after _ refl refl
-        (sym (least-yes ring line k i (tally .counts) (tally .least) (can .fits .some-edge) (verified .tallied) (verified .least-is) rotation
-        (lowest-at (tally .counts) (tally .least) m rotation (can .fits .most) (verified .least-is) (record { is = refl })) (read-is .in-line) near))
+        (sym (least-yes ring line k i (tally .counts) (tally .least) (windows .some-edge) (verified .tallied) (verified .least-is) rotation
+        (lowest-at (tally .counts) (tally .least) m rotation (windows .most) (verified .least-is) (record { is = refl })) (read-is .in-line) near))
 
   -- What a sweep came to.
   abbrev SweptOn : SweptTo → Type 0
@@ -141,11 +145,7 @@ module _ (ring doubled table line : List ℕ) (k : ℕ) (old : List ℕ) (at : S
   -- The sweep can go on.
   can-be : canSweep m (length line) (at .start) (at .looks) ≡ true
   can-be =
-      can-sweep-iff m (length line) (at .start) (at .looks) .1
-      (record {
-        windows = record { some-edge = can .fits .some-edge; most = can .fits .most; most-line = can .most-line; start-le = can .start-le };
-        looks-le = can .looks-le;
-      })
+      can-sweep-iff m (length line) (at .start) (at .looks) .1 (can .can-sweep)
 
   -- What `sweep_on` answers is what the rules give.
   pub swept-by-rules : (new : List ℕ) (r : Swept) → IsSweptBy ring doubled table line k at old new r → IsSweptOn ring line k at r new

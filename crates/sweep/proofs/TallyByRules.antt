@@ -21,7 +21,7 @@ use Rattle.moves.specs.Moves.{CountsAt, movedFrom, IsReached}
 use Rattle.moves.proofs.MovedTallied.{moved-tallied}
 use Rattle.sweep.specs.declared.verifying.LastVerified.{LastVerified}
 use Rattle.sweep.specs.declared.verifying.LastVerified.the-variants.{Nothing, At}
-use Rattle.sweep.specs.Verifying.{lastOf, TalliedBefore, CanVerify}
+use Rattle.sweep.specs.VerifyingRules.{lastOf, TalliedBefore, CanVerify}
 use Rattle.sweep.specs.Sweeps.{movedTo, tallyBy}
 
 -- The tally of the last verified start stays that at every later start.

@@ -17,8 +17,8 @@ use Rattle.tally.specs.Windows.{windowAt}
 use Rattle.tally.proofs.WindowEdges.{start-window, start-length}
 use Rattle.sweep.specs.declared.reading.WindowRead.{WindowRead}
 use Rattle.sweep.specs.Reads.{readBy, noneLeft, windowsOn, windowsBy}
-use Rattle.sweep.specs.Reading.{OwnVectors, IsWindowRead}
-use Rattle.sweep.specs.Sweep.{sweptStart, LeftTo, none-left, one-left, IsWindowsRead}
+use Rattle.sweep.specs.ReadingRules.{OwnVectors, IsWindowRead}
+use Rattle.sweep.specs.SweepRules.{sweptStart, LeftTo, none-left, one-left, IsWindowsRead}
 use Rattle.sweep.proofs.WindowTurns.{windows-none, windows-found, windows-later}
 use Rattle.sweep.proofs.ReadByRules.{read-by-rules}
 

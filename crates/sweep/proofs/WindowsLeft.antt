@@ -10,7 +10,7 @@ use lib.ListN.{length}
 use Rattle.meaning.specs.Findings.{Finding}
 use Rattle.meaning.specs.Rules.{readWindow}
 use Rattle.meaning.proofs.ScanLoop.{ScanLoop, scan-left}
-use Rattle.sweep.specs.Sweep.{LeftTo, none-left, one-left}
+use Rattle.sweep.specs.SweepRules.{LeftTo, none-left, one-left}
 
 module _ (ring line : List ℕ) (k from : ℕ) where
   -- Starts rise.

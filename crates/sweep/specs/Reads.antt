@@ -1,5 +1,5 @@
 -- What reading computes, on every input: rules 1 to 3 with the stretch held as a vector of bits (source document 003), read with whatever table is lent. With the ring's
--- own table this is what the rules give, `IsWindowRead` of Reading and `IsWindowsRead` of Sweep: `read-by-rules` and `windows-by-rules` in proofs/.
+-- own table this is what the rules give, `IsWindowRead` of ReadingRules and `IsWindowsRead` of SweepRules: `read-by-rules` and `windows-by-rules` in proofs/.
 --
 --   readOn, readWith, readBy    one window
 --   windowsOn, windowsBy        window after window, to the next candidate

@@ -1,5 +1,5 @@
 -- What `sweep_on` computes, on every input, with whatever vectors, doubled ring and counts it is lent. Where they are the ring's own and the last verified start's tally
--- this is what the rules give, `IsSweptOn` of Sweep: `swept-by-rules` in proofs/.
+-- this is what the rules give, `IsSweptOn` of SweepRules: `swept-by-rules` in proofs/.
 --
 --   tallyBy      a start verified: counted afresh, or the tally moved (rule 5)
 --   sweepBy      the sweep to the next candidate, which is verified (rule 4)

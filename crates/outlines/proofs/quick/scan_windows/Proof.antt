@@ -7,7 +7,7 @@ use native.Mathlib.Omega.{arith}
 use borrow.Author.Needs.{needs}
 use lib.ListN.{length}
 use Rattle.findings.proofs.PutCases.{words-are-put}
-use Rattle.sweep.specs.Sweep.{stateOf, foundOf, hasEnded}
+use Rattle.sweep.specs.SweepRules.{stateOf, foundOf, hasEnded}
 use Rattle.outlines.proofs.ScanKeeps.{keeps-swept, keeps-left, keeps-ended, keeps-less, keeps-none, keeps-can-put, keeps-put-length, keeps-put}
 use Rattle.outlines.proofs.ScanAll.{ScanAll, all-start, all-next, all-found-le, all-end}
 use Rattle.outlines.proofs.quick.scan_windows.Statement.{statement}

@@ -6,7 +6,7 @@ use mathlib.Core.Path.{_≡_, refl, ap}
 use native.Mathlib.Omega.{arith}
 use borrow.Author.Needs.{needs}
 use lib.ListN.{length}
-use Rattle.sweep.specs.Sweep.{stateOf, foundOf, hasEnded}
+use Rattle.sweep.specs.SweepRules.{stateOf, foundOf, hasEnded}
 use Rattle.outlines.proofs.ScanKeeps.{keeps-swept, keeps-less}
 use Rattle.outlines.proofs.ReportKeeps.{ReportKeeps, report-start, report-found-le, report-end}
 use Rattle.outlines.proofs.ReportTurns.{report-left, report-ended, report-turn-none, report-can-put, report-can-ask, report-turn-found, report-length}

@@ -25,11 +25,9 @@ use Rattle.sweep.specs.declared.sweeping.Sweep.{Sweep}
 use Rattle.sweep.specs.declared.sweeping.Swept.{Swept}
 use Rattle.sweep.specs.declared.sweeping.Swept.the-variants.{Ended, NoFinding, Found}
 use Rattle.sweep.specs.declared.sweeping.WindowsRead.{WindowsRead}
-use Rattle.sweep.specs.Sweeps.{mostLooks}
-use Rattle.moves.specs.Moves.{mostPlaces}
+use Rattle.sweep.specs.Sweeps.{CanSweep}
 use Rattle.tally.specs.Counts.{mostCounts, IsDoubled}
-use Rattle.tally.specs.Tallied.{TallyFits}
-use Rattle.sweep.specs.Verifying.{TalliedBefore, lastOf}
+use Rattle.sweep.specs.VerifyingRules.{TalliedBefore, lastOf}
 
 -- Rule 3: "With j edges read, the next window starts m − j + 1 further on."
 abbrev pub sweptStart : List ℕ → List ℕ → ℕ → ℕ → ℕ
@@ -92,13 +90,11 @@ pub record IsWindowsRead (ring line : List ℕ) (k from : ℕ) (r : WindowsRead)
 -- What sweeping by the rules asks: a ring and a line within the limits, the ring's vectors and its double, a start in the line or just past it, the tally of the last
 -- verified start, and room for more looks. The allowance may be any.
 pub record CanSweepOn (ring doubled table line counts : List ℕ) (at : Sweep) : Type 0 where
-  pub fits : TallyFits ring counts
-  pub most-line : length line < mostPlaces
+  pub can-sweep : CanSweep (length ring) (length line) (at .start) (at .looks)
+  pub size : length counts ≡ mostCounts
   pub occurs : Occurrences ring table
   pub twice : IsDoubled ring doubled
-  pub start-le : at .start ≤ length line + 1
   pub before : TalliedBefore ring line (at .start) counts (lastOf (at .last))
-  pub looks-le : at .looks ≤ mostLooks
 
 -- One window is swept by the rules, and the counts hold the tally of the start that was verified last.
 pub record IsSwept (ring line : List ℕ) (k : ℕ) (at : Sweep) (r : Swept) (counts : List ℕ) : Type 0 where
