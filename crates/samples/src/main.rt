@@ -24,6 +24,7 @@ use calls::SEEK;
 use calls::SURVEY;
 use calls::UNPACK;
 
+// One row, through its call.
 fn run_row(call: usize, row: &[u8]) {
     match call {
         PACK => pack_rows::pack_row(row),
