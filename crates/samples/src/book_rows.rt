@@ -3,26 +3,22 @@
 use crate::area;
 use crate::area::AMPLE;
 use crate::books;
+use crate::calls::READ;
 use crate::paper;
 use crate::printing;
 use crate::printing::Shown;
 use crate::table;
 use book::BookAnswer;
 
-// Which call a row goes through.
-pub enum BookCall {
-    Read,
-    Unpack,
-}
-
-fn answer(call: BookCall, book: &[u8], lent: &mut [u32]) -> BookAnswer {
-    match call {
-        BookCall::Read => book::read(book),
-        BookCall::Unpack => book::unpack(book, lent),
+fn answer(call: usize, book: &[u8], lent: &mut [u32]) -> BookAnswer {
+    if call == READ {
+        book::read(book)
+    } else {
+        book::unpack(book, lent)
     }
 }
 
-pub fn book_row(call: BookCall, row: &[u8]) {
+pub fn book_row(call: usize, row: &[u8]) {
     let mut bytes = area::zeros();
     let book = books::book(row, 1, &mut bytes);
     let room = table::number_or(row, 5, AMPLE);

@@ -13,6 +13,7 @@ use book::BookAnswer;
 use outlines::Reported;
 use outlines::Scanned;
 
+// Writes the number of a refusal, 0 for none, and its place.
 fn print_refusal(refusal: usize, place: usize) {
     number(NUMBER, refusal);
     number(PLACE, place);

@@ -2,6 +2,8 @@
 // through the call that is asked for. It says what the call answers, the words written, and whether all words behind the room that was lent are kept.
 use crate::area;
 use crate::area::LONG;
+use crate::calls::SCAN;
+use crate::calls::SURVEY;
 use crate::edges;
 use crate::paper;
 use crate::printing;
@@ -9,24 +11,17 @@ use crate::printing::Shown;
 use crate::report_rows;
 use crate::table;
 
-// Which call a row goes through.
-pub enum SearchCall {
-    Scan,
-    Survey,
-    Report,
-}
-
 // Calls, and prints the answer.
-fn answer(call: SearchCall, row: &[u8], ring: &[u8], line: &[u8], k: usize, lent: &mut [u32]) {
+fn answer(call: usize, row: &[u8], ring: &[u8], line: &[u8], k: usize, lent: &mut [u32]) {
     match call {
-        SearchCall::Scan => paper::print_search(outlines::scan(ring, line, k, lent)),
-        SearchCall::Survey => paper::print_search(outlines::survey(ring, line, k, lent)),
-        SearchCall::Report => report_rows::report(row, ring, line, k, lent),
+        SCAN => paper::print_search(outlines::scan(ring, line, k, lent)),
+        SURVEY => paper::print_search(outlines::survey(ring, line, k, lent)),
+        _ => report_rows::report(row, ring, line, k, lent),
     }
 }
 
 // Searches a line for a ring, and prints what comes of it.
-fn search(call: SearchCall, row: &[u8], ring: &[u8], line: &[u8]) {
+fn search(call: usize, row: &[u8], ring: &[u8], line: &[u8]) {
     let k = table::number_or(row, 3, 0);
     let room = table::number_or(row, 4, LONG);
     let mut words = area::long();
@@ -35,7 +30,7 @@ fn search(call: SearchCall, row: &[u8], ring: &[u8], line: &[u8]) {
     printing::end(Shown::Words, space, room);
 }
 
-pub fn search_row(call: SearchCall, row: &[u8]) {
+pub fn search_row(call: usize, row: &[u8]) {
     let mut ring = area::zeros();
     let mut line = area::zeros();
     search(

@@ -21,7 +21,7 @@ struct Span {
     marks: usize,
 }
 
-// The part of this index, from 0 on; an empty one at the text's end past the last.
+// Where the part of this index lies, from 0 on. Past the last it is empty, at the text's end.
 fn find(text: &[u8], mark: u8, index: usize) -> Span
     ensures { λ r. ⌜ (r .begin ≤ r .end) × (r .end ≤ length (now (text .entry))) ⌝ }
 {
@@ -52,7 +52,7 @@ fn find(text: &[u8], mark: u8, index: usize) -> Span
     }
 }
 
-// The part of this index.
+// The part of this index; an empty one past the last.
 pub fn part(text: &[u8], mark: u8, index: usize) -> &[u8] {
     let span = find(text, mark, index);
     let begin = span.begin;

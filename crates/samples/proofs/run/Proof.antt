@@ -1,12 +1,12 @@
 -- `samples::run` is safe and ends: the lines left fall.
 -- Assumes nothing.
-use Prim.Native.Nat.{_-_, _<_}
+use Prim.Native.Nat.{_-_}
 use native.Mathlib.Omega.{arith}
 use Rattle.samples.proofs.run.Statement.{statement}
 use Rattle.samples.proofs.run.Tie as tie
 
 abbrev Inv-loop : tie.InvT-loop
-Inv-loop call text index section lines next₀ next = 0 < next
+Inv-loop call text index section lines next₀ next = Unit
 
 abbrev μ-loop : tie.MeasureT-loop
 μ-loop call text index section lines next₀ next = lines - next
@@ -18,7 +18,7 @@ marks-requires : tie.Need-marks-requires Inv-loop μ-loop
 marks-requires c κs = tt
 
 loop-holds : tie.Need-loop-holds Inv-loop μ-loop
-loop-holds c = omega arith
+loop-holds c = tt
 
 part-requires-2 : tie.Need-part-requires-2 Inv-loop μ-loop
 part-requires-2 c κs = tt
@@ -36,7 +36,7 @@ loop-less : tie.Need-loop-less Inv-loop μ-loop
 loop-less c = omega arith
 
 loop-again : tie.Need-loop-again Inv-loop μ-loop
-loop-again c = omega arith
+loop-again c = tt
 
 returns : tie.Need-returns Inv-loop μ-loop
 returns c = tt
