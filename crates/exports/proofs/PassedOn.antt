@@ -10,7 +10,7 @@ use Rattle.answers.specs.Paper.{Paper}
 use Rattle.book.specs.declared.answering.BookAnswer.{BookAnswer}
 use Rattle.book.specs.Calls.{paperOf as bookPaperOf, IsUnpacked}
 use Rattle.packing.specs.Calls.{IsPacked}
-use Rattle.findings.specs.declared.searching.Scanned.{Scanned}
+use Rattle.findings.specs.declared.searching.Searched.{Searched}
 use Rattle.findings.specs.Searching.{paperOf as searchPaperOf, IsSearched}
 use Rattle.findings.proofs.RowsOfSearching.{rows-of-search}
 use Rattle.outlines.specs.declared.reporting.Reported.{Reported}
@@ -25,7 +25,7 @@ place-is : {C : Type 0} {p q : Paper C} → p ≡ q → p .place ≡ q .place
 place-is e = ap (λ p. p .place) e
 
 -- A place of `survey` or `scan` fits 32 bits: it is 0.
-pub search-place : {ring line : List ℕ} {k asked : ℕ} {words out : List ℕ} {r : Scanned} → IsSearched ring line k asked words r out → searchPaperOf r .place < 2 ^ 32
+pub search-place : {ring line : List ℕ} {k asked : ℕ} {words out : List ℕ} {r : Searched} → IsSearched ring line k asked words r out → searchPaperOf r .place < 2 ^ 32
 search-place h = omega (arith, rows-of-search h .place-is)
 
 -- A place of `report` does.

@@ -4,7 +4,7 @@ use answers::number_of;
 use answers::place_of;
 use book::BookAnswer;
 use outlines::Reported;
-use outlines::Scanned;
+use outlines::Searched;
 ghost use mathlib.Core.Path.{_≡_};
 ghost use Prim.Native.Nat.{_<_, _^_};
 ghost use Rattle.answers.specs.Refusals.{placeOf};
@@ -41,19 +41,19 @@ fn refused_answer(refusal: Refusal) -> Answer
 }
 
 // The answer of survey and scan.
-pub fn search_answer(scanned: Scanned) -> Answer
-    requires { ⌜ searchPaperOf scanned .place < 2 ^ 32 ⌝ }
-    ensures { λ r. ⌜ paperOf r ≡ counted searchCounts (searchPaperOf scanned) ⌝ }
+pub fn search_answer(searched: Searched) -> Answer
+    requires { ⌜ searchPaperOf searched .place < 2 ^ 32 ⌝ }
+    ensures { λ r. ⌜ paperOf r ≡ counted searchCounts (searchPaperOf searched) ⌝ }
 {
-    match scanned {
-        Scanned::Counts { found, looks } => Answer {
+    match searched {
+        Searched::Counts { found, looks } => Answer {
             refusal: 0,
             place: 0,
             found: found as u64,
             hidden: 0,
             looks: looks as u64,
         },
-        Scanned::Refused(refusal) => refused_answer(refusal),
+        Searched::Refused(refusal) => refused_answer(refusal),
     }
 }
 

@@ -11,8 +11,8 @@ use Rattle.answers.specs.Paper.{Answer, accepted, refused}
 use Rattle.answers.proofs.OneAnswer.{answer-unique}
 use Rattle.findings.specs.declared.admitting.Verdict.{Verdict}
 use Rattle.findings.specs.declared.admitting.Verdict.the-variants.{Accepted, Refused as RefusedBy}
-use Rattle.findings.specs.declared.searching.Scanned.{Scanned}
-use Rattle.findings.specs.declared.searching.Scanned.the-variants.{Counts as CountsCase, Refused}
+use Rattle.findings.specs.declared.searching.Searched.{Searched}
+use Rattle.findings.specs.declared.searching.Searched.the-variants.{Counts as CountsCase, Refused}
 use Rattle.findings.specs.Admitting.{verdictOf, IsVerdict}
 use Rattle.findings.specs.Putting.{IsPut}
 use Rattle.findings.specs.Searching.{Counts, noCounts, answerOf, paperOf, IsSearched}
@@ -35,19 +35,19 @@ pub one-put : (words : List ℕ) (before : ℕ) (f : Finding) (out out′ : List
 one-put words before f out out′ a b = a .written ∙ sym (b .written)
 
 -- the case that an answer comes from
-abbrev answerBack : Answer Counts → Scanned
+abbrev answerBack : Answer Counts → Searched
 answerBack (accepted counts) = CountsCase (counts .found) (counts .looks)
 answerBack (refused refusal) = Refused refusal
 
-answer-back : (r : Scanned) → answerBack (answerOf r) ≡ r
+answer-back : (r : Searched) → answerBack (answerOf r) ≡ r
 answer-back (CountsCase found looks) = refl
 answer-back (Refused refusal) = refl
 
 -- The paper of a search determines its answer.
-pub paper-unique : (r r′ : Scanned) → paperOf r ≡ paperOf r′ → r ≡ r′
+pub paper-unique : (r r′ : Searched) → paperOf r ≡ paperOf r′ → r ≡ r′
 paper-unique r r′ e = sym (answer-back r) ∙ ap answerBack (answer-unique noCounts (answerOf r) (answerOf r′) e) ∙ answer-back r′
 
 -- Any two answers that meet a search's contract are equal, and any two areas at exit.
-pub search-unique : {ring line : List ℕ} {k asked : ℕ} {words : List ℕ} {r r′ : Scanned} {out out′ : List ℕ} → IsSearched ring line k asked words r out
+pub search-unique : {ring line : List ℕ} {k asked : ℕ} {words : List ℕ} {r r′ : Searched} {out out′ : List ℕ} → IsSearched ring line k asked words r out
     → IsSearched ring line k asked words r′ out′ → (r ≡ r′) × (out ≡ out′)
 search-unique {r = r} {r′ = r′} p p′ = (paper-unique r r′ (p .paper ∙ sym (p′ .paper)), p .written ∙ sym (p′ .written))

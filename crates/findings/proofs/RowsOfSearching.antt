@@ -14,7 +14,7 @@ use Rattle.answers.specs.declared.refusals.Refusal.the-variants.{Ring, Allowanc
 use Rattle.answers.specs.Refusals.{numberOf, placeOf}
 use Rattle.answers.specs.Paper.{refused, Paper, answerPaper}
 use Rattle.answers.proofs.RefusalNumbers.{HasNoPlace, refusal-number-iff}
-use Rattle.findings.specs.declared.searching.Scanned.{Scanned}
+use Rattle.findings.specs.declared.searching.Searched.{Searched}
 use Rattle.findings.specs.Admitting.{refusalOf}
 use Rattle.findings.specs.Searching.{Counts, noCounts, answerBy, wordsBy, searched, searchedWords, paperOf, IsSearched}
 use Rattle.findings.specs.SearchRows.{SearchRows}
@@ -53,7 +53,7 @@ paper-by (some q) counts new old early = record {
   untouched = λ _. refl;
 }
 
-module _ {ring line : List ℕ} {k asked : ℕ} {words : List ℕ} {r : Scanned} {out : List ℕ} (meets : IsSearched ring line k asked words r out) where
+module _ {ring line : List ℕ} {k asked : ℕ} {words : List ℕ} {r : Searched} {out : List ℕ} (meets : IsSearched ring line k asked words r out) where
   abbrev row : Option Refusal
   row = refusalOf (length ring) k (length line) (length words)
 

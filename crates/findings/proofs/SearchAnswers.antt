@@ -9,7 +9,7 @@ use lib.ListN.{length}
 use Rattle.meaning.specs.Findings.{findings, wordsOf, written}
 use Rattle.answers.specs.declared.refusals.Refusal.{Refusal}
 use Rattle.answers.specs.Paper.{answerPaper}
-use Rattle.findings.specs.declared.searching.Scanned.the-variants.{Counts as CountsCase, Refused}
+use Rattle.findings.specs.declared.searching.Searched.the-variants.{Counts as CountsCase, Refused}
 use Rattle.findings.specs.Admitting.{refusalOf}
 use Rattle.findings.specs.Searching.{noCounts, answerBy, wordsBy, searched, searchedWords, LineSearched, searchPaper, IsSearched}
 

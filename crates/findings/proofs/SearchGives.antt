@@ -8,12 +8,12 @@ use mathlib.Core.List.{List}
 use native.Mathlib.Omega.{arith}
 use lib.ListN.{length}
 use Rattle.meaning.proofs.Cases.{le-or-lt}
-use Rattle.findings.specs.declared.searching.Scanned.{Scanned}
+use Rattle.findings.specs.declared.searching.Searched.{Searched}
 use Rattle.findings.specs.Searching.{paperOf, IsSearched}
 use Rattle.findings.proofs.RowsOfSearching.{rows-of-search}
 use Rattle.findings.proofs.AcceptedSearches.{AcceptedSearch, search-counts}
 
-module _ {ring line : List ℕ} {k asked : ℕ} {words : List ℕ} {r : Scanned} {out : List ℕ} (meets : IsSearched ring line k asked words r out) where
+module _ {ring line : List ℕ} {k asked : ℕ} {words : List ℕ} {r : Searched} {out : List ℕ} (meets : IsSearched ring line k asked words r out) where
   -- Accepted: found, looks, and that the call is within the limits.
   pub accepted-gives : paperOf r .number ≡ 0 → AcceptedSearch ring line k (length words) asked (paperOf r)
   accepted-gives = search-counts ring line k (length words) asked (paperOf r) (meets .paper)

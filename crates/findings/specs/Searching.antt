@@ -15,8 +15,8 @@ use lib.ListN.{length}
 use Rattle.meaning.specs.Findings.{findings, wordsOf, written}
 use Rattle.answers.specs.declared.refusals.Refusal.{Refusal}
 use Rattle.answers.specs.Paper.{Answer, accepted, refused, Paper, answerPaper}
-use Rattle.findings.specs.declared.searching.Scanned.{Scanned}
-use Rattle.findings.specs.declared.searching.Scanned.the-variants.{Counts as CountsCase, Refused}
+use Rattle.findings.specs.declared.searching.Searched.{Searched}
+use Rattle.findings.specs.declared.searching.Searched.the-variants.{Counts as CountsCase, Refused}
 use Rattle.findings.specs.Admitting.{refusalOf}
 
 -- "found and looks"
@@ -55,12 +55,12 @@ pub record LineSearched (ring line : List ℕ) (k asked : ℕ) (words : List ℕ
   pub written : out ≡ written (wordsOf (findings ring line k)) words
 
 -- The answer that an enum's case stands for.
-abbrev pub answerOf : Scanned → Answer Counts
+abbrev pub answerOf : Searched → Answer Counts
 answerOf (CountsCase found looks) = accepted (record { found = found; looks = looks })
 answerOf (Refused refusal) = refused refusal
 
 -- Document 01's number, place and counts of an answer.
-abbrev pub paperOf : Scanned → Paper Counts
+abbrev pub paperOf : Searched → Paper Counts
 paperOf r = answerPaper noCounts (answerOf r)
 
 -- Document 01's number, place and counts of what a search gives.
@@ -69,6 +69,6 @@ searchPaper ring line k room looks = answerPaper noCounts (searched ring line k 
 
 -- What a search promises that takes so many looks of its own: of the ring, the line, the allowance, these looks, the lent words, the answer and the words at
 -- exit. Its number, place and counts, and the words, on every input, accepted or refused.
-pub record IsSearched (ring line : List ℕ) (k asked : ℕ) (words : List ℕ) (r : Scanned) (out : List ℕ) : Type 0 where
+pub record IsSearched (ring line : List ℕ) (k asked : ℕ) (words : List ℕ) (r : Searched) (out : List ℕ) : Type 0 where
   pub paper : paperOf r ≡ searchPaper ring line k (length words) asked
   pub written : out ≡ searchedWords ring line k words

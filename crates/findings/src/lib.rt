@@ -12,4 +12,4 @@ pub use admitting::Verdict;
 pub use admitting::admit;
 pub use putting::put_finding;
 pub use searching::Counted;
-pub use searching::Scanned;
+pub use searching::Searched;

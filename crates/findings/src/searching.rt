@@ -2,7 +2,7 @@
 use answers::Refusal;
 
 // What survey and scan answer: "found and looks", or a refusal.
-pub enum Scanned {
+pub enum Searched {
     Counts { found: usize, looks: usize },
     Refused(Refusal),
 }

@@ -14,8 +14,8 @@ use Rattle.answers.proofs.OneAnswer.{answer-unique}
 use Rattle.silences.specs.Silences.{names}
 use Rattle.silences.specs.Samples.{empty-book}
 use Rattle.silences.specs.Reading.{readBook}
-use Rattle.findings.specs.declared.searching.Scanned.{Scanned}
-use Rattle.findings.specs.declared.searching.Scanned.the-variants.{Counts as ScanCase, Refused as ScanRefused}
+use Rattle.findings.specs.declared.searching.Searched.{Searched}
+use Rattle.findings.specs.declared.searching.Searched.the-variants.{Counts as ScanCase, Refused as ScanRefused}
 use Rattle.outlines.specs.declared.reporting.Reported.{Reported}
 use Rattle.outlines.specs.declared.reporting.Reported.the-variants.{Counts as CountsCase, Refused}
 use Rattle.findings.specs.Admitting.{refusalOf}
@@ -25,7 +25,7 @@ use Rattle.outlines.specs.Report.{those, shown, hidden, ReportCounts, no
 use Rattle.outlines.proofs.ReportOneAnswer.{report-unique}
 
 -- A scan's answer as a report's: nothing hidden.
-abbrev pub reportOf : Scanned → Reported
+abbrev pub reportOf : Searched → Reported
 reportOf (ScanCase found looks) = CountsCase found 0 looks
 reportOf (ScanRefused refusal) = Refused refusal
 
@@ -33,7 +33,7 @@ abbrev noneHidden : Answer Counts → Answer ReportCounts
 noneHidden (accepted c) = accepted (record { found = c .found; hidden = 0; looks = c .looks })
 noneHidden (refused refusal) = refused refusal
 
-report-of-is : (q : Scanned) → answerOf (reportOf q) ≡ noneHidden (scanAnswerOf q)
+report-of-is : (q : Searched) → answerOf (reportOf q) ≡ noneHidden (scanAnswerOf q)
 report-of-is (ScanCase found looks) = refl
 report-of-is (ScanRefused refusal) = refl
 
@@ -72,7 +72,7 @@ module _ (cell ringNumber : ℕ) where
         ap (λ (l : List Finding). written (wordsOf l) words) (sym (shown-all (findings ring line k)))
         ∙ ap (reportedWordsBy ring line k cell ringNumber words) (sym empty-book)
 
-    module _ (q : Scanned) (out : List ℕ) (scanned : IsScanned ring line k words q out) where
+    module _ (q : Searched) (out : List ℕ) (scanned : IsScanned ring line k words q out) where
       -- What a scan answers and writes is what a report with an empty book does.
       pub scan-is-report : IsReported cell ringNumber ring line k [] words (reportOf q) out
       unfolding searched searchedWords admittedSilences

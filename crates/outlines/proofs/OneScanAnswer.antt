@@ -4,11 +4,11 @@
 use Prim.Native.Nat.{ℕ}
 use mathlib.Core.Path.{_≡_}
 use mathlib.Core.List.{List}
-use Rattle.findings.specs.declared.searching.Scanned.{Scanned}
+use Rattle.findings.specs.declared.searching.Searched.{Searched}
 use Rattle.findings.proofs.OneAnswer.{search-unique}
 use Rattle.outlines.specs.Scan.{IsScanned}
 
 -- Any two answers of `scan` are equal, and any two areas at exit.
-pub scan-unique : (ring line : List ℕ) (k : ℕ) (words : List ℕ) (r r′ : Scanned) (out out′ : List ℕ) → IsScanned ring line k words r out
+pub scan-unique : (ring line : List ℕ) (k : ℕ) (words : List ℕ) (r r′ : Searched) (out out′ : List ℕ) → IsScanned ring line k words r out
     → IsScanned ring line k words r′ out′ → (r ≡ r′) × (out ≡ out′)
 scan-unique ring line k words r r′ out out′ p p′ = search-unique p p′

@@ -10,7 +10,7 @@ use Rattle.meaning.specs.Findings.{findings}
 use Rattle.meaning.specs.Looks.{quickLooks, surveyLooks}
 use Rattle.answers.specs.declared.refusals.Refusal.{Refusal}
 use Rattle.answers.specs.Paper.{Paper, answerPaper}
-use Rattle.findings.specs.declared.searching.Scanned.{Scanned}
+use Rattle.findings.specs.declared.searching.Searched.{Searched}
 use Rattle.findings.specs.Admitting.{refusalOf}
 use Rattle.findings.specs.Searching.{Counts, noCounts, answerBy, searched, paperOf, searchPaper}
 use Rattle.outlines.specs.Scan.{IsScanned}
@@ -33,7 +33,7 @@ unfolding searched
 search-same ring line k room looks looks′ = row-same (refusalOf (length ring) k (length line) room) (length (findings ring line k)) looks looks′
 
 -- Survey and scan give the same number, place and found, and the same words, on every input.
-pub survey-scan-same : (ring line : List ℕ) (k : ℕ) (words : List ℕ) (surveyed scanned : Scanned) (out out′ : List ℕ)
+pub survey-scan-same : (ring line : List ℕ) (k : ℕ) (words : List ℕ) (surveyed scanned : Searched) (out out′ : List ℕ)
     → IsSurveyed ring line k words surveyed out → IsScanned ring line k words scanned out′ → SameButLooks (paperOf surveyed) (paperOf scanned) × (out ≡ out′)
 survey-scan-same ring line k words surveyed scanned out out′ p p′ = (
   rw (p .paper, p′ .paper) (search-same ring line k (length words) (surveyLooks ring line) (quickLooks ring line k)),

@@ -10,14 +10,14 @@ use lib.ListN.{length}
 use Rattle.meaning.specs.Findings.{findings}
 use Rattle.meaning.specs.Looks.{quickLooks}
 use Rattle.meaning.proofs.LookBound.{quickLooks-le, quickLooks-most}
-use Rattle.findings.specs.declared.searching.Scanned.{Scanned}
+use Rattle.findings.specs.declared.searching.Searched.{Searched}
 use Rattle.findings.specs.Searching.{paperOf}
 use Rattle.findings.specs.SearchRows.{SearchRows}
 use Rattle.findings.proofs.RowsOfSearching.{rows-of-search}
 use Rattle.findings.proofs.SearchGives.{accepted-gives, looks-of-search}
 use Rattle.outlines.specs.Scan.{IsScanned}
 
-module _ (ring line : List ℕ) (k : ℕ) (words : List ℕ) (r : Scanned) (out : List ℕ) (meets : IsScanned ring line k words r out) where
+module _ (ring line : List ℕ) (k : ℕ) (words : List ℕ) (r : Searched) (out : List ℕ) (meets : IsScanned ring line k words r out) where
   -- The rows of `scan`.
   pub scan-rows : SearchRows (length ring) k (length line) words (paperOf r) out
   scan-rows = rows-of-search meets

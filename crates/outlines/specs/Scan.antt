@@ -10,12 +10,12 @@ use lib.ListN.{length}
 use Rattle.meaning.specs.Looks.{quickLooks}
 use Rattle.vectors.specs.ByValue.{Occurrences}
 use Rattle.tally.specs.Counts.{mostCounts, IsDoubled}
-use Rattle.findings.specs.declared.searching.Scanned.{Scanned}
+use Rattle.findings.specs.declared.searching.Searched.{Searched}
 use Rattle.findings.specs.Admitting.{Admitted}
 use Rattle.findings.specs.Searching.{LineSearched, IsSearched}
 
 -- What `scan` promises: of the ring, the line, the allowance, the lent words, the answer and the words at exit. It is a search with the quick scan's looks.
-abbrev pub IsScanned : List ℕ → List ℕ → ℕ → List ℕ → Scanned → List ℕ → Type 0
+abbrev pub IsScanned : List ℕ → List ℕ → ℕ → List ℕ → Searched → List ℕ → Type 0
 IsScanned ring line k words r out = IsSearched ring line k (quickLooks ring line k) words r out
 
 -- From here on: what private functions ask and promise.

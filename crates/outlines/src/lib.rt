@@ -7,7 +7,7 @@
 mod quick;
 mod reporting;
 
-pub use findings::Scanned;
+pub use findings::Searched;
 pub use quick::scan;
 pub use reporting::Reported;
 pub use reporting::report;

@@ -1,6 +1,6 @@
 // The quick scan: the findings of a ring in a line, and the looks that finding them took.
 use findings::Counted;
-use findings::Scanned;
+use findings::Searched;
 use findings::Verdict;
 use findings::admit;
 use findings::put_finding;
@@ -70,14 +70,14 @@ fn scan_line(ring: &[u8], line: &[u8], k: usize, words: &mut [u32]) -> Counted
 }
 
 // Rules 1 to 5.
-pub fn scan(ring: &[u8], line: &[u8], k: usize, words: &mut [u32]) -> Scanned
+pub fn scan(ring: &[u8], line: &[u8], k: usize, words: &mut [u32]) -> Searched
     ensures { λ r. ⌜ IsScanned (now (ring .entry)) (now (line .entry)) k (now (words .entry)) r (now (words .exit)) ⌝ }
 {
     match admit(ring.len(), k, line.len(), words.len()) {
-        Verdict::Refused(refusal) => Scanned::Refused(refusal),
+        Verdict::Refused(refusal) => Searched::Refused(refusal),
         Verdict::Accepted => {
             let counted = scan_line(ring, line, k, words);
-            Scanned::Counts {
+            Searched::Counts {
                 found: counted.found,
                 looks: counted.looks,
             }

@@ -11,7 +11,7 @@ use answers::number_of;
 use answers::place_of;
 use book::BookAnswer;
 use outlines::Reported;
-use outlines::Scanned;
+use outlines::Searched;
 
 // Writes the number of a refusal, 0 for none, and its place.
 fn print_refusal(refusal: usize, place: usize) {
@@ -34,14 +34,14 @@ pub fn print_book(answer: BookAnswer) {
 }
 
 // "Survey and scan return found and looks."
-pub fn print_search(answer: Scanned) {
+pub fn print_search(answer: Searched) {
     match answer {
-        Scanned::Counts { found, looks } => {
+        Searched::Counts { found, looks } => {
             print_refusal(0, 0);
             number(FOUND, found);
             number(LOOKS, looks);
         }
-        Scanned::Refused(refusal) => {
+        Searched::Refused(refusal) => {
             print_refusal(number_of(refusal), place_of(refusal));
             number(FOUND, 0);
             number(LOOKS, 0);

@@ -3,11 +3,11 @@
 use Prim.Native.Nat.{ℕ}
 use mathlib.Core.Path.{_≡_}
 use mathlib.Core.List.{List}
-use Rattle.findings.specs.declared.searching.Scanned.{Scanned}
+use Rattle.findings.specs.declared.searching.Searched.{Searched}
 use Rattle.findings.proofs.OneAnswer.{search-unique}
 use Rattle.survey.specs.Survey.{IsSurveyed}
 
 -- Any two answers of `survey` are equal, and any two areas at exit.
-pub survey-unique : (ring line : List ℕ) (k : ℕ) (words : List ℕ) (r r′ : Scanned) (out out′ : List ℕ) → IsSurveyed ring line k words r out
+pub survey-unique : (ring line : List ℕ) (k : ℕ) (words : List ℕ) (r r′ : Searched) (out out′ : List ℕ) → IsSurveyed ring line k words r out
     → IsSurveyed ring line k words r′ out′ → (r ≡ r′) × (out ≡ out′)
 survey-unique ring line k words r r′ out out′ p p′ = search-unique p p′

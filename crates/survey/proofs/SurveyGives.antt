@@ -7,14 +7,14 @@ use mathlib.Core.List.{List}
 use lib.ListN.{length}
 use Rattle.meaning.specs.Findings.{findings}
 use Rattle.meaning.proofs.SurveyLooks.{surveyLooks-is, surveyLooks-short}
-use Rattle.findings.specs.declared.searching.Scanned.{Scanned}
+use Rattle.findings.specs.declared.searching.Searched.{Searched}
 use Rattle.findings.specs.Searching.{paperOf}
 use Rattle.findings.specs.SearchRows.{SearchRows}
 use Rattle.findings.proofs.RowsOfSearching.{rows-of-search}
 use Rattle.findings.proofs.SearchGives.{accepted-gives, looks-of-search}
 use Rattle.survey.specs.Survey.{IsSurveyed}
 
-module _ (ring line : List ℕ) (k : ℕ) (words : List ℕ) (r : Scanned) (out : List ℕ) (meets : IsSurveyed ring line k words r out) where
+module _ (ring line : List ℕ) (k : ℕ) (words : List ℕ) (r : Searched) (out : List ℕ) (meets : IsSurveyed ring line k words r out) where
   -- The rows of `survey`.
   pub survey-rows : SearchRows (length ring) k (length line) words (paperOf r) out
   survey-rows = rows-of-search meets

@@ -16,7 +16,7 @@ use Rattle.meaning.specs.Looks.{surveyLooksBelow, surveyLooks}
 use Rattle.moves.specs.declared.steps.Reached.{Reached}
 use Rattle.tally.specs.Counts.{mostCounts, IsDoubled, IsLeast}
 use Rattle.tally.specs.Tallied.{Tallied, TallyFits}
-use Rattle.findings.specs.declared.searching.Scanned.{Scanned}
+use Rattle.findings.specs.declared.searching.Searched.{Searched}
 use Rattle.findings.specs.Admitting.{mostLine, Admitted}
 use Rattle.findings.specs.Putting.{findingOf}
 use Rattle.findings.specs.Searching.{LineSearched, IsSearched}
@@ -24,7 +24,7 @@ use Rattle.survey.specs.declared.plain.Surveyed.{Surveyed}
 use Rattle.survey.specs.declared.plain.Surveyed.the-variants.{NoFinding, Found}
 
 -- What `survey` promises: of the ring, the line, the allowance, the lent words, the answer and the words at exit. It is a search with the survey's looks.
-abbrev pub IsSurveyed : List ℕ → List ℕ → ℕ → List ℕ → Scanned → List ℕ → Type 0
+abbrev pub IsSurveyed : List ℕ → List ℕ → ℕ → List ℕ → Searched → List ℕ → Type 0
 IsSurveyed ring line k words r out = IsSearched ring line k (surveyLooks ring line) words r out
 
 -- From here on: what private functions ask and promise.

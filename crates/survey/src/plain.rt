@@ -3,7 +3,7 @@ use answers::Finding;
 use answers::LinePlace;
 use answers::RingPlace;
 use findings::Counted;
-use findings::Scanned;
+use findings::Searched;
 use findings::Verdict;
 use findings::admit;
 use findings::put_finding;
@@ -123,14 +123,14 @@ fn survey_line(ring: &[u8], line: &[u8], k: usize, words: &mut [u32]) -> Counted
 }
 
 // Every start, whatever a quick scan would pass over.
-pub fn survey(ring: &[u8], line: &[u8], k: usize, words: &mut [u32]) -> Scanned
+pub fn survey(ring: &[u8], line: &[u8], k: usize, words: &mut [u32]) -> Searched
     ensures { λ r. ⌜ IsSurveyed (now (ring .entry)) (now (line .entry)) k (now (words .entry)) r (now (words .exit)) ⌝ }
 {
     match admit(ring.len(), k, line.len(), words.len()) {
-        Verdict::Refused(refusal) => Scanned::Refused(refusal),
+        Verdict::Refused(refusal) => Searched::Refused(refusal),
         Verdict::Accepted => {
             let counted = survey_line(ring, line, k, words);
-            Scanned::Counts {
+            Searched::Counts {
                 found: counted.found,
                 looks: counted.looks,
             }
