@@ -9,6 +9,7 @@ mod putting;
 mod searching;
 
 pub use admitting::Verdict;
+pub use admitting::WORDS_EACH;
 pub use admitting::admit;
 pub use putting::put_finding;
 pub use searching::Counted;

@@ -1,9 +1,9 @@
 // The program's input to its output: read the request, make the report, write its lines.
-use crate::lines::WORDS_EACH;
 use crate::lines::put_finding_lines;
 use crate::lines::put_first_line;
 use crate::lines::put_last_line;
 use crate::refusing::put_refusal;
+use findings::WORDS_EACH;
 use input::Asked;
 use input::read_request;
 use outlines::Reported;

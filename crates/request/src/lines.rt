@@ -3,6 +3,7 @@
 use crate::bytes::put_byte;
 use crate::bytes::put_bytes;
 use crate::digits::put_decimal;
+use findings::WORDS_EACH;
 ghost use Rattle.request.specs.Lines.{firstLine, lastLine, findingLine, findingLines};
 ghost use Rattle.request.specs.Writing.{numbered, named, findingOf, findingsOf, countsOf, IsWritten};
 
@@ -11,9 +12,6 @@ pub const SPACE: u8 = 0x20;
 
 // After the last.
 pub const LF: u8 = 0x0a;
-
-// "three 32-bit words each (start, rotation, distance)"
-pub const WORDS_EACH: usize = 3;
 
 // A number, and the byte that comes after it.
 fn put_number(text: &mut [u8], at: usize, number: usize, after: u8) -> usize
