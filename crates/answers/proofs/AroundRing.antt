@@ -1,4 +1,4 @@
--- Laws of `around`: below m it is %, of a sum it is the sum of the two parts mod m, less m where that reaches m. A sum of two numbers
+-- Laws of `around`: with no ring it is 0, in a ring it is %, and of a sum it is the sum of the two parts mod m, less m where that reaches m. A sum of two numbers
 -- below m is below 2·m, so at most one m is taken off.
 -- Assumes nothing.
 use Prim.Native.Nat.{ℕ, _+_, _-_, _%_, _≤_, _<_}

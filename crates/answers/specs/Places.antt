@@ -4,6 +4,7 @@
 --
 --   ringPlaceOf   ring place = (rotation + (line place − start)) mod m
 --   linePlaceOf   line place = start + (ring place − rotation) mod m
+--   IsRingPlace, IsLinePlace   what `to_ring` and `to_line` promise
 --
 -- The document speaks of a ring with m > 0, a rotation below m and a place within the window or the ring. Here every input has a
 -- value: with m = 0 a place mod m is 0; a line place before the start counts as the start; a rotation or a ring place of m or more

@@ -38,7 +38,7 @@ has-refusal (accepted ss) r e = absurd (accepted-not-refused refl e)
 has-refusal (refused q) r e = cc
 
 module _ (book : List ℕ) where
-  -- It has no more records than that.
+  -- An accepted book has no more records than a book has bytes at most.
   pub records-le : (records : ℕ) → recordsOf (readBook book) ≡ accepted records → records ≤ mostBytes
   records-le records e =
       let has : HasRecords (readBook book) records = has-records (readBook book) records e in

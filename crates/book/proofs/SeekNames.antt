@@ -64,8 +64,8 @@ module _ (address : Silence) where
       go false e = sym (names-above s ss a (above-of-not s address h e))
 
   module _ (book : List ℕ) where
-    -- Seeking at a field goes by what that field is.
-    pub seek-at : (at : ℕ) (f : FieldAt) → fieldAt book at ≡ f → seekFrom book address at ≡ seekField address f (seekFrom book address)
+    -- seeking at a field goes by what that field is
+    seek-at : (at : ℕ) (f : FieldAt) → fieldAt book at ≡ f → seekFrom book address at ≡ seekField address f (seekFrom book address)
     seek-at at f e = seekFrom-step book address at ∙ ap (λ (g : FieldAt). seekField address g (seekFrom book address)) e
 
     -- where the book's fields are read to its end, seeking answers whether they name the address

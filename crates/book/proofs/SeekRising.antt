@@ -13,12 +13,12 @@ use Rattle.book.specs.Seeking.{seekField, seekFrom, isFor}
 use Rattle.silences.proofs.SilenceOrder.{isBelow-iff}
 use Rattle.silences.proofs.StrictOrder.{below-not-below}
 use Rattle.silences.proofs.FieldInduction.{field-induction}
-use Rattle.book.proofs.SeekFrom.{seekFrom-faulty, seekFrom-below, seekFrom-found}
-use Rattle.book.proofs.SeekNames.{namesAddress, seek-at, seek-all-names}
+use Rattle.book.proofs.SeekFrom.{seekFrom-step, seekFrom-faulty, seekFrom-below, seekFrom-found}
+use Rattle.book.proofs.SeekNames.{namesAddress, seek-all-names}
 
 module _ (book : List ℕ) where
-  -- What is held for one address, asked for another that is not below it, is what seeking that other gives.
-  pub seek-again : (a b : Silence) → (Below b a → ⊥) → (at : ℕ) → seekField b (seekFrom book a at) (seekFrom book b) ≡ seekFrom book b at
+  -- what is held for one address, asked for another that is not below it, is what seeking that other gives
+  seek-again : (a b : Silence) → (Below b a → ⊥) → (at : ℕ) → seekField b (seekFrom book a at) (seekFrom book b) ≡ seekFrom book b at
   seek-again a b not-below = field-induction book (λ (at : ℕ). seekField b (seekFrom book a at) (seekFrom book b) ≡ seekFrom book b at) turn
     where
       held : FieldAt → FieldAt
@@ -33,7 +33,7 @@ module _ (book : List ℕ) where
           by-order s next e true p =
               let below : isBelow s b ≡ true = isBelow-iff s b .1 (below-not-below s a b (isBelow-iff s a .0 p) not-below) in
               ap held (seekFrom-below book a at e p) ∙ on s next e ∙ sym (seekFrom-below book b at e below)
-          by-order s next e false p = ap held (seekFrom-found book a at e p) ∙ sym (seek-at b book at (whole s next) e)
+          by-order s next e false p = ap held (seekFrom-found book a at e p) ∙ sym (seekFrom-step book b at ∙ ap held e)
 
           by-field : (f : FieldAt) → fieldAt book at ≡ f → held (seekFrom book a at) ≡ seekFrom book b at
           by-field faulty e = ap held (seekFrom-faulty book a at e) ∙ sym (seekFrom-faulty book b at e)

@@ -6,8 +6,8 @@ use silences::is_below;
 use silences::is_same;
 ghost use Rattle.book.specs.Calls.{IsSought, IsSoughtOn, IsAskedFor};
 
-// The first field at or after byte offset `from` that is not below the address. Whoever asks with rising addresses goes
-// on from the byte offset of the last answer, and so reads no field twice.
+// The first field at or after byte offset `from` that is not below the address. Whoever asks with rising addresses holds
+// the last answer and goes on with `seek_on`, and so reads no field twice.
 pub fn seek(book: &[u8], from: usize, address: Address) -> Sought
     ensures { λ r. ⌜ IsSought (now (book .entry)) from address r ⌝ }
 {

@@ -6,7 +6,7 @@ use mathlib.Core.List.{List}
 use Rattle.answers.specs.Paper.{Paper}
 use Rattle.outlines.specs.Report.{ReportCounts}
 use Rattle.exports.specs.declared.answering.Answer.{Answer}
-use Rattle.exports.specs.Exported.{paperOf, IsExported, IsSurveyExported, IsScanExported, IsReportExported, IsPackExported, IsUnpackExported}
+use Rattle.exports.specs.Exported.{IsExported, IsSurveyExported, IsScanExported, IsReportExported, IsPackExported, IsUnpackExported}
 
 -- the struct that holds a paper
 abbrev answerOf : Paper ReportCounts → Answer

@@ -1,1 +1,2 @@
+-- The calls for C and Rust programs: what each promises, in one struct of five numbers.
 pub mod Exported

@@ -8,7 +8,7 @@ use native.Mathlib.Omega.{arith}
 use lib.ListN.{length, length-append}
 use Rattle.meaning.specs.Findings.{Finding, wordsEach, wordsOf, written}
 use Rattle.findings.specs.Admitting.{Admitted}
-use Rattle.findings.specs.Putting.{wordsPut, IsThreeWords, IsPut}
+use Rattle.findings.specs.Putting.{wordsPut, IsThreeWords, CanPut, IsPut}
 use Rattle.findings.proofs.WordsPut.{put-more, put-none, put-length}
 use Rattle.findings.proofs.PutCases.{words-are-put}
 
@@ -35,18 +35,16 @@ module _ {area : List ℕ} {fs : List Finding} {count : ℕ} {words : List ℕ} 
   pub so-far-length : wordsEach * count ≤ length area → length words ≡ length area
   so-far-length room = ap (λ (w : List ℕ). length w) (so-far .words-are) ∙ put-length fs count area (so-far .count-is) room
 
-  module _ {f : Finding} {out : List ℕ} (room : wordsEach * count + wordsEach ≤ length area) (fit : IsThreeWords f) (put : IsPut words count f out) where
-    -- the words of one finding more are put
-    more-put : out ≡ wordsPut count f words
-    more-put =
-        words-are-put words count f out
-        (record { room = omega (arith, so-far-length (omega arith)); three-words = fit })
-        put
+  -- One finding more, whose words are put behind those before it.
+  pub so-far-put : (f : Finding) → wordsEach * count + wordsEach ≤ length area → WordsSoFar area (fs ++ f ∷ []) (count + 1) (wordsPut count f words)
+  so-far-put f room = record {
+    count-is = omega (arith, so-far .count-is, length-append fs (f ∷ []));
+    words-are = ap (wordsPut count f) (so-far .words-are) ∙ put-more fs f count area (so-far .count-is) room;
+  }
 
-    -- One finding more.
-    pub so-far-more : WordsSoFar area (fs ++ f ∷ []) (count + 1) out
-    so-far-more =
-        record {
-          count-is = omega (arith, so-far .count-is, length-append fs (f ∷ []));
-          words-are = more-put ∙ ap (wordsPut count f) (so-far .words-are) ∙ put-more fs f count area (so-far .count-is) room;
-        }
+  -- One finding more, that `put_finding` put.
+  pub so-far-more : {f : Finding} {out : List ℕ} → wordsEach * count + wordsEach ≤ length area → IsThreeWords f → IsPut words count f out
+      → WordsSoFar area (fs ++ f ∷ []) (count + 1) out
+  so-far-more {f} {out} room fit put =
+      let can : CanPut (length words) count f = record { room = omega (arith, so-far-length (omega arith)); three-words = fit } in
+      rw (words-are-put words count f out can put) (so-far-put f room)

@@ -6,6 +6,7 @@
 --   refusalOf             "Order: survey and scan 1 to 4": the first row that is given, if one is
 --   IsRing                row 1 is not given
 --   Admitted              no row is given: what is known of an accepted call
+--   verdictOf             the refusal that a verdict stands for, if one is given
 --   IsVerdict             what `admit` promises
 use Prim.Native.Nat.{ℕ, _+_, _-_, _*_, _≤_, _<_}
 use mathlib.Core.Path.{_≡_}

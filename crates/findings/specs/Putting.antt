@@ -6,6 +6,7 @@
 --   canPut       whether there is room for them, and each is a 32-bit word
 --   IsPut        what `put_finding` promises
 --   CanPut       the same as `canPut`, as facts
+--   IsThreeWords a finding's three numbers are 32-bit words
 use Prim.Native.Nat.{ℕ, _+_, _*_, _^_, _≤_, _<_}
 use mathlib.Core.Path.{_≡_}
 use mathlib.Core.Bool.{Bool, cond, _&&_}

@@ -1,4 +1,4 @@
--- Document 01, "What each call returns", the table's rows 1 to 4 as they read for survey and scan: "given exactly when", number and place written out, in
+-- Document 01, "What each call returns", the table's rows 1 to 4 as they read for survey and scan: "Given exactly when", number and place written out, in
 -- their order. The contracts go by `refusalOf` of specs/Admitting.antt; this is the same table once more in plain comparisons, and
 -- proofs/RowsOfSearching.antt shows it of any answer that is a search's.
 --
@@ -22,7 +22,7 @@ pub record SearchRows (m k n : ℕ) (words : List ℕ) (p : Paper Counts) (out :
   pub row-3 : (p .number ≡ 3) ↔ (IsRing m × (k < m) × (65536 < n))
   -- "n ≥ m and fewer than 3·(n − m + 1) words are lent for findings", rows 1 to 3 not given
   pub row-4 : (p .number ≡ 4) ↔ (IsRing m × (k < m) × (n ≤ 65536) × (m ≤ n) × (length words < 3 * (n - m + 1)))
-  -- No row else.
+  -- No other row.
   pub number-le : p .number ≤ 4
   -- The table's place of each: 0.
   pub place-is : p .place ≡ 0

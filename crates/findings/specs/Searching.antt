@@ -2,10 +2,12 @@
 -- words. They differ in their looks alone, so both are stated over the looks.
 --
 --   Counts               found and looks
+--   answerBy, wordsBy    the answer, and the words at exit, by the first row that is given
 --   searched             what a search gives: the refusal, or its counts
 --   searchedWords        the lent words at exit
 --   LineSearched         a line searched, once a call is accepted
 --   paperOf              document 01's number, place and counts of an answer
+--   searchPaper          the same of what a search gives
 --   IsSearched           what a search promises: survey and scan, each with its own looks
 use Prim.Native.Nat.{ℕ}
 use mathlib.Core.Path.{_≡_}
@@ -24,7 +26,7 @@ pub record Counts : Type 0 where
   pub found : ℕ
   pub looks : ℕ
 
--- "A refusal carries .. zero in every count."
+-- "A refusal carries .. zero in every count"
 abbrev pub noCounts : Counts
 noCounts = record { found = 0; looks = 0 }
 

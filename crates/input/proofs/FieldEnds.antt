@@ -98,6 +98,6 @@ module _ {tag least most at : ℕ} {input : List ℕ} {r : FieldEnd} (told : IsE
   pub told-stands : {next : ℕ} → r ≡ At next → IsFieldAt (record { tag = tag; least = least; most = most }) input at next
   told-stands e = stands-iff _ input at .0 (sym (told .is) ∙ ap endOf e)
 
-  -- It was told that there is none.
+  -- It was told that there is none: none stands.
   pub told-none : r ≡ NoField → NoFieldAt (record { tag = tag; least = least; most = most }) input at
   told-none e = no-field-iff _ input at .0 (sym (told .is) ∙ ap endOf e)

@@ -16,7 +16,7 @@ use Rattle.input.specs.Input.{Request, endThen, fieldThen}
 use Rattle.input.specs.RowEleven.{IsFieldAt, NoFieldAt}
 use Rattle.input.proofs.FieldEnds.{stands-iff, no-field-iff}
 
--- Two refusals that are one.
+-- Answers that are refused and equal have one refusal.
 pub refusal-same : {r s : Refusal} → _≡_ {A = Answer Request} (refused r) (refused s) → r ≡ s
 refusal-same e = cc
 

@@ -87,8 +87,8 @@ module _ (input : List ℕ) (is-bytes : IsBytes input) where
     }
 
   module _ (q : Request) where
-    -- What is read is laid down.
-    pub read-is-laid-down : requestOf input ≡ accepted q → (input ≡ laidDown q) × CanLayDown q
+    -- what is read is laid down
+    read-is-laid-down : requestOf input ≡ accepted q → (input ≡ laidDown q) × CanLayDown q
     unfolding requestOf fieldsOf
     read-is-laid-down h = go (ltb mostInput (length input)) refl h
       where

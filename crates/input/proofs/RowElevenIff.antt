@@ -20,8 +20,8 @@ use Rattle.input.proofs.AskedCases.{fault-refused}
 use Rattle.input.proofs.FieldThen.{refusal-same, then-refused}
 
 module _ (input : List ℕ) where
-  -- Reading refuses by row 11 alone, and where the fault is.
-  pub refused-fault : (r : Refusal) → requestOf input ≡ refused r → (place : ℕ) × (r ≡ Input place) × IsInputFault input place
+  -- reading refuses by row 11 alone, and where the fault is
+  refused-fault : (r : Refusal) → requestOf input ≡ refused r → (place : ℕ) × (r ≡ Input place) × IsInputFault input place
   unfolding requestOf fieldsOf
   refused-fault r h = go (ltb mostInput (length input)) refl h
     where

@@ -3,6 +3,7 @@
 --   requestAt    the request whose numbers and byte offsets these are
 --   askedOf      what an enum's case stands for
 --   Within       how the byte offsets lie
+--   WithinBy     the same of an enum's case
 --   IsAsked      what `read_request` promises
 use Prim.Native.Nat.{ℕ, _+_, _≤_}
 use mathlib.Core.Path.{_≡_}

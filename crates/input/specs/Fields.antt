@@ -2,6 +2,8 @@
 -- two-byte length, value; numbers high byte first."
 --
 --   FieldKind     the tag of a field, and how long its value may be
+--   cellField, ringNumberField, allowanceField, ringField, lineField    the five kinds
+--   longAt, nextAt   the length that a field says, and the byte offset just past it
 --   isField       a field of a kind stands at a byte offset
 --   fieldEndAt    the byte offset just past it, if it stands
 --   between       the bytes from one byte offset up to another

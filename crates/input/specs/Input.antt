@@ -2,6 +2,8 @@
 -- order: 34 cell (4 bytes), 35 ring number (2), 33 allowance (1), 31 ring (any length), 32 line (at most 4,096), then the book to the end."
 --
 --   Request       cell, ring number, allowance, ring, line and book
+--   mostInput     "at most 32,768 bytes"
+--   fieldsOf      the five fields in their order, or refusal 11 at the first that does not stand
 --   requestOf     the request of an input's bytes, or refusal 11
 --   laidDown      the bytes of a request, as the document lays them down
 --   CanLayDown    the requests that have such bytes
@@ -44,7 +46,7 @@ endThen at (some next) rest = rest (at + headLength) next
 abbrev pub fieldThen : List ℕ → ℕ → FieldKind → (ℕ → ℕ → Answer Request) → Answer Request
 fieldThen input at kind rest = endThen at (fieldEndAt kind input at) rest
 
--- The five fields in their order, each where the one before it ends, and every byte after them as the book. "Numbers high byte first."
+-- The five fields in their order, each where the one before it ends, and every byte after them as the book. "numbers high byte first"
 unfoldable pub fieldsOf : List ℕ → Answer Request
 fieldsOf input =
     fieldThen input 0 cellField (λ cell cell-end.

@@ -105,8 +105,8 @@ module _ (ring line : List ℕ) (pos : 0 < length ring) (k i : ℕ) where
   unfolding readWindow
   window-costs = left-costs (length ring) (unread i) counting-start
 
-  -- Every start from the window's own on, before the next window, is at least as far from the ring as there were breaks, under every rotation.
-  pub breaks-le : (i′ r : ℕ) → i ≤ i′ → i′ < nextStart ring (readWindow ring line k i) → readWindow ring line k i .breaks ≤ distance ring line i′ r
+  -- every start from the window's own on, before the next window, is at least as far from the ring as there were breaks, under every rotation
+  breaks-le : (i′ r : ℕ) → i ≤ i′ → i′ < nextStart ring (readWindow ring line k i) → readWindow ring line k i .breaks ≤ distance ring line i′ r
   breaks-le i′ r lo hi =
       let w : Reading = readWindow ring line k i in
       let was = window-read ring line k i in

@@ -16,8 +16,6 @@ use Rattle.meaning.proofs.WindowRead.{window-read, candidate-yes, candi
 use Rattle.meaning.proofs.NothingLost.{nothing-lost}
 use Rattle.meaning.proofs.WindowSteps.{windows-start, windows-induct}
 
--- (handed on: a crate above cites it from here)
-
 module _ (ring line : List ℕ) (k : ℕ) where
   -- The findings below i, followed by what the windows report, are all of them.
   abbrev Rest : ℕ → List Reading → Type 0

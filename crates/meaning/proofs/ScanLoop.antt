@@ -31,8 +31,8 @@ module _ (ring line : List ℕ) (k : ℕ) where
 
   module _ (i : ℕ) (last : Option ℕ) (found : List Finding) (looks : ℕ) (h : ScanLoop i last found looks) where
     -- The looks so far are never above all looks.
-    pub scan-looks-le : looks ≤ quickLooks ring line k
-    scan-looks-le = omega (arith, h .looks-are)
+    pub scan-so-far-le : looks ≤ quickLooks ring line k
+    scan-so-far-le = omega (arith, h .looks-are)
 
     -- What is found so far is never more than all findings.
     pub scan-found-le : length found ≤ length (findings ring line k)

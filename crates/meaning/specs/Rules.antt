@@ -49,7 +49,7 @@ readWindow ring line k i = readLeft ring line k i (length ring) (unread i)
 abbrev pub nextStart : List ℕ → Reading → ℕ
 nextStart ring w = w .start + (length ring - w .read + 1)
 
--- Rule 1. The windows read from place i on, "while a window fits in the line". Each starts after the one before, at 0 to n at most, so more
+-- Rule 1. The windows read from place i on, "While a window fits in the line". Each starts after the one before, at 0 to n at most, so more
 -- than n + 1 there cannot be; the number before the last is how many may still come.
 unfoldable pub windowsFrom : List ℕ → List ℕ → ℕ → ℕ → ℕ → List Reading
 windowsFrom ring line k zero i = []

@@ -1,5 +1,6 @@
 -- The loop that changes the counts, one rotation a turn: it takes the leaving edge's comparison from the count, adds the entering edge's, both mod 2^16, and
--- keeps the least of the counts changed so far. The least starts with the largest number of sixteen bits, which is the first count's least too.
+-- keeps the least of the counts changed so far. The least starts with the largest number of sixteen bits, which no count is above: so after the first
+-- turn it is the first count.
 -- Assumes nothing.
 use Prim.Native.Nat.{ℕ, _+_, _-_, _*_, _≤_, _<_}
 use mathlib.Core.Path.{_≡_, refl, sym, _∙_}

@@ -124,7 +124,7 @@ module _ (ring line : List ℕ) (from steps below : ℕ) (old : List ℕ) (can :
           is = sym (move-none ring line below here-at) ∙ ap (λ (n : ℕ). moveOn ring line below n here-at) (sym none) ∙ before .still;
         }
 
--- So many steps take at most so many looks.
+-- The steps left add at most a step's looks each.
 pub move-looks-le : (ring line : List ℕ) (below left : ℕ) (at : CountsAt) → moveOn ring line below left at .looks ≤ at .looks + left * stepLooks (length ring)
 unfolding moveOn stepOn
 move-looks-le ring line below zero at = omega arith

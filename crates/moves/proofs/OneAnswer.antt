@@ -6,7 +6,7 @@ use mathlib.Core.List.{List}
 use Rattle.moves.specs.declared.steps.Reached.{Reached}
 use Rattle.moves.specs.Moves.{CountsAt, reachedWith, IsMoved}
 
--- `move_counts`
+-- Any two answers of `move_counts` are equal, and any two counts at exit.
 pub one-move : (ring line : List ℕ) (from steps below : ℕ) (old new new′ : List ℕ) (r r′ : Reached) → IsMoved ring line from steps below old new r
     → IsMoved ring line from steps below old new′ r′ → (r ≡ r′) × (new ≡ new′)
 one-move ring line from steps below old new new′ r r′ a b =

@@ -1,5 +1,5 @@
--- What the two walks of this crate share: `move_along` and `move_tally`, which they call, both take a reference, the ring, the line and three numbers, and so do they. A walk
--- carries what the reference, the ring and the line own; what a number owns is made anew wherever it is asked for.
+-- What the two walks of this crate share: `move_along` and `move_tally`, which they call, both take a reference, the ring, the line and three numbers; and so do they, but
+-- that `moved_tally` has the tally by value. A walk carries what the reference, the ring and the line own; what a number owns is made anew wherever it is asked for.
 -- Assumes nothing.
 use Prim.Native.Nat.{ℕ, _<_, _^_}
 use mathlib.Core.Path.{refl}

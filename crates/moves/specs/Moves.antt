@@ -6,6 +6,8 @@
 --   steppedCounts    the counts after a step
 --   CountsAt         where moved counts stand: the start, the counts, their least, the looks
 --   stepOn, moveOn   one step, and so many of them or fewer
+--   canMove, CanMove whether counts can be moved: the test, and the same as facts
+--   mostPlaces       the most places of a line
 --   movedFrom        that, where the counts can be moved
 --   IsMoved          what `move_counts` promises
 --   IsReached        where a tally that was moved came to
@@ -76,8 +78,8 @@ moveOn ring line below (suc left) at =
 abbrev pub mostPlaces : ℕ
 mostPlaces = 4294967296
 
--- Whether the counts of a ring of m edges, `room` of them, can be moved so many steps along a line of n edges: one edge at least, a count for each rotation, and a
--- window in the line after each step.
+-- Whether the counts of a ring of m edges, `room` of them, can be moved so many steps along a line of n edges: one edge at least and no more than 256, a count for
+-- each rotation, no more edges in the line than it may have places, and a window in the line after each step.
 unfoldable pub canMove : ℕ → ℕ → ℕ → ℕ → ℕ → Bool
 canMove m room n from steps = (ltb 0 m && (leb m mostCounts && leb m room)) && (leb n mostPlaces && leb (from + steps + m) n)
 

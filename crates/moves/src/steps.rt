@@ -15,8 +15,8 @@ const SIXTEEN_BITS: u32 = 65536;
 // The largest of them. The least count starts with it, since no count is above it.
 const LAST_COUNT: u16 = 65535;
 
-// A count that has lost one comparison and won another. One that has nothing to lose wraps: the sum is taken in more bits,
-// of which the compiler keeps sixteen.
+// A count that has lost one comparison and won another. One that has nothing to lose wraps: the sum is taken in 32 bits,
+// where it does not overflow, and cut to sixteen.
 fn changed(count: u16, lost: u16, won: u16) -> u16
     ensures { λ r. ⌜ r ≡ changedCount count lost won ⌝ }
 {

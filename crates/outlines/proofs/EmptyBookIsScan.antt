@@ -38,14 +38,14 @@ report-of-is (ScanCase found looks) = refl
 report-of-is (ScanRefused refusal) = refl
 
 module _ (cell ringNumber : ℕ) where
-  -- With no silence all are shown.
-  pub shown-all : (fs : List Finding) → shown [] cell ringNumber fs ≡ fs
+  -- with no silence all are shown
+  shown-all : (fs : List Finding) → shown [] cell ringNumber fs ≡ fs
   unfolding those names
   shown-all [] = refl
   shown-all (f ∷ fs) = ap (λ (l : List Finding). f ∷ l) (shown-all fs)
 
-  -- And none is hidden.
-  pub hidden-none : (fs : List Finding) → hidden [] cell ringNumber fs ≡ []
+  -- and none is hidden
+  hidden-none : (fs : List Finding) → hidden [] cell ringNumber fs ≡ []
   unfolding those names
   hidden-none [] = refl
   hidden-none (f ∷ fs) = hidden-none fs
@@ -73,8 +73,8 @@ module _ (cell ringNumber : ℕ) where
         ∙ ap (reportedWordsBy ring line k cell ringNumber words) (sym empty-book)
 
     module _ (q : Searched) (out : List ℕ) (scanned : IsScanned ring line k words q out) where
-      -- What a scan answers and writes is what a report with an empty book does.
-      pub scan-is-report : IsReported cell ringNumber ring line k [] words (reportOf q) out
+      -- what a scan answers and writes is what a report with an empty book does
+      scan-is-report : IsReported cell ringNumber ring line k [] words (reportOf q) out
       unfolding searched searchedWords admittedSilences
       scan-is-report =
           let row : Option Refusal = refusalOf (length ring) k (length line) (length words) in

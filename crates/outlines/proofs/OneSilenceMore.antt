@@ -43,8 +43,8 @@ one-later f true l l′ e = omega arith
 one-later f false l l′ e = omega arith
 
 module _ (cell ringNumber : ℕ) (s : Silence) (xs ys : List Silence) where
-  -- A silence among others names its own address, and for the rest they name what they name without it.
-  pub names-one-more : (zs : List Silence) (start : ℕ)
+  -- a silence among others names its own address, and for the rest they name what they name without it
+  names-one-more : (zs : List Silence) (start : ℕ)
       → names (zs ++ s ∷ ys) cell ringNumber start ≡ (isSame s (silence cell ringNumber start) || names (zs ++ ys) cell ringNumber start)
   unfolding names
   names-one-more [] start = refl

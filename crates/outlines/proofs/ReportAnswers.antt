@@ -21,14 +21,14 @@ use Rattle.outlines.specs.Report.{noReportCounts, silencesBy, admittedSi
 use Rattle.outlines.specs.Asking.{IsAccepted, LineReported}
 
 -- What `read` answers with so many records is accepted.
-pub book-accepted : (book : List ℕ) (r : BookAnswer) (records : ℕ) → IsRead book r → r ≡ Records records → IsAccepted book
-book-accepted book r records meets e =
+pub read-accepted : (book : List ℕ) (r : BookAnswer) (records : ℕ) → IsRead book r → r ≡ Records records → IsAccepted book
+read-accepted book r records meets e =
     let has : HasRecords (readBook book) records = has-records (readBook book) records (read-answer-is book r (Records records) meets e) in
     record { silences = has .silences; is = has .is }
 
 -- What `read` refuses is refused.
-pub book-refused : (book : List ℕ) (r : BookAnswer) (refusal : Refusal) → IsRead book r → r ≡ BookRefused refusal → readBook book ≡ refused refusal
-book-refused book r refusal meets e = go (readBook book) (read-answer-is book r (BookRefused refusal) meets e)
+pub read-refused : (book : List ℕ) (r : BookAnswer) (refusal : Refusal) → IsRead book r → r ≡ BookRefused refusal → readBook book ≡ refused refusal
+read-refused book r refusal meets e = go (readBook book) (read-answer-is book r (BookRefused refusal) meets e)
   where
     go : (a : Answer (List Silence)) → recordsOf a ≡ refused refusal → a ≡ refused refusal
     go (accepted ss) q = absurd (let z : _≡_ {A = ℕ} 0 1 = cc in omega arith)

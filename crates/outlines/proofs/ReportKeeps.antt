@@ -54,9 +54,9 @@ module _ {cell ringNumber : ℕ} {ring doubled table line : List ℕ} {k : ℕ} 
 
     -- shown and hidden together are what is found so far
     counts-add : asked .shown + asked .hidden ≡ length (h .so-far)
-    counts-add = omega (arith, h .keeps .scanned .count-is, h .hidden-is, shown-hidden-length ss cell ringNumber (h .so-far))
+    counts-add = omega (arith, h .keeps .scanned .in-words .count-is, h .hidden-is, shown-hidden-length ss cell ringNumber (h .so-far))
 
-    -- Shown and hidden together are no more than line places.
+    -- Shown and hidden together are no more than the longest line has places.
     pub report-found-le : asked .shown + asked .hidden ≤ mostLine
     report-found-le =
         omega (
@@ -80,7 +80,7 @@ module _ {cell ringNumber : ℕ} {ring doubled table line : List ℕ} {k : ℕ} 
               (λ j. accepted (record { found = found-is j; hidden = hidden-is j; looks = e .1 j }))
               ∙ ap (reportedBy ring line k cell ringNumber) (sym (h .book-read .is));
           written =
-              h .keeps .scanned .words-are
+              h .keeps .scanned .in-words .words-are
               ∙ ap (λ (l : List Finding). written (wordsOf (shown ss cell ringNumber l)) area) (e .0)
               ∙ ap (reportedWordsBy ring line k cell ringNumber area) (sym (h .book-read .is));
         }

@@ -19,8 +19,8 @@ answer-back : (r : Reported) → answerBack (answerOf r) ≡ r
 answer-back (CountsCase found hid looks) = refl
 answer-back (Refused refusal) = refl
 
--- The answer determines its case.
-pub report-answer-unique : (r r′ : Reported) → answerOf r ≡ answerOf r′ → r ≡ r′
+-- the answer determines its case
+report-answer-unique : (r r′ : Reported) → answerOf r ≡ answerOf r′ → r ≡ r′
 report-answer-unique r r′ e = sym (answer-back r) ∙ ap answerBack e ∙ answer-back r′
 
 -- The paper determines the answer.

@@ -1,5 +1,5 @@
 -- The rows of `report`, for any answer that meets its contract: rows 1 to 7 of document 01's table as an iff each, number and place written out, "report 1 to
--- 7" in that order; and that it is accepted exactly when none is given. The book is read on every line: no row asks for a line that has a start but 4.
+-- 7" in that order. (That it is accepted exactly when none is given is in ReportGives.) The book is read on every line: no row asks for a line that has a start but 4.
 -- Assumes nothing.
 use Prim.Native.Nat.{ℕ, _+_, _-_, _*_, _≤_, _<_}
 use mathlib.Core.Logic.{_↔_, _⊎_, Iff·trans, Iff·and, Iff·rfl}

@@ -58,7 +58,7 @@ module _ {cell ringNumber : ℕ} {ring doubled table line : List ℕ} {k : ℕ} 
   abbrev ss : List Silence
   ss = h .book-read .silences
 
-  -- the next window starts after this one
+  -- the next window does not start before this one
   later : at .start ≤ next .start
   later = keeps-later (can .can-scan) (h .keeps) in-line swept is-next
 

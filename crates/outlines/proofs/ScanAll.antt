@@ -18,7 +18,7 @@ pub record ScanAll (ring line : List ℕ) (k : ℕ) (area : List ℕ) (at : Swee
   pub so-far : List Finding
   pub keeps : ScanKeeps ring line k area so-far so-far at found counts words
 
--- What is found and put after a window.
+-- Where all that is found is put, the scan's loop keeps it.
 pub all-next : {ring line : List ℕ} {k : ℕ} {area : List ℕ} {so-far : List Finding} {at : Sweep} {found : ℕ} {counts words : List ℕ}
     → ScanKeeps ring line k area so-far so-far at found counts words → ScanAll ring line k area at found counts words
 all-next {so-far = so-far} keeps = record { so-far = so-far; keeps = keeps }
@@ -34,7 +34,7 @@ module _ {ring doubled table line : List ℕ} {k : ℕ} {counts₀ area : List �
     all-found-le in-line =
         omega (
           arith,
-          h .keeps .scanned .count-is,
+          h .keeps .scanned .in-words .count-is,
           keeps-found-le can (h .keeps) in-line,
         )
 
@@ -43,7 +43,7 @@ module _ {ring doubled table line : List ℕ} {k : ℕ} {counts₀ area : List �
     all-end past =
         let e = keeps-end can (h .keeps) past in
         record {
-          found-is = h .keeps .scanned .count-is ∙ ap (λ (l : List Finding). length l) (e .0);
+          found-is = h .keeps .scanned .in-words .count-is ∙ ap (λ (l : List Finding). length l) (e .0);
           looks-are = e .1;
-          written = h .keeps .scanned .words-are ∙ ap (λ (l : List Finding). written (wordsOf l) area) (e .0);
+          written = h .keeps .scanned .in-words .words-are ∙ ap (λ (l : List Finding). written (wordsOf l) area) (e .0);
         }

@@ -57,8 +57,8 @@ module _ {ring doubled table line : List ℕ} {k : ℕ} {counts₀ area : List �
     pub keeps-end : n < at .start + m → (so-far ≡ findings ring line k) × (at .looks ≡ quickLooks ring line k)
     keeps-end past = scanning-end (can .admitted .some-edge) (h .scanned) past
 
-    -- The sweep can go on.
-    pub keeps-can-sweep : CanSweepOn ring doubled table line counts at
+    -- the sweep can go on
+    keeps-can-sweep : CanSweepOn ring doubled table line counts at
     keeps-can-sweep = record {
       can-sweep = record {
         windows = record {
@@ -102,7 +102,7 @@ module _ {ring doubled table line : List ℕ} {k : ℕ} {counts₀ area : List �
           let left = keeps-left (on .left-to) in
           rw (sym is-next ∙ e .next-is) (record { scanned = left .scanned; before = e .before; size = e .size; start-le = left .start-le })
 
-      -- The sweep has come on, and is in the line or just past it.
+      -- The sweep has come on: the places that are left fall.
       pub keeps-less : at .start + m ≤ n → n + 1 - next .start < n + 1 - at .start
       keeps-less in-line = by-ended (hasEnded r) refl
         where
@@ -136,7 +136,7 @@ module _ {ring doubled table line : List ℕ} {k : ℕ} {counts₀ area : List �
         start-is : next .start ≡ sweptStart ring line k (at .start)
         start-is = sym (ap (λ (s : Sweep). s .start) is-next) ∙ swept .start-is
 
-        -- The next window starts after this one.
+        -- The next window does not start before this one.
         pub keeps-later : at .start ≤ next .start
         keeps-later = omega (arith, start-is)
 

@@ -1,9 +1,9 @@
 -- The loop over windows, of a scan and of a report: what it keeps, and its turns. Of what is found so far a part stands in the words; that what is found
 -- and looked at is right is `ScanLoop` of crates/meaning, whose turn is `scan-turn` here: a window left or verified. Windows left one after the other are
--- `left-scanned`.
+-- `left-scanned` of crates/sweep.
 -- Assumes nothing.
 use Prim.Native.Nat.{ℕ, _+_, _*_, _≤_, _<_}
-use mathlib.Core.Path.{_≡_, refl, ap, _∙_}
+use mathlib.Core.Path.{_≡_, refl, ap}
 use mathlib.Core.Bool.{Bool, true, false, cond}
 use mathlib.Core.List.{List, [], _∷_, _++_, append-nil}
 use mathlib.Core.Option.{Option, none, some}
@@ -12,20 +12,20 @@ use native.Mathlib.Omega.{arith}
 use lib.Dec.{leb}
 use lib.ListN.{length, length-append}
 use borrow.Author.Tests.{leb-true, leb-false}
-use Rattle.meaning.specs.Findings.{Finding, foundAt, findings, wordsEach, wordsOf, written}
+use Rattle.meaning.specs.Findings.{Finding, foundAt, findings, wordsEach}
 use Rattle.meaning.specs.Rules.{readWindow}
 use Rattle.meaning.specs.Looks.{tallyLooks, quickLooks}
 use Rattle.meaning.proofs.Places.{found-small}
 use Rattle.meaning.proofs.FindingsBelow.{findings-length-le}
-use Rattle.meaning.proofs.ScanLoop.{ScanLoop, scan-start, scan-looks-le, scan-found-le, scan-end, scan-verified, scan-left}
+use Rattle.meaning.proofs.ScanLoop.{ScanLoop, scan-start, scan-so-far-le, scan-found-le, scan-end, scan-verified, scan-left}
 use Rattle.findings.specs.Admitting.{roomAsked}
 use Rattle.sweep.specs.SweepRules.{sweptStart, sweptLast, sweptLooks, sweptFound, LeftTo}
 use Rattle.findings.specs.Putting.{wordsPut}
 use Rattle.sweep.proofs.WindowsLeft.{left-scanned}
-use Rattle.findings.proofs.WordsPut.{put-more, put-none, put-length}
+use Rattle.findings.proofs.WordsSoFar.{WordsSoFar, so-far-none, so-far-length, so-far-put}
 
--- One window: left, or verified.
-pub scan-turn : (ring line : List ℕ) (k i : ℕ) (last : Option ℕ) (found : List Finding) (looks : ℕ) → ScanLoop ring line k i last found looks
+-- one window: left, or verified
+scan-turn : (ring line : List ℕ) (k i : ℕ) (last : Option ℕ) (found : List Finding) (looks : ℕ) → ScanLoop ring line k i last found looks
     → i + length ring ≤ length line
     → ScanLoop ring line k (sweptStart ring line k i) (sweptLast ring line k i last) (found ++ sweptFound ring line k i) (sweptLooks ring line k i last looks)
 scan-turn ring line k i last found looks h in-line =
@@ -42,13 +42,12 @@ scan-turn ring line k i last found looks h in-line =
 pub record ScanWindows (ring line : List ℕ) (k : ℕ) (area : List ℕ) (so-far put : List Finding) (i : ℕ) (last : Option ℕ) (looks count : ℕ) (words : List ℕ) : Type 0 where
   pub scanning : ScanLoop ring line k i last so-far looks
   pub put-le : length put ≤ length so-far
-  pub count-is : count ≡ length put
-  pub words-are : words ≡ written (wordsOf put) area
+  pub in-words : WordsSoFar area put count words
 
 module _ {ring line : List ℕ} {k : ℕ} {area : List ℕ} (pos : 0 < length ring) where
   -- Before the first window nothing is found, and the words are as they were lent.
   pub scanning-start : ScanWindows ring line k area [] [] 0 none 0 0 area
-  scanning-start = record { scanning = scan-start ring line k pos; put-le = omega arith; count-is = refl; words-are = put-none area }
+  scanning-start = record { scanning = scan-start ring line k pos; put-le = omega arith; in-words = so-far-none area }
 
   module _ {so-far put : List Finding} {i : ℕ} {last : Option ℕ} {looks count : ℕ} {words : List ℕ}
       (h : ScanWindows ring line k area so-far put i last looks count words) where
@@ -58,15 +57,14 @@ module _ {ring line : List ℕ} {k : ℕ} {area : List ℕ} (pos : 0 < length ri
 
     -- The looks so far do not go beyond all looks.
     pub scanning-looks-le : looks ≤ quickLooks ring line k
-    scanning-looks-le = scan-looks-le ring line k _ _ _ _ (h .scanning)
+    scanning-looks-le = scan-so-far-le ring line k _ _ _ _ (h .scanning)
 
     -- Windows left at break k + 1 find nothing.
     pub scanning-left : {j reads : ℕ} → LeftTo ring line k i j reads → ScanWindows ring line k area so-far put j last (looks + reads) count words
     scanning-left left = record {
       scanning = left-scanned ring line k i last so-far looks left (h .scanning);
       put-le = h .put-le;
-      count-is = h .count-is;
-      words-are = h .words-are;
+      in-words = h .in-words;
     }
 
     module _ (in-line : i + length ring ≤ length line) where
@@ -78,7 +76,7 @@ module _ {ring line : List ℕ} {k : ℕ} {area : List ℕ} (pos : 0 < length ri
       scanning-room e room =
           omega (
             arith,
-            h .count-is,
+            h .in-words .count-is,
             h .put-le,
             scan-found-le ring line k _ _ _ _ turned,
             length-append so-far (sweptFound ring line k i),
@@ -93,9 +91,8 @@ module _ {ring line : List ℕ} {k : ℕ} {area : List ℕ} (pos : 0 < length ri
       -- The words keep their length.
       pub scanning-length : roomAsked (length ring) (length line) ≤ length area → length words ≡ length area
       scanning-length room =
-          ap (λ (w : List ℕ). length w) (h .words-are)
-          ∙ put-length put count area (h .count-is)
-          (omega (arith, h .count-is, h .put-le, scan-found-le ring line k _ _ _ _ (h .scanning), findings-length-le ring line k pos (omega arith)))
+          so-far-length (h .in-words)
+          (omega (arith, h .in-words .count-is, h .put-le, scan-found-le ring line k _ _ _ _ (h .scanning), findings-length-le ring line k pos (omega arith)))
 
       module _ {i′ : ℕ} {last′ : Option ℕ} {looks′ : ℕ} (start-is : i′ ≡ sweptStart ring line k i) (last-is : last′ ≡ sweptLast ring line k i last)
           (looks-are : looks′ ≡ sweptLooks ring line k i last looks) where
@@ -104,7 +101,7 @@ module _ {ring line : List ℕ} {k : ℕ} {area : List ℕ} (pos : 0 < length ri
 
         -- A window that reports nothing.
         pub scanning-none : sweptFound ring line k i ≡ [] → ScanWindows ring line k area so-far put i′ last′ looks′ count words
-        scanning-none e = record { scanning = rw append-nil at (turned′ e); put-le = h .put-le; count-is = h .count-is; words-are = h .words-are }
+        scanning-none e = record { scanning = rw append-nil at (turned′ e); put-le = h .put-le; in-words = h .in-words }
 
         module _ {f : Finding} (e : sweptFound ring line k i ≡ f ∷ []) where
           -- A window that reports a finding, whose words are put behind the others.
@@ -112,8 +109,7 @@ module _ {ring line : List ℕ} {k : ℕ} {area : List ℕ} (pos : 0 < length ri
           scanning-put room = record {
             scanning = turned′ e;
             put-le = omega (arith, h .put-le, length-append so-far (f ∷ []), length-append put (f ∷ []));
-            count-is = omega (arith, h .count-is, length-append put (f ∷ []));
-            words-are = ap (wordsPut count f) (h .words-are) ∙ put-more put f count area (h .count-is) (scanning-room e room);
+            in-words = so-far-put (h .in-words) f (scanning-room e room);
           }
 
           -- A window that reports a finding, whose words are not put.
@@ -121,8 +117,7 @@ module _ {ring line : List ℕ} {k : ℕ} {area : List ℕ} (pos : 0 < length ri
           scanning-passed = record {
             scanning = turned′ e;
             put-le = omega (arith, h .put-le, length-append so-far (f ∷ []));
-            count-is = h .count-is;
-            words-are = h .words-are;
+            in-words = h .in-words;
           }
 
 -- What a window reports starts where the window does, has a rotation of the ring, and a distance of at most k.

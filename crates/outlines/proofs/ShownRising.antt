@@ -27,8 +27,8 @@ module _ (silences : List Silence) (cell ringNumber : ℕ) where
 
 module _ (cell ringNumber : ℕ) (ring line : List ℕ) (k : ℕ) (book words : List ℕ) (found hid looks : ℕ) (out : List ℕ)
     (given : IsGiven cell ringNumber ring line k book words found hid looks out) where
-  -- "found (hidden ones included)": the others are shown.
-  pub found-shown-is : found - hid ≡ length (shown (given .silences) cell ringNumber (findings ring line k))
+  -- "found (hidden ones included)": the others are shown
+  found-shown-is : found - hid ≡ length (shown (given .silences) cell ringNumber (findings ring line k))
   found-shown-is = omega (arith, given .found-is, given .hidden-is, shown-hidden-length (given .silences) cell ringNumber (findings ring line k))
 
   -- "Words after the last one written keep their values."

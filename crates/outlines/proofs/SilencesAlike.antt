@@ -24,8 +24,8 @@ module _ (ss ts : List Silence) (cell ringNumber : ℕ) where
   abbrev pub NamesAlike : List Finding → Type 0
   NamesAlike fs = (f : Finding) → List·Memᴰ f fs → isHidden ss cell ringNumber f ≡ isHidden ts cell ringNumber f
 
-  -- The same ones are shown.
-  pub shown-same : (fs : List Finding) → NamesAlike fs → shown ss cell ringNumber fs ≡ shown ts cell ringNumber fs
+  -- the same ones are shown
+  shown-same : (fs : List Finding) → NamesAlike fs → shown ss cell ringNumber fs ≡ shown ts cell ringNumber fs
   shown-same fs h = taken-same (isShown ss cell ringNumber) (isShown ts cell ringNumber) fs (λ f m. ap not (h f m))
 
   -- The same ones are hidden.

@@ -3,9 +3,12 @@
 --
 --   isHidden         a silence of the book names the finding's cell, ring number and start
 --   shown, hidden    the findings that are not hidden, and those that are, of a list and in its order
+--   ReportCounts     found, hidden and looks
+--   reportCounts     these, of a report that goes by some silences
 --   admittedSilences the silences that a report goes by, or the first of its refusals, "report 1 to 7"
 --   reportedBy       what a report gives by these: its counts, or that refusal
 --   reportedWordsBy  the lent words at exit
+--   paperOf          document 01's number, place and counts of an answer
 --   IsReported       what `report` promises
 use Prim.Native.Nat.{ℕ}
 use mathlib.Core.Path.{_≡_}
@@ -50,7 +53,7 @@ pub record ReportCounts : Type 0 where
   pub hidden : ℕ
   pub looks : ℕ
 
--- "A refusal carries .. zero in every count."
+-- "A refusal carries .. zero in every count"
 abbrev pub noReportCounts : ReportCounts
 noReportCounts = record { found = 0; hidden = 0; looks = 0 }
 

@@ -1,5 +1,5 @@
 -- Document 01, "Sample rings": "P2 with the one silence (7, 2, 10): as cell 7, ring 2 it shows starts 9 and 11, hidden 1; as cell 8 all three." And the report
--- program's example, with the silence (7, 2, 1). Both are computed.
+-- program's example, with the silence (7, 2, 1); and that a silence for cell 0 hides in cell 0 alone. All are computed.
 -- Assumes nothing.
 use Prim.Native.Nat.{ℕ}
 use mathlib.Core.Path.{_≡_, refl}

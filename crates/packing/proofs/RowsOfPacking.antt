@@ -1,6 +1,6 @@
 -- The rows of `pack`, for any answer that meets its contract: rows 8, 9, 7 and 10 of document 01's table as an iff each, number and place written out,
--- and that it gives so many records exactly for the words of so many silences with room for their fields. From PackRows, through the numbers of
--- RowNumbers.
+-- and that it gives so many records exactly for the words of so many silences with room for their fields. From PackRows of the silences, through
+-- the numbers of RowNumbers of the book.
 -- Assumes nothing.
 use Prim.Native.Nat.{ℕ, _*_, _%_, _≤_, _<_}
 use mathlib.Core.Logic.{_⊎_, _↔_, Iff·trans}

@@ -18,7 +18,7 @@ use Rattle.input.specs.Asking.{askedOf, Within, WithinBy, IsAsked}
 use Rattle.request.specs.Lines.{refusalLine}
 use Rattle.request.specs.Answering.{requestText, textBy, answerText, IsAnswered}
 use Rattle.request.specs.Writing.{request, IsText}
-use Rattle.request.proofs.WrittenFront.{written-le}
+use Rattle.meaning.proofs.Words.{written-le}
 
 -- the request of these parts, with this book
 abbrev withBook : List ℕ → Parts → List ℕ → Request

@@ -6,7 +6,6 @@ pub mod LinePieces
 pub mod WordsOfFindings
 pub mod LinesLoop
 pub mod LineLengths
-pub mod WrittenFront
 pub mod RoomEnough
 pub mod TextRoom
 pub mod RequestAnswered

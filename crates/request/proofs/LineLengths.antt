@@ -11,7 +11,7 @@ use Rattle.outlines.specs.Report.{ReportCounts}
 use Rattle.request.specs.Lines.{firstLine, findingLine, findingLines, lastLine, refusalLineOf}
 use Rattle.request.proofs.DecimalDigits.{decimal-length-le}
 
--- The first line of a 32-bit cell, a 16-bit ring number, and a ring and an allowance of at most 3 digits.
+-- The first line of a 32-bit cell, a 16-bit ring number, and a ring and an allowance of at most 3 digits: at most 47 bytes.
 pub first-line-le : (cell ringNumber m k : ℕ) → cell < 2 ^ 32 → ringNumber < 2 ^ 16 → m < 1000 → k < 1000 → length (firstLine cell ringNumber m k) ≤ 47
 unfolding firstLine ascii
 first-line-le cell ringNumber m k cell-lt ring-number-lt m-lt k-lt =
@@ -42,7 +42,7 @@ finding-line-le f short =
       decimal-length-le 2 (f .distance) (omega arith),
     ))
 
--- The lines of such findings.
+-- The lines of such findings: at most 13 bytes each.
 pub finding-lines-le : (fs : List Finding) → ((f : Finding) → List·Memᴰ f fs → Short f) → length (findingLines fs) ≤ 13 * length fs
 unfolding findingLines
 finding-lines-le [] short = omega arith
@@ -54,7 +54,7 @@ finding-lines-le (f ∷ fs) short =
       finding-lines-le fs (λ g m. short g (List·Memᴰ·tail m)),
     )
 
--- The last line of counts that have at most 4, 4 and 7 digits.
+-- The last line of counts that have at most 4, 4 and 7 digits: at most 37 bytes.
 pub last-line-le : (counts : ReportCounts) → counts .found < 10000 → counts .hidden < 10000 → counts .looks < 10000000 → length (lastLine counts) ≤ 37
 unfolding lastLine ascii
 last-line-le counts found-lt hidden-lt looks-lt =
@@ -66,7 +66,7 @@ last-line-le counts found-lt hidden-lt looks-lt =
       decimal-length-le 6 (counts .looks) looks-lt,
     ))
 
--- The line of a refusal whose number and place fit 64 bits.
+-- The line of a refusal whose number and place fit 64 bits: at most 56 bytes.
 pub refusal-line-le : (number place : ℕ) → number < 2 ^ 64 → place < 2 ^ 64 → length (refusalLineOf number place) ≤ 56
 unfolding refusalLineOf ascii
 refusal-line-le number place number-lt place-lt =

@@ -1,5 +1,5 @@
--- Which refusals a request is given: not 3, its line being at most 4,096 edges, and not 4, the report being lent as many words as row 4 asks. So after 11 come
--- 1, 2, 5, 6 and 7.
+-- Which refusals a request is given: not 3, its line being at most 4,096 edges, and not 4, the report being lent as many words as row 4 asks. So of the
+-- report's rows 1 to 7 there come 1, 2, 5, 6 and 7, after 11.
 -- Assumes nothing.
 use Prim.Native.Nat.{ℕ, _≤_}
 use mathlib.Core.Path.{_≡_, refl, ap}
@@ -32,7 +32,7 @@ module _ (q : Request) (line-le : length (q .line) ≤ lineField .most) where
   early-rows Line (row-3 ring allowed h) = absurd (omega arith)
   early-rows FindingsRoom (row-4 ring allowed fits starts h) = absurd (omega arith)
 
-  -- After 11 come 1, 2, 5, 6 and 7: a request's refusal is neither 3 nor 4.
+  -- A request's refusal is neither 3 nor 4.
   pub rows-3-4-never : (refusal : Refusal) → admittedSilences (q .ring) (q .line) (q .allowance) (q .book) (roomAsked m n) ≡ refused refusal
       → (numberOf refusal ≡ 3 → ⊥) × (numberOf refusal ≡ 4 → ⊥)
   unfolding admittedSilences

@@ -1,5 +1,6 @@
 -- Document 01, "The report program": the program's whole output for an input's bytes, on every input, and what `answer` promises.
 --
+--   reportLines    the lines of a report that goes by some silences
 --   requestText    the output for a request: the report's lines, or its refusal
 --   answerText     the output for an input's bytes: "Refusal 11 comes before all others"
 --   IsAnswered     what `answer` promises

@@ -4,6 +4,7 @@
 --   lineOf                           words with one space between, and LF at the end
 --   firstLine, findingLine,          the document's four kinds of line
 --   lastLine, refusalLine
+--   refusalLineOf                    the line of a number and a place
 --   findingLines                     "one line per shown finding"
 --
 -- Names of counts and fields are the sample's own: cell, ring, edges, allow; found, hidden, looks; refused, place.

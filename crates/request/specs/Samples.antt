@@ -65,7 +65,7 @@ abbrev fieldsWith : ℕ → List ℕ → ℕ → List ℕ
 fieldsWith k ring n = laidDown (record { cell = 7; ringNumber = 2; allowance = k; ring = ring; line = replicate n 0x61; book = [] })
 
 -- "Refusal 11 comes before all others": an empty ring is row 1, but not before its line is read; a line of 4,097 edges is wrongly long, and row 11 at its first byte.
--- Then 1 before 2, and both before the book's. "Book places count from the book's first byte": a book of one byte is row 6 at place 0, and one that is cut
+-- Then 1 before 2, and 2 before the book's. "Book places count from the book's first byte": a book of one byte is row 6 at place 0, and one that is cut
 -- in its second field row 6 at place 13.
 order-of-rows : (answerText (fieldsWith 0 [] 3) ≡ printed (ascii "refused 1 place 0"))
     × (answerText (take 21 (fieldsWith 0 [] 3)) ≡ printed (ascii "refused 11 place 19"))

@@ -2,12 +2,10 @@
 -- it was refused nothing is written.
 -- Assumes nothing.
 use Prim.Native.Nat.{ℕ, _+_}
-use mathlib.Core.Path.{_≡_}
+use mathlib.Core.Path.{_≡_, refl}
 use mathlib.Core.List.{List}
-use lib.ListN.{length, getD, take, drop}
-use lib.Seq.{take-at}
-use Rattle.meaning.specs.Findings.{written}
-use Rattle.meaning.proofs.Words.{written-rest}
+use lib.ListN.{length, getD, take}
+use Rattle.meaning.proofs.Words.{written-rest, written-front}
 use Rattle.answers.specs.declared.refusals.Refusal.{Refusal}
 use Rattle.answers.specs.Paper.{Answer, accepted, refused}
 use Rattle.silences.specs.Silences.{Silence}
@@ -16,8 +14,7 @@ use Rattle.silences.specs.Packing.{areaAtExit}
 module _ (output : List Silence → List ℕ) (area : List ℕ) (a : Answer (List Silence)) where
   -- After a call that was accepted the front of the area is its output.
   pub area-front : (ss : List Silence) (n : ℕ) → a ≡ accepted ss → length (output ss) ≡ n → take n (areaAtExit output a area) ≡ output ss
-  unfolding written
-  area-front ss n e l = rw e (take-at (output ss) (drop (length (output ss)) area) n l)
+  area-front ss n e l = rw e (written-front (output ss) area refl n l)
 
   -- And beyond it every element is as it was: calls "leave room beyond their output unwritten".
   pub area-rest : (ss : List Silence) (j : ℕ) → a ≡ accepted ss

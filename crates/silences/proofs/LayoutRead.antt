@@ -17,7 +17,7 @@ use Rattle.silences.proofs.FieldBytes.{field-length, field-of-silence, 
 use Rattle.silences.proofs.AscendingAfter.{AscendingAfter, ascending-after-iff}
 use Rattle.silences.proofs.FieldsRead.{FieldsRead, none-read, one-read}
 
--- A book of fields of 13 bytes.
+-- A layout has 13 bytes for each silence.
 pub layout-length : (ss : List Silence) → length (layout ss) ≡ 13 * length ss
 unfolding layout
 layout-length [] = refl

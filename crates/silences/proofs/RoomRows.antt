@@ -50,7 +50,7 @@ module _ (output : List Silence → List ℕ) (room : ℕ) where
           (λ h e. e)
           (λ h e. absurd (other (row-unique e refl)))
 
-  -- Row 10 is given exactly when it was accepted before and there is less room than for its output; before, row 10 is never given.
+  -- Where row 10 was not given before, it is given exactly when the answer was accepted before and there is less room than for its output.
   pub in-room-10-iff : (a : Answer (List Silence)) → (a ≡ refused OutputRoom → ⊥)
       → (inRoom output room a ≡ refused OutputRoom) ↔ ((ss : List Silence) × (a ≡ accepted ss) × (room < length (output ss)))
   in-room-10-iff a never = (ten-of a never, λ h. ap (inRoom output room) (h .1) ∙ in-less-room (h .0) (h .2))

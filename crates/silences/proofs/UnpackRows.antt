@@ -29,7 +29,7 @@ module _ (book : List ℕ) (room : ℕ) where
   unfolding unpacked
   unpacked-row-iff q other = in-room-row-iff wordsOfSilences room (readBook book) q other
 
-  -- Row 10 is given for a book that is accepted, with too little room.
+  -- Row 10 is given exactly for a book that is accepted, with too little room.
   pub unpacked-10-iff : (unpacked book room ≡ refused OutputRoom) ↔ ((ss : List Silence) × (readBook book ≡ accepted ss) × (room < length (wordsOfSilences ss)))
   unfolding unpacked
   unpacked-10-iff = in-room-10-iff wordsOfSilences room (readBook book) (λ e. omega (arith, book-rows book OutputRoom e))

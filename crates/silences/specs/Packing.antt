@@ -1,6 +1,8 @@
 -- Document 01, "What each call returns", rows 7 to 10: words to silences and back, and what a call writes into its lent area.
 --
 --   silencesOf, wordsOfSilences   silences as words, three each: cell, ring number, start
+--   isWordCount, mostRingNumber   rows 8 and 9
+--   inRoom                        row 10
 --   packRecords                   "each record 9 before 7"
 --   packed, unpacked              what packing and unpacking give, in the order of their refusals
 --   areaAtExit                    the lent area at exit

@@ -8,6 +8,7 @@
 --   IsFieldFault      row 6
 --   IsOrderFault      row 7, reading
 --   HasWordCount      row 8 is not given
+--   AllRingNumbers    no ring number is above 65,535
 --   IsRecord          a record number of the words to pack, all before it fine
 --   IsRingFault       row 9
 --   IsRecordFault     row 7, packing

@@ -3,6 +3,7 @@
 --   Silence, silence       cell, ring number, start
 --   InRange                they fit their 4, 2 and 4 bytes
 --   isBelow, Below         "by cell, then ring number, then start": the test and what it means
+--   isAbove                a record is above the one before it, if there is one
 --   Ascending              "Records ascend strictly"
 --   isSame, names, Names   which address a list of silences names: the test and what it means
 --

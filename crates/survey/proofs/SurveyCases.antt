@@ -1,5 +1,5 @@
 -- The survey's starts from i on: "the first afresh and each next by one step". The first is counted afresh; from a later one on the tally of the start before
--- is moved, to a finding or to the last start. The tally of the start reached says whether it is a finding (`TallyFinding`).
+-- is moved, to a finding or to the last start. The tally of the start reached says whether it is a finding (`TallyFinding` of crates/tally).
 -- Assumes nothing.
 use Prim.Native.Nat.{ℕ, _+_, _-_, _*_, _≤_, _<_}
 use mathlib.Core.Path.{_≡_, sym, ap, _∙_}

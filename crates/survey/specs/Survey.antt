@@ -5,6 +5,7 @@
 --   IsSurveyed                   what `survey` promises
 --   CanVerifyOn, IsVerifiedOn    starts verified, to the next finding or the last start
 --   IsSurveyedOn                 what they give
+--   reachedOf, foundOf           the start that was reached, and what was reported
 --   CanSurvey, LineSurveyed      a line surveyed, once a call is accepted
 use Prim.Native.Nat.{ℕ, _+_, _-_, _≤_, _<_}
 use mathlib.Core.Path.{_≡_}

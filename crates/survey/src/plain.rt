@@ -24,7 +24,7 @@ pub enum Surveyed {
     Found(Reached, Finding),
 }
 
-// "The first afresh and each next by one step, at m = 1 too": rule 5's 2·s > m is not asked here. The tally is moved on
+// "the first afresh and each next by one step, at m = 1 too": rule 5's 2·s > m is not asked here. The tally is moved on
 // to the next finding, or to the last start, so that it is handed over once for a finding and not for each start.
 fn verify_on(
     counts: &mut [u16; MOST_COUNTS],

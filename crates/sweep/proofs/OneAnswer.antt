@@ -7,7 +7,7 @@ use Rattle.sweep.specs.declared.sweeping.Sweep.{Sweep}
 use Rattle.sweep.specs.declared.sweeping.Swept.{Swept}
 use Rattle.sweep.specs.Sweeps.{SweptTo, IsSweptBy}
 
--- `sweep_on`
+-- Any two answers of `sweep_on` are equal, and any two counts at exit.
 pub one-sweep : (ring doubled table line : List ℕ) (k : ℕ) (at : Sweep) (old new new′ : List ℕ) (r r′ : Swept)
     → IsSweptBy ring doubled table line k at old new r → IsSweptBy ring doubled table line k at old new′ r′ → (r ≡ r′) × (new ≡ new′)
 one-sweep ring doubled table line k at old new new′ r r′ a b =

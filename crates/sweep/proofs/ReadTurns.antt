@@ -137,7 +137,7 @@ module _ (table window : List ℕ) (k words : ℕ) where
   pub read-some : 0 < m → readWith table window k words .left < m
   read-some some = omega (arith, read-sum, one-read m refl some)
 
--- Read with as few words as m bits need.
+-- Read with as few words as m bits need, a window is read as `readBy` reads it.
 pub fewest-words : (table window : List ℕ) (k words : ℕ) (r : WindowRead) → r ≡ readWith table window k words → wordBits * (words - 1) < length window
     → length window ≤ wordBits * words → r ≡ readBy table window k
 fewest-words table window k words r is more most =

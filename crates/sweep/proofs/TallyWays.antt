@@ -80,7 +80,7 @@ module _ (ring doubled line : List ℕ) (i : ℕ) (old : List ℕ) where
       (λ _. omega (arith, move-looks-le ring line 0 (i - from) (unmoved from old), mul-le-mul-right m near, mul-le-mul most most))
       (λ _. omega arith)
 
-  -- No verification takes more looks.
+  -- No verification takes more looks than a fresh count of the longest ring.
   pub tally-looks : (last : LastVerified) → m ≤ mostCounts → tallyBy ring doubled line i last old .looks ≤ mostTally
   unfolding tallyBy
   tally-looks Nothing most = afresh-looks (windowAt m line i)

@@ -140,6 +140,6 @@ module _ (m : ℕ) (table line : List ℕ) (k : ℕ) where
         record { start-le = later .start-le; looks-le = omega (arith, later .looks-le, reads .0, can .most) }))
         (λ _. record { start-le = l; looks-le = omega arith })
 
-    -- From a start on.
+    -- From a start on there are no more windows than places up to just past the line, and reading them ends there at the latest, at 256 looks at most for each.
     pub windows-within : WindowsGo n 0 (n + 1 - from) (windowsBy m table line k from)
     windows-within = windows-go (n + 1 - from) from 0 (can .start-le)

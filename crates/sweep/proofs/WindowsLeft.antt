@@ -1,4 +1,4 @@
--- Windows left at break k + 1, one after the other (`LeftTo`), by induction on them: starts rise and stay in the line or just past it, and what a loop over windows
+-- Windows left at break k + 1, one after the other (`LeftTo`), by induction on them: starts never fall and stay in the line or just past it, and what a loop over windows
 -- keeps (`ScanLoop` of crates/meaning) it keeps over all of them, since none of them finds anything.
 -- Assumes nothing.
 use Prim.Native.Nat.{ℕ, _+_, _≤_}
@@ -13,7 +13,7 @@ use Rattle.meaning.proofs.ScanLoop.{ScanLoop, scan-left}
 use Rattle.sweep.specs.SweepRules.{LeftTo, none-left, one-left}
 
 module _ (ring line : List ℕ) (k from : ℕ) where
-  -- Starts rise.
+  -- The next start is not before the first.
   pub left-from-le : {i looks : ℕ} → LeftTo ring line k from i looks → from ≤ i
   left-from-le none-left = omega arith
   left-from-le (one-left before in-line many) = omega (arith, left-from-le before)

@@ -8,8 +8,8 @@
 -- | a start verified (rule 5) | `tallyBy` (Sweeps)              | `Verified` of crates/tally, looks `tallyLooks` | `tally-by-rules` (TallyByRules)     |
 -- | the sweep (rules 1 to 5)  | `sweepBy`, `IsSweptBy` (Sweeps) | `IsSweptOn` (SweepRules)                       | `swept-by-rules` (SweptByRules)     |
 --
--- What the laws ask of what is lent is `OwnVectors` (ReadingRules), `CanVerify` (VerifyingRules) and `CanSweepOn` (SweepRules). The contract cites the first column
--- alone, so that it holds on every input; scan and report go by the second. docs/DECISIONS.md, entry 68, says why.
+-- What the laws ask of what is lent is `OwnVectors` (ReadingRules), `CanVerify` (VerifyingRules) and `CanSweepOn` (SweepRules). The contract cites what is
+-- computed alone, so that it holds on every input; scan and report go by the rules. docs/DECISIONS.md, entry 68, says why.
 pub mod Reads
 pub mod Sweeps
 pub mod ReadingRules

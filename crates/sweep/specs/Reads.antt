@@ -3,6 +3,7 @@
 --
 --   readOn, readWith, readBy    one window
 --   windowsOn, windowsBy        window after window, to the next candidate
+--   CanReadWindows              what reading windows asks
 -- Assumes nothing.
 use Prim.Native.Nat.{ℕ, zero, suc, _+_, _-_, _*_, _≤_, _<_}
 use mathlib.Core.Bool.{true, false, cond}
@@ -65,7 +66,7 @@ windowsBy m table line k from = windowsOn m table line k (length line + 1 - from
 
 -- From here on: what private functions ask.
 
--- What reading windows asks: a ring within the limit, a line that has places for its starts, and a start in it or just past it.
+-- What reading windows asks: a ring within the limit, a line that has places for its starts, and a start of at most n + 1.
 pub record CanReadWindows (m n from : ℕ) : Type 0 where
   pub some-edge : 0 < m
   pub most : m ≤ mostCounts

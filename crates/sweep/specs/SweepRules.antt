@@ -3,8 +3,11 @@
 --
 --   sweptStart, sweptLast, sweptLooks    where the sweep stands after a window
 --   sweptFound                           what the window reports
+--   stateOf, foundOf, hasEnded           of an answer: where the sweep stands, what it reported, whether it has ended
 --   LeftTo                               windows left at break k + 1, one after the other
 --   IsWindowsRead                        where reading windows came to
+--   IsCandidateRead, IsCandidateSwept    a candidate read, and swept
+--   HasEnded                             no window is in the line any more
 --   CanSweepOn                           what sweeping by the rules asks
 --   IsSwept                              one window swept
 --   IsSweptOn                            the sweep to the next candidate
@@ -87,8 +90,8 @@ pub record IsWindowsRead (ring line : List ℕ) (k from : ℕ) (r : WindowsRead)
   pub candidate-is : r .candidate ≡ true → IsCandidateRead ring line k looks r
   pub ended : r .candidate ≡ false → (length line < r .start + length ring) × (r .next ≡ r .start) × (r .looks ≡ looks)
 
--- What sweeping by the rules asks: a ring and a line within the limits, the ring's vectors and its double, a start in the line or just past it, the tally of the last
--- verified start, and room for more looks. The allowance may be any.
+-- What sweeping by the rules asks: a ring and a line within the limits, the ring's vectors and its double, a start of at most n + 1, the tally of the last verified
+-- start, and room for more looks. The allowance may be any.
 pub record CanSweepOn (ring doubled table line counts : List ℕ) (at : Sweep) : Type 0 where
   pub can-sweep : CanSweep (length ring) (length line) (at .start) (at .looks)
   pub size : length counts ≡ mostCounts

@@ -4,7 +4,9 @@
 --   tallyBy      a start verified: counted afresh, or the tally moved (rule 5)
 --   sweepBy      the sweep to the next candidate, which is verified (rule 4)
 --   canSweep     whether the sweep can go on
+--   CanSweep     what `canSweep` tests, as facts
 --   IsSweptBy    what `sweep_on` promises
+--   IsTallied, IsSweptTo    what private functions promise
 -- Assumes nothing.
 use Prim.Native.Nat.{ℕ, _+_, _-_, _*_, _≤_}
 use mathlib.Core.Path.{_≡_}
@@ -65,8 +67,8 @@ sweepBy ring doubled table line k at old =
 abbrev pub mostLooks : ℕ
 mostLooks = 4611686018427387904
 
--- Whether a sweep can go on from a start with so many looks: a ring within the limit, a line that has places for its starts, a start in the line or just
--- past it, and room for more looks.
+-- Whether a sweep can go on from a start with so many looks: a ring within the limit, a line that has places for its starts, a start of at most n + 1,
+-- and room for more looks.
 unfoldable pub canSweep : ℕ → ℕ → ℕ → ℕ → Bool
 canSweep m n start looks = (ltb 0 m && leb m mostCounts) && (ltb n mostPlaces && (leb start (n + 1) && leb looks mostLooks))
 

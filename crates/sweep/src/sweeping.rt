@@ -126,7 +126,7 @@ fn to_candidate(
 }
 
 // Whether a sweep can go on from a start with so many looks: a ring within the limit, a line that has places for its
-// starts, a start in the line or just past it, and room for more looks.
+// starts, a start of at most n + 1, and room for more looks.
 fn can_sweep(m: usize, n: usize, start: usize, taken: usize) -> bool
     ensures { λ r. ⌜ r ≡ canSweep m n start taken ⌝ }
 {

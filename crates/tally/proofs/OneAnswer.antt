@@ -7,19 +7,19 @@ use Rattle.tally.specs.declared.counts.Least.{Least}
 use Rattle.tally.specs.Windows.{IsWindow}
 use Rattle.tally.specs.Counts.{IsComparison, IsDoubled, IsCounted, IsLowestWith}
 
--- `differing`
+-- Any two answers of `differing` are equal.
 pub one-comparison : (a b r r′ : ℕ) → IsComparison a b r → IsComparison a b r′ → r ≡ r′
 one-comparison a b r r′ x y = x .is ∙ sym (y .is)
 
--- `window`
+-- Any two answers of `window` are equal.
 pub one-window : (line : List ℕ) (i m : ℕ) (edges edges′ : List ℕ) → IsWindow line i m edges → IsWindow line i m edges′ → edges ≡ edges′
 one-window line i m edges edges′ a b = a .is ∙ sym (b .is)
 
--- `double`
+-- Any two answers of `double` are equal.
 pub one-doubled : (ring doubled doubled′ : List ℕ) → IsDoubled ring doubled → IsDoubled ring doubled′ → doubled ≡ doubled′
 one-doubled ring doubled doubled′ a b = a .is ∙ sym (b .is)
 
--- `count_afresh`
+-- Any two answers of `count_afresh` are equal, and any two counts at exit.
 pub one-count : (doubled window old new new′ : List ℕ) (z z′ : Least) → IsCounted doubled window old new z → IsCounted doubled window old new′ z′
     → (z ≡ z′) × (new ≡ new′)
 one-count doubled window old new new′ z z′ a b = (
@@ -27,6 +27,6 @@ one-count doubled window old new new′ z z′ a b = (
   a .written ∙ sym (b .written),
 )
 
--- `lowest_rotation`
+-- Any two answers of `lowest_rotation` are equal.
 pub one-rotation : (m : ℕ) (counts : List ℕ) (least r r′ : ℕ) → IsLowestWith m counts least r → IsLowestWith m counts least r′ → r ≡ r′
 one-rotation m counts least r r′ a b = a .is ∙ sym (b .is)

@@ -32,7 +32,7 @@ listOf-is xs n f size each =
     ext-getD 0 xs (listOf n f) (size ∙ sym (listOf-length n f))
     (λ p l. each p (omega arith) ∙ sym (listOf-at n f p (omega arith)))
 
--- A list whose first m places have f and whose others are those of another list.
+-- A list whose first m places have f, and whose others are those of another list of its length, is the list given so.
 pub listOf-first : (xs old : List ℕ) (m : ℕ) (f : ℕ → ℕ) → length xs ≡ length old → ((p : ℕ) → p < m → getD xs p 0 ≡ f p)
     → ((p : ℕ) → m ≤ p → getD xs p 0 ≡ getD old p 0) → xs ≡ listOf (length old) (λ p. cond (ltb p m) (f p) (getD old p 0))
 listOf-first xs old m f size first kept =

@@ -24,7 +24,7 @@ pub record Occurs (ring : List ℕ) (code : ℕ) (ws : List ℕ) : Type 0 where
 abbrev pub vectorAt : List ℕ → ℕ → ℕ → List ℕ
 vectorAt table base count = vectorOf count (λ w. getD table (base + w) 0)
 
--- "One occurrence vector of m bits per edge code": vectors of `count` words, laid one behind the other by rising code.
+-- "one occurrence vector of m bits per edge code": vectors of `count` words, laid one behind the other by rising code.
 pub record OccurrenceTable (ring : List ℕ) (count : ℕ) (table : List ℕ) : Type 0 where
   pub each : (code : ℕ) → Occurs ring code (vectorAt table (code * count) count)
 

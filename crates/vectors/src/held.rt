@@ -1,4 +1,4 @@
-// A vector held by value. The functions are general in the word count.
+// A vector of four words held by value, of which a caller may use the first `count`; a larger count is four.
 use crate::widths::VECTOR_WORDS;
 use crate::widths::WORD_BITS;
 ghost use mathlib.Core.Path.{_≡_};

@@ -4,7 +4,7 @@ use mathlib.Core.Path.{sym, ap, _∙_}
 use borrow.Author.Needs.{needs}
 use Rattle.findings.specs.Admitting.{verdictOf}
 use Rattle.findings.proofs.AdmitRows.{no-row-iff}
-use Rattle.outlines.proofs.ReportAnswers.{book-accepted, book-refused, report-refused-row, report-refused-book, report-accepted}
+use Rattle.outlines.proofs.ReportAnswers.{read-accepted, read-refused, report-refused-row, report-refused-book, report-accepted}
 use Rattle.outlines.proofs.reporting.report.Statement.{statement}
 use Rattle.outlines.proofs.reporting.report.Tie as tie
 
@@ -32,7 +32,7 @@ report-line-requires c κs =
     let told = read .before in
     record {
       admitted = no-row-iff _ _ _ _ .0 (sym (told .before .before .admit .ensures .is) ∙ ap verdictOf (told .enum-told .given .1));
-      book-read = book-accepted _ _ _ (read .read .ensures) (c .before .enum-told2 .given .1);
+      book-read = read-accepted _ _ _ (read .read .ensures) (c .before .enum-told2 .given .1);
     }
 
 -- A row of 1 to 4.
@@ -47,7 +47,7 @@ returns-2 c =
     let read = c .before .before .before in
     let told = read .before in
     report-refused-book _ _ _ _ _ _ _ (sym (ap verdictOf (told .enum-told .given .1)) ∙ told .before .before .admit .ensures .is) _
-    (book-refused _ _ _ (read .read .ensures) (c .before .refusal2 .given .1))
+    (read-refused _ _ _ (read .read .ensures) (c .before .refusal2 .given .1))
 
 same-length : tie.Need-same-length
 same-length c = search needs
