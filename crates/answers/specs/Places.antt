@@ -2,8 +2,8 @@
 -- only the rules below turn one into the other." The rule is "Rotation r of the ring .. has at its place q the ring's edge (r + q) mod m",
 -- read in the window at a start: the window's place q is the line place start + q.
 --
---   ringPlaceOf   ring place = (rotation + (line place − start)) mod m
---   linePlaceOf   line place = start + (ring place − rotation) mod m
+--   ringPlaceOf                ring place = (rotation + (line place − start)) mod m
+--   linePlaceOf                line place = start + (ring place − rotation) mod m
 --   IsRingPlace, IsLinePlace   what `to_ring` and `to_line` promise
 --
 -- The document speaks of a ring with m > 0, a rotation below m and a place within the window or the ring. Here every input has a

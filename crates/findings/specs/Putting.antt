@@ -1,12 +1,12 @@
 -- Document 01, "What each call returns": "Findings go as three 32-bit words each (start, rotation, distance) into the lent words". What putting one behind
 -- those before it leaves in the lent words, whatever the finding and the room.
 --
---   findingOf    the finding that a struct stands for
---   wordsPut     the words with a finding's three words put
---   canPut       whether there is room for them, and each is a 32-bit word
---   IsPut        what `put_finding` promises
---   CanPut       the same as `canPut`, as facts
---   IsThreeWords a finding's three numbers are 32-bit words
+--   findingOf      the finding that a struct stands for
+--   wordsPut       the words with a finding's three words put
+--   canPut         whether there is room for them, and each is a 32-bit word
+--   IsPut          what `put_finding` promises
+--   CanPut         the same as `canPut`, as facts
+--   IsThreeWords   a finding's three numbers are 32-bit words
 use Prim.Native.Nat.{ℕ, _+_, _*_, _^_, _≤_, _<_}
 use mathlib.Core.Path.{_≡_}
 use mathlib.Core.Bool.{Bool, cond, _&&_}

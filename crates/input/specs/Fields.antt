@@ -1,12 +1,14 @@
 -- Document 01, "The report program": one field of the program's input. Fields are those of "Silence book": "A house format of tagged fields: one-byte tag,
 -- two-byte length, value; numbers high byte first."
 --
---   FieldKind     the tag of a field, and how long its value may be
---   cellField, ringNumberField, allowanceField, ringField, lineField    the five kinds
---   longAt, nextAt   the length that a field says, and the byte offset just past it
---   isField       a field of a kind stands at a byte offset
---   fieldEndAt    the byte offset just past it, if it stands
---   between       the bytes from one byte offset up to another
+--   FieldKind                     the tag of a field, and how long its value may be
+--   cellField, ringNumberField,   the five kinds
+--   allowanceField, ringField,
+--   lineField
+--   longAt, nextAt                the length that a field says, and the byte offset just past it
+--   isField                       a field of a kind stands at a byte offset
+--   fieldEndAt                    the byte offset just past it, if it stands
+--   between                       the bytes from one byte offset up to another
 --
 -- A field that is missing, cut, wrongly tagged or wrongly long is not a field of its kind: what that comes to is said in Input.antt.
 use Prim.Native.Nat.{ℕ, _+_, _-_}

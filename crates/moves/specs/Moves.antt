@@ -1,16 +1,16 @@
 -- The counts moved along the line, a step at a time, whatever they hold. Rule 5: "it moves s steps, each 2·m looks (the leaving and the entering edge,
 -- each against m ring edges)".
 --
---   changedCount     a count that has lost one comparison and won another
---   earlier          the rotation before a rotation
---   steppedCounts    the counts after a step
---   CountsAt         where moved counts stand: the start, the counts, their least, the looks
---   stepOn, moveOn   one step, and so many of them or fewer
---   canMove, CanMove whether counts can be moved: the test, and the same as facts
---   mostPlaces       the most places of a line
---   movedFrom        that, where the counts can be moved
---   IsMoved          what `move_counts` promises
---   IsReached        where a tally that was moved came to
+--   changedCount       a count that has lost one comparison and won another
+--   earlier            the rotation before a rotation
+--   steppedCounts      the counts after a step
+--   CountsAt           where moved counts stand: the start, the counts, their least, the looks
+--   stepOn, moveOn     one step, and so many of them or fewer
+--   canMove, CanMove   whether counts can be moved: the test, and the same as facts
+--   mostPlaces         the most places of a line
+--   movedFrom          counts moved so many steps or fewer, where they can be moved
+--   IsMoved            what `move_counts` promises
+--   IsReached          where a tally that was moved came to
 -- Assumes nothing.
 use Prim.Native.Nat.{ℕ, zero, suc, _+_, _-_, _*_, _%_, _≤_, _<_}
 use mathlib.Core.Path.{_≡_}

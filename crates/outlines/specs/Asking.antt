@@ -1,14 +1,14 @@
 -- What the report's own functions ask and promise, one step each: the book asked for one finding, and a line reported. Nothing here is promised to a
 -- caller of `report`; what it promises stands in Report.antt.
 --
---   addressOf       the address that the book is asked for a finding
---   heldFor, hides  the field that is held for a finding, and whether it is for it
---   CanAsk, IsAsked the book asked for one finding: what it asks, and what it gives
---   shownPut        the words after that finding
---   IsAccepted      a book that reading accepts, with its silences
---   CanReport       what reporting a line asks, window by window
---   CanReportLine   what reporting a line asks, before its vectors, double and counts are made
---   LineReported    what it gives
+--   addressOf         the address that the book is asked for a finding
+--   heldFor, hides    the field that is held for a finding, and whether it is for it
+--   CanAsk, IsAsked   the book asked for one finding: what it asks, and what it gives
+--   shownPut          the words after that finding
+--   IsAccepted        a book that reading accepts, with its silences
+--   CanReport         what reporting a line asks, window by window
+--   CanReportLine     what reporting a line asks, before its vectors, double and counts are made
+--   LineReported      what it gives
 use Prim.Native.Nat.{ℕ, _+_, _≤_, _<_, _^_}
 use mathlib.Core.Path.{_≡_}
 use mathlib.Core.Bool.{Bool, cond}

@@ -1,15 +1,15 @@
 -- Document 01, "What each call returns", the report: "The report, given a 32-bit cell and a 16-bit ring number, runs the quick scan and returns found
 -- (hidden ones included), hidden, looks"; "the report writes the shown ones only". What it promises is one record, on every input.
 --
---   isHidden         a silence of the book names the finding's cell, ring number and start
---   shown, hidden    the findings that are not hidden, and those that are, of a list and in its order
---   ReportCounts     found, hidden and looks
---   reportCounts     these, of a report that goes by some silences
---   admittedSilences the silences that a report goes by, or the first of its refusals, "report 1 to 7"
---   reportedBy       what a report gives by these: its counts, or that refusal
---   reportedWordsBy  the lent words at exit
---   paperOf          document 01's number, place and counts of an answer
---   IsReported       what `report` promises
+--   isHidden           a silence of the book names the finding's cell, ring number and start
+--   shown, hidden      the findings that are not hidden, and those that are, of a list and in its order
+--   ReportCounts       found, hidden and looks
+--   reportCounts       these, of a report that goes by some silences
+--   admittedSilences   the silences that a report goes by, or the first of its refusals, "report 1 to 7"
+--   reportedBy         what a report gives by these: its counts, or that refusal
+--   reportedWordsBy    the lent words at exit
+--   paperOf            document 01's number, place and counts of an answer
+--   IsReported         what `report` promises
 use Prim.Native.Nat.{ℕ}
 use mathlib.Core.Path.{_≡_}
 use mathlib.Core.Bool.{Bool, not, cond}

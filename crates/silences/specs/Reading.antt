@@ -1,11 +1,11 @@
 -- Document 01, "Silence book" and rows 5, 6 and 7: what reading a book's bytes gives, on any bytes at all.
 --
---   lengthByTag      "tag 21 hex, length 10"
---   headLength, silenceAt         the bytes before a value, and the silence of a value
---   mostBytes        row 5's limit
---   FieldAt, fieldAt what stands at a byte offset: a whole field, or a faulty one (row 6)
---   readFrom         the fields from a byte offset on; "the first faulty field decides, 6 before 7"
---   readBook         a whole book, row 5 before all others
+--   lengthByTag             "tag 21 hex, length 10"
+--   headLength, silenceAt   the bytes before a value, and the silence of a value
+--   mostBytes               row 5's limit
+--   FieldAt, fieldAt        what stands at a byte offset: a whole field, or a faulty one (row 6)
+--   readFrom                the fields from a byte offset on; "the first faulty field decides, 6 before 7"
+--   readBook                a whole book, row 5 before all others
 --
 -- `readFrom` does not recur on a part of its arguments: `fieldsFrom` counts down the bytes that are left. Read instead the two equations that hide
 -- it, `readFrom-end` and `readFrom-step` of proofs/ReadFrom.antt; nothing after them looks at the count. Places count from the book's first byte.

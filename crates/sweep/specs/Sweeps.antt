@@ -1,12 +1,12 @@
 -- What `sweep_on` computes, on every input, with whatever vectors, doubled ring and counts it is lent. Where they are the ring's own and the last verified start's tally
 -- this is what the rules give, `IsSweptOn` of SweepRules: `swept-by-rules` in proofs/.
 --
---   tallyBy      a start verified: counted afresh, or the tally moved (rule 5)
---   sweepBy      the sweep to the next candidate, which is verified (rule 4)
---   canSweep     whether the sweep can go on
---   CanSweep     what `canSweep` tests, as facts
---   IsSweptBy    what `sweep_on` promises
---   IsTallied, IsSweptTo    what private functions promise
+--   tallyBy                a start verified: counted afresh, or the tally moved (rule 5)
+--   sweepBy                the sweep to the next candidate, which is verified (rule 4)
+--   canSweep               whether the sweep can go on
+--   CanSweep               what `canSweep` tests, as facts
+--   IsSweptBy              what `sweep_on` promises
+--   IsTallied, IsSweptTo   what private functions promise
 -- Assumes nothing.
 use Prim.Native.Nat.{ℕ, _+_, _-_, _*_, _≤_}
 use mathlib.Core.Path.{_≡_}

@@ -1,16 +1,16 @@
 -- Counts of differing edges, one for each rotation: the tally counted afresh, its least count, and the lowest rotation that has it.
 --
---   listOf          numbers given place by place
---   mostCounts      one count for each rotation of the longest ring
---   leastOf         the least of the first m counts
---   lowestWith      the lowest rotation that has a given count
---   doubledRing     the ring twice, end to end: each rotation is a part of it, so no place has to be taken mod m
---   afreshCount     how many edges of a window differ from a rotation's
---   afreshCounts    the counts after that: one for each rotation, the others kept
---   canCount, CanCount    whether a window can be counted: the test, and the same as facts
---   countedTo       what counting comes to: those counts, their least, and the looks
---   IsComparison, IsDoubled, IsCounted, IsLowestWith    what `differing`, `double`, `count_afresh` and `lowest_rotation` promise
---   RingFits, Cleared, EdgeCounted, IsLeast, IsCountedAfresh    what private functions ask and promise
+--   listOf               numbers given place by place
+--   mostCounts           one count for each rotation of the longest ring
+--   leastOf              the least of the first m counts
+--   lowestWith           the lowest rotation that has a given count
+--   doubledRing          the ring twice, end to end: each rotation is a part of it, so no place has to be taken mod m
+--   afreshCount          how many edges of a window differ from a rotation's
+--   afreshCounts         the counts after that: one for each rotation, the others kept
+--   canCount, CanCount   whether a window can be counted: the test, and the same as facts
+--   countedTo            what counting comes to: the counts, their least, and the looks
+--   IsComparison, IsDoubled, IsCounted, IsLowestWith   what `differing`, `double`, `count_afresh` and `lowest_rotation` promise
+--   RingFits, Cleared, EdgeCounted, IsLeast, IsCountedAfresh   what private functions ask and promise
 -- Assumes nothing.
 use Prim.Native.Nat.{ℕ, zero, suc, _+_, _*_, _%_, _≤_, _<_, min}
 use mathlib.Core.Path.{_≡_}
