@@ -1,10 +1,9 @@
-// What every call shares: the refusals, the two kinds of place, the finding. The refusals' numbers and places
+// What every call shares: the refusals, the two kinds of place. The refusals' numbers and places
 // stand in specs/Refusals.antt, what the two conversions of a place give in specs/Places.antt.
 // No public function has a `requires`: each takes every input.
 mod places;
 mod refusals;
 
-pub use places::Finding;
 pub use places::LinePlace;
 pub use places::RingPlace;
 pub use places::to_line;

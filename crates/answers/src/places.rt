@@ -8,14 +8,6 @@ pub struct RingPlace(pub usize);
 
 pub struct LinePlace(pub usize);
 
-// A finding "carries start, rotation, distance". The distance is a usize as the allowance is: it is compared with k,
-// and goes out as one word beside the two places, by the same cast.
-pub struct Finding {
-    pub start: LinePlace,
-    pub rotation: RingPlace,
-    pub distance: usize,
-}
-
 // The largest place that a usize holds.
 const LAST_PLACE: usize = 18446744073709551615;
 

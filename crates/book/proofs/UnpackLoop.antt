@@ -8,8 +8,8 @@ use mathlib.Core.Option.{Option, none, some}
 use native.Mathlib.Omega.{arith}
 use lib.ListN.{length, length-append}
 use lib.Seq.{sets}
-use Rattle.meaning.specs.Findings.{written}
-use Rattle.meaning.proofs.Words.{written-length, written-more}
+use Rattle.lists.specs.Areas.{written}
+use Rattle.lists.proofs.Areas.{written-length, written-more}
 use Rattle.answers.specs.Paper.{Answer, accepted}
 use Rattle.silences.specs.Silences.{Silence}
 use Rattle.silences.specs.Reading.{whole, faulty, fieldAt, readBook}

@@ -10,7 +10,7 @@ use mathlib.Core.Option.{none}
 use native.Mathlib.Omega.{arith}
 use lib.Dec.{leb}
 use lib.ListN.{length, length-append}
-use Rattle.meaning.proofs.Cases.{le-or-lt}
+use Rattle.lists.proofs.Cases.{le-or-lt}
 use Rattle.answers.specs.declared.refusals.Refusal.the-variants.{OutputRoom}
 use Rattle.answers.specs.Paper.{Answer, accepted, refused}
 use Rattle.silences.specs.Silences.{Silence}

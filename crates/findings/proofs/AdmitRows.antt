@@ -5,7 +5,7 @@ use mathlib.Core.Path.{_≡_, sym, subst, _∙_}
 use mathlib.Core.Logic.{_↔_, _⊎_, inl, inr, ⊎-elim}
 use mathlib.Core.Option.{Option, none, some}
 use native.Mathlib.Omega.{arith}
-use Rattle.meaning.proofs.Cases.{le-or-lt}
+use Rattle.lists.proofs.Cases.{le-or-lt}
 use Rattle.answers.specs.declared.refusals.Refusal.{Refusal}
 use Rattle.answers.specs.declared.refusals.Refusal.the-variants.{Ring, Allowance, Line, FindingsRoom}
 use Rattle.answers.specs.Refusals.{numberOf, placeOf}

@@ -8,7 +8,8 @@ use mathlib.Core.List.{List}
 use mathlib.Core.Option.{Option, none, some}
 use native.Mathlib.Omega.{arith}
 use lib.ListN.{length}
-use Rattle.meaning.specs.Findings.{findings, wordsOf, written}
+use Rattle.meaning.specs.Findings.{findings, wordsOf}
+use Rattle.lists.specs.Areas.{written}
 use Rattle.answers.specs.declared.refusals.Refusal.{Refusal}
 use Rattle.answers.specs.declared.refusals.Refusal.the-variants.{Ring, Allowance, Line, FindingsRoom}
 use Rattle.answers.specs.Refusals.{numberOf, placeOf}

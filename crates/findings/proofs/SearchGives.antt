@@ -7,7 +7,7 @@ use mathlib.Core.Logic.{⊎-elim}
 use mathlib.Core.List.{List}
 use native.Mathlib.Omega.{arith}
 use lib.ListN.{length}
-use Rattle.meaning.proofs.Cases.{le-or-lt}
+use Rattle.lists.proofs.Cases.{le-or-lt}
 use Rattle.findings.specs.declared.searching.Searched.{Searched}
 use Rattle.findings.specs.Searching.{paperOf, IsSearched}
 use Rattle.findings.proofs.RowsOfSearching.{rows-of-search}

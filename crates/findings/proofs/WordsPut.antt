@@ -6,14 +6,17 @@ use mathlib.Core.List.{List, [], _∷_, _++_}
 use native.Mathlib.Omega.{arith}
 use lib.ListN.{length}
 use lib.Seq.{sets}
-use Rattle.meaning.specs.Findings.{Finding, findingWords, wordsEach, wordsOf, written}
-use Rattle.meaning.proofs.Words.{words-length, words-append, written-length, written-more}
+use Rattle.lists.specs.Records.{wordsOfEach}
+use Rattle.meaning.specs.Findings.{Finding, findingWords, wordsEach, wordsOf}
+use Rattle.lists.specs.Areas.{written}
+use Rattle.meaning.proofs.Words.{words-length, words-append}
+use Rattle.lists.proofs.Areas.{written-length, written-more}
 use Rattle.findings.specs.Putting.{wordsPut}
 
 -- One finding more.
 pub put-more : (fs : List Finding) (f : Finding) (found : ℕ) (area : List ℕ) → found ≡ length fs → wordsEach * found + wordsEach ≤ length area
     → wordsPut found f (written (wordsOf fs) area) ≡ written (wordsOf (fs ++ f ∷ [])) area
-unfolding wordsOf
+unfolding wordsOfEach
 put-more fs f found area e room =
     let at : wordsEach * found ≡ length (wordsOf fs) = omega (arith, words-length fs) in
     ap (λ (n : ℕ). sets (written (wordsOf fs) area) n (findingWords f)) at
@@ -22,7 +25,7 @@ put-more fs f found area e room =
 
 -- Nothing found, nothing written.
 pub put-none : (area : List ℕ) → area ≡ written (wordsOf []) area
-unfolding wordsOf written
+unfolding wordsOfEach written
 put-none area = refl
 
 -- The area keeps its length, where there is room.

@@ -6,7 +6,8 @@ use mathlib.Core.Path.{_≡_, refl, ap, _∙_}
 use mathlib.Core.List.{List, [], _∷_, _++_}
 use native.Mathlib.Omega.{arith}
 use lib.ListN.{length, length-append}
-use Rattle.meaning.specs.Findings.{Finding, wordsEach, wordsOf, written}
+use Rattle.meaning.specs.Findings.{Finding, wordsEach, wordsOf}
+use Rattle.lists.specs.Areas.{written}
 use Rattle.findings.specs.Admitting.{Admitted}
 use Rattle.findings.specs.Putting.{wordsPut, IsThreeWords, CanPut, IsPut}
 use Rattle.findings.proofs.WordsPut.{put-more, put-none, put-length}

@@ -15,7 +15,7 @@ use lib.Dec.{ltb, leb}
 use lib.ListN.{length}
 use lib.Seq.{sets}
 use Rattle.meaning.specs.Findings.{Finding, findingWords, wordsEach}
-use Rattle.answers.specs.declared.places.Finding.{Finding as FindingStruct}
+use Rattle.findings.specs.declared.searching.Finding.{Finding as FindingStruct}
 
 -- The finding that a struct stands for: a line place, a ring place and a distance.
 abbrev pub findingOf : FindingStruct → Finding

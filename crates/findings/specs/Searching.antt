@@ -14,7 +14,8 @@ use mathlib.Core.Path.{_≡_}
 use mathlib.Core.List.{List}
 use mathlib.Core.Option.{Option, none, some}
 use lib.ListN.{length}
-use Rattle.meaning.specs.Findings.{findings, wordsOf, written}
+use Rattle.meaning.specs.Findings.{findings, wordsOf}
+use Rattle.lists.specs.Areas.{written}
 use Rattle.answers.specs.declared.refusals.Refusal.{Refusal}
 use Rattle.answers.specs.Paper.{Answer, accepted, refused, Paper, answerPaper}
 use Rattle.findings.specs.declared.searching.Searched.{Searched}

@@ -13,4 +13,5 @@ pub use admitting::WORDS_EACH;
 pub use admitting::admit;
 pub use putting::put_finding;
 pub use searching::Counted;
+pub use searching::Finding;
 pub use searching::Searched;

@@ -1,6 +1,6 @@
 // "Findings go as three 32-bit words each (start, rotation, distance) into the lent words."
 use crate::admitting::WORDS_EACH;
-use answers::Finding;
+use crate::searching::Finding;
 ghost use mathlib.Core.Path.{_≡_};
 ghost use lib.ListN.{length};
 ghost use Rattle.findings.specs.Putting.{findingOf, canPut, wordsPut, CanPut, IsPut};

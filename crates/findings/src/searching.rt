@@ -1,5 +1,15 @@
 // What a search gives.
+use answers::LinePlace;
 use answers::Refusal;
+use answers::RingPlace;
+
+// A finding "carries start, rotation, distance". The distance is a usize as the allowance is: it is compared with k,
+// and goes out as one word beside the two places, by the same cast.
+pub struct Finding {
+    pub start: LinePlace,
+    pub rotation: RingPlace,
+    pub distance: usize,
+}
 
 // What survey and scan answer: "found and looks", or a refusal.
 pub enum Searched {

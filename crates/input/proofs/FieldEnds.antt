@@ -11,7 +11,7 @@ use native.Mathlib.Omega.{arith}
 use lib.Dec.{leb, eqb}
 use lib.ListN.{length, getD}
 use borrow.Author.Tests.{le-leb, lt-leb, eq-eqb, ne-eqb, leb-true, eqb-true}
-use Rattle.meaning.proofs.Cases.{and-true}
+use Rattle.lists.proofs.Cases.{and-true}
 use Rattle.input.specs.declared.fields.FieldEnd.{FieldEnd}
 use Rattle.input.specs.declared.fields.FieldEnd.the-variants.{At, NoField}
 use Rattle.input.specs.Fields.{FieldKind, longAt, nextAt, isField, fieldEndAt}

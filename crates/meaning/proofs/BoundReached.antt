@@ -8,7 +8,7 @@ use Rattle.meaning.specs.Numbers.{someBelow}
 use Rattle.meaning.specs.Stretch.{begins, fits}
 use Rattle.meaning.specs.Rules.{readEdge, readLeft, readWindow, windowsFrom, candidatesOf}
 use Rattle.meaning.specs.Looks.{readLooks, tallyLooks, verifyLooks, quickLooks}
-use Rattle.meaning.specs.Samples.{ascii}
+use Rattle.lists.specs.Texts.{ascii}
 
 -- The looks are as many as the bound allows.
 abbrev ReachesBound : List ℕ → List ℕ → ℕ → Type 0

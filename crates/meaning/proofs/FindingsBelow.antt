@@ -11,7 +11,7 @@ use lib.Dec.{leb}
 use lib.ListN.{length, length-append}
 use Rattle.meaning.specs.Meanings.{isStart, leastDistance}
 use Rattle.meaning.specs.Findings.{Finding, foundAt, findingsBelow, findings}
-use Rattle.meaning.proofs.Cases.{by-test}
+use Rattle.lists.proofs.Cases.{by-test}
 use Rattle.meaning.proofs.Places.{found-no-start}
 
 -- A place has at most one finding.

@@ -13,7 +13,7 @@ use lib.ListN.{length, getD}
 use borrow.Author.Tests.{eqb-true, eq-eqb, leb-true, le-leb}
 use Rattle.meaning.specs.Meanings.{rotationEdge}
 use Rattle.meaning.specs.Stretch.{Fits, begins, fits}
-use Rattle.meaning.proofs.Cases.{and-true, and-yes}
+use Rattle.lists.proofs.Cases.{and-true, and-yes}
 use Rattle.meaning.proofs.Some.{some-yes, some-by, some-no}
 
 -- The stretch is the beginning of rotation r, edge for edge.

@@ -2,11 +2,9 @@
 -- SurveyLooks first: they are the theorems, and their heads name what they rest on. Below each group stands on those before it.
 
 -- cases of a test, counts, the lowest of the least, "some", lists by threes, and tests of sizes: they know no ring
-pub mod Cases
 pub mod Count
 pub mod Lowest
 pub mod Some
-pub mod WordsInThrees
 pub mod SizesTested
 -- the meanings: place by place, the findings as a list and how many they are, the stretch that fits, and a start under a rotation as an alignment
 pub mod Places

@@ -14,7 +14,7 @@ use lib.ListN.{length}
 use borrow.Author.Tests.{ltb-true}
 use Rattle.meaning.specs.Rules.{Reading, readWindow, isCandidate, candidatesOf}
 use Rattle.meaning.specs.Looks.{readLooks, stepLooks, tallyLooks, verifyLooks, quickLooks}
-use Rattle.meaning.proofs.Cases.{by-test, le-or-lt}
+use Rattle.lists.proofs.Cases.{by-test, le-or-lt}
 use Rattle.meaning.proofs.WindowRead.{window-read}
 use Rattle.meaning.proofs.WindowSteps.{nextAfter, next-above, windowsAt, windows-start, windows-end, windows-induct}
 

@@ -7,7 +7,7 @@ use native.Mathlib.Omega.{arith}
 use lib.Dec.{ltb}
 use borrow.Author.Tests.{ltb-true, ltb-false}
 use Rattle.meaning.specs.Numbers.{lowest}
-use Rattle.meaning.proofs.Cases.{below-suc}
+use Rattle.lists.proofs.Cases.{below-suc}
 
 -- r is below n, no number has less, and no lower number has as little.
 pub record IsLowest (f : ℕ → ℕ) (n r : ℕ) : Type 0 where

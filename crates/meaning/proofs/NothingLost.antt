@@ -14,7 +14,7 @@ use Rattle.meaning.specs.Meanings.{windowEdge, distance, lowestRotation}
 use Rattle.meaning.specs.Findings.{Finding, IsFinding, foundAt}
 use Rattle.meaning.specs.Stretch.{fits}
 use Rattle.meaning.specs.Rules.{Reading, unread, readEdge, readLeft, readWindow, nextStart}
-use Rattle.meaning.proofs.Cases.{by-test}
+use Rattle.lists.proofs.Cases.{by-test}
 use Rattle.meaning.proofs.Count.{count-split, count-part-le}
 use Rattle.meaning.proofs.FitDecided.{fits-no}
 use Rattle.meaning.proofs.Alignment.{unlike, distance-aligned, FromLine, unlike-in-stretch}

@@ -12,7 +12,7 @@ use lib.Seq.{getD-take, getD-drop}
 use borrow.Author.Tests.{leb-true, le-leb, lt-leb}
 use Rattle.meaning.specs.Meanings.{IsStart, isStart, window, windowEdge, distance, lowestRotation, leastDistance}
 use Rattle.meaning.specs.Findings.{Finding, findingAt, foundAt}
-use Rattle.meaning.proofs.Cases.{by-test, and-true}
+use Rattle.lists.proofs.Cases.{by-test, and-true}
 use Rattle.meaning.proofs.Lowest.{IsLowest, lowest-is}
 
 -- The test decides the start.

@@ -11,7 +11,7 @@ use lib.Dec.{leb}
 use lib.ListN.{length}
 use Rattle.meaning.specs.Meanings.{isStart, leastDistance}
 use Rattle.meaning.specs.Findings.{Finding, foundAt, findingsBelow, findings}
-use Rattle.meaning.proofs.Cases.{by-test}
+use Rattle.lists.proofs.Cases.{by-test}
 
 -- The starts rise strictly, the first at least lo, all below hi.
 abbrev pub Rising : ℕ → ℕ → List Finding → Type 0

@@ -8,7 +8,7 @@ use mathlib.Core.Bool.{Bool, true, false, _&&_, false≢true}
 use mathlib.Core.Logic.{_↔_}
 use lib.Dec.{ltb, leb}
 use borrow.Author.Tests.{ltb-true, leb-true, lt-ltb, le-leb}
-use Rattle.meaning.proofs.Cases.{and-true, and-yes, not-passed}
+use Rattle.lists.proofs.Cases.{and-true, and-yes, not-passed}
 
 -- One comparison: below.
 pub lt-iff : (a b : ℕ) → (ltb a b ≡ true) ↔ (a < b)

@@ -16,7 +16,7 @@ use Rattle.meaning.specs.Numbers.{someBelow}
 use Rattle.meaning.specs.Meanings.{windowEdge}
 use Rattle.meaning.specs.Stretch.{begins, fits}
 use Rattle.meaning.specs.Rules.{Reading, unread, readEdge, readLeft, readWindow}
-use Rattle.meaning.proofs.Cases.{and-yes, eqb-sym}
+use Rattle.lists.proofs.Cases.{and-yes, eqb-sym}
 use Rattle.meaning.proofs.Some.{some-same}
 use Rattle.meaning.proofs.FitDecided.{begins-mod}
 

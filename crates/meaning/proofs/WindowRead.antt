@@ -13,7 +13,7 @@ use borrow.Author.Tests.{ltb-true, le-leb, lt-leb, eq-eqb}
 use Rattle.meaning.specs.Meanings.{windowEdge}
 use Rattle.meaning.specs.Stretch.{fits}
 use Rattle.meaning.specs.Rules.{Reading, unread, readEdge, readLeft, readWindow, isCandidate}
-use Rattle.meaning.proofs.Cases.{by-test, le-or-lt}
+use Rattle.lists.proofs.Cases.{by-test, le-or-lt}
 
 -- An edge read keeps the window's start.
 edge-start : (ring : List ℕ) (x : ℕ) (w : Reading) → readEdge ring x w .start ≡ w .start

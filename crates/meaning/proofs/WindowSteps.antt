@@ -12,7 +12,7 @@ use lib.ListN.{length}
 use borrow.Author.Tests.{le-leb, lt-leb}
 use Rattle.meaning.specs.Meanings.{fitsInLine}
 use Rattle.meaning.specs.Rules.{Reading, readWindow, nextStart, windowsFrom, windows}
-use Rattle.meaning.proofs.Cases.{le-or-lt}
+use Rattle.lists.proofs.Cases.{le-or-lt}
 use Rattle.meaning.proofs.WindowRead.{window-read}
 
 module _ (ring line : List ℕ) (k : ℕ) where

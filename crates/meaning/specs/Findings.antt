@@ -1,12 +1,12 @@
--- Document 01, "Meanings", the finding; and of "What each call returns" the words of findings and what an area holds after them.
+-- Document 01, "Meanings", the finding; and of "What each call returns" the words of findings.
 -- `IsFinding` is the sentence to believe; `findings` is the list that survey and scan write, and `findings-iff` of proofs/ joins them.
--- Assumes nothing.
 use Prim.Native.Nat.{ℕ, zero, suc, _≤_, _<_}
 use mathlib.Core.Path.{_≡_}
 use mathlib.Core.Bool.{cond, _&&_}
 use mathlib.Core.List.{List, [], _∷_, _++_}
 use lib.Dec.{leb}
-use lib.ListN.{length, drop}
+use lib.ListN.{length}
+use Rattle.lists.specs.Records.{wordsOfEach}
 use Rattle.meaning.specs.Meanings.{IsStart, isStart, distance, lowestRotation, leastDistance}
 
 -- A finding "carries start, rotation, distance".
@@ -54,11 +54,5 @@ abbrev pub findingWords : Finding → List ℕ
 findingWords f = f .start ∷ f .rotation ∷ f .distance ∷ []
 
 -- The words of a list of findings, one after the other without a gap.
-unfoldable pub wordsOf : List Finding → List ℕ
-wordsOf [] = []
-wordsOf (f ∷ fs) = findingWords f ++ wordsOf fs
-
--- What a lent area with room for them holds after words are written at its beginning. "Words after the last one written keep their values."
--- (Refusal 4 is given where there might not be room.)
-unfoldable pub written : List ℕ → List ℕ → List ℕ
-written words area = words ++ drop (length words) area
+abbrev pub wordsOf : List Finding → List ℕ
+wordsOf fs = wordsOfEach findingWords fs

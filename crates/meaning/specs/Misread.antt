@@ -13,7 +13,8 @@ use Rattle.meaning.specs.Findings.{Finding, foundAt, findingsBelow, find
 use Rattle.meaning.specs.Stretch.{begins, fits}
 use Rattle.meaning.specs.Rules.{Reading, readEdge, readLeft, readWindow, windowsFrom, windows, candidatesOf, candidates, reported}
 use Rattle.meaning.specs.Looks.{readLooks}
-use Rattle.meaning.specs.Samples.{ascii, finding}
+use Rattle.meaning.specs.Samples.{finding}
+use Rattle.lists.specs.Texts.{ascii}
 
 -- ---- "Cutting the doubled ring into 2k+4 near-equal fragments, as source document 000 does."
 

@@ -3,23 +3,18 @@
 -- 255. A number that the document leaves out of a row is left out here.
 -- Assumes nothing.
 use Prim.Native.Nat.{ℕ}
-use Prim.Native.Char.{code}
-use Prim.Native.String.{String, [] as []ˢ, _∷_ as _∷ˢ_}
+use Prim.Native.String.{String}
 use mathlib.Core.Path.{_≡_, refl}
 use mathlib.Core.List.{List, [], _∷_, map}
 use mathlib.Core.Option.{Option, none, some}
 use lib.ListN.{length}
+use Rattle.lists.specs.Texts.{ascii}
 use Rattle.meaning.specs.Numbers.{count, lowest, someBelow}
 use Rattle.meaning.specs.Meanings.{differs, distance, lowestRotation}
 use Rattle.meaning.specs.Findings.{Finding, foundAt, findingsBelow, findings}
 use Rattle.meaning.specs.Stretch.{begins, fits}
 use Rattle.meaning.specs.Rules.{readEdge, readLeft, readWindow, windowsFrom, candidatesOf, candidates, reported, quickFindings}
 use Rattle.meaning.specs.Looks.{readLooks, tallyLooks, verifyLooks, quickLooks, surveyLooksBelow, surveyLooks}
-
--- "Letters stand for their ASCII codes".
-unfoldable pub ascii : String → List ℕ
-ascii []ˢ = []
-ascii (c ∷ˢ s) = code c ∷ ascii s
 
 -- "findings as (start, rotation, distance)".
 abbrev pub finding : ℕ → ℕ → ℕ → Finding

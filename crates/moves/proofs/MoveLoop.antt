@@ -11,13 +11,13 @@ use lib.Dec.{ltb}
 use lib.ListN.{length, getD}
 use borrow.Author.Tests.{lt-ltb, le-ltb}
 use Rattle.meaning.specs.Meanings.{windowEdge}
-use Rattle.meaning.proofs.Cases.{by-test}
+use Rattle.lists.proofs.Cases.{by-test}
 use Rattle.meaning.specs.Looks.{stepLooks}
 use Rattle.tally.specs.declared.counts.Least.{Least}
 use Rattle.tally.specs.Windows.{IsWindow}
 use Rattle.tally.specs.Counts.{mostCounts, leastOf, RingFits}
 use Rattle.moves.specs.Moves.{steppedCounts, CountsAt, unmoved, stepOn, moveOn, CanMove, IsStepped, IsMovedOn}
-use Rattle.tally.proofs.PlaceByPlace.{listOf-length}
+use Rattle.lists.proofs.ByPlace.{listOf-length}
 use Rattle.tally.proofs.WindowEdges.{start-edge}
 
 module _ (ring line : List ℕ) (below : ℕ) where

@@ -15,7 +15,7 @@ use Rattle.meaning.proofs.TallyStep.{distance-step}
 use Rattle.tally.specs.Counts.{mostCounts}
 use Rattle.moves.specs.Moves.{changedAt, earlier, steppedCounts}
 use Rattle.tally.specs.Tallied.{Tallied}
-use Rattle.tally.proofs.PlaceByPlace.{listOf-length, listOf-first-at}
+use Rattle.lists.proofs.ByPlace.{listOf-length, listOf-first-at}
 use Rattle.moves.proofs.NextRotation.{every-next, earlier-next}
 
 module _ (ring line : List ℕ) (i : ℕ) where

@@ -10,7 +10,7 @@ use Rattle.meaning.specs.Looks.{stepLooks}
 use Rattle.tally.specs.declared.counts.Least.{Least}
 use Rattle.tally.specs.Counts.{IsLeast}
 use Rattle.moves.specs.Moves.{changedAt, earlier, steppedCounts, Changed, Renumbered, IsStepped}
-use Rattle.tally.proofs.PlaceByPlace.{listOf-first}
+use Rattle.lists.proofs.ByPlace.{listOf-first}
 use Rattle.tally.proofs.LeastIsOne.{leastOf-only}
 use Rattle.moves.proofs.NextRotation.{earlier-lt, earlier-next}
 

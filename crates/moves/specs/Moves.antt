@@ -23,7 +23,8 @@ use Rattle.meaning.specs.Meanings.{unequal, windowEdge, leastDistance}
 use Rattle.meaning.specs.Looks.{stepLooks}
 use Rattle.tally.specs.declared.counts.Least.{Least}
 use Rattle.moves.specs.declared.steps.Reached.{Reached}
-use Rattle.tally.specs.Counts.{mostCounts, listOf, leastOf, RingFits}
+use Rattle.tally.specs.Counts.{mostCounts, leastOf, RingFits}
+use Rattle.lists.specs.ByPlace.{listOf}
 use Rattle.tally.specs.Tallied.{Verified}
 
 -- How many numbers a count of sixteen bits can be.

@@ -6,7 +6,8 @@ use mathlib.Core.Path.{_≡_, refl, sym, ap, _∙_}
 use mathlib.Core.List.{List, [], _∷_}
 use mathlib.Core.Option.{Option, none, some}
 use lib.ListN.{length}
-use Rattle.meaning.specs.Findings.{Finding, findings, wordsOf, written}
+use Rattle.meaning.specs.Findings.{Finding, findings, wordsOf}
+use Rattle.lists.specs.Areas.{written}
 use Rattle.meaning.specs.Looks.{quickLooks}
 use Rattle.answers.specs.declared.refusals.Refusal.{Refusal}
 use Rattle.answers.specs.Paper.{Answer, accepted, refused, answerPaper}

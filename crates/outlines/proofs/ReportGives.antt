@@ -7,7 +7,8 @@ use mathlib.Core.Path.{_≡_, refl, sym, ap, _∙_}
 use mathlib.Core.List.{List}
 use native.Mathlib.Omega.{arith}
 use lib.ListN.{length}
-use Rattle.meaning.specs.Findings.{findings, wordsOf, written}
+use Rattle.meaning.specs.Findings.{findings, wordsOf}
+use Rattle.lists.specs.Areas.{written}
 use Rattle.meaning.specs.Looks.{quickLooks}
 use Rattle.meaning.proofs.LookBound.{quickLooks-most}
 use Rattle.answers.specs.declared.refusals.Refusal.{Refusal}

@@ -7,7 +7,8 @@ use mathlib.Core.List.{List, []}
 use mathlib.Core.Option.{none}
 use native.Mathlib.Omega.{arith}
 use lib.ListN.{length}
-use Rattle.meaning.specs.Findings.{Finding, findings, wordsOf, written}
+use Rattle.meaning.specs.Findings.{Finding, findings, wordsOf}
+use Rattle.lists.specs.Areas.{written}
 use Rattle.meaning.proofs.FindingsBelow.{below-length-le}
 use Rattle.meaning.proofs.ScanLoop.{scan-found-le}
 use Rattle.answers.specs.Paper.{accepted}

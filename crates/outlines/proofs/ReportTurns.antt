@@ -10,7 +10,7 @@ use lib.Dec.{ltb}
 use lib.ListN.{length, length-append}
 use borrow.Author.Tests.{lt-ltb, le-ltb}
 use Rattle.meaning.specs.Findings.{Finding}
-use Rattle.meaning.proofs.Cases.{by-test}
+use Rattle.lists.proofs.Cases.{by-test}
 use Rattle.silences.specs.Silences.{Silence}
 use Rattle.silences.specs.Addresses.{soughtOf}
 use Rattle.sweep.specs.declared.sweeping.Sweep.{Sweep}

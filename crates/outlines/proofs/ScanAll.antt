@@ -6,7 +6,8 @@ use mathlib.Core.List.{List, []}
 use mathlib.Core.Option.{none}
 use native.Mathlib.Omega.{arith}
 use lib.ListN.{length}
-use Rattle.meaning.specs.Findings.{Finding, wordsOf, written}
+use Rattle.meaning.specs.Findings.{Finding, wordsOf}
+use Rattle.lists.specs.Areas.{written}
 use Rattle.sweep.specs.declared.sweeping.Sweep.{Sweep}
 use Rattle.findings.specs.Admitting.{mostLine}
 use Rattle.sweep.specs.VerifyingRules.{lastOf}

@@ -6,9 +6,11 @@ use mathlib.Core.Path.{_≡_, sym, ap, subst, _∙_}
 use mathlib.Core.List.{List}
 use native.Mathlib.Omega.{arith}
 use lib.ListN.{length, getD}
-use Rattle.meaning.specs.Findings.{findings, wordsEach, wordsOf, written}
+use Rattle.meaning.specs.Findings.{findings, wordsEach, wordsOf}
+use Rattle.lists.specs.Areas.{written}
 use Rattle.meaning.proofs.Rising.{Rising, findings-rising}
-use Rattle.meaning.proofs.Words.{words-length, written-rest}
+use Rattle.meaning.proofs.Words.{words-length}
+use Rattle.lists.proofs.Areas.{written-rest}
 use Rattle.silences.specs.Silences.{Silence}
 use Rattle.outlines.specs.Report.{isHidden, isShown, shown, hidden}
 use Rattle.outlines.proofs.TakenByTest.{taken-rising}

@@ -5,13 +5,16 @@ use Prim.Native.Nat.{ℕ}
 use mathlib.Core.Path.{_≡_, refl}
 use mathlib.Core.List.{List, [], _∷_}
 use lib.ListN.{length}
+use Rattle.lists.specs.Records.{wordsOfEach}
 use Rattle.meaning.specs.Numbers.{count, lowest, someBelow}
 use Rattle.meaning.specs.Meanings.{differs, distance, lowestRotation}
-use Rattle.meaning.specs.Findings.{foundAt, findingsBelow, findings, wordsOf, written}
+use Rattle.meaning.specs.Findings.{foundAt, findingsBelow, findings, wordsOf}
+use Rattle.lists.specs.Areas.{written}
 use Rattle.meaning.specs.Stretch.{begins, fits}
 use Rattle.meaning.specs.Rules.{readEdge, readLeft, readWindow, windowsFrom, candidatesOf, reported}
 use Rattle.meaning.specs.Looks.{readLooks, tallyLooks, verifyLooks}
-use Rattle.meaning.specs.Samples.{ascii, finding}
+use Rattle.meaning.specs.Samples.{finding}
+use Rattle.lists.specs.Texts.{ascii}
 use Rattle.answers.specs.Paper.{accepted}
 use Rattle.silences.specs.Silences.{Silence, silence, isSame, names}
 use Rattle.outlines.specs.Report.{those, shown, hidden, reportedBy, reportedWordsBy}
@@ -47,5 +50,5 @@ sample-cell-0 = (refl, refl)
 sample-example : (reportedBy (ascii "aa") (ascii "aaa") 0 7 2 (accepted (silence 7 2 1 ∷ [])) ≡ accepted (record { found = 2; hidden = 1; looks = 12 }))
     × (reportedBy (ascii "aa") (ascii "aaa") 0 8 2 (accepted (silence 7 2 1 ∷ [])) ≡ accepted (record { found = 2; hidden = 0; looks = 12 }))
     × (reportedWordsBy (ascii "aa") (ascii "aaa") 0 7 2 (1 ∷ 2 ∷ 3 ∷ 4 ∷ 5 ∷ 6 ∷ []) (accepted (silence 7 2 1 ∷ [])) ≡ 0 ∷ 0 ∷ 0 ∷ 4 ∷ 5 ∷ 6 ∷ [])
-unfolding those wordsOf written isSame names ascii count lowest someBelow differs distance lowestRotation foundAt findingsBelow begins fits readEdge readLeft readWindow windowsFrom candidatesOf reported readLooks tallyLooks verifyLooks
+unfolding those wordsOfEach written isSame names ascii count lowest someBelow differs distance lowestRotation foundAt findingsBelow begins fits readEdge readLeft readWindow windowsFrom candidatesOf reported readLooks tallyLooks verifyLooks
 sample-example = (refl, refl, refl)

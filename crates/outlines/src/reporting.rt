@@ -1,11 +1,11 @@
 // The report: the quick scan, and of its findings only those that the silence book does not name.
-use answers::Finding;
 use answers::Refusal;
 use book::BookAnswer;
 use book::is_for;
 use book::read;
 use book::seek;
 use book::seek_on;
+use findings::Finding;
 use findings::Verdict;
 use findings::admit;
 use findings::put_finding;

@@ -9,7 +9,7 @@ use mathlib.Core.Path.{_≡_, refl, sym, ap, _∙_}
 use mathlib.Core.List.{List, _++_}
 use native.Mathlib.Omega.{arith}
 use lib.ListN.{length, drop, length-append}
-use Rattle.meaning.specs.Findings.{written}
+use Rattle.lists.specs.Areas.{written}
 use Rattle.silences.specs.Silences.{Silence}
 use Rattle.silences.specs.Layout.{fieldOf, layout}
 use Rattle.silences.specs.Packing.{silencesOf, recordWords}

@@ -10,7 +10,7 @@ use lib.ListN.{length}
 use Rattle.answers.specs.declared.refusals.Refusal.{Refusal}
 use Rattle.answers.specs.declared.refusals.Refusal.the-variants.{WordCount, OutputRoom}
 use Rattle.answers.specs.Paper.{Answer, accepted, refused}
-use Rattle.meaning.specs.Findings.{written}
+use Rattle.lists.specs.Areas.{written}
 use Rattle.book.specs.declared.answering.BookAnswer.the-variants.{Records, Refused}
 use Rattle.silences.specs.Silences.{Silence}
 use Rattle.silences.specs.Layout.{layout}

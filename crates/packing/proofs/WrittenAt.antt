@@ -7,7 +7,7 @@ use mathlib.Core.List.{List, [], _∷_, _++_, append-assoc}
 use native.Mathlib.Omega.{arith}
 use lib.ListN.{length, take, drop, set, length-append, length-drop, take-append-drop}
 use lib.Seq.{length-take-le, append-snoc, take-at, drop-at, drop-drop, set-split, take-set-le, drop-set-add}
-use Rattle.meaning.specs.Findings.{written}
+use Rattle.lists.specs.Areas.{written}
 use Rattle.packing.specs.Putting.{writtenAt, IsPut}
 
 -- At offset 0 bytes are written at the area's beginning.

@@ -3,7 +3,7 @@ use Prim.Native.Nat.{ℕ, _+_}
 use mathlib.Core.Path.{_≡_}
 use mathlib.Core.List.{List, _++_}
 use lib.ListN.{length, take, drop}
-use Rattle.meaning.specs.Findings.{written}
+use Rattle.lists.specs.Areas.{written}
 
 -- What an area holds after bytes are written into it from byte offset `at` on: all before them and all after them as it was.
 unfoldable pub writtenAt : ℕ → List ℕ → List ℕ → List ℕ

@@ -10,7 +10,7 @@ use silences::TAG_BYTES;
 ghost use mathlib.Core.Path.{_≡_};
 ghost use Prim.Native.Nat.{_+_, _≤_};
 ghost use lib.ListN.{length};
-ghost use Rattle.meaning.specs.Findings.{written};
+ghost use Rattle.lists.specs.Areas.{written};
 ghost use Rattle.silences.specs.Numbers.{bytesOf};
 ghost use Rattle.silences.specs.Silences.{silence};
 ghost use Rattle.silences.specs.Layout.{fieldOf, layout};

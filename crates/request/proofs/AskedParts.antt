@@ -7,7 +7,7 @@ use mathlib.Core.List.{List}
 use native.Mathlib.Omega.{arith}
 use lib.ListN.{length, drop, length-drop}
 use lib.Seq.{take-all}
-use Rattle.meaning.specs.Findings.{written}
+use Rattle.lists.specs.Areas.{written}
 use Rattle.answers.specs.declared.refusals.Refusal.{Refusal}
 use Rattle.input.specs.declared.asking.Asked.{Asked}
 use Rattle.input.specs.declared.asking.Asked.the-variants.{Parts as PartsCase, Refused}
@@ -18,7 +18,7 @@ use Rattle.input.specs.Asking.{askedOf, Within, WithinBy, IsAsked}
 use Rattle.request.specs.Lines.{refusalLine}
 use Rattle.request.specs.Answering.{requestText, textBy, answerText, IsAnswered}
 use Rattle.request.specs.Writing.{request, IsText}
-use Rattle.meaning.proofs.Words.{written-le}
+use Rattle.lists.proofs.Areas.{written-le}
 
 -- the request of these parts, with this book
 abbrev withBook : List ℕ → Parts → List ℕ → Request

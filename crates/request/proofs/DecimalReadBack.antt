@@ -7,7 +7,7 @@ use mathlib.Core.Logic.{⊎-elim}
 use mathlib.Core.List.{List, [], _∷_, _++_}
 use native.Mathlib.Omega.{arith}
 use lib.ListN.{getD, length-append, List·getD-append}
-use Rattle.meaning.proofs.Cases.{le-or-lt}
+use Rattle.lists.proofs.Cases.{le-or-lt}
 use Rattle.request.specs.Decimal.{digit, decimal, decimalValue, AllDigits, IsDecimal}
 use Rattle.request.proofs.DecimalDigits.{decimal-one, decimal-more}
 

@@ -5,7 +5,7 @@ use mathlib.Core.Path.{refl}
 use mathlib.Core.List.{List, [], _∷_, List·Memᴰ, List·Memᴰ·head, List·Memᴰ·tail}
 use native.Mathlib.Omega.{arith}
 use lib.ListN.{length, length-append}
-use Rattle.meaning.specs.Samples.{ascii}
+use Rattle.lists.specs.Texts.{ascii}
 use Rattle.meaning.specs.Findings.{Finding}
 use Rattle.outlines.specs.Report.{ReportCounts}
 use Rattle.request.specs.Lines.{firstLine, findingLine, findingLines, lastLine, refusalLineOf}

@@ -3,7 +3,7 @@
 use Prim.Native.Nat.{ℕ}
 use mathlib.Core.Path.{_≡_}
 use mathlib.Core.List.{_++_, append-assoc}
-use Rattle.meaning.specs.Samples.{ascii}
+use Rattle.lists.specs.Texts.{ascii}
 use Rattle.meaning.specs.Findings.{Finding}
 use Rattle.outlines.specs.Report.{ReportCounts}
 use Rattle.request.specs.Lines.{space, lf, firstLine, findingLine, lastLine, refusalLineOf}

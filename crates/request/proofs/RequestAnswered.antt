@@ -23,7 +23,7 @@ use Rattle.input.specs.Input.{Request}
 use Rattle.request.specs.Lines.{firstLine, findingLines, lastLine, refusalLine}
 use Rattle.request.specs.Answering.{reportLines, linesBy, requestText}
 use Rattle.request.specs.Writing.{findingsOf, countsOf, mostText, request}
-use Rattle.meaning.proofs.Words.{written-front, written-le}
+use Rattle.lists.proofs.Areas.{written-front, written-le}
 use Rattle.request.proofs.RoomEnough.{silences-same}
 use Rattle.request.proofs.WordsOfFindings.{findingsOf-words}
 use Rattle.request.proofs.TextRoom.{report-lines-le}

@@ -10,8 +10,8 @@ use native.Mathlib.Omega.{arith}
 use lib.ListN.{length, set, length-set}
 use lib.Seq.{sets}
 use borrow.Author.Tests.{lt-ltb, le-ltb}
-use Rattle.meaning.specs.Findings.{written}
-use Rattle.meaning.proofs.Words.{written-more}
+use Rattle.lists.specs.Areas.{written}
+use Rattle.lists.proofs.Areas.{written-more}
 use Rattle.request.specs.Writing.{Text, textIn, putByte, putBytes, IsWritten, IsText}
 
 -- Bytes and then more bytes, put at once or one after the other.

@@ -6,13 +6,14 @@ use mathlib.Core.Path.{_≡_, refl, ap}
 use mathlib.Core.List.{List, [], _∷_}
 use native.Mathlib.Omega.{arith}
 use lib.ListN.{length, getD, drop, length-drop}
+use Rattle.lists.specs.Records.{wordsOfEach}
 use Rattle.meaning.specs.Findings.{Finding, wordsEach, wordsOf}
-use Rattle.meaning.proofs.WordsInThrees.{drop-three}
+use Rattle.lists.proofs.Records.{drop-three}
 use Rattle.request.specs.Writing.{findingOf, findingsOf}
 
 -- The findings of findings' words are those findings.
 pub findingsOf-words : (fs : List Finding) → findingsOf (wordsOf fs) ≡ fs
-unfolding findingsOf wordsOf
+unfolding findingsOf wordsOfEach
 findingsOf-words [] = refl
 findingsOf-words (f ∷ fs) = ap (λ (l : List Finding). f ∷ l) (findingsOf-words fs)
 

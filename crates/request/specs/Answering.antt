@@ -12,7 +12,8 @@ use Prim.Native.Nat.{ℕ}
 use mathlib.Core.Path.{_≡_}
 use mathlib.Core.List.{List, _++_}
 use lib.ListN.{length}
-use Rattle.meaning.specs.Findings.{findings, written}
+use Rattle.meaning.specs.Findings.{findings}
+use Rattle.lists.specs.Areas.{written}
 use Rattle.answers.specs.Paper.{Answer, accepted, refused}
 use Rattle.silences.specs.Silences.{Silence}
 use Rattle.findings.specs.Admitting.{roomAsked}

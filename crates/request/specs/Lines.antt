@@ -11,7 +11,7 @@
 use Prim.Native.Nat.{ℕ}
 use mathlib.Core.List.{List, [], _∷_, _++_}
 use Rattle.meaning.specs.Findings.{Finding}
-use Rattle.meaning.specs.Samples.{ascii}
+use Rattle.lists.specs.Texts.{ascii}
 use Rattle.answers.specs.declared.refusals.Refusal.{Refusal}
 use Rattle.answers.specs.Refusals.{numberOf, placeOf}
 use Rattle.outlines.specs.Report.{ReportCounts}

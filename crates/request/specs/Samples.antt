@@ -10,7 +10,7 @@ use Rattle.meaning.specs.Findings.{foundAt, findingsBelow}
 use Rattle.meaning.specs.Stretch.{begins, fits}
 use Rattle.meaning.specs.Rules.{readEdge, readLeft, readWindow, windowsFrom, candidatesOf}
 use Rattle.meaning.specs.Looks.{readLooks, tallyLooks, verifyLooks}
-use Rattle.meaning.specs.Samples.{ascii}
+use Rattle.lists.specs.Texts.{ascii}
 use Rattle.silences.specs.Numbers.{numberAt, bytesOf}
 use Rattle.silences.specs.Silences.{isBelow, isSame, names}
 use Rattle.silences.specs.Reading.{lengthByTag, silenceAt, isWhole, fieldBy, fieldAt, fieldsFrom, readFrom, readBook}

@@ -12,7 +12,8 @@ use mathlib.Core.Bool.{cond}
 use mathlib.Core.List.{List, [], _∷_, _++_}
 use lib.Dec.{ltb}
 use lib.ListN.{length, set}
-use Rattle.meaning.specs.Findings.{Finding, written}
+use Rattle.meaning.specs.Findings.{Finding}
+use Rattle.lists.specs.Areas.{written}
 use Rattle.outlines.specs.Report.{ReportCounts}
 use Rattle.input.specs.Fields.{lineField}
 use Rattle.input.specs.Input.{Request}

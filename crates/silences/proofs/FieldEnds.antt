@@ -9,7 +9,7 @@ use native.Mathlib.Omega.{arith}
 use lib.Dec.{leb, eqb}
 use lib.ListN.{length, getD}
 use borrow.Author.Tests.{leb-true}
-use Rattle.meaning.proofs.Cases.{by-test, and-true}
+use Rattle.lists.proofs.Cases.{by-test, and-true}
 use Rattle.silences.specs.Numbers.{numberAt}
 use Rattle.silences.specs.Silences.{Silence}
 use Rattle.silences.specs.Reading.{lengthByTag, FieldAt, whole, faulty, fieldEnd, isWhole, fieldBy, fieldAt}

@@ -12,7 +12,7 @@ use lib.Dec.{leb, eqb}
 use lib.ListN.{length, getD, take, drop}
 use lib.Seq.{getD-drop, getD-take}
 use borrow.Author.Tests.{eqb-true, eqb-false, leb-true, leb-false}
-use Rattle.meaning.proofs.WordsInThrees.{drop-three}
+use Rattle.lists.proofs.Records.{drop-three}
 use Rattle.silences.specs.Numbers.{numberAt}
 use Rattle.silences.specs.Silences.{Silence, silence}
 use Rattle.silences.specs.Layout.{silenceTag}

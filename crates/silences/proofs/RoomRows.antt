@@ -9,7 +9,7 @@ use native.Mathlib.Omega.{arith}
 use lib.Dec.{leb}
 use lib.ListN.{length}
 use borrow.Author.Tests.{leb-true, leb-false, le-leb, lt-leb}
-use Rattle.meaning.proofs.Cases.{by-test}
+use Rattle.lists.proofs.Cases.{by-test}
 use Rattle.answers.specs.declared.refusals.Refusal.{Refusal}
 use Rattle.answers.specs.declared.refusals.Refusal.the-variants.{OutputRoom}
 use Rattle.answers.specs.Refusals.{numberOf}

@@ -7,7 +7,7 @@ use mathlib.Core.Bool.{Bool, true, false, _&&_, _||_, false≢true}
 use native.Mathlib.Omega.{arith}
 use lib.Dec.{ltb, eqb}
 use borrow.Author.Tests.{ltb-true, eqb-true, lt-ltb, le-ltb, eq-eqb, ne-eqb}
-use Rattle.meaning.proofs.Cases.{and-true}
+use Rattle.lists.proofs.Cases.{and-true}
 use Rattle.silences.specs.Silences.{Silence, isBelow, Below, by-cell, by-ring-number, by-start, isSame}
 
 -- what the test finds below is below

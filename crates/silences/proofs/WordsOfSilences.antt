@@ -7,7 +7,7 @@ use mathlib.Core.Path.{_≡_, refl, sym, ap, _∙_}
 use mathlib.Core.List.{List, [], _∷_, _++_}
 use native.Mathlib.Omega.{arith}
 use lib.ListN.{length, getD, drop, length-drop}
-use Rattle.meaning.proofs.WordsInThrees.{drop-three}
+use Rattle.lists.proofs.Records.{drop-three}
 use Rattle.silences.specs.Silences.{Silence, silence, AllInRange}
 use Rattle.silences.specs.Packing.{silenceWords, wordsOfSilences, silencesOf, recordWords}
 use Rattle.silences.specs.Books.{IsWords}

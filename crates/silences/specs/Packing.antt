@@ -14,7 +14,7 @@ use mathlib.Core.List.{List, [], _∷_, _++_}
 use mathlib.Core.Option.{Option, none, some}
 use lib.Dec.{ltb, leb, eqb}
 use lib.ListN.{length}
-use Rattle.meaning.specs.Findings.{written}
+use Rattle.lists.specs.Areas.{written}
 use Rattle.answers.specs.declared.refusals.Refusal.the-variants.{NotAbove, WordCount, RingNumber, OutputRoom}
 use Rattle.answers.specs.Paper.{Answer, accepted, refused}
 use Rattle.silences.specs.Silences.{Silence, silence, isAbove}

@@ -7,7 +7,7 @@ use mathlib.Core.List.{List, [], _∷_, _++_}
 use lib.ListN.{replicate}
 use Rattle.answers.specs.declared.refusals.Refusal.the-variants.{BookLength, Field, NotAbove, WordCount, RingNumber, OutputRoom}
 use Rattle.answers.specs.Paper.{accepted, refused}
-use Rattle.meaning.specs.Findings.{written}
+use Rattle.lists.specs.Areas.{written}
 use Rattle.silences.specs.Numbers.{bytesOf, numberAt, numberWithin}
 use Rattle.silences.specs.Silences.{silence, isBelow, isSame, names}
 use Rattle.silences.specs.Layout.{valueOf, fieldOf, layout}

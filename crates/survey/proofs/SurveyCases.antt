@@ -10,7 +10,7 @@ use lib.ListN.{length}
 use Rattle.meaning.specs.Findings.{Finding}
 use Rattle.meaning.specs.Looks.{stepLooks, surveyLooksBelow}
 use Rattle.meaning.proofs.SurveyLooks.{surveyLooks-first, surveyLooks-below}
-use Rattle.answers.specs.declared.places.Finding.{Finding as FindingStruct}
+use Rattle.findings.specs.declared.searching.Finding.{Finding as FindingStruct}
 use Rattle.tally.specs.declared.counts.Least.{Least}
 use Rattle.moves.specs.declared.steps.Reached.{Reached}
 use Rattle.tally.proofs.AfreshTallied.{counted-verified}

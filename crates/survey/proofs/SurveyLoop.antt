@@ -9,7 +9,8 @@ use native.Mathlib.Nat.{mul-le-mul}
 use native.Mathlib.Numerals.{add-one}
 use native.Mathlib.Omega.{arith}
 use lib.ListN.{length}
-use Rattle.meaning.specs.Findings.{Finding, foundAt, findingsBelow, findings, wordsEach, wordsOf, written}
+use Rattle.meaning.specs.Findings.{Finding, foundAt, findingsBelow, findings, wordsEach, wordsOf}
+use Rattle.lists.specs.Areas.{written}
 use Rattle.meaning.specs.Looks.{afreshLooks, stepLooks, surveyLooksBelow}
 use Rattle.meaning.proofs.Places.{found-no, found-small}
 use Rattle.meaning.proofs.FindingsBelow.{below-same, below-length-le, findings-below}

@@ -1,8 +1,8 @@
 // The plain survey: every start is verified, the first afresh and each next by one step.
-use answers::Finding;
 use answers::LinePlace;
 use answers::RingPlace;
 use findings::Counted;
+use findings::Finding;
 use findings::Searched;
 use findings::Verdict;
 use findings::admit;

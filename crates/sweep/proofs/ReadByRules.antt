@@ -13,7 +13,7 @@ use lib.Dec.{eqb}
 use lib.ListN.{length, getD}
 use Rattle.meaning.specs.Numbers.{someBelow}
 use Rattle.meaning.specs.Meanings.{windowEdge}
-use Rattle.meaning.proofs.Cases.{by-test, not-passed}
+use Rattle.lists.proofs.Cases.{by-test, not-passed}
 use Rattle.meaning.proofs.Some.{some-yes, some-by}
 use Rattle.meaning.proofs.WindowLoop.{AllSet, GrownBy, WindowLoop, window-start, window-end, window-left, turn-grows, turn-breaks}
 use Rattle.vectors.specs.Bits.{wordCount, isSet, firstBits, noBit}

@@ -13,7 +13,7 @@ use borrow.Author.Tests.{le-leb, ltb-true, ltb-false}
 use Rattle.meaning.specs.Findings.{foundAt}
 use Rattle.meaning.specs.Rules.{readWindow}
 use Rattle.meaning.specs.Looks.{tallyLooks}
-use Rattle.meaning.proofs.Cases.{by-test}
+use Rattle.lists.proofs.Cases.{by-test}
 use Rattle.tally.specs.Counts.{lowestWith, TallyTo}
 use Rattle.tally.specs.Tallied.{Verified}
 use Rattle.tally.proofs.LowestLoop.{lowest-at}

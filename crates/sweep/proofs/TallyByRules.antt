@@ -11,7 +11,7 @@ use native.Mathlib.Omega.{arith}
 use lib.ListN.{length}
 use borrow.Author.Tests.{lt-ltb, le-ltb, lt-leb}
 use Rattle.meaning.specs.Looks.{afreshLooks, stepLooks, tallyLooks}
-use Rattle.meaning.proofs.Cases.{le-or-lt}
+use Rattle.lists.proofs.Cases.{le-or-lt}
 use Rattle.tally.specs.Windows.{windowAt}
 use Rattle.tally.specs.Counts.{TallyTo, countedTo}
 use Rattle.tally.specs.Tallied.{Verified}

@@ -9,7 +9,7 @@ use native.Mathlib.Omega.{arith}
 use lib.Dec.{ltb, leb}
 use lib.ListN.{length}
 use borrow.Author.Tests.{lt-ltb, le-ltb, le-leb, lt-leb, ltb-false}
-use Rattle.meaning.proofs.Cases.{by-test}
+use Rattle.lists.proofs.Cases.{by-test}
 use Rattle.tally.specs.Windows.{windowAt, IsWindow}
 use Rattle.tally.specs.Counts.{mostCounts, canCount, TallyTo, countedTo, IsCounted}
 use Rattle.moves.specs.Moves.{CountsAt, unmoved, canMove, IsMoved}

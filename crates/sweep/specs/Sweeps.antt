@@ -14,7 +14,7 @@ use mathlib.Core.Bool.{Bool, cond, _&&_}
 use mathlib.Core.List.{List}
 use lib.Dec.{ltb, leb}
 use lib.ListN.{length}
-use Rattle.answers.specs.declared.places.Finding.{Finding as FindingStruct}
+use Rattle.findings.specs.declared.searching.Finding.{Finding as FindingStruct}
 use Rattle.tally.specs.Windows.{windowAt}
 use Rattle.tally.specs.Counts.{mostCounts, lowestWith, TallyTo, countedTo}
 use Rattle.moves.specs.Moves.{CountsAt, movedFrom, mostPlaces}

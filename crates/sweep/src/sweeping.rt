@@ -3,9 +3,9 @@
 use crate::reading::read_window;
 use crate::verifying::LastVerified;
 use crate::verifying::verify;
-use answers::Finding;
 use answers::LinePlace;
 use answers::RingPlace;
+use findings::Finding;
 use moves::MOST_PLACES;
 use tally::MOST_COUNTS;
 use tally::lowest_rotation;

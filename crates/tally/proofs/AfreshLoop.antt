@@ -16,7 +16,7 @@ use Rattle.answers.specs.declared.places.RingPlace.{RingPlace}
 use Rattle.answers.specs.declared.places.LinePlace.{LinePlace}
 use Rattle.answers.proofs.PlacesUndo.{ring-place-is}
 use Rattle.tally.specs.Counts.{mostCounts, differsThere, afreshCount, afreshCounts, CanCount, Cleared, EdgeCounted, IsLeast, IsCountedAfresh}
-use Rattle.tally.proofs.PlaceByPlace.{listOf-first}
+use Rattle.lists.proofs.ByPlace.{listOf-first}
 use Rattle.tally.proofs.LeastIsOne.{leastOf-only}
 
 -- Before turn q, of counts that were cleared: each rotation's count is that of the first q places.

@@ -19,7 +19,7 @@ use Rattle.tally.specs.Windows.{IsWindow}
 use Rattle.tally.specs.Counts.{mostCounts, differsThere, afreshCount, afreshCounts, canCount, countedTo, IsDoubled, IsCounted}
 use Rattle.tally.specs.Tallied.{Verified}
 use Rattle.tally.proofs.WindowEdges.{start-window, start-length}
-use Rattle.tally.proofs.PlaceByPlace.{listOf-length, listOf-first-at}
+use Rattle.lists.proofs.ByPlace.{listOf-length, listOf-first-at}
 use Rattle.tally.proofs.LeastIsOne.{leastOf-is}
 use Rattle.tally.proofs.DoubledLoop.{doubled-edge, doubled-length}
 use Rattle.tally.proofs.CountCases.{can-count-iff}

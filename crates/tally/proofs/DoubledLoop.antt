@@ -12,9 +12,9 @@ use lib.Dec.{ltb}
 use lib.ListN.{length, getD, set, length-set, replicate, length-replicate, getD-replicate}
 use lib.Seq.{getD-set-same, getD-set-other}
 use borrow.Author.Tests.{ltb-true, ltb-false, lt-ltb, le-leb, lt-leb}
-use Rattle.meaning.proofs.Cases.{by-test}
+use Rattle.lists.proofs.Cases.{by-test}
 use Rattle.tally.specs.Counts.{mostCounts, doubledEdge, IsDoubled}
-use Rattle.tally.proofs.PlaceByPlace.{listOf-is, listOf-at, listOf-length}
+use Rattle.lists.proofs.ByPlace.{listOf-is, listOf-at, listOf-length}
 use Rattle.tally.proofs.StoredBelow.{stored-below}
 
 -- Before turn p: both rings are there below p, and past them nothing.

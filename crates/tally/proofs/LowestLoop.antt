@@ -10,7 +10,7 @@ use native.Mathlib.Omega.{arith}
 use lib.Dec.{eqb}
 use lib.ListN.{getD}
 use borrow.Author.Tests.{eq-eqb, ne-eqb, eqb-true, eqb-false}
-use Rattle.meaning.proofs.Cases.{by-test}
+use Rattle.lists.proofs.Cases.{by-test}
 use Rattle.tally.specs.Counts.{mostCounts, lowestFrom, IsLowestWith, IsLeast}
 use Rattle.tally.specs.Tallied.{IsLowestAt}
 

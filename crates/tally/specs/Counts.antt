@@ -1,6 +1,5 @@
 -- Counts of differing edges, one for each rotation: the tally counted afresh, its least count, and the lowest rotation that has it.
 --
---   listOf               numbers given place by place
 --   mostCounts           one count for each rotation of the longest ring
 --   leastOf              the least of the first m counts
 --   lowestWith           the lowest rotation that has a given count
@@ -18,6 +17,7 @@ use mathlib.Core.Bool.{Bool, cond, _&&_}
 use mathlib.Core.List.{List, [], _∷_}
 use lib.Dec.{ltb, leb, eqb}
 use lib.ListN.{length, getD}
+use Rattle.lists.specs.ByPlace.{listOf}
 use Rattle.meaning.specs.Numbers.{oneIf, count, lowest}
 use Rattle.meaning.specs.Meanings.{unequal}
 use Rattle.meaning.specs.Looks.{afreshLooks}
@@ -26,11 +26,6 @@ use Rattle.tally.specs.declared.counts.Least.{Least}
 -- One count for each rotation of the longest ring.
 abbrev pub mostCounts : ℕ
 mostCounts = 256
-
--- Numbers given place by place.
-unfoldable pub listOf : ℕ → (ℕ → ℕ) → List ℕ
-listOf zero f = []
-listOf (suc n) f = f zero ∷ listOf n (λ p. f (suc p))
 
 -- The least of the first m counts.
 unfoldable pub leastOf : ℕ → List ℕ → ℕ

@@ -13,7 +13,7 @@ use Rattle.vectors.specs.Bits.{wordBits, Vector, bit, isSet}
 use Rattle.vectors.specs.Rotating.{shiftedWord, shifted, Shifted}
 use Rattle.vectors.proofs.WordBits.{bit-or, bit-shr, bit-mod, bit-shl-low, bit-shl-high, bit-high}
 use Rattle.vectors.proofs.VectorBits.{isSet-word, isSet-past}
-use Rattle.vectors.proofs.WordByWord.{vectorOf-length, vectorOf-word}
+use Rattle.lists.proofs.ByPlace.{listOf-length, listOf-at}
 
 module _ (x next : ℕ) where
   -- Below the top of the word each bit is the next higher one.
@@ -35,12 +35,12 @@ module _ (x next : ℕ) where
 -- The shifted vector has as many words.
 pub shifted-length : (ws : List ℕ) → length (shifted ws) ≡ length ws
 unfolding shifted
-shifted-length ws = vectorOf-length (length ws) (λ w. shiftedWord (getD ws w 0) (getD ws (w + 1) 0))
+shifted-length ws = listOf-length (length ws) (λ w. shiftedWord (getD ws w 0) (getD ws (w + 1) 0))
 
 -- Each of its words is shifted with its carry.
 pub shifted-word : (ws : List ℕ) (w : ℕ) → w < length ws → getD (shifted ws) w 0 ≡ shiftedWord (getD ws w 0) (getD ws (w + 1) 0)
 unfolding shifted
-shifted-word ws w h = vectorOf-word (length ws) (λ w. shiftedWord (getD ws w 0) (getD ws (w + 1) 0)) w h
+shifted-word ws w h = listOf-at (length ws) (λ w. shiftedWord (getD ws w 0) (getD ws (w + 1) 0)) w h
 
 module _ (ws : List ℕ) (i : ℕ) where
   -- A bit below the top of its word comes from the same word.

@@ -13,7 +13,8 @@ use lib.Pow.{shl-exact, pow-mono, ones-lt}
 use Rattle.vectors.specs.Bits.{wordBits, Vector, bit, firstWord, firstBits, FirstBits}
 use Rattle.vectors.specs.Rotating.{Within}
 use Rattle.vectors.proofs.WordBits.{bit-ones, bit-ones-past}
-use Rattle.vectors.proofs.WordByWord.{vectorOf-length, vectorOf-word, vectorOf-vector, vectorOf-isSet, vectorOf-isSet-past}
+use Rattle.vectors.proofs.WordByWord.{vectorOf-vector, vectorOf-isSet, vectorOf-isSet-past}
+use Rattle.lists.proofs.ByPlace.{listOf-length, listOf-at}
 
 -- In word w the bits whose place in the vector is below m are set.
 first-word-low : (m w j : ℕ) → j < wordBits → wordBits * w + j < m → bit (firstWord m w) j ≡ 1
@@ -39,7 +40,7 @@ first-bits-is m count room = record {
 -- It has `count` words.
 pub first-bits-length : (m count : ℕ) → length (firstBits m count) ≡ count
 unfolding firstBits
-first-bits-length m count = vectorOf-length count (firstWord m)
+first-bits-length m count = listOf-length count (firstWord m)
 
 -- Its words are machine words.
 pub first-bits-vector : (m count : ℕ) → Vector (firstBits m count)
@@ -50,7 +51,7 @@ first-bits-vector m count = vectorOf-vector count (firstWord m) (λ w h. lt-of-l
 -- Word w of the vector, as a loop stores it.
 pub first-bits-word : (m count w : ℕ) → w < count → firstWord m w ≡ getD (firstBits m count) w 0
 unfolding firstBits
-first-bits-word m count w h = sym (vectorOf-word count (firstWord m) w h)
+first-bits-word m count w h = sym (listOf-at count (firstWord m) w h)
 
 -- Its first m bits are all that it has.
 pub first-bits-within : (m : ℕ) (ws : List ℕ) → FirstBits m ws → Within m ws

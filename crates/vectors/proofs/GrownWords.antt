@@ -10,9 +10,10 @@ use native.Mathlib.Omega.{arith}
 use lib.ListN.{length, getD}
 use lib.Bits.{bitAnd, bitOr, and-le-r}
 use borrow.Author.Tests.{lt-ltb, le-ltb}
-use Rattle.vectors.specs.Bits.{wordBits, Vector, bit, vectorOf}
+use Rattle.vectors.specs.Bits.{wordBits, Vector, bit}
+use Rattle.lists.specs.ByPlace.{listOf}
 use Rattle.vectors.specs.ByValue.{vectorWords, lastBitPlace, carryInto, grownWord, grownWords}
-use Rattle.vectors.proofs.WordByWord.{vectorOf-length, vectorOf-word, vectorOf-past}
+use Rattle.lists.proofs.ByPlace.{listOf-length, listOf-at, listOf-past}
 
 module _ (m count : ℕ) (held : List ℕ) (w : ℕ) where
   -- Into a word that is not the last comes the next word's lowest bit, at the top.
@@ -41,7 +42,7 @@ module _ (m count : ℕ) (occurs held : List ℕ) where
   -- Four words, each grown, are the vector grown.
   pub grown-of-words : (words a b c d : ℕ) → words ≡ min count vectorWords → a ≡ grownWord m words occurs held 0 → b ≡ grownWord m words occurs held 1
       → c ≡ grownWord m words occurs held 2 → d ≡ grownWord m words occurs held 3 → a ∷ b ∷ c ∷ d ∷ [] ≡ grownWords m count occurs held
-  unfolding grownWords vectorOf
+  unfolding grownWords listOf
   grown-of-words words a b c d is p q r s = rw (p, q, r, s, is) refl
 
   -- The same of the grown vector: a word below the count is shifted with what comes in, AND the occurrence vector's.
@@ -49,20 +50,20 @@ module _ (m count : ℕ) (occurs held : List ℕ) where
       → getD (grownWords m count occurs held) w 0
       ≡ bitAnd (bitOr (getD held w 0 / 2 ^ 1) (carryInto m (min count vectorWords) held w)) (getD occurs w 0)
   unfolding grownWords
-  grown-words-word w h = vectorOf-word vectorWords (grownWord m (min count vectorWords) occurs held) w (omega arith)
+  grown-words-word w h = listOf-at vectorWords (grownWord m (min count vectorWords) occurs held) w (omega arith)
       ∙ grown-word-below m (min count vectorWords) occurs held w h
 
   -- The others are 0.
   pub grown-words-past : (w : ℕ) → min count vectorWords ≤ w → getD (grownWords m count occurs held) w 0 ≡ 0
   unfolding grownWords
   grown-words-past w h = dite (decLt w vectorWords)
-      (λ l. vectorOf-word vectorWords (grownWord m (min count vectorWords) occurs held) w l ∙ grown-word-past m (min count vectorWords) occurs held w h)
-      (λ past. vectorOf-past vectorWords (grownWord m (min count vectorWords) occurs held) w (omega (arith, past)))
+      (λ l. listOf-at vectorWords (grownWord m (min count vectorWords) occurs held) w l ∙ grown-word-past m (min count vectorWords) occurs held w h)
+      (λ past. listOf-past vectorWords (grownWord m (min count vectorWords) occurs held) w (omega (arith, past)))
 
   -- There are as many as in every vector held by value.
   pub grown-words-length : length (grownWords m count occurs held) ≡ vectorWords
   unfolding grownWords
-  grown-words-length = vectorOf-length vectorWords (grownWord m (min count vectorWords) occurs held)
+  grown-words-length = listOf-length vectorWords (grownWord m (min count vectorWords) occurs held)
 
   -- They are machine words where the occurrence vector's are.
   pub grown-words-vector : Vector occurs → Vector (grownWords m count occurs held)

@@ -13,19 +13,20 @@ use Rattle.vectors.specs.Bits.{wordBits, Vector, bit, putWord}
 use Rattle.vectors.specs.Rotating.{shiftedWord, Within, rotated, Rotated}
 use Rattle.vectors.specs.Holding.{both, Both, grown, Grown}
 use Rattle.vectors.proofs.VectorBits.{isSet-word, isSet-past, test-and}
-use Rattle.vectors.proofs.WordByWord.{vectorOf-length, vectorOf-word, vectorOf-isSet, vectorOf-isSet-past}
+use Rattle.vectors.proofs.WordByWord.{vectorOf-isSet, vectorOf-isSet-past}
+use Rattle.lists.proofs.ByPlace.{listOf-length, listOf-at}
 use Rattle.vectors.proofs.WrapToLastBit.{rotated-is, rotated-length, rotated-word-inner, rotated-word-last}
 
 module _ (xs ys : List ℕ) where
   -- The vector of both has as many words as the first.
   both-length : length (both xs ys) ≡ length xs
   unfolding both
-  both-length = vectorOf-length (length xs) (λ w. bitAnd (getD xs w 0) (getD ys w 0))
+  both-length = listOf-length (length xs) (λ w. bitAnd (getD xs w 0) (getD ys w 0))
 
   -- Each of its words is the AND of the two.
   both-word : (w : ℕ) → w < length xs → getD (both xs ys) w 0 ≡ bitAnd (getD xs w 0) (getD ys w 0)
   unfolding both
-  both-word w h = vectorOf-word (length xs) (λ w. bitAnd (getD xs w 0) (getD ys w 0)) w h
+  both-word w h = listOf-at (length xs) (λ w. bitAnd (getD xs w 0) (getD ys w 0)) w h
 
   -- In it a bit is set exactly when it is set in both.
   both-is : Both xs ys (both xs ys)

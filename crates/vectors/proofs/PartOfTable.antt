@@ -10,20 +10,22 @@ use native.Mathlib.Nat.{add-zero}
 use native.Mathlib.Decide.{decLt}
 use native.Mathlib.Omega.{arith}
 use lib.ListN.{length, getD, set}
-use Rattle.vectors.specs.Bits.{wordBits, Vector, isSet, vectorOf, putWord, putBit, Put, NoBit}
+use Rattle.vectors.specs.Bits.{wordBits, Vector, isSet, putWord, putBit, Put, NoBit}
+use Rattle.lists.specs.ByPlace.{listOf}
 use Rattle.vectors.specs.Holding.{vectorAt}
 use Rattle.vectors.specs.ByValue.{vectorWords}
 use Rattle.vectors.proofs.VectorBits.{isSet-word, isSet-past}
-use Rattle.vectors.proofs.WordByWord.{vectorOf-length, vectorOf-word, vectorOf-vector}
+use Rattle.vectors.proofs.WordByWord.{vectorOf-vector}
+use Rattle.lists.proofs.ByPlace.{listOf-length, listOf-at}
 
 module _ (table : List ℕ) (base count : ℕ) where
   -- Word w of the part is word base + w of the list.
   part-word : (w : ℕ) → w < count → getD (vectorAt table base count) w 0 ≡ getD table (base + w) 0
-  part-word w h = vectorOf-word count (λ w. getD table (base + w) 0) w h
+  part-word w h = listOf-at count (λ w. getD table (base + w) 0) w h
 
   -- It has `count` words.
   part-length : length (vectorAt table base count) ≡ count
-  part-length = vectorOf-length count (λ w. getD table (base + w) 0)
+  part-length = listOf-length count (λ w. getD table (base + w) 0)
 
   -- They are machine words where the list's are.
   pub part-vector : Vector table → Vector (vectorAt table base count)
@@ -50,7 +52,7 @@ module _ (table : List ℕ) (base count : ℕ) where
 -- The part of a vector's four words, written out.
 pub part-words : (table : List ℕ) (base : ℕ)
     → getD table base 0 ∷ getD table (base + 1) 0 ∷ getD table (base + 2) 0 ∷ getD table (base + 3) 0 ∷ [] ≡ vectorAt table base vectorWords
-unfolding vectorOf
+unfolding listOf
 part-words table base = rw (add-zero base) refl
 
 -- A bit put into the list at a place of the part is put into the part.

@@ -6,7 +6,7 @@
 -- `x / 2 ^ j`, `x * 2 ^ j % 2 ^ wordBits`, `bitOr` and `bitAnd`.
 -- Letters: ws a vector, w the number of a word, x a word, j a place in a word, i a place in a vector, m a number of bits.
 --     wordBits     the bits of a machine word           Vector     a list of machine words
---     wordCount    the words of m bits                  vectorOf   a vector given word by word
+--     wordCount    the words of m bits
 --     bit          bit j of a word, 0 or 1              isSet      whether bit i of a vector is set
 --     putBit, Put              one bit put in           orBelow, noBit, NoBit    no bit set
 --     firstBits, FirstBits     the first m bits set
@@ -18,6 +18,7 @@ use Prim.Native.Nat.{ℕ, zero, suc, _+_, _-_, _*_, _/_, _%_, _^_, _≤_, _<_, m
 use lib.ListN.{getD, set}
 use lib.Bits.{bitOr}
 use lib.Dec.{eqb}
+use Rattle.lists.specs.ByPlace.{listOf}
 
 -- How many bits a machine word has.
 abbrev pub wordBits : ℕ
@@ -39,11 +40,6 @@ bit x j = x / 2 ^ j % 2
 unfoldable pub isSet : List ℕ → ℕ → Bool
 isSet ws i = eqb (bit (getD ws (i / wordBits) 0) (i % wordBits)) 1
 
--- The vector of the words f 0, f 1 and so on, `count` of them.
-unfoldable pub vectorOf : ℕ → (ℕ → ℕ) → List ℕ
-vectorOf zero f = []
-vectorOf (suc count) f = f zero ∷ vectorOf count (λ w. f (suc w))
-
 -- A word with the bit b put in at place j: `x | b << j`.
 abbrev pub putWord : ℕ → ℕ → ℕ → ℕ
 putWord x j b = bitOr x (b * 2 ^ j % 2 ^ wordBits)
@@ -63,7 +59,7 @@ firstWord m w = 2 ^ min wordBits (m - wordBits * w) - 1
 
 -- The vector of `count` words whose first m bits are set.
 unfoldable pub firstBits : ℕ → ℕ → List ℕ
-firstBits m count = vectorOf count (firstWord m)
+firstBits m count = listOf count (firstWord m)
 
 -- The first m bits are set, and no other.
 pub record FirstBits (m : ℕ) (ws : List ℕ) : Type 0 where

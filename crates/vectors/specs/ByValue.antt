@@ -14,7 +14,8 @@ use Prim.Native.Nat.{ℕ, _+_, _-_, _*_, _/_, _%_, _^_, min}
 use lib.ListN.{length, getD, take}
 use lib.Bits.{bitAnd, bitOr}
 use lib.Dec.{ltb}
-use Rattle.vectors.specs.Bits.{wordBits, Vector, bit, vectorOf}
+use Rattle.vectors.specs.Bits.{wordBits, Vector, bit}
+use Rattle.lists.specs.ByPlace.{listOf}
 use Rattle.vectors.specs.Rotating.{Within}
 use Rattle.vectors.specs.Holding.{OccurrenceTable}
 
@@ -56,7 +57,7 @@ grownWord m count occurs held w =
 
 -- The held vector of m bits, kept in its first `count` words, grown by one edge; a count above a vector's words counts as all of them.
 unfoldable pub grownWords : ℕ → ℕ → List ℕ → List ℕ → List ℕ
-grownWords m count occurs held = vectorOf vectorWords (grownWord m (min count vectorWords) occurs held)
+grownWords m count occurs held = listOf vectorWords (grownWord m (min count vectorWords) occurs held)
 
 -- The table of a ring's occurrence vectors: a vector of machine words for each edge code, by rising code. Of a ring with more edges than a vector
 -- has bits only the first count.

@@ -12,7 +12,8 @@ use Prim.Native.Nat.{ℕ, _+_, _*_, _%_, _≤_, _<_}
 use lib.ListN.{length, getD}
 use lib.Bits.{bitAnd}
 use lib.Dec.{eqb}
-use Rattle.vectors.specs.Bits.{isSet, vectorOf}
+use Rattle.vectors.specs.Bits.{isSet}
+use Rattle.lists.specs.ByPlace.{listOf}
 use Rattle.vectors.specs.Rotating.{rotated}
 
 -- The occurrence vector of an edge code: bit r is set exactly when the ring has that code at place r, and no bit from m on is set.
@@ -22,7 +23,7 @@ pub record Occurs (ring : List ℕ) (code : ℕ) (ws : List ℕ) : Type 0 where
 
 -- The vector of `count` words that begins at word `base` of a longer list: `table[base]`, `table[base + 1]` and so on.
 abbrev pub vectorAt : List ℕ → ℕ → ℕ → List ℕ
-vectorAt table base count = vectorOf count (λ w. getD table (base + w) 0)
+vectorAt table base count = listOf count (λ w. getD table (base + w) 0)
 
 -- "one occurrence vector of m bits per edge code": vectors of `count` words, laid one behind the other by rising code.
 pub record OccurrenceTable (ring : List ℕ) (count : ℕ) (table : List ℕ) : Type 0 where
@@ -30,7 +31,7 @@ pub record OccurrenceTable (ring : List ℕ) (count : ℕ) (table : List ℕ) : 
 
 -- Two vectors joined by `&`, word by word.
 unfoldable pub both : List ℕ → List ℕ → List ℕ
-both xs ys = vectorOf (length xs) (λ w. bitAnd (getD xs w 0) (getD ys w 0))
+both xs ys = listOf (length xs) (λ w. bitAnd (getD xs w 0) (getD ys w 0))
 
 -- AND: a bit is set exactly when it is set in both.
 pub record Both (xs ys new : List ℕ) : Type 0 where

@@ -9,7 +9,8 @@ use mathlib.Core.List.{List}
 use Prim.Native.Nat.{ℕ, _+_, _-_, _*_, _/_, _%_, _^_, _≤_, _<_}
 use lib.ListN.{length, getD}
 use lib.Bits.{bitOr}
-use Rattle.vectors.specs.Bits.{wordBits, bit, isSet, vectorOf, putBit}
+use Rattle.vectors.specs.Bits.{wordBits, bit, isSet, putBit}
+use Rattle.lists.specs.ByPlace.{listOf}
 
 -- A word shifted down by one, the next word's lowest bit coming in at its top: `x >> 1 | next << 63`.
 abbrev pub shiftedWord : ℕ → ℕ → ℕ
@@ -17,7 +18,7 @@ shiftedWord x next = bitOr (x / 2 ^ 1) (next * 2 ^ (wordBits - 1) % 2 ^ wordBits
 
 -- A vector shifted down by one, word by word.
 unfoldable pub shifted : List ℕ → List ℕ
-shifted ws = vectorOf (length ws) (λ w. shiftedWord (getD ws w 0) (getD ws (w + 1) 0))
+shifted ws = listOf (length ws) (λ w. shiftedWord (getD ws w 0) (getD ws (w + 1) 0))
 
 -- Shifted down by one: each bit is what the next higher one was.
 pub record Shifted (old new : List ℕ) : Type 0 where

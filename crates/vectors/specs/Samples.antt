@@ -7,7 +7,8 @@ use mathlib.Core.Bool.{Bool, true, false, cond}
 use mathlib.Core.List.{List, [], _∷_, _++_, map}
 use Prim.Native.Nat.{ℕ, zero, suc}
 use lib.ListN.{length}
-use Rattle.vectors.specs.Bits.{bit, isSet, vectorOf, putBit, firstWord, firstBits, orBelow, noBit}
+use Rattle.vectors.specs.Bits.{bit, isSet, putBit, firstWord, firstBits, orBelow, noBit}
+use Rattle.lists.specs.ByPlace.{listOf}
 use Rattle.vectors.specs.Rotating.{shifted, rotated}
 use Rattle.vectors.specs.Holding.{both, grown}
 use Rattle.vectors.specs.ByValue.{carryInto, grownWord, grownWords}
@@ -116,7 +117,7 @@ samples = one-bit ∷ part-of-a-word ∷ whole-word ∷ carry-between-words ∷ 
 
 -- Every row is as the definitions have it.
 pub all-samples-right : map computed samples ≡ samples
-unfolding computed placesBelow rotated shifted putBit vectorOf bit isSet both grown orBelow noBit firstBits firstWord
+unfolding computed placesBelow rotated shifted putBit listOf bit isSet both grown orBelow noBit firstBits firstWord
 all-samples-right = refl
 
 -- A vector with bit 0 alone.
@@ -130,5 +131,5 @@ every-bit = 0xffff_ffff_ffff_ffff ∷ 0xffff_ffff_ffff_ffff ∷ 0xffff_ffff_ffff
 -- Word counts and bit counts that no scan asks for are answered too: no word; seven words, which count as four; and no bit.
 pub other-counts-right : grownWords 5 0 every-bit bit-zero ∷ grownWords 256 7 every-bit bit-zero ∷ grownWords 0 1 every-bit bit-zero ∷ []
     ≡ (0 ∷ 0 ∷ 0 ∷ 0 ∷ []) ∷ (0 ∷ 0 ∷ 0 ∷ 0x8000_0000_0000_0000 ∷ []) ∷ (0x8000_0000_0000_0000 ∷ 0 ∷ 0 ∷ 0 ∷ []) ∷ []
-unfolding grownWords grownWord carryInto vectorOf bit
+unfolding grownWords grownWord carryInto listOf bit
 other-counts-right = refl

@@ -1,6 +1,6 @@
 -- `request::lines::put_first_line` meets its contract: four names one after the other, each with its number, are the line (`first-line-is`).
 -- Assumes nothing.
-use Rattle.meaning.specs.Samples.{ascii}
+use Rattle.lists.specs.Texts.{ascii}
 use Rattle.request.proofs.LinePieces.{first-line-is}
 use Rattle.request.proofs.TextWritten.{written-then, written-same}
 use borrow.Author.Needs.{needs}

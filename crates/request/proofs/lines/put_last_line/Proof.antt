@@ -1,6 +1,6 @@
 -- `request::lines::put_last_line` meets its contract: three names one after the other, each with its count, are the line (`last-line-is`).
 -- Assumes nothing.
-use Rattle.meaning.specs.Samples.{ascii}
+use Rattle.lists.specs.Texts.{ascii}
 use Rattle.request.proofs.LinePieces.{last-line-is}
 use Rattle.request.proofs.TextWritten.{written-then, written-same}
 use borrow.Author.Needs.{needs}

@@ -3,7 +3,7 @@
 -- Assumes nothing.
 use mathlib.Core.Path.{ap₂}
 use native.Mathlib.Omega.{arith}
-use Rattle.meaning.specs.Samples.{ascii}
+use Rattle.lists.specs.Texts.{ascii}
 use Rattle.request.specs.Lines.{refusalLineOf}
 use Rattle.request.proofs.LinePieces.{refusal-line-is}
 use Rattle.request.proofs.LineLengths.{refusal-line-le}

@@ -1,17 +1,16 @@
 -- A list given place by place: it has as many places as were asked, and at each the number that is given there. So a list with that length and those numbers
 -- is that list. Induction on the length.
--- Assumes nothing.
 use Prim.Native.Nat.{ℕ, zero, suc, _≤_, _<_}
 use mathlib.Core.Path.{_≡_, refl, sym, ap, _∙_}
 use mathlib.Core.Bool.{cond}
 use mathlib.Core.List.{List}
 use native.Mathlib.Omega.{arith}
 use lib.Dec.{ltb}
-use lib.ListN.{length, getD}
+use lib.ListN.{length, getD, List·getD-eq-default}
 use lib.Seq.{ext-getD}
 use borrow.Author.Tests.{ltb-true, ltb-false}
-use Rattle.meaning.proofs.Cases.{by-test}
-use Rattle.tally.specs.Counts.{listOf}
+use Rattle.lists.proofs.Cases.{by-test}
+use Rattle.lists.specs.ByPlace.{listOf}
 
 -- It has n places.
 pub listOf-length : (n : ℕ) (f : ℕ → ℕ) → length (listOf n f) ≡ n
@@ -25,6 +24,10 @@ unfolding listOf
 listOf-at zero f p h = absurd (omega arith)
 listOf-at (suc n) f zero h = refl
 listOf-at (suc n) f (suc p) h = listOf-at n (λ p. f (suc p)) p (omega arith)
+
+-- From place n on `getD` gives 0.
+pub listOf-past : (n : ℕ) (f : ℕ → ℕ) (p : ℕ) → n ≤ p → getD (listOf n f) p 0 ≡ 0
+listOf-past n f p h = List·getD-eq-default (listOf n f) 0 {n = p} (omega (arith, listOf-length n f))
 
 -- A list of n places that has f p at each p is that list.
 pub listOf-is : (xs : List ℕ) (n : ℕ) (f : ℕ → ℕ) → length xs ≡ n → ((p : ℕ) → p < n → getD xs p 0 ≡ f p) → xs ≡ listOf n f

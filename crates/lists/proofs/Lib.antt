@@ -1,0 +1,5 @@
+-- Laws of lists, areas and tests that several crates cite. They know no ring, no line and no book.
+pub mod Cases
+pub mod ByPlace
+pub mod Areas
+pub mod Records
