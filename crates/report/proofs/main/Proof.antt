@@ -1,5 +1,4 @@
--- `report::main`, which has no contract, is safe: what it writes lies within its array, since the answer's text does.
--- Assumes nothing.
+-- `report::main`, which has no contract, is safe: what it hands on lies within its arrays, the input read (`read_input`) and the answer's text (`answer-within`).
 use mathlib.Core.Path.{sym}
 use lib.Seq.{length-take-le}
 use Rattle.request.proofs.AskedParts.{answer-within}
@@ -7,17 +6,17 @@ use borrow.Author.Needs.{needs}
 use Rattle.report.proofs.main.Statement.{statement}
 use Rattle.report.proofs.main.Tie as tie
 
-slice-aggregate-read-full : tie.Need-slice-aggregate-read-full
-slice-aggregate-read-full c = search needs
+slice-aggregate-read-input : tie.Need-slice-aggregate-read-input
+slice-aggregate-read-input c = search needs
 
-read-full-requires : tie.Need-read-full-requires
-read-full-requires c κs = search needs
+read-input-requires : tie.Need-read-input-requires
+read-input-requires c κs = search needs
 
 array-share-prefix-input : tie.Need-array-share-prefix-input
 array-share-prefix-input c = search needs
 
 slice-aggregate-answer : tie.Need-slice-aggregate-answer
-slice-aggregate-answer c = search needs
+slice-aggregate-answer c = sym (length-take-le _ _ (c .before .before .read-input .ensures))
 
 answer-requires : tie.Need-answer-requires
 answer-requires c κs = search needs
@@ -31,19 +30,31 @@ slice-aggregate-write-all c = sym (length-take-le _ _ (answer-within (c .before 
 write-all-requires : tie.Need-write-all-requires
 write-all-requires c κs = search needs
 
+slice-aggregate-write-all-2 : tie.Need-slice-aggregate-write-all-2
+slice-aggregate-write-all-2 c = search needs
+
+write-all-requires-2 : tie.Need-write-all-requires-2
+write-all-requires-2 c κs = search needs
+
 returns : tie.Need-returns
 returns c = search needs
+
+returns-2 : tie.Need-returns-2
+returns-2 c = search needs
 
 pub main-spec : {M : Type 1} → statement M
 main-spec =
     tie.close
     (tie.spec
-    slice-aggregate-read-full
-    read-full-requires
+    slice-aggregate-read-input
+    read-input-requires
     array-share-prefix-input
     slice-aggregate-answer
     answer-requires
     array-share-prefix-text
     slice-aggregate-write-all
     write-all-requires
-    returns)
+    slice-aggregate-write-all-2
+    write-all-requires-2
+    returns
+    returns-2)
