@@ -40,5 +40,5 @@ module _ (ring line : List ℕ) (from steps below : ℕ) (old : List ℕ) where
   moved-yes new r passed moved = record { is = rw passed (moved .is) }
 
   -- Any others are left alone.
-  pub moved-no : test ≡ false → IsMoved ring line from steps below old old (record { start = from; least = 0; looks = 0 })
+  pub moved-no : test ≡ false → IsMoved ring line from steps below old old (record { start = record { 0 = from }; least = 0; looks = 0 })
   moved-no failed = record { is = rw failed refl }

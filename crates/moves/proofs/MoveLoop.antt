@@ -97,7 +97,7 @@ module _ (ring line : List ℕ) (from steps below : ℕ) (old : List ℕ) (can :
       least-of-step = ap (λ (p : CountsAt). p .least) step-is
 
       -- It ends the way.
-      pub moving-stops : z .least < below → IsMovedOn ring line from steps below old new (record { start = i + 1; least = z .least; looks = looks + z .looks })
+      pub moving-stops : z .least < below → IsMovedOn ring line from steps below old new (record { start = record { 0 = i + 1 }; least = z .least; looks = looks + z .looks })
       moving-stops near = record {
         is = sym step-is ∙ sym (move-stops ring line below (from + steps - (i + 1)) here-at (omega (arith, least-of-step)))
             ∙ ap (λ (n : ℕ). moveOn ring line below n here-at) (sym one-less) ∙ before .still;
@@ -117,7 +117,7 @@ module _ (ring line : List ℕ) (from steps below : ℕ) (old : List ℕ) (can :
       }
 
     -- After the last turn no step is left.
-    pub moving-end : from + steps ≤ i → IsMovedOn ring line from steps below old counts (record { start = i; least = least; looks = looks })
+    pub moving-end : from + steps ≤ i → IsMovedOn ring line from steps below old counts (record { start = record { 0 = i }; least = least; looks = looks })
     moving-end done =
         let none : from + steps - i ≡ 0 = omega arith in
         record {

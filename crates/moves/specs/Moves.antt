@@ -91,7 +91,7 @@ movedFrom ring line from steps below old =
 
 -- Where an answer and the counts say that they came to.
 abbrev pub reachedWith : Reached → List ℕ → CountsAt
-reachedWith r counts = record { start = r .start; counts = counts; least = r .least; looks = r .looks }
+reachedWith r counts = record { start = r .start .0; counts = counts; least = r .least; looks = r .looks }
 
 -- What `move_counts` promises: of ring, line, the start to move from, the steps, the bound, the counts, the counts at exit and the answer.
 pub record IsMoved (ring line : List ℕ) (from steps below : ℕ) (old new : List ℕ) (r : Reached) : Type 0 where
@@ -99,11 +99,11 @@ pub record IsMoved (ring line : List ℕ) (from steps below : ℕ) (old new : Li
 
 -- Where a tally moved from start `from` came to: so many steps on, or sooner, at the first start on the way whose least count is below `below`.
 pub record IsReached (ring line : List ℕ) (from steps below : ℕ) (counts : List ℕ) (r : Reached) : Type 0 where
-  pub after : from < r .start
-  pub start-le : r .start ≤ from + steps
-  pub verified : Verified ring line (r .start) ((r .start - from) * stepLooks (length ring)) counts (r .least) (r .looks)
-  pub passed : (j : ℕ) → from < j → j < r .start → below ≤ leastDistance ring line j
-  pub stopped : r .start < from + steps → r .least < below
+  pub after : from < r .start .0
+  pub start-le : r .start .0 ≤ from + steps
+  pub verified : Verified ring line (r .start .0) ((r .start .0 - from) * stepLooks (length ring)) counts (r .least) (r .looks)
+  pub passed : (j : ℕ) → from < j → j < r .start .0 → below ≤ leastDistance ring line j
+  pub stopped : r .start .0 < from + steps → r .least < below
 
 -- From here on: what private functions ask and promise.
 

@@ -1,6 +1,7 @@
 // Rule 5: "the tally of one count per rotation is kept and moved along the line."
 use crate::steps::Reached;
 use crate::steps::move_along;
+use answers::LinePlace;
 use tally::MOST_COUNTS;
 ghost use mathlib.Core.Path.{_≡_};
 ghost use lib.ListN.{length};
@@ -25,12 +26,12 @@ fn move_tally(
     tally: &mut Tally,
     ring: &[u8],
     line: &[u8],
-    from: usize,
+    from: LinePlace,
     steps: usize,
     below: usize,
 ) -> Reached
-    requires { ⌜ CanMove (length (now ring)) (length (now tally .counts)) (length (now line)) from steps ⌝ }
-    ensures { λ z. ⌜ IsMovedOn (now (ring .entry)) (now (line .entry)) from steps below (now (tally .entry) .counts) (now (tally .exit) .counts) z ⌝ }
+    requires { ⌜ CanMove (length (now ring)) (length (now tally .counts)) (length (now line)) (from .0) steps ⌝ }
+    ensures { λ z. ⌜ IsMovedOn (now (ring .entry)) (now (line .entry)) (from .0) steps below (now (tally .entry) .counts) (now (tally .exit) .counts) z ⌝ }
 {
     move_along(&mut tally.counts, ring, line, from, steps, below)
 }
@@ -40,12 +41,12 @@ fn moved_tally(
     tally: Tally,
     ring: &[u8],
     line: &[u8],
-    from: usize,
+    from: LinePlace,
     steps: usize,
     below: usize,
 ) -> Moved
-    requires { ⌜ CanMove (length (now ring)) (length (tally .counts)) (length (now line)) from steps ⌝ }
-    ensures { λ z. ⌜ IsMovedOn (now (ring .entry)) (now (line .entry)) from steps below (tally .counts) (z .tally .counts) (z .reached) ⌝ }
+    requires { ⌜ CanMove (length (now ring)) (length (tally .counts)) (length (now line)) (from .0) steps ⌝ }
+    ensures { λ z. ⌜ IsMovedOn (now (ring .entry)) (now (line .entry)) (from .0) steps below (tally .counts) (z .tally .counts) (z .reached) ⌝ }
 {
     let mut kept = tally;
     let reached = move_tally(&mut kept, ring, line, from, steps, below);
@@ -58,9 +59,10 @@ fn moved_tally(
 // Whether the tally of a ring of m edges can be moved so many steps: a count for each rotation, and a window in the line
 // after each step. The places are compared before anything is added to them, so nothing overflows. The counts are always
 // 256; their length is asked since a contract does not know it of an array that is lent.
-fn can_move(m: usize, room: usize, n: usize, from: usize, steps: usize) -> bool
-    ensures { λ r. ⌜ r ≡ canMove m room n from steps ⌝ }
+fn can_move(m: usize, room: usize, n: usize, from: LinePlace, steps: usize) -> bool
+    ensures { λ r. ⌜ r ≡ canMove m room n (from .0) steps ⌝ }
 {
+    let start = from.0;
     if m == 0 {
         return false;
     }
@@ -76,10 +78,10 @@ fn can_move(m: usize, room: usize, n: usize, from: usize, steps: usize) -> bool
     if n < m {
         return false;
     }
-    if n - m < from {
+    if n - m < start {
         return false;
     }
-    steps <= n - m - from
+    steps <= n - m - start
 }
 
 // The counts of a search moved along, or left alone where they cannot be. They go into a tally and come back once, however
@@ -88,11 +90,11 @@ pub fn move_counts(
     counts: &mut [u16; MOST_COUNTS],
     ring: &[u8],
     line: &[u8],
-    from: usize,
+    from: LinePlace,
     steps: usize,
     below: usize,
 ) -> Reached
-    ensures { λ z. ⌜ IsMoved (now (ring .entry)) (now (line .entry)) from steps below (now (counts .entry)) (now (counts .exit)) z ⌝ }
+    ensures { λ z. ⌜ IsMoved (now (ring .entry)) (now (line .entry)) (from .0) steps below (now (counts .entry)) (now (counts .exit)) z ⌝ }
 {
     let all = &counts[..];
     if !can_move(ring.len(), all.len(), line.len(), from, steps) {

@@ -1,5 +1,6 @@
 // Rule 5: the tally moved along the line, each step 2·m looks. The counts stand under the rotations' own numbers
 // (specs/Tallied.antt of crates/tally), so a step renumbers them.
+use answers::LinePlace;
 use tally::Least;
 use tally::MOST_COUNTS;
 use tally::differing;
@@ -78,7 +79,7 @@ fn step(counts: &mut [u16; MOST_COUNTS], ring: &[u8], leaving: u8, entering: u8)
 
 // Where moved counts came to: the start, the least of its counts, and the looks of the steps.
 pub struct Reached {
-    pub start: usize,
+    pub start: LinePlace,
     pub least: usize,
     pub looks: usize,
 }
@@ -89,34 +90,35 @@ pub fn move_along(
     counts: &mut [u16; MOST_COUNTS],
     ring: &[u8],
     line: &[u8],
-    from: usize,
+    from: LinePlace,
     steps: usize,
     below: usize,
 ) -> Reached
-    requires { ⌜ CanMove (length (now ring)) (length (now counts)) (length (now line)) from steps ⌝ }
-    ensures { λ z. ⌜ IsMovedOn (now (ring .entry)) (now (line .entry)) from steps below (now (counts .entry)) (now (counts .exit)) z ⌝ }
+    requires { ⌜ CanMove (length (now ring)) (length (now counts)) (length (now line)) (from .0) steps ⌝ }
+    ensures { λ z. ⌜ IsMovedOn (now (ring .entry)) (now (line .entry)) (from .0) steps below (now (counts .entry)) (now (counts .exit)) z ⌝ }
 {
     let m = ring.len();
     let mut least: usize = 0;
     let mut looks: usize = 0;
-    let mut i = from;
-    while i < from + steps {
-        let here = window(line, i, m);
-        let next = window(line, i + 1, m);
+    let end = from.0 + steps;
+    let mut i = from.0;
+    while i < end {
+        let here = window(line, LinePlace(i), m);
+        let next = window(line, LinePlace(i + 1), m);
         let stepped = step(counts, ring, here[0], next[m - 1]);
         least = stepped.least;
         looks += stepped.looks;
         i += 1;
         if least < below {
             return Reached {
-                start: i,
+                start: LinePlace(i),
                 least,
                 looks,
             };
         }
     }
     Reached {
-        start: i,
+        start: LinePlace(i),
         least,
         looks,
     }

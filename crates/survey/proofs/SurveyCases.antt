@@ -26,7 +26,7 @@ use Rattle.tally.proofs.TallyFinding.{least-no, least-yes}
 module _ {ring doubled line : List ℕ} {k i : ℕ} {old : List ℕ} (can : CanVerifyOn ring doubled line k i old) where
   -- The first start is counted afresh.
   pub first-verified : {edges counts : List ℕ} {z : Least} → i ≡ 0 → IsWindow line i (length ring) edges → IsCounted doubled edges old counts z
-      → IsVerifiedOn ring line k i counts (record { start = i; least = z .least; looks = z .looks })
+      → IsVerifiedOn ring line k i counts (record { start = record { 0 = i }; least = z .least; looks = z .looks })
   unfolding surveyLooksBelow
   first-verified {edges} {counts} {z} first handed counted =
       let v = counted-verified ring line i doubled old counts edges z (can .fits .size) (can .fits .some-edge) (can .fits .most) (can .twice) (can .in-line) handed counted in
@@ -59,13 +59,13 @@ module _ {ring doubled line : List ℕ} {k i : ℕ} {old : List ℕ} (can : CanV
       let reached : IsReached ring line (i - 1) (length line - length ring - (i - 1)) (k + 1) counts r =
       moved-tallied ring line (k + 1) (can .fits .some-edge) (can .fits .most) (i - 1) (length line - length ring - (i - 1)) old (can .before after)
       (omega (arith, can .in-line)) (omega (arith, can .in-line)) (omega (arith, can .most-line)) counts r moved in
-      let in-line : r .start + length ring ≤ length line = omega (arith, can .in-line, reached .start-le) in
+      let in-line : r .start .0 + length ring ≤ length line = omega (arith, can .in-line, reached .start-le) in
       record {
         start-ge = omega (arith, reached .after);
         in-line = in-line;
         tallied = reached .verified .tallied;
         least-is = reached .verified .least-is;
-        looks-are = rw (reached .verified .looks-are) (steps-cost (r .start) after (omega (arith, reached .after)) in-line);
+        looks-are = rw (reached .verified .looks-are) (steps-cost (r .start .0) after (omega (arith, reached .after)) in-line);
         passed = λ j lo hi. omega (arith, reached .passed j (omega arith) hi);
       }
 
@@ -74,16 +74,16 @@ module _ {ring doubled line : List ℕ} {k i : ℕ} {old : List ℕ} (can : CanV
     pub reached-none : k < r .least → IsSurveyedOn ring line k i (NoFinding r) counts
     reached-none far = record {
       verified = v;
-      found-are = sym (least-no ring line k (r .start) counts (r .least) (can .fits .some-edge) (v .tallied) (v .least-is) far);
+      found-are = sym (least-no ring line k (r .start .0) counts (r .least) (can .fits .some-edge) (v .tallied) (v .least-is) far);
     }
 
     -- A finding.
     pub reached-found : (f : FindingStruct) {rotation : ℕ} → r .least ≤ k → IsLowestWith (length ring) counts (r .least) rotation
-        → f .start .0 ≡ r .start → f .rotation .0 ≡ rotation → f .distance ≡ r .least → IsSurveyedOn ring line k i (Found r f) counts
+        → f .start .0 ≡ r .start .0 → f .rotation .0 ≡ rotation → f .distance ≡ r .least → IsSurveyedOn ring line k i (Found r f) counts
     reached-found f {rotation} near low fs fr fd = record {
       verified = v;
       found-are =
           ap {A = Finding} (λ x. x ∷ []) (λ j. record { start = fs j; rotation = fr j; distance = fd j })
-          ∙ sym (least-yes ring line k (r .start) counts (r .least) (can .fits .some-edge) (v .tallied) (v .least-is) rotation
+          ∙ sym (least-yes ring line k (r .start .0) counts (r .least) (can .fits .some-edge) (v .tallied) (v .least-is) rotation
           (lowest-at counts (r .least) (length ring) rotation (can .fits .most) (v .least-is) low) (v .in-line) near);
     }

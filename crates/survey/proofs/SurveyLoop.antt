@@ -93,51 +93,51 @@ module _ {ring doubled line : List ℕ} {k : ℕ} {counts₀ area : List ℕ} {i
     verified = rw is-reached at (turn .surveyed .verified)
 
     -- what was reported is what the start reached gives
-    reported-is : foundOf r ≡ foundAt ring line k (reached .start)
+    reported-is : foundOf r ≡ foundAt ring line k (reached .start .0)
     reported-is = rw is-reached at (turn .surveyed .found-are)
 
     -- The looks with those of the starts verified: m ≤ 256 and n ≤ 65,536.
     pub survey-looks-le : looks + reached .looks ≤ afreshLooks mostCounts + mostLine * stepLooks mostCounts
     survey-looks-le =
         let steps : stepLooks (length ring) ≤ stepLooks mostCounts = omega (arith, admitted .most-ring) in
-        let starts : reached .start ≤ mostLine = omega (arith, verified .in-line, admitted .most-line) in
+        let starts : reached .start .0 ≤ mostLine = omega (arith, verified .in-line, admitted .most-line) in
         omega (
           arith,
           turn .keeps .looks-are,
           verified .looks-are,
-          ap (surveyLooksBelow ring line) (add-one (reached .start)) ∙ surveyLooks-below ring line (reached .start) (verified .in-line),
+          ap (surveyLooksBelow ring line) (add-one (reached .start .0)) ∙ surveyLooks-below ring line (reached .start .0) (verified .in-line),
           mul-le-mul (admitted .most-ring) (admitted .most-ring),
           mul-le-mul starts steps,
         )
 
     -- the next start is in the line, or just past the last
-    next-le : reached .start + 1 ≤ length line
+    next-le : reached .start .0 + 1 ≤ length line
     next-le = omega (arith, verified .in-line, admitted .some-edge)
 
     -- So it is at most 65,536.
-    pub survey-start-le : reached .start + 1 ≤ mostLine
+    pub survey-start-le : reached .start .0 + 1 ≤ mostLine
     survey-start-le = omega (arith, next-le, admitted .most-line)
 
     -- The places that are left fall.
-    pub survey-less : length line + 1 - (reached .start + 1) < length line + 1 - i
+    pub survey-less : length line + 1 - (reached .start .0 + 1) < length line + 1 - i
     survey-less = omega (arith, verified .start-ge, turn .in-line)
 
     -- the starts passed are no findings
-    below-turn : findingsBelow ring line k (reached .start + 1) ≡ findingsBelow ring line k i ++ foundAt ring line k (reached .start)
+    below-turn : findingsBelow ring line k (reached .start .0 + 1) ≡ findingsBelow ring line k i ++ foundAt ring line k (reached .start .0)
     unfolding findingsBelow
     below-turn =
-        let there : i + (reached .start - i) ≡ reached .start = omega (arith, verified .start-ge) in
-        let passed : findingsBelow ring line k (reached .start) ≡ findingsBelow ring line k i =
+        let there : i + (reached .start .0 - i) ≡ reached .start .0 = omega (arith, verified .start-ge) in
+        let passed : findingsBelow ring line k (reached .start .0) ≡ findingsBelow ring line k i =
         ap (findingsBelow ring line k) (sym there)
-        ∙ below-same ring line k i (reached .start - i) (λ t lo hi. found-no ring line k t (verified .passed t lo (omega arith)))
+        ∙ below-same ring line k i (reached .start .0 - i) (λ t lo hi. found-no ring line k t (verified .passed t lo (omega arith)))
         in
-        rw (add-one (reached .start), passed)
+        rw (add-one (reached .start .0), passed)
 
     -- what the loop keeps after them, finding or not
-    survey-turn : {found′ : ℕ} {words′ : List ℕ} → WordsSoFar area (findingsBelow ring line k i ++ foundAt ring line k (reached .start)) found′ words′
-        → SurveyKeeps ring line k area (reached .start + 1) found′ (looks + reached .looks) counts′ words′
+    survey-turn : {found′ : ℕ} {words′ : List ℕ} → WordsSoFar area (findingsBelow ring line k i ++ foundAt ring line k (reached .start .0)) found′ words′
+        → SurveyKeeps ring line k area (reached .start .0 + 1) found′ (looks + reached .looks) counts′ words′
     survey-turn put =
-        let here : reached .start + 1 - 1 ≡ reached .start = omega arith in
+        let here : reached .start .0 + 1 - 1 ≡ reached .start .0 = omega arith in
         record {
           start-le = next-le;
           put = rw below-turn put;
@@ -147,22 +147,22 @@ module _ {ring doubled line : List ℕ} {k : ℕ} {counts₀ area : List ℕ} {i
         }
 
     -- The start reached is no finding.
-    pub survey-none : foundOf r ≡ [] → SurveyKeeps ring line k area (reached .start + 1) found (looks + reached .looks) counts′ words
+    pub survey-none : foundOf r ≡ [] → SurveyKeeps ring line k area (reached .start .0 + 1) found (looks + reached .looks) counts′ words
     survey-none e =
-        let none : findingsBelow ring line k i ++ foundAt ring line k (reached .start) ≡ findingsBelow ring line k i =
+        let none : findingsBelow ring line k i ++ foundAt ring line k (reached .start .0) ≡ findingsBelow ring line k i =
         ap (λ (l : List Finding). findingsBelow ring line k i ++ l) (sym reported-is ∙ e) ∙ append-nil _
         in
         survey-turn (rw none (turn .keeps .put))
 
     module _ {f : Finding} (e : foundOf r ≡ f ∷ []) {out : List ℕ} (put : IsPut words found f out) where
       -- a finding at the start reached
-      found-here : foundAt ring line k (reached .start) ≡ f ∷ []
+      found-here : foundAt ring line k (reached .start .0) ≡ f ∷ []
       found-here = sym reported-is ∙ e
 
       -- its numbers are 32-bit words
       three-words : IsThreeWords f
       three-words =
-          let small = found-small ring line k (reached .start) f (admitted .some-edge) found-here in
+          let small = found-small ring line k (reached .start .0) f (admitted .some-edge) found-here in
           admitted-three-words admitted (omega (arith, small .0, verified .in-line)) (small .1) (small .2)
 
       -- one finding more is put
@@ -174,5 +174,5 @@ module _ {ring doubled line : List ℕ} {k : ℕ} {counts₀ area : List ℕ} {i
       survey-put-length = so-far-length put-one-more (omega (arith, room-behind))
 
       -- The start reached is a finding, whose words are put behind the others.
-      pub survey-found : SurveyKeeps ring line k area (reached .start + 1) (found + 1) (looks + reached .looks) counts′ out
+      pub survey-found : SurveyKeeps ring line k area (reached .start .0 + 1) (found + 1) (looks + reached .looks) counts′ out
       survey-found = survey-turn (rw found-here put-one-more)

@@ -43,12 +43,12 @@ pub record CanVerifyOn (ring doubled line : List ℕ) (k i : ℕ) (counts : List
 -- The starts from i on are verified, up to the one reached: the counts hold its tally, and those passed are no findings. The looks are the survey's for
 -- these starts, "the first afresh and each next by one step".
 pub record IsVerifiedOn (ring line : List ℕ) (k i : ℕ) (counts : List ℕ) (r : Reached) : Type 0 where
-  pub start-ge : i ≤ r .start
-  pub in-line : r .start + length ring ≤ length line
-  pub tallied : Tallied ring line (r .start) counts
+  pub start-ge : i ≤ r .start .0
+  pub in-line : r .start .0 + length ring ≤ length line
+  pub tallied : Tallied ring line (r .start .0) counts
   pub least-is : IsLeast (length ring) counts (r .least)
-  pub looks-are : surveyLooksBelow ring line i + r .looks ≡ surveyLooksBelow ring line (r .start + 1)
-  pub passed : (j : ℕ) → i ≤ j → j < r .start → k < leastDistance ring line j
+  pub looks-are : surveyLooksBelow ring line i + r .looks ≡ surveyLooksBelow ring line (r .start .0 + 1)
+  pub passed : (j : ℕ) → i ≤ j → j < r .start .0 → k < leastDistance ring line j
 
 -- The start that was reached.
 abbrev pub reachedOf : Surveyed → Reached
@@ -63,7 +63,7 @@ foundOf (Found reached f) = findingOf f ∷ []
 -- The starts from i on are verified, up to the one reached, and that is reported if it is a finding.
 pub record IsSurveyedOn (ring line : List ℕ) (k i : ℕ) (r : Surveyed) (counts : List ℕ) : Type 0 where
   pub verified : IsVerifiedOn ring line k i counts (reachedOf r)
-  pub found-are : foundOf r ≡ foundAt ring line k (reachedOf r .start)
+  pub found-are : foundOf r ≡ foundAt ring line k (reachedOf r .start .0)
 
 -- What surveying a line asks: a call that is accepted, the ring's double, and the tally's counts, whatever they hold.
 pub record CanSurvey (ring doubled line : List ℕ) (k : ℕ) (counts words : List ℕ) : Type 0 where

@@ -1,6 +1,5 @@
 // The plain survey: every start is verified, the first afresh and each next by one step.
 use answers::LinePlace;
-use answers::RingPlace;
 use findings::Counted;
 use findings::Finding;
 use findings::Searched;
@@ -39,15 +38,22 @@ fn verify_on(
 {
     let m = ring.len();
     if i == 0 {
-        let first = count_afresh(counts, doubled, window(line, i, m));
+        let first = count_afresh(counts, doubled, window(line, LinePlace(i), m));
         Reached {
-            start: i,
+            start: LinePlace(i),
             least: first.least,
             looks: first.looks,
         }
     } else {
         let from = i - 1;
-        move_counts(counts, ring, line, from, line.len() - m - from, k + 1)
+        move_counts(
+            counts,
+            ring,
+            line,
+            LinePlace(from),
+            line.len() - m - from,
+            k + 1,
+        )
     }
 }
 
@@ -68,12 +74,13 @@ fn survey_on(
     if k < distance {
         return Surveyed::NoFinding(reached);
     }
+    let start = reached.start;
     let rotation = lowest_rotation(counts, ring.len(), distance);
     Surveyed::Found(
         reached,
         Finding {
-            start: LinePlace(reached.start),
-            rotation: RingPlace(rotation),
+            start,
+            rotation,
             distance,
         },
     )
@@ -99,13 +106,13 @@ fn survey_starts(
         match survey_on(counts, ring, doubled, line, k, i) {
             Surveyed::NoFinding(reached) => {
                 looks += reached.looks;
-                i = reached.start + 1;
+                i = reached.start.0 + 1;
             }
             Surveyed::Found(reached, finding) => {
                 put_finding(words, found, finding);
                 found += 1;
                 looks += reached.looks;
-                i = reached.start + 1;
+                i = reached.start.0 + 1;
             }
         }
     }

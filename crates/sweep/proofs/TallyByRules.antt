@@ -51,7 +51,7 @@ module _ (ring doubled line : List ℕ) (i : ℕ) (old : List ℕ) where
   moved-by-rules from can =
       let before : from < i = can .before .0 in
       let to : CountsAt = movedFrom ring line from (i - from) 0 old in
-      let r : Reached = record { start = to .start; least = to .least; looks = to .looks } in
+      let r : Reached = record { start = record { 0 = to .start }; least = to .least; looks = to .looks } in
       let reached : IsReached ring line from (i - from) 0 (to .counts) r =
       moved-tallied ring line 0 (can .fits .some-edge) (can .fits .most) from (i - from) old (can .before .1) (omega arith)
       (omega (arith, can .in-line)) (omega (arith, can .most-line)) (to .counts) r (record { is = refl }) in

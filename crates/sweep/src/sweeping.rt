@@ -4,7 +4,6 @@ use crate::reading::read_window;
 use crate::verifying::LastVerified;
 use crate::verifying::verify;
 use answers::LinePlace;
-use answers::RingPlace;
 use findings::Finding;
 use moves::MOST_PLACES;
 use tally::MOST_COUNTS;
@@ -59,7 +58,7 @@ fn read_windows(
     let mut i = from;
     let mut looks: usize = 0;
     while i + m <= line.len() {
-        let read = read_window(window(line, i, m), table, k);
+        let read = read_window(window(line, LinePlace(i), m), table, k);
         looks += read.looks;
         let next = i + read.left + 1;
         if read.breaks <= k {
@@ -119,7 +118,7 @@ fn to_candidate(
         next,
         Finding {
             start: LinePlace(i),
-            rotation: RingPlace(rotation),
+            rotation,
             distance,
         },
     )

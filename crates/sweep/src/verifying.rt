@@ -1,4 +1,5 @@
 // Rule 5: the tally is kept, and moved along the line from one verified start to the next.
+use answers::LinePlace;
 use moves::move_counts;
 use tally::Least;
 use tally::MOST_COUNTS;
@@ -29,17 +30,17 @@ pub fn verify(
 {
     let m = ring.len();
     match last {
-        LastVerified::Nothing => count_afresh(counts, doubled, window(line, i, m)),
+        LastVerified::Nothing => count_afresh(counts, doubled, window(line, LinePlace(i), m)),
         LastVerified::At(from) => {
             if i <= from {
-                return count_afresh(counts, doubled, window(line, i, m));
+                return count_afresh(counts, doubled, window(line, LinePlace(i), m));
             }
             let s = i - from;
             if m < 2 * s {
-                count_afresh(counts, doubled, window(line, i, m))
+                count_afresh(counts, doubled, window(line, LinePlace(i), m))
             } else {
                 // No least count is below 0: it moves all the s steps.
-                let reached = move_counts(counts, ring, line, from, s, 0);
+                let reached = move_counts(counts, ring, line, LinePlace(from), s, 0);
                 Least {
                     least: reached.least,
                     looks: reached.looks,

@@ -3,6 +3,7 @@
 use Prim.Native.Nat.{ℕ}
 use mathlib.Core.Path.{_≡_, sym, _∙_}
 use mathlib.Core.List.{List}
+use Rattle.answers.specs.declared.places.RingPlace.{RingPlace}
 use Rattle.tally.specs.declared.counts.Least.{Least}
 use Rattle.tally.specs.Windows.{IsWindow}
 use Rattle.tally.specs.Counts.{IsComparison, IsDoubled, IsCounted, IsLowestWith}
@@ -28,5 +29,5 @@ one-count doubled window old new new′ z z′ a b = (
 )
 
 -- Any two answers of `lowest_rotation` are equal.
-pub one-rotation : (m : ℕ) (counts : List ℕ) (least r r′ : ℕ) → IsLowestWith m counts least r → IsLowestWith m counts least r′ → r ≡ r′
-one-rotation m counts least r r′ a b = a .is ∙ sym (b .is)
+pub one-rotation : (m : ℕ) (counts : List ℕ) (least : ℕ) (r r′ : RingPlace) → IsLowestWith m counts least (r .0) → IsLowestWith m counts least (r′ .0) → r ≡ r′
+one-rotation m counts least r r′ a b = λ i. record { 0 = (a .is ∙ sym (b .is)) i }

@@ -1,4 +1,5 @@
 // Counts of differing edges, one for each rotation. A count is at most 256, which eight bits do not hold.
+use answers::RingPlace;
 ghost use mathlib.Core.Path.{_≡_};
 ghost use Prim.Native.Nat.{min};
 ghost use lib.ListN.{length};
@@ -65,16 +66,16 @@ fn rotations(m: usize) -> usize
 
 // The lowest of m rotations whose count is the least, and m where none has that count; a larger m counts as 256. It is
 // looked for only where a start is a finding.
-pub fn lowest_rotation(counts: &[u16; MOST_COUNTS], m: usize, least: usize) -> usize
-    ensures { λ r. ⌜ IsLowestWith m (now (counts .entry)) least r ⌝ }
+pub fn lowest_rotation(counts: &[u16; MOST_COUNTS], m: usize, least: usize) -> RingPlace
+    ensures { λ r. ⌜ IsLowestWith m (now (counts .entry)) least (r .0) ⌝ }
 {
     let all = rotations(m);
     let mut rotation = 0;
     while rotation < all {
         if wide(counts[rotation]) == least {
-            return rotation;
+            return RingPlace(rotation);
         }
         rotation += 1;
     }
-    rotation
+    RingPlace(rotation)
 }

@@ -35,7 +35,7 @@ use denote.Builtin.{u8, u16, usize}
 use denote.Ref.{RefT, MutRef, ptr-vals, mut-tells}
 use denote.Slice.{sliceVal, ShrSlice, slice-vals, shr-slice-tells, shr-slice-lawful, shr-slice-copy}
 use denote.Steps.{peeks, heard}
-use denote.Struct.Laws.{lawfuls, lawful}
+use denote.Struct.Laws as laws
 use denote.Struct.Members.{Member}
 use denote.Struct.Parts.{PartsBack}
 use denote.Struct.Pick.{restAt, record-field-out, record-field-back}
@@ -48,10 +48,13 @@ use denote.Triple.Table.{entered, cited}
 use denote.Triple.Walked.{says, needs, Stays, stay-ref, stay-none, stay-none-slice, walkOf, goes-ref, goes-none, goes-none-slice, Walks, ends-at, walked, walk-meets}
 use denote.Exit.{yes}
 use denote.Signature.{plain}
+use Rattle.answers.specs.declared.places.LinePlace.{LinePlace}
+use Rattle.answers.proofs.places.LinePlace as Place
+use Rattle.answers.proofs.places.LinePlace.Laws as Place′
 use Rattle.moves.specs.declared.moving.Tally.{Tally}
 use Rattle.moves.specs.declared.steps.Reached.{Reached}
 use Rattle.moves.specs.Moves.{CanMove, IsMovedOn}
-use Rattle.moves.proofs.WalkArguments.{six-owned}
+use Rattle.moves.proofs.WalkArguments.{placeVal, six-owned}
 use Rattle.moves.proofs.moving.Tally as T
 use Rattle.moves.proofs.moving.Tally.Laws as T′
 use Rattle.moves.proofs.steps.Reached as Out
@@ -73,7 +76,7 @@ stayed = (
     stay-none-slice (1 ∷ []) tt (plain (λ _. u8)) yes,
     (
       stay-none-slice (2 ∷ []) tt (plain (λ _. u8)) yes,
-      (stay-none (λ _. usize) yes, (stay-none (λ _. usize) yes, (stay-none (λ _. usize) yes, tt))),
+      (stay-none (λ _. Place.the-row) yes, (stay-none (λ _. usize) yes, (stay-none (λ _. usize) yes, tt))),
     ),
   ),
 )
@@ -91,15 +94,15 @@ Called 𝓤 H A mem run = tripleOf 𝓤 H A callee.signature (callee.spec 𝓤 H
 
 module _ {M : Type 1} (𝓤 : URA M) (H : Heap 𝓤) (A : Atoms 𝓤) (W : Given 𝓤 H A) (at-mem : Memory → SProp 𝓤) (run : Routine → Fun 𝓤)
     (κ κ′ κ″ : Lft) (bounds : AllOutlive 3 (this.signature .outlives) (κ, (κ′, (κ″, tt)))) (q q′ q″ : Share)
-    (b o : ℕ) (γ : GName) (counts : List ℕ) (ring line : RefT (List ℕ)) (start steps below : ℕ)
-    (start-fits : start < 2 ^ 64) (steps-fits : steps < 2 ^ 64) (below-fits : below < 2 ^ 64) where
+    (b o : ℕ) (γ : GName) (counts : List ℕ) (ring line : RefT (List ℕ)) (start : LinePlace) (steps below : ℕ)
+    (is-start : Is Place.the-row start (placeVal start ∷ [])) (steps-fits : steps < 2 ^ 64) (below-fits : below < 2 ^ 64) where
   abbrev R : RattleType
   R = T.the-row
 
   abbrev tallyOf : List ℕ → Tally
   tallyOf l = record { counts = l }
 
-  abbrev args : RefT Tally × (RefT (List ℕ) × (RefT (List ℕ) × (ℕ × (ℕ × (ℕ × Unit {0})))))
+  abbrev args : RefT Tally × (RefT (List ℕ) × (RefT (List ℕ) × (LinePlace × (ℕ × (ℕ × Unit {0})))))
   args = (record { ptr = (b, o); name = γ; now = tallyOf counts }, (ring, (line, (start, (steps, (below, tt))))))
 
   -- The machine values of the ring and of the line.
@@ -110,7 +113,7 @@ module _ {M : Type 1} (𝓤 : URA M) (H : Heap 𝓤) (A : Atoms 𝓤) (W : Given
   lineVal = sliceVal (line .ptr) (length (line .now))
 
   abbrev vals : List Val × (List Val × (List Val × (List Val × (List Val × (List Val × Unit {0})))))
-  vals = (vptr b o ∷ [], (ringVal ∷ [], (lineVal ∷ [], (vint w64 start ∷ [], (vint w64 steps ∷ [], (vint w64 below ∷ [], tt))))))
+  vals = (vptr b o ∷ [], (ringVal ∷ [], (lineVal ∷ [], (placeVal start ∷ [], (vint w64 steps ∷ [], (vint w64 below ∷ [], tt))))))
 
   abbrev OwnRing : Fml
   OwnRing = ShrSlice (named 1) κ′ u8 .own ring (ringVal ∷ [])
@@ -147,7 +150,7 @@ module _ {M : Type 1} (𝓤 : URA M) (H : Heap 𝓤) (A : Atoms 𝓤) (W : Given
       (fullShare, (q′, (q″, tt))),
       tt,
       (lent δ, (ring, (line, (start, (steps, (below, tt)))))),
-      (vptr b (o + 0) ∷ [], (ringVal ∷ [], (lineVal ∷ [], (vint w64 start ∷ [], (vint w64 steps ∷ [], (vint w64 below ∷ [], tt)))))),
+      (vptr b (o + 0) ∷ [], (ringVal ∷ [], (lineVal ∷ [], (placeVal start ∷ [], (vint w64 steps ∷ [], (vint w64 below ∷ [], tt)))))),
     ),
     tt,
   )
@@ -156,15 +159,15 @@ module _ {M : Type 1} (𝓤 : URA M) (H : Heap 𝓤) (A : Atoms 𝓤) (W : Given
   abbrev had : ℕ → GName → List (Item 𝓤)
   had ν δ = (‵ (flft (ν ∷ []) fullShare) ⊛ Tokens) ∷ ‵ (Lent ν δ) ∷ (‵ OwnRing ⊛ ‵ OwnLine) ∷ []
 
-  goes : (ν : ℕ) (δ : GName) → CanMove (length (ring .now)) (length counts) (length (line .now)) start steps
+  goes : (ν : ℕ) (δ : GName) → CanMove (length (ring .now)) (length counts) (length (line .now)) (start .0) steps
       → ent 𝓤 (⋆ 𝓤 H A (had ν δ)) (Called 𝓤 H A at-mem run .pre (to-callee ν δ))
   goes ν δ can =
       qed W (had ν δ) ∵
-      says ! can $ frame ! $ six-owned ! start steps below start-fits steps-fits below-fits $ done !
+      says ! can $ frame ! $ six-owned ! start steps below is-start steps-fits below-fits $ done !
 
   -- What the callee ensures, and so what the function does.
   abbrev Said : Reached → List ℕ → Type 0
-  Said r after = IsMovedOn (ring .now) (line .now) start steps below counts after r
+  Said r after = IsMovedOn (ring .now) (line .now) (start .0) steps below counts after r
 
   -- What is had at exit, and that it is what the contract says.
   abbrev left : Reached → Val → List ℕ → List (Item 𝓤)
@@ -179,21 +182,21 @@ module _ {M : Type 1} (𝓤 : URA M) (H : Heap 𝓤) (A : Atoms 𝓤) (W : Given
       (tallyOf after, (tt, (tt, (tt, (tt, (tt, tt)))))) (tt, (tt, (tt, (tt, (tt, (tt, tt)))))))
       $ says ! e $
       move ! (2 ∷ 3 ∷ []) $ join ! $ frame ! $ feqI ! (List Val) (vptr b o ∷ []) (vptr b o ∷ []) refl $ fjoin3 ! $
-      move ! (3 ∷ 2 ∷ []) $ join ! $ move ! (1 ∷ 0 ∷ []) $ six-owned ! start steps below start-fits steps-fits below-fits $ frame ! $ done !
+      move ! (3 ∷ 2 ∷ []) $ join ! $ move ! (1 ∷ 0 ∷ []) $ six-owned ! start steps below is-start steps-fits below-fits $ frame ! $ done !
 
   module _ (C : Calls 𝓤 H) (Λ : Loops 𝓤 H) (fm : FmC 𝓤 H (W .laws) C) (known : Triple 𝓤 (C #move-along) (Called 𝓤 H A at-mem run)) where
-    walk : Is (ShrSlice (named 1) κ′ u8) ring (ringVal ∷ []) → Is (ShrSlice (named 2) κ″ u8) line (lineVal ∷ []) → CanMove (length (ring .now)) (length counts) (length (line .now)) start steps
+    walk : Is (ShrSlice (named 1) κ′ u8) ring (ringVal ∷ []) → Is (ShrSlice (named 2) κ″ u8) line (lineVal ∷ []) → CanMove (length (ring .now)) (length counts) (length (line .now)) (start .0) steps
         → ent 𝓤 (onEntry 𝓤 H A this.signature (κ, (κ′, (κ″, tt))) (q, (q′, (q″, tt))) args vals)
-        (WpFn 𝓤 H C Λ code.function (vptr b o ∷ ringVal ∷ lineVal ∷ vint w64 start ∷ vint w64 steps ∷ vint w64 below ∷ []) Post)
+        (WpFn 𝓤 H C Λ code.function (vptr b o ∷ ringVal ∷ lineVal ∷ placeVal start ∷ vint w64 steps ∷ vint w64 below ∷ []) Post)
     walk is-ring is-line can =
         qed W ((‵ (flft κ q) ⊛ Tokens)
-        ∷ ‵ (owns (MutRef (named 0) κ R ∷ ShrSlice (named 1) κ′ u8 ∷ ShrSlice (named 2) κ″ u8 ∷ usize ∷ usize ∷ usize ∷ []) args vals) ∷ []) ∵
-        enter ! C Λ code.function (vptr b o ∷ ringVal ∷ lineVal ∷ vint w64 start ∷ vint w64 steps ∷ vint w64 below ∷ []) _ $
+        ∷ ‵ (owns (MutRef (named 0) κ R ∷ ShrSlice (named 1) κ′ u8 ∷ ShrSlice (named 2) κ″ u8 ∷ Place.the-row ∷ usize ∷ usize ∷ []) args vals) ∷ []) ∵
+        enter ! C Λ code.function (vptr b o ∷ ringVal ∷ lineVal ∷ placeVal start ∷ vint w64 steps ∷ vint w64 below ∷ []) _ $
         alloc1 ! (λ l₀. alloc1 ! (λ l₁. alloc1 ! (λ l₂. alloc1 ! (λ l₃. alloc1 ! (λ l₄. alloc1 ! (λ l₅. alloc1 ! (λ l₆. alloc1 ! (λ l₇. alloc0 ! $ params1 ! $
         pass1 ! (init ! 12 refl (tt, tt)) $
         pass1 ! (init ! 10 refl (shr-slice-lawful 𝓤 H A W (named 1) κ′ u8 .typed ring (ringVal ∷ []) is-ring .0)) $
         pass1 ! (init ! 8 refl (shr-slice-lawful 𝓤 H A W (named 2) κ″ u8 .typed line (lineVal ∷ []) is-line .0)) $
-        pass1 ! (init ! 6 refl (tt, record { fits = start-fits })) $ pass1 ! (init ! 4 refl (tt, record { fits = steps-fits })) $
+        pass1 ! (init ! 6 refl (laws.lawful Place.the-type Place′.the-laws 𝓤 H A W .typed start _ is-start .0)) $ pass1 ! (init ! 4 refl (tt, record { fits = steps-fits })) $
         pass1 ! (init ! 2 refl (tt, record { fits = below-fits })) $ pass0 ! $
         -- the parameters are taken apart, the slices are had twice, and the borrow is opened
         move ! (17 ∷ []) $ fsplit ! $ fsplit3 ! $ drop ! $ move ! (2 ∷ []) $ fsplit ! $
@@ -205,7 +208,7 @@ module _ {M : Type 1} (𝓤 : URA M) (H : Heap 𝓤) (A : Atoms 𝓤) (W : Given
         -- the field is taken out, and lent for a lifetime ν of the call
         use1 W (‵ (partAt Counts fullShare (map (λ (x : ℕ). x) counts) b (o + 0)) ⊛ (‵ (Rest counts) ⊛ raw Back))
         (record-field-out 𝓤 H A W fullShare (T.struct .name) members Tally (T.the-type .to) (T.the-type .to-one)
-        (lawfuls 𝓤 H A W (T.struct .parts) T′.the-laws) (tallyOf counts) b o 0)
+        (laws.lawfuls 𝓤 H A W (T.struct .parts) T′.the-laws) (tallyOf counts) b o 0)
         $ split ! $ rewrite ! 0 (λ (l : List ℕ). ‵ (partAt Counts fullShare l b (o + 0))) (map-id counts) refl $
         lft-new ! tt (λ ν. move ! (1 ∷ []) $
         use1 W (later (some (λ (δ : GName). ‵ (Lent ν δ) ⊛ ‵ (flent (ν ∷ []) (Body (mem Counts) b (o + 0) δ)))))
@@ -226,7 +229,7 @@ module _ {M : Type 1} (𝓤 : URA M) (H : Heap 𝓤) (A : Atoms 𝓤) (W : Given
         split ! $ move ! (1 ∷ []) $ heard ! (Said r (ends .0)) (λ e. fsplit ! $
         move ! (2 ∷ []) $ split ! $ move ! (1 ∷ []) $ peeks ! Out.the-row (Is Out.the-row) (shows 𝓤 H A Out.the-row) r (w ∷ []) (λ is.
         -- [the result; the tokens; the last counts; …; the lender's part; the rest of the struct; the open borrow; obs; auth; the line; what is left; the ring; _7; …]
-        land ! (from ! (stop !)) (init ! 26 refl (lawful Out.the-type Out′.the-laws 𝓤 H A W .typed r _ is .0)) $
+        land ! (from ! (stop !)) (init ! 26 refl (laws.lawful Out.the-type Out′.the-laws 𝓤 H A W .typed r _ is .0)) $
         -- the lifetime is ended, the counts come back, and the struct is put together
         move ! (1 ∷ []) $ split ! $ lft-end ! tt $ move ! (0 ∷ 5 ∷ 3 ∷ []) $
         use3 W (later (‵ (mem Counts .lies (ends .0) b (o + 0)))) (ref-back 𝓤 H A W Counts (ν ∷ []) δ (ends .0) b (o + 0)) $ await ! tt $
@@ -246,18 +249,18 @@ module _ {M : Type 1} (𝓤 : URA M) (H : Heap 𝓤) (A : Atoms 𝓤) (W : Given
       → Walks 𝓤 H A this.ended stayed (WpFn 𝓤 H C Λ code.function) (this.clauses 𝓤 H A mem run)
   walks C Λ fm known =
       walked 𝓤 H A this.ended stayed (this.clauses 𝓤 H A mem run) (WpFn 𝓤 H C Λ code.function)
-      (λ κs. (ptr-vals, (slice-vals, (slice-vals, (uint-vals w64, (uint-vals w64, (uint-vals w64, tt)))))))
+      (λ κs. (ptr-vals, (slice-vals, (slice-vals, (laws.vals Place.the-type Place′.the-laws, (uint-vals w64, (uint-vals w64, tt)))))))
       (λ κs. (
         mut-tells (named 0) (κs .0) T.the-row,
         (
           shr-slice-tells (named 1) (κs .1 .0) u8,
-          (shr-slice-tells (named 2) (κs .1 .1 .0) u8, (uint-tells w64, (uint-tells w64, (uint-tells w64, tt)))),
+          (shr-slice-tells (named 2) (κs .1 .1 .0) u8, (laws.tells Place.the-type Place′.the-laws, (uint-tells w64, (uint-tells w64, tt)))),
         ),
       ))
-      (λ κs qs bounds a g are. needs 𝓤 (CanMove (length (a .1 .0 .now)) (length (a .0 .now .counts)) (length (a .1 .1 .0 .now)) (a .1 .1 .1 .0) (a .1 .1 .1 .1 .0)) _
+      (λ κs qs bounds a g are. needs 𝓤 (CanMove (length (a .1 .0 .now)) (length (a .0 .now .counts)) (length (a .1 .1 .0 .now)) (a .1 .1 .1 .0 .0) (a .1 .1 .1 .1 .0)) _
       (walk 𝓤 H A W mem run (κs .0) (κs .1 .0) (κs .1 .1 .0) bounds (qs .0) (qs .1 .0) (qs .1 .1 .0) (a .0 .ptr .0) (a .0 .ptr .1) (a .0 .name) (a .0 .now .counts)
       (a .1 .0) (a .1 .1 .0) (a .1 .1 .1 .0) (a .1 .1 .1 .1 .0) (a .1 .1 .1 .1 .1 .0)
-      (are .1 .1 .1 .0 .1) (are .1 .1 .1 .1 .0 .1) (are .1 .1 .1 .1 .1 .0 .1) C Λ fm known (are .1 .0) (are .1 .1 .0)))
+      (are .1 .1 .1 .0) (are .1 .1 .1 .1 .0 .1) (are .1 .1 .1 .1 .1 .0 .1) C Λ fm known (are .1 .0) (are .1 .1 .0)))
 
 -- Taken to the contract.
 meets : {M : Type 1} (𝓤 : URA M) (H : Heap 𝓤) (A : Atoms 𝓤) → Given 𝓤 H A → (mem : Memory → SProp 𝓤) (run : Routine → Fun 𝓤) (𝓣 : Tables 𝓤 H)
@@ -270,7 +273,7 @@ meets 𝓤 H A W mem run 𝓣 known =
         (
           goes-none-slice 𝓤 H A W 3 (2 ∷ []) tt (plain (λ _. u8)) yes,
           (
-            goes-none 𝓤 H A W 3 (λ _. usize) yes (λ κs x f. refl),
+            goes-none 𝓤 H A W 3 (λ _. Place.the-row) yes (λ κs x f. refl),
             (goes-none 𝓤 H A W 3 (λ _. usize) yes (λ κs x f. refl), (goes-none 𝓤 H A W 3 (λ _. usize) yes (λ κs x f. refl), tt)),
           ),
         ),

@@ -46,11 +46,14 @@ use denote.Triple.Walked.{says, needs, Stays, stay-none, stay-none-slice, walkOf
 use denote.Exit.{yes}
 use denote.Signature.{plain}
 use denote.Signature.Struct.{makes}
+use Rattle.answers.specs.declared.places.LinePlace.{LinePlace}
+use Rattle.answers.proofs.places.LinePlace as Place
+use Rattle.answers.proofs.places.LinePlace.Laws as Place′
 use Rattle.moves.specs.declared.moving.Tally.{Tally}
 use Rattle.moves.specs.declared.moving.Moved.{Moved}
 use Rattle.moves.specs.declared.steps.Reached.{Reached}
 use Rattle.moves.specs.Moves.{CanMove, IsMovedOn}
-use Rattle.moves.proofs.WalkArguments.{six-owned}
+use Rattle.moves.proofs.WalkArguments.{placeVal, six-owned}
 use Rattle.moves.proofs.moving.Tally as T
 use Rattle.moves.proofs.moving.Tally.Laws as T′
 use Rattle.moves.proofs.steps.Reached as To
@@ -74,7 +77,7 @@ stayed = (
     stay-none-slice (0 ∷ []) tt (plain (λ _. u8)) yes,
     (
       stay-none-slice (1 ∷ []) tt (plain (λ _. u8)) yes,
-      (stay-none (λ _. usize) yes, (stay-none (λ _. usize) yes, (stay-none (λ _. usize) yes, tt))),
+      (stay-none (λ _. Place.the-row) yes, (stay-none (λ _. usize) yes, (stay-none (λ _. usize) yes, tt))),
     ),
   ),
 )
@@ -84,12 +87,12 @@ abbrev Called : {M : Type 1} (𝓤 : URA M) (H : Heap 𝓤) (A : Atoms 𝓤) (me
 Called 𝓤 H A mem run = tripleOf 𝓤 H A callee.signature (callee.spec 𝓤 H A mem run)
 
 module _ {M : Type 1} (𝓤 : URA M) (H : Heap 𝓤) (A : Atoms 𝓤) (W : Given 𝓤 H A) (at-mem : Memory → SProp 𝓤) (run : Routine → Fun 𝓤)
-    (κ κ′ : Lft) (q q′ : Share) (tally : Tally) (ring line : RefT (List ℕ)) (start steps below : ℕ)
-    (start-fits : start < 2 ^ 64) (steps-fits : steps < 2 ^ 64) (below-fits : below < 2 ^ 64) where
+    (κ κ′ : Lft) (q q′ : Share) (tally : Tally) (ring line : RefT (List ℕ)) (start : LinePlace) (steps below : ℕ)
+    (is-start : Is Place.the-row start (placeVal start ∷ [])) (steps-fits : steps < 2 ^ 64) (below-fits : below < 2 ^ 64) where
   abbrev R : RattleType
   R = T.the-row
 
-  abbrev args : Tally × (RefT (List ℕ) × (RefT (List ℕ) × (ℕ × (ℕ × (ℕ × Unit {0})))))
+  abbrev args : Tally × (RefT (List ℕ) × (RefT (List ℕ) × (LinePlace × (ℕ × (ℕ × Unit {0})))))
   args = (tally, (ring, (line, (start, (steps, (below, tt))))))
 
   -- The machine values of the tally, of the ring and of the line.
@@ -103,7 +106,7 @@ module _ {M : Type 1} (𝓤 : URA M) (H : Heap 𝓤) (A : Atoms 𝓤) (W : Given
   lineVal = sliceVal (line .ptr) (length (line .now))
 
   abbrev vals : List Val × (List Val × (List Val × (List Val × (List Val × (List Val × Unit {0})))))
-  vals = (tallyVal ∷ [], (ringVal ∷ [], (lineVal ∷ [], (vint w64 start ∷ [], (vint w64 steps ∷ [], (vint w64 below ∷ [], tt))))))
+  vals = (tallyVal ∷ [], (ringVal ∷ [], (lineVal ∷ [], (placeVal start ∷ [], (vint w64 steps ∷ [], (vint w64 below ∷ [], tt))))))
 
   abbrev OwnRing : Fml
   OwnRing = ShrSlice (named 0) κ u8 .own ring (ringVal ∷ [])
@@ -133,7 +136,7 @@ module _ {M : Type 1} (𝓤 : URA M) (H : Heap 𝓤) (A : Atoms 𝓤) (W : Given
       (fullShare, (q, (q′, tt))),
       tt,
       (lent l δ, (ring, (line, (start, (steps, (below, tt)))))),
-      (vptr l 0 ∷ [], (ringVal ∷ [], (lineVal ∷ [], (vint w64 start ∷ [], (vint w64 steps ∷ [], (vint w64 below ∷ [], tt)))))),
+      (vptr l 0 ∷ [], (ringVal ∷ [], (lineVal ∷ [], (placeVal start ∷ [], (vint w64 steps ∷ [], (vint w64 below ∷ [], tt)))))),
     ),
     tt,
   )
@@ -142,15 +145,15 @@ module _ {M : Type 1} (𝓤 : URA M) (H : Heap 𝓤) (A : Atoms 𝓤) (W : Given
   abbrev had : ℕ → ℕ → GName → List (Item 𝓤)
   had l ν δ = (‵ (flft (ν ∷ []) fullShare) ⊛ Tokens) ∷ ‵ (Lent l ν δ) ∷ (‵ OwnRing ⊛ ‵ OwnLine) ∷ []
 
-  goes : (l ν : ℕ) (δ : GName) → CanMove (length (ring .now)) (length (tally .counts)) (length (line .now)) start steps
+  goes : (l ν : ℕ) (δ : GName) → CanMove (length (ring .now)) (length (tally .counts)) (length (line .now)) (start .0) steps
       → ent 𝓤 (⋆ 𝓤 H A (had l ν δ)) (Called 𝓤 H A at-mem run .pre (to-callee l ν δ))
   goes l ν δ can =
       qed W (had l ν δ) ∵
-      says ! can $ frame ! $ six-owned ! start steps below start-fits steps-fits below-fits $ done !
+      says ! can $ frame ! $ six-owned ! start steps below is-start steps-fits below-fits $ done !
 
   -- What the callee ensures.
   abbrev Said : Reached → Tally → Type 0
-  Said r after = IsMovedOn (ring .now) (line .now) start steps below (tally .counts) (after .counts) r
+  Said r after = IsMovedOn (ring .now) (line .now) (start .0) steps below (tally .counts) (after .counts) r
 
   abbrev made : Reached → Tally → Moved
   made r after = record { tally = after; reached = r }
@@ -170,23 +173,23 @@ module _ {M : Type 1} (𝓤 : URA M) (H : Heap 𝓤) (A : Atoms 𝓤) (W : Given
       (ends-at 𝓤 H A this.ended stayed (this.clauses 𝓤 H A at-mem run) W (((κ, (κ′, tt)), (q, (q′, tt)), tt, args, vals), tt) w (made r after)
       (tt, (tt, (tt, (tt, (tt, (tt, tt)))))) (tt, (tt, (tt, (tt, (tt, (tt, tt)))))))
       $ says ! e $
-      move ! (1 ∷ []) $ frame ! $ move ! (2 ∷ 1 ∷ []) $ join ! $ move ! (2 ∷ 0 ∷ []) $ six-owned ! start steps below start-fits steps-fits below-fits $ frame ! $ done !
+      move ! (1 ∷ []) $ frame ! $ move ! (2 ∷ 1 ∷ []) $ join ! $ move ! (2 ∷ 0 ∷ []) $ six-owned ! start steps below is-start steps-fits below-fits $ frame ! $ done !
 
   module _ (C : Calls 𝓤 H) (Λ : Loops 𝓤 H) (fm : FmC 𝓤 H (W .laws) C) (known : Triple 𝓤 (C #move-tally) (Called 𝓤 H A at-mem run)) where
     walk : Is R tally (tallyVal ∷ []) → Holds (hasTy T′.mir tallyVal) × WT tallyVal → Is (ShrSlice (named 0) κ u8) ring (ringVal ∷ [])
-        → Is (ShrSlice (named 1) κ′ u8) line (lineVal ∷ []) → CanMove (length (ring .now)) (length (tally .counts)) (length (line .now)) start steps
+        → Is (ShrSlice (named 1) κ′ u8) line (lineVal ∷ []) → CanMove (length (ring .now)) (length (tally .counts)) (length (line .now)) (start .0) steps
         → ent 𝓤 (onEntry 𝓤 H A this.signature (κ, (κ′, tt)) (q, (q′, tt)) args vals)
-        (WpFn 𝓤 H C Λ code.function (tallyVal ∷ ringVal ∷ lineVal ∷ vint w64 start ∷ vint w64 steps ∷ vint w64 below ∷ []) Post)
+        (WpFn 𝓤 H C Λ code.function (tallyVal ∷ ringVal ∷ lineVal ∷ placeVal start ∷ vint w64 steps ∷ vint w64 below ∷ []) Post)
     walk is-tally typed is-ring is-line can =
         qed W (Tokens
-        ∷ ‵ (owns (R ∷ ShrSlice (named 0) κ u8 ∷ ShrSlice (named 1) κ′ u8 ∷ usize ∷ usize ∷ usize ∷ []) args vals) ∷ []) ∵
-        enter ! C Λ code.function (tallyVal ∷ ringVal ∷ lineVal ∷ vint w64 start ∷ vint w64 steps ∷ vint w64 below ∷ []) _ $
+        ∷ ‵ (owns (R ∷ ShrSlice (named 0) κ u8 ∷ ShrSlice (named 1) κ′ u8 ∷ Place.the-row ∷ usize ∷ usize ∷ []) args vals) ∷ []) ∵
+        enter ! C Λ code.function (tallyVal ∷ ringVal ∷ lineVal ∷ placeVal start ∷ vint w64 steps ∷ vint w64 below ∷ []) _ $
         alloc1 ! (λ l₀. alloc1 ! (λ l₁. alloc1 ! (λ l₂. alloc1 ! (λ l₃. alloc1 ! (λ l₄. alloc1 ! (λ l₅. alloc1 ! (λ l₆. alloc1 ! (λ l₇. alloc1 ! (λ l₈. alloc1 ! (λ l₉.
         alloc1 ! (λ l₁₀. alloc0 ! $ params1 ! $
         pass1 ! (init ! 18 refl typed) $
         pass1 ! (init ! 16 refl (shr-slice-lawful 𝓤 H A W (named 0) κ u8 .typed ring (ringVal ∷ []) is-ring .0)) $
         pass1 ! (init ! 14 refl (shr-slice-lawful 𝓤 H A W (named 1) κ′ u8 .typed line (lineVal ∷ []) is-line .0)) $
-        pass1 ! (init ! 12 refl (tt, record { fits = start-fits })) $ pass1 ! (init ! 10 refl (tt, record { fits = steps-fits })) $
+        pass1 ! (init ! 12 refl (laws.lawful Place.the-type Place′.the-laws 𝓤 H A W .typed start _ is-start .0)) $ pass1 ! (init ! 10 refl (tt, record { fits = steps-fits })) $
         pass1 ! (init ! 8 refl (tt, record { fits = below-fits })) $ pass0 ! $
         -- the parameters are taken apart, and the slices are had twice
         move ! (23 ∷ []) $ fsplit ! $ move ! (1 ∷ []) $ fsplit ! $
@@ -245,17 +248,17 @@ module _ {M : Type 1} (𝓤 : URA M) (H : Heap 𝓤) (A : Atoms 𝓤) (W : Given
       → Walks 𝓤 H A this.ended stayed (WpFn 𝓤 H C Λ code.function) (this.clauses 𝓤 H A mem run)
   walks C Λ fm known =
       walked 𝓤 H A this.ended stayed (this.clauses 𝓤 H A mem run) (WpFn 𝓤 H C Λ code.function)
-      (λ κs. (laws.vals T.the-type T′.the-laws, (slice-vals, (slice-vals, (uint-vals w64, (uint-vals w64, (uint-vals w64, tt)))))))
+      (λ κs. (laws.vals T.the-type T′.the-laws, (slice-vals, (slice-vals, (laws.vals Place.the-type Place′.the-laws, (uint-vals w64, (uint-vals w64, tt)))))))
       (λ κs. (
         laws.tells T.the-type T′.the-laws,
         (
           shr-slice-tells (named 0) (κs .0) u8,
-          (shr-slice-tells (named 1) (κs .1 .0) u8, (uint-tells w64, (uint-tells w64, (uint-tells w64, tt)))),
+          (shr-slice-tells (named 1) (κs .1 .0) u8, (laws.tells Place.the-type Place′.the-laws, (uint-tells w64, (uint-tells w64, tt)))),
         ),
       ))
-      (λ κs qs bounds a g are. needs 𝓤 (CanMove (length (a .1 .0 .now)) (length (a .0 .counts)) (length (a .1 .1 .0 .now)) (a .1 .1 .1 .0) (a .1 .1 .1 .1 .0)) _
+      (λ κs qs bounds a g are. needs 𝓤 (CanMove (length (a .1 .0 .now)) (length (a .0 .counts)) (length (a .1 .1 .0 .now)) (a .1 .1 .1 .0 .0) (a .1 .1 .1 .1 .0)) _
       (walk 𝓤 H A W mem run (κs .0) (κs .1 .0) (qs .0) (qs .1 .0) (a .0) (a .1 .0) (a .1 .1 .0) (a .1 .1 .1 .0) (a .1 .1 .1 .1 .0) (a .1 .1 .1 .1 .1 .0)
-      (are .1 .1 .1 .0 .1) (are .1 .1 .1 .1 .0 .1) (are .1 .1 .1 .1 .1 .0 .1) C Λ fm known
+      (are .1 .1 .1 .0) (are .1 .1 .1 .1 .0 .1) (are .1 .1 .1 .1 .1 .0 .1) C Λ fm known
       (are .0) (laws.lawful T.the-type T′.the-laws 𝓤 H A W .typed (a .0) _ (are .0) .0) (are .1 .0) (are .1 .1 .0)))
 
 -- Taken to the contract.
@@ -269,7 +272,7 @@ meets 𝓤 H A W mem run 𝓣 known =
         (
           goes-none-slice 𝓤 H A W 2 (1 ∷ []) tt (plain (λ _. u8)) yes,
           (
-            goes-none 𝓤 H A W 2 (λ _. usize) yes (λ κs x f. refl),
+            goes-none 𝓤 H A W 2 (λ _. Place.the-row) yes (λ κs x f. refl),
             (goes-none 𝓤 H A W 2 (λ _. usize) yes (λ κs x f. refl), (goes-none 𝓤 H A W 2 (λ _. usize) yes (λ κs x f. refl), tt)),
           ),
         ),

@@ -10,22 +10,22 @@ use Rattle.moves.proofs.steps.move_along.Statement.{statement}
 use Rattle.moves.proofs.steps.move_along.Tie as tie
 
 abbrev Inv-loop : tie.InvT-loop
-Inv-loop counts₀ ring line from steps below m least₀ looks₀ i₀ counts least looks i = Moving ring line from steps below counts₀ counts least looks i
+Inv-loop counts₀ ring line steps below m least₀ looks₀ end i₀ counts least looks i = Moving ring line i₀ steps below counts₀ counts least looks i
 
 abbrev μ-loop : tie.MeasureT-loop
-μ-loop counts₀ ring line from steps below m least₀ looks₀ i₀ counts least looks i = from + steps - i
+μ-loop counts₀ ring line steps below m least₀ looks₀ end i₀ counts least looks i = end - i
+
+add-end : tie.Need-add-end Inv-loop μ-loop
+add-end c = search needs
 
 loop-holds : tie.Need-loop-holds Inv-loop μ-loop
-loop-holds c = moving-start _ _ _ _ _ _ (c .before .before .pre)
-
-add-loop : tie.Need-add-loop Inv-loop μ-loop
-add-loop c = search needs
+loop-holds c = moving-start _ _ _ _ _ _ (c .before .before .before .pre)
 
 window-requires : tie.Need-window-requires Inv-loop μ-loop
 window-requires c κs = search needs
 
-add-window : tie.Need-add-window Inv-loop μ-loop
-add-window c = search needs
+add-step : tie.Need-add-step Inv-loop μ-loop
+add-step c = search needs
 
 window-requires-2 : tie.Need-window-requires-2 Inv-loop μ-loop
 window-requires-2 c κs = search needs
@@ -46,12 +46,12 @@ shared-slice-read-step-2 c =
 step-requires : tie.Need-step-requires Inv-loop μ-loop
 step-requires c κs =
     let at-loop = c .before .before .before .before .before .before in
-    moving-fits _ _ _ _ _ _ (at-loop .before .before .before .pre) _ _ _ _ (at-loop .loop .inv)
+    moving-fits _ _ _ _ _ _ (at-loop .before .before .before .before .pre) _ _ _ _ (at-loop .loop .inv)
 
 add-looks : tie.Need-add-looks Inv-loop μ-loop
 add-looks c =
     let here = c .before .before .before .before .before .before in
-    omega (arith, here .before .before .loop .inv .looks-le, c .before .step .ensures .looks-are, here .before .before .before .before .before .pre .fits .most)
+    omega (arith, here .before .before .loop .inv .looks-le, c .before .step .ensures .looks-are, here .before .before .before .before .before .before .pre .fits .most)
 
 add-i : tie.Need-add-i Inv-loop μ-loop
 add-i c = search needs
@@ -63,7 +63,7 @@ returns c =
     let next = stepped .before .before .before .before in
     let here = next .before in
     let at-loop = here .before .before in
-    moving-stops _ _ _ _ _ _ (at-loop .before .before .before .pre) _ _ _ _ (at-loop .loop .inv) (here .before .loop-test .taken)
+    moving-stops _ _ _ _ _ _ (at-loop .before .before .before .before .pre) _ _ _ _ (at-loop .loop .inv) (here .before .loop-test .taken)
     _ _ _ _ (here .window .ensures) (next .window2 .ensures) (stepped .step .ensures) (c .if1 .taken)
 
 loop-less : tie.Need-loop-less Inv-loop μ-loop
@@ -75,12 +75,12 @@ loop-again c =
     let next = stepped .before .before .before .before in
     let here = next .before in
     let at-loop = here .before .before in
-    moving-turn _ _ _ _ _ _ (at-loop .before .before .before .pre) _ _ _ _ (at-loop .loop .inv) (here .before .loop-test .taken)
+    moving-turn _ _ _ _ _ _ (at-loop .before .before .before .before .pre) _ _ _ _ (at-loop .loop .inv) (here .before .loop-test .taken)
     _ _ _ _ (here .window .ensures) (next .window2 .ensures) (stepped .step .ensures) (c .if1 .left)
 
 -- All steps are made.
 returns-2 : tie.Need-returns-2 Inv-loop μ-loop
-returns-2 c = moving-end _ _ _ _ _ _ (c .before .before .before .before .pre) _ _ _ _ (c .before .loop .inv) (c .loop-test .left)
+returns-2 c = moving-end _ _ _ _ _ _ (c .before .before .before .before .before .pre) _ _ _ _ (c .before .loop .inv) (c .loop-test .left)
 
 pub move-along-spec : {M : Type 1} → statement M
 move-along-spec =
@@ -88,10 +88,10 @@ move-along-spec =
     (tie.spec
     Inv-loop
     μ-loop
+    add-end
     loop-holds
-    add-loop
     window-requires
-    add-window
+    add-step
     window-requires-2
     shared-slice-read-step
     sub-step

@@ -23,9 +23,10 @@ lowest-rotation-requires c κs = search needs
 -- A finding.
 returns-2 : tie.Need-returns-2
 returns-2 c =
-    let at-verified = c .before .before .before in
+    let tested = c .before .before .before in
+    let at-verified = tested .before in
     let at-entry = at-verified .before .before .before .before .before in
-    reached-found (at-entry .pre) (at-verified .verify-on .ensures) _ (omega (arith, c .before .before .if1 .left)) (c .lowest-rotation .ensures) refl refl refl
+    reached-found (at-entry .pre) (at-verified .verify-on .ensures) _ (omega (arith, tested .if1 .left)) (c .lowest-rotation .ensures) refl refl refl
 
 pub survey-on-spec : {M : Type 1} → statement M
 survey-on-spec =
