@@ -32,11 +32,11 @@ pub record ReportKeeps (cell ringNumber : ℕ) (ring line : List ℕ) (k : ℕ) 
   pub so-far : List Finding
   pub keeps : ScanKeeps ring line k area so-far (shown (book-read .silences) cell ringNumber so-far) at (asked .shown) counts words
   pub hidden-is : asked .hidden ≡ length (hidden (book-read .silences) cell ringNumber so-far)
-  pub held-from : HeldFrom cell ringNumber book (at .start) (asked .held)
+  pub held-from : HeldFrom cell ringNumber book (at .start .0) (asked .held)
 
 module _ {cell ringNumber : ℕ} {ring doubled table line : List ℕ} {k : ℕ} {book counts₀ area : List ℕ} (can : CanReport ring doubled table line k book counts₀ area) where
   -- Before the first window the book is asked for start 0.
-  pub report-start : {at : Sweep} {asked : Asked} {first : Address} → at .start ≡ 0 → lastOf (at .last) ≡ none → at .looks ≡ 0
+  pub report-start : {at : Sweep} {asked : Asked} {first : Address} → at .start .0 ≡ 0 → lastOf (at .last) ≡ none → at .looks ≡ 0
       → asked .shown ≡ 0 → asked .hidden ≡ 0 → silenceOf first ≡ silence cell ringNumber 0 → IsSought book 0 first (asked .held)
       → ReportKeeps cell ringNumber ring line k book area at asked counts₀ area
   unfolding those
@@ -69,7 +69,7 @@ module _ {cell ringNumber : ℕ} {ring doubled table line : List ℕ} {k : ℕ} 
         )
 
     -- Past the last window the line is reported.
-    pub report-end : length line < at .start + length ring
+    pub report-end : length line < at .start .0 + length ring
         → LineReported cell ringNumber ring line k book area (asked .shown + asked .hidden) (asked .hidden) (at .looks) words
     report-end past =
         let e = keeps-end (can .can-scan) (h .keeps) past in

@@ -29,13 +29,13 @@ use Rattle.outlines.proofs.ReportKeeps.{ReportKeeps, report-found-le}
 module _ {cell ringNumber : ℕ} {ring doubled table line : List ℕ} {k : ℕ} {book counts₀ area : List ℕ} (can : CanReport ring doubled table line k book counts₀ area)
     {at : Sweep} {asked : Asked} {counts words : List ℕ} (h : ReportKeeps cell ringNumber ring line k book area at asked counts words) where
   -- Windows that are left change the sweep's start and looks, and nothing else.
-  pub report-left : {j reads : ℕ} → LeftTo ring line k (at .start) j reads → ReportKeeps cell ringNumber ring line k book area (leftState at j reads) asked counts words
+  pub report-left : {j reads : ℕ} → LeftTo ring line k (at .start .0) j reads → ReportKeeps cell ringNumber ring line k book area (leftState at j reads) asked counts words
   report-left {j} left = record {
     book-read = h .book-read;
     so-far = h .so-far;
     keeps = keeps-left (can .can-scan) (h .keeps) left;
     hidden-is = h .hidden-is;
-    held-from = held-later cell ringNumber book (at .start) (asked .held) (h .held-from) j (left-from-le ring line k (at .start) left);
+    held-from = held-later cell ringNumber book (at .start .0) (asked .held) (h .held-from) j (left-from-le ring line k (at .start .0) left);
   }
 
   -- No window is in the line any more.
@@ -53,13 +53,13 @@ module _ {cell ringNumber : ℕ} {ring doubled table line : List ℕ} {k : ℕ} 
 
 module _ {cell ringNumber : ℕ} {ring doubled table line : List ℕ} {k : ℕ} {book counts₀ area : List ℕ} (can : CanReport ring doubled table line k book counts₀ area)
     {at : Sweep} {asked : Asked} {counts words : List ℕ} (h : ReportKeeps cell ringNumber ring line k book area at asked counts words)
-    (in-line : at .start + length ring ≤ length line) {r : Swept} {next : Sweep} {counts′ : List ℕ} (swept : IsSwept ring line k at r counts′)
+    (in-line : at .start .0 + length ring ≤ length line) {r : Swept} {next : Sweep} {counts′ : List ℕ} (swept : IsSwept ring line k at r counts′)
     (is-next : stateOf r ≡ next) where
   abbrev ss : List Silence
   ss = h .book-read .silences
 
   -- the next window does not start before this one
-  later : at .start ≤ next .start
+  later : at .start .0 ≤ next .start .0
   later = keeps-later (can .can-scan) (h .keeps) in-line swept is-next
 
   -- A window that reports nothing.
@@ -69,11 +69,11 @@ module _ {cell ringNumber : ℕ} {ring doubled table line : List ℕ} {k : ℕ} 
     so-far = h .so-far;
     keeps = keeps-none (can .can-scan) (h .keeps) in-line swept is-next e;
     hidden-is = h .hidden-is;
-    held-from = held-later cell ringNumber book (at .start) (asked .held) (h .held-from) (next .start) later;
+    held-from = held-later cell ringNumber book (at .start .0) (asked .held) (h .held-from) (next .start .0) later;
   }
 
   module _ {f : Finding} (e : foundOf r ≡ f ∷ []) where
-    start-is : f .start ≡ at .start
+    start-is : f .start ≡ at .start .0
     start-is = keeps-finding-start (can .can-scan) (h .keeps) in-line swept is-next e
 
     -- A finding has room for its words, and each is a 32-bit word.
@@ -91,8 +91,8 @@ module _ {cell ringNumber : ℕ} {ring doubled table line : List ℕ} {k : ℕ} 
         }
 
     module _ {asked′ : Asked} (asks : IsAsked cell ringNumber book asked f asked′) {out : List ℕ} (put : out ≡ shownPut (asked .shown) (asked′ .shown) f words) where
-      held-next : HeldFrom cell ringNumber book (next .start) (asked′ .held)
-      held-next = held-turn cell ringNumber book (at .start) (asked .held) (h .held-from) f start-is (asked′ .held) (next .start) (asks .held-is) later
+      held-next : HeldFrom cell ringNumber book (next .start .0) (asked′ .held)
+      held-next = held-turn cell ringNumber book (at .start .0) (asked .held) (h .held-from) f start-is (asked′ .held) (next .start .0) (asks .held-is) later
 
       -- hidden: counted, and no word changes
       turn-hidden : isHidden ss cell ringNumber f ≡ true → hides cell ringNumber book f (soughtOf (asked .held)) ≡ true
@@ -137,7 +137,7 @@ module _ {cell ringNumber : ℕ} {ring doubled table line : List ℕ} {k : ℕ} 
       -- A window that reports a finding, which the book was asked for.
       pub report-turn-found : ReportKeeps cell ringNumber ring line k book area next asked′ counts′ out
       report-turn-found =
-          go (isHidden ss cell ringNumber f) refl (held-hides cell ringNumber book (at .start) (asked .held) (h .held-from) f start-is (h .book-read))
+          go (isHidden ss cell ringNumber f) refl (held-hides cell ringNumber book (at .start .0) (asked .held) (h .held-from) f start-is (h .book-read))
         where
           go : (t : Bool) → isHidden ss cell ringNumber f ≡ t → hides cell ringNumber book f (soughtOf (asked .held)) ≡ t
               → ReportKeeps cell ringNumber ring line k book area next asked′ counts′ out

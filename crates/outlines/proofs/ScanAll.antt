@@ -26,12 +26,12 @@ all-next {so-far = so-far} keeps = record { so-far = so-far; keeps = keeps }
 
 module _ {ring doubled table line : List ℕ} {k : ℕ} {counts₀ area : List ℕ} (can : CanScan ring doubled table line k counts₀ area) where
   -- Before the first window.
-  pub all-start : {at : Sweep} → at .start ≡ 0 → lastOf (at .last) ≡ none → at .looks ≡ 0 → ScanAll ring line k area at 0 counts₀ area
+  pub all-start : {at : Sweep} → at .start .0 ≡ 0 → lastOf (at .last) ≡ none → at .looks ≡ 0 → ScanAll ring line k area at 0 counts₀ area
   all-start s l o = record { so-far = []; keeps = keeps-start can s l o }
 
   module _ {at : Sweep} {found : ℕ} {counts words : List ℕ} (h : ScanAll ring line k area at found counts words) where
     -- The count of findings fits.
-    pub all-found-le : at .start + length ring ≤ length line → found ≤ mostLine
+    pub all-found-le : at .start .0 + length ring ≤ length line → found ≤ mostLine
     all-found-le in-line =
         omega (
           arith,
@@ -40,7 +40,7 @@ module _ {ring doubled table line : List ℕ} {k : ℕ} {counts₀ area : List �
         )
 
     -- Past the last window the line is scanned.
-    pub all-end : length line < at .start + length ring → LineScanned ring line k area found (at .looks) words
+    pub all-end : length line < at .start .0 + length ring → LineScanned ring line k area found (at .looks) words
     all-end past =
         let e = keeps-end can (h .keeps) past in
         record {

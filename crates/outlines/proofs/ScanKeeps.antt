@@ -31,10 +31,10 @@ use Rattle.outlines.proofs.ScanWindows.{ScanWindows, scanning-start, sc
 
 -- What the loop keeps.
 pub record ScanKeeps (ring line : List ℕ) (k : ℕ) (area : List ℕ) (so-far put : List Finding) (at : Sweep) (count : ℕ) (counts words : List ℕ) : Type 0 where
-  pub scanned : ScanWindows ring line k area so-far put (at .start) (lastOf (at .last)) (at .looks) count words
-  pub before : TalliedBefore ring line (at .start) counts (lastOf (at .last))
+  pub scanned : ScanWindows ring line k area so-far put (at .start .0) (lastOf (at .last)) (at .looks) count words
+  pub before : TalliedBefore ring line (at .start .0) counts (lastOf (at .last))
   pub size : length counts ≡ mostCounts
-  pub start-le : at .start ≤ length line + 1
+  pub start-le : at .start .0 ≤ length line + 1
 
 module _ {ring doubled table line : List ℕ} {k : ℕ} {counts₀ area : List ℕ} (can : CanScan ring doubled table line k counts₀ area) where
   abbrev m : ℕ
@@ -44,7 +44,7 @@ module _ {ring doubled table line : List ℕ} {k : ℕ} {counts₀ area : List �
   n = length line
 
   -- Before the first window.
-  pub keeps-start : {at : Sweep} → at .start ≡ 0 → lastOf (at .last) ≡ none → at .looks ≡ 0 → ScanKeeps ring line k area [] [] at 0 counts₀ area
+  pub keeps-start : {at : Sweep} → at .start .0 ≡ 0 → lastOf (at .last) ≡ none → at .looks ≡ 0 → ScanKeeps ring line k area [] [] at 0 counts₀ area
   keeps-start {at} s l o = record {
     scanned = rw (s, l, o) (scanning-start (can .admitted .some-edge));
     before = rw l tt;
@@ -54,7 +54,7 @@ module _ {ring doubled table line : List ℕ} {k : ℕ} {counts₀ area : List �
 
   module _ {so-far put : List Finding} {at : Sweep} {count : ℕ} {counts words : List ℕ} (h : ScanKeeps ring line k area so-far put at count counts words) where
     -- Past the last window all is found, and all is looked at.
-    pub keeps-end : n < at .start + m → (so-far ≡ findings ring line k) × (at .looks ≡ quickLooks ring line k)
+    pub keeps-end : n < at .start .0 + m → (so-far ≡ findings ring line k) × (at .looks ≡ quickLooks ring line k)
     keeps-end past = scanning-end (can .admitted .some-edge) (h .scanned) past
 
     -- the sweep can go on
@@ -85,13 +85,13 @@ module _ {ring doubled table line : List ℕ} {k : ℕ} {counts₀ area : List �
     keeps-swept {counts′} {r} = swept-by-rules ring doubled table line k counts at keeps-can-sweep counts′ r
 
     -- Windows that are left change the sweep's start and looks, and nothing else.
-    pub keeps-left : {j reads : ℕ} → LeftTo ring line k (at .start) j reads → ScanKeeps ring line k area so-far put (leftState at j reads) count counts words
+    pub keeps-left : {j reads : ℕ} → LeftTo ring line k (at .start .0) j reads → ScanKeeps ring line k area so-far put (leftState at j reads) count counts words
     keeps-left {j} left = record {
       scanned =
           scanning-left (can .admitted .some-edge) (h .scanned) left;
-      before = before-later ring line counts (at .start) j (lastOf (at .last)) (left-from-le ring line k (at .start) left) (h .before);
+      before = before-later ring line counts (at .start .0) j (lastOf (at .last)) (left-from-le ring line k (at .start .0) left) (h .before);
       size = h .size;
-      start-le = left-start-le ring line k (at .start) (h .start-le) left;
+      start-le = left-start-le ring line k (at .start .0) (h .start-le) left;
     }
 
     module _ {r : Swept} {next : Sweep} {counts′ : List ℕ} (on : IsSweptOn ring line k at r counts′) (is-next : stateOf r ≡ next) where
@@ -103,18 +103,18 @@ module _ {ring doubled table line : List ℕ} {k : ℕ} {counts₀ area : List �
           rw (sym is-next ∙ e .next-is) (record { scanned = left .scanned; before = e .before; size = e .size; start-le = left .start-le })
 
       -- The sweep has come on: the places that are left fall.
-      pub keeps-less : at .start + m ≤ n → n + 1 - next .start < n + 1 - at .start
+      pub keeps-less : at .start .0 + m ≤ n → n + 1 - next .start .0 < n + 1 - at .start .0
       keeps-less in-line = by-ended (hasEnded r) refl
         where
-          rises : at .start ≤ on .stop
-          rises = left-from-le ring line k (at .start) (on .left-to)
+          rises : at .start .0 ≤ on .stop
+          rises = left-from-le ring line k (at .start .0) (on .left-to)
 
-          by-ended : (t : Bool) → hasEnded r ≡ t → n + 1 - next .start < n + 1 - at .start
-          by-ended true t = omega (arith, rises, on .ended t .past, ap (λ (s : Sweep). s .start) (sym is-next ∙ on .ended t .next-is))
+          by-ended : (t : Bool) → hasEnded r ≡ t → n + 1 - next .start .0 < n + 1 - at .start .0
+          by-ended true t = omega (arith, rises, on .ended t .past, ap (λ (s : Sweep). s .start .0) (sym is-next ∙ on .ended t .next-is))
           by-ended false t =
-              omega (arith, rises, on .candidate t .in-line, sym (ap (λ (s : Sweep). s .start) is-next) ∙ on .candidate t .swept .start-is)
+              omega (arith, rises, on .candidate t .in-line, sym (ap (λ (s : Sweep). s .start .0) is-next) ∙ on .candidate t .swept .start-is)
 
-    module _ (in-line : at .start + m ≤ n) where
+    module _ (in-line : at .start .0 + m ≤ n) where
       room : roomAsked m n ≤ length area
       room = can .admitted .room-for (omega arith)
 
@@ -133,22 +133,22 @@ module _ {ring doubled table line : List ℕ} {k : ℕ} {counts₀ area : List �
           scanning-length (can .admitted .some-edge) (h .scanned) in-line room
 
       module _ {r : Swept} {next : Sweep} {counts′ : List ℕ} (swept : IsSwept ring line k at r counts′) (is-next : stateOf r ≡ next) where
-        start-is : next .start ≡ sweptStart ring line k (at .start)
-        start-is = sym (ap (λ (s : Sweep). s .start) is-next) ∙ swept .start-is
+        start-is : next .start .0 ≡ sweptStart ring line k (at .start .0)
+        start-is = sym (ap (λ (s : Sweep). s .start .0) is-next) ∙ swept .start-is
 
         -- The next window does not start before this one.
-        pub keeps-later : at .start ≤ next .start
+        pub keeps-later : at .start .0 ≤ next .start .0
         keeps-later = omega (arith, start-is)
 
-        last-is : lastOf (next .last) ≡ sweptLast ring line k (at .start) (lastOf (at .last))
+        last-is : lastOf (next .last) ≡ sweptLast ring line k (at .start .0) (lastOf (at .last))
         last-is = ap (λ (s : Sweep). lastOf (s .last)) (sym is-next) ∙ swept .last-is
 
-        looks-are : next .looks ≡ sweptLooks ring line k (at .start) (lastOf (at .last)) (at .looks)
+        looks-are : next .looks ≡ sweptLooks ring line k (at .start .0) (lastOf (at .last)) (at .looks)
         looks-are = ap (λ (s : Sweep). s .looks) (sym is-next) ∙ swept .looks-are
 
         -- the counts hold the tally of the start verified last
         keeps-next : {so-far′ put′ : List Finding} {count′ : ℕ} {words′ : List ℕ}
-            → ScanWindows ring line k area so-far′ put′ (next .start) (lastOf (next .last)) (next .looks) count′ words′
+            → ScanWindows ring line k area so-far′ put′ (next .start .0) (lastOf (next .last)) (next .looks) count′ words′
             → ScanKeeps ring line k area so-far′ put′ next count′ counts′ words′
         keeps-next scanned = record {
           scanned = scanned;
@@ -164,7 +164,7 @@ module _ {ring doubled table line : List ℕ} {k : ℕ} {counts₀ area : List �
             (scanning-none (can .admitted .some-edge) (h .scanned) in-line start-is last-is looks-are (sym (swept .found-are) ∙ e))
 
         module _ {f : Finding} (e : foundOf r ≡ f ∷ []) where
-          found-is : sweptFound ring line k (at .start) ≡ f ∷ []
+          found-is : sweptFound ring line k (at .start .0) ≡ f ∷ []
           found-is = sym (swept .found-are) ∙ e
 
           fits-behind : wordsEach * count + wordsEach ≤ length area
@@ -172,13 +172,13 @@ module _ {ring doubled table line : List ℕ} {k : ℕ} {counts₀ area : List �
               scanning-room (can .admitted .some-edge) (h .scanned) in-line found-is room
 
           -- A finding starts where its window does.
-          pub keeps-finding-start : f .start ≡ at .start
-          keeps-finding-start = swept-finding ring line k (at .start) f (can .admitted .some-edge) found-is .0
+          pub keeps-finding-start : f .start ≡ at .start .0
+          keeps-finding-start = swept-finding ring line k (at .start .0) f (can .admitted .some-edge) found-is .0
 
           -- A finding has room for its words, and each is a 32-bit word.
           pub keeps-can-put : CanPut (length words) count f
           keeps-can-put =
-              let small = swept-finding ring line k (at .start) f (can .admitted .some-edge) found-is in
+              let small = swept-finding ring line k (at .start .0) f (can .admitted .some-edge) found-is in
               record {
                 room = omega (arith, keeps-length, fits-behind);
                 three-words = admitted-three-words (can .admitted) (omega (arith, small .0)) (small .1) (small .2);

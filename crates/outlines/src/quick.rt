@@ -1,4 +1,5 @@
 // The quick scan: the findings of a ring in a line, and the looks that finding them took.
+use answers::LinePlace;
 use findings::Counted;
 use findings::Searched;
 use findings::Verdict;
@@ -31,12 +32,12 @@ fn scan_windows(
 {
     let m = ring.len();
     let mut at = Sweep {
-        start: 0,
+        start: LinePlace(0),
         last: LastVerified::Nothing,
         looks: 0,
     };
     let mut found: usize = 0;
-    while at.start + m <= line.len() {
+    while at.start.0 + m <= line.len() {
         match sweep_on(at, ring, doubled, table, line, k, counts) {
             Swept::Ended(next) => {
                 at = next;

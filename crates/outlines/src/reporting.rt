@@ -1,4 +1,5 @@
 // The report: the quick scan, and of its findings only those that the silence book does not name.
+use answers::LinePlace;
 use answers::Refusal;
 use book::BookAnswer;
 use book::is_for;
@@ -120,7 +121,7 @@ fn report_windows(
 {
     let m = ring.len();
     let mut at = Sweep {
-        start: 0,
+        start: LinePlace(0),
         last: LastVerified::Nothing,
         looks: 0,
     };
@@ -130,7 +131,7 @@ fn report_windows(
         hidden: 0,
         held,
     };
-    while at.start + m <= line.len() {
+    while at.start.0 + m <= line.len() {
         match sweep_on(at, ring, doubled, table, line, k, counts) {
             Swept::Ended(next) => {
                 at = next;

@@ -34,7 +34,7 @@ can-sweep-last m n start looks windows =
 
 module _ (ring doubled table line : List ℕ) (k : ℕ) (at : Sweep) (old : List ℕ) where
   abbrev test : Bool
-  test = canSweep (length ring) (length line) (at .start) (at .looks)
+  test = canSweep (length ring) (length line) (at .start .0) (at .looks)
 
   -- A sweep that passes the test goes on.
   pub swept-yes : (new : List ℕ) (r : Swept) → test ≡ true → IsSweptTo ring doubled table line k at old new r → IsSweptBy ring doubled table line k at old new r

@@ -20,40 +20,40 @@ use Rattle.sweep.specs.Sweeps.{sweepBy, mostLooks, CanSweep, IsTallied, 
 use Rattle.sweep.proofs.WindowTurns.{WindowsGo, windows-within}
 use Rattle.sweep.proofs.TallyWays.{mostTally, tally-looks}
 
-module _ (m : ℕ) (table line : List ℕ) (k : ℕ) (at : Sweep) (can : CanSweep m (length line) (at .start) (at .looks)) (read : WindowsRead)
-    (read-is : read ≡ windowsBy m table line k (at .start)) where
-  within : WindowsGo (length line) 0 (length line + 1 - at .start) read
-  within = rw read-is (windows-within m table line k (at .start) (can .windows))
+module _ (m : ℕ) (table line : List ℕ) (k : ℕ) (at : Sweep) (can : CanSweep m (length line) (at .start .0) (at .looks)) (read : WindowsRead)
+    (read-is : read ≡ windowsBy m table line k (at .start .0)) where
+  within : WindowsGo (length line) 0 (length line + 1 - at .start .0) read
+  within = rw read-is (windows-within m table line k (at .start .0) (can .windows))
 
   -- The looks with those of the windows read.
   pub sweep-looks-le : at .looks + read .looks ≤ mostLooks + mostCounts * mostPlaces
   sweep-looks-le = omega (arith, within .looks-le, can .looks-le, can .windows .most-line)
 
   -- The start fits.
-  pub sweep-start-le : read .start ≤ mostPlaces
+  pub sweep-start-le : read .start .0 ≤ mostPlaces
   sweep-start-le = omega (arith, within .start-le, can .windows .most-line)
 
 module _ (ring doubled table line : List ℕ) (k : ℕ) (at : Sweep) (old : List ℕ) where
   abbrev m : ℕ
   m = length ring
 
-  module _ (read : WindowsRead) (read-is : read ≡ windowsBy m table line k (at .start)) where
+  module _ (read : WindowsRead) (read-is : read ≡ windowsBy m table line k (at .start .0)) where
     -- No candidate.
     pub way-ended : read .candidate ≡ false
         → IsSweptTo ring doubled table line k at old old (Ended (record { start = read .start; last = at .last; looks = at .looks + read .looks }))
     unfolding sweepBy
     way-ended none = record { is = rw (← read-is, none) refl }
 
-    module _ (stopped : read .candidate ≡ true) (new : List ℕ) (z : Least) (tallied : IsTallied ring doubled line (read .start) (at .last) old new z) where
+    module _ (stopped : read .candidate ≡ true) (new : List ℕ) (z : Least) (tallied : IsTallied ring doubled line (read .start .0) (at .last) old new z) where
       -- The looks with those of its verification.
-      pub sweep-all-looks-le : CanSweep m (length line) (at .start) (at .looks)
+      pub sweep-all-looks-le : CanSweep m (length line) (at .start .0) (at .looks)
           → at .looks + read .looks + z .looks ≤ mostLooks + mostCounts * mostPlaces + mostTally
       sweep-all-looks-le can =
           omega (
             arith,
             sweep-looks-le m table line k at can read read-is,
             ap (λ (t : TallyTo). t .looks) (tallied .is),
-            tally-looks ring doubled line (read .start) old (at .last) (can .windows .most),
+            tally-looks ring doubled line (read .start .0) old (at .last) (can .windows .most),
           )
 
       abbrev next : Sweep
@@ -67,6 +67,6 @@ module _ (ring doubled table line : List ℕ) (k : ℕ) (at : Sweep) (old : List
       -- A finding.
       pub way-found : (rotation : ℕ) → z .least ≤ k → IsLowestWith m new (z .least) rotation
           → IsSweptTo ring doubled table line k at old new
-          (Found next (record { start = record { 0 = read .start }; rotation = record { 0 = rotation }; distance = z .least }))
+          (Found next (record { start = read .start; rotation = record { 0 = rotation }; distance = z .least }))
       unfolding sweepBy
       way-found rotation near low = record { is = rw (← read-is, stopped, ← tallied .is, le-ltb k (z .least) near, ← low .is) refl }

@@ -34,7 +34,7 @@ use Rattle.sweep.proofs.TallyByRules.{before-later, tally-by-rules}
 
 module _ (ring doubled table line : List ℕ) (k : ℕ) (old : List ℕ) (at : Sweep) (can : CanSweepOn ring doubled table line old at) where
   -- a ring within the limit, a line that has places for its starts, and a start in it or just past it
-  windows : CanReadWindows (length ring) (length line) (at .start)
+  windows : CanReadWindows (length ring) (length line) (at .start .0)
   windows = can .can-sweep .windows
 
   abbrev m : ℕ
@@ -42,22 +42,22 @@ module _ (ring doubled table line : List ℕ) (k : ℕ) (old : List ℕ) (at : S
 
   -- The windows up to the candidate.
   abbrev read : WindowsRead
-  read = windowsBy m table line k (at .start)
+  read = windowsBy m table line k (at .start .0)
 
   abbrev i : ℕ
-  i = read .start
+  i = read .start .0
 
-  reads : IsWindowsRead ring line k (at .start) read
+  reads : IsWindowsRead ring line k (at .start .0) read
   reads =
-      windows-by-rules ring table line k (at .start)
+      windows-by-rules ring table line k (at .start .0)
       (record { some-edge = windows .some-edge; most = windows .most; occurs = can .occurs }) (windows .start-le)
 
   -- The counts still hold the tally of the last verified start.
   tallied-here : TalliedBefore ring line i old (lastOf (at .last))
-  tallied-here = before-later ring line old (at .start) i (lastOf (at .last)) (left-from-le ring line k (at .start) (reads .left-to)) (can .before)
+  tallied-here = before-later ring line old (at .start .0) i (lastOf (at .last)) (left-from-le ring line k (at .start .0) (reads .left-to)) (can .before)
 
   -- No window is in the line any more.
-  ended : read .candidate ≡ false → IsSweptOn ring line k at (Ended (record { start = i; last = at .last; looks = at .looks + read .looks })) old
+  ended : read .candidate ≡ false → IsSweptOn ring line k at (Ended (record { start = read .start; last = at .last; looks = at .looks + read .looks })) old
   ended out =
       let e = reads .ended out in
       record {
@@ -66,7 +66,7 @@ module _ (ring doubled table line : List ℕ) (k : ℕ) (old : List ℕ) (at : S
         left-to = reads .left-to;
         ended = λ _. record {
           past = e .0;
-          next-is = ap (λ (x : ℕ). record { start = i; last = at .last; looks = at .looks + x }) (e .2);
+          next-is = ap (λ (x : ℕ). record { start = read .start; last = at .last; looks = at .looks + x }) (e .2);
           before = tallied-here;
           size = can .size;
         };
@@ -86,7 +86,7 @@ module _ (ring doubled table line : List ℕ) (k : ℕ) (old : List ℕ) (at : S
         (record { fits = record { size = can .size; some-edge = windows .some-edge; most = windows .most }; twice = can .twice; in-line = read-is .in-line; most-line = windows .most-line; before = tallied-here })
 
     abbrev next : Sweep
-    next = record { start = read .next; last = At i; looks = at .looks + read .looks + tally .looks }
+    next = record { start = read .next; last = At (read .start); looks = at .looks + read .looks + tally .looks }
 
     -- What holds after the candidate, finding or not.
     after : (r : Swept) → stateOf r ≡ next → hasEnded r ≡ false → foundOf r ≡ foundAt ring line k i → IsSweptOn ring line k at r (tally .counts)
@@ -122,7 +122,7 @@ module _ (ring doubled table line : List ℕ) (k : ℕ) (old : List ℕ) (at : S
 
     -- A finding.
     found : tally .least ≤ k
-        → IsSweptOn ring line k at (Found next (record { start = record { 0 = i }; rotation = record { 0 = rotation }; distance = tally .least })) (tally .counts)
+        → IsSweptOn ring line k at (Found next (record { start = read .start; rotation = record { 0 = rotation }; distance = tally .least })) (tally .counts)
     found near =
         after _ refl refl
         (sym (least-yes ring line k i (tally .counts) (tally .least) (windows .some-edge) (verified .tallied) (verified .least-is) rotation
@@ -143,9 +143,9 @@ module _ (ring doubled table line : List ℕ) (k : ℕ) (old : List ℕ) (at : S
       ended
 
   -- The sweep can go on.
-  can-be : canSweep m (length line) (at .start) (at .looks) ≡ true
+  can-be : canSweep m (length line) (at .start .0) (at .looks) ≡ true
   can-be =
-      can-sweep-iff m (length line) (at .start) (at .looks) .1 (can .can-sweep)
+      can-sweep-iff m (length line) (at .start .0) (at .looks) .1 (can .can-sweep)
 
   -- What `sweep_on` answers is what the rules give.
   pub swept-by-rules : (new : List ℕ) (r : Swept) → IsSweptBy ring doubled table line k at old new r → IsSweptOn ring line k at r new

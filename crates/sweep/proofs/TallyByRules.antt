@@ -65,8 +65,8 @@ module _ (ring doubled line : List ℕ) (i : ℕ) (old : List ℕ) where
   unfolding tallyBy tallyLooks
   tally-by-rules Nothing can = afresh-by-rules none can
   tally-by-rules (At from) can =
-      rw (lt-leb i from (can .before .0))
+      rw (lt-leb i (from .0) (can .before .0))
       (⊎-elim
-      (λ near. rw (le-ltb m (2 * (i - from)) near) (moved-by-rules from can))
-      (λ far. rw (lt-ltb m (2 * (i - from)) far) (afresh-by-rules (some from) can))
-      (le-or-lt (2 * (i - from)) m))
+      (λ near. rw (le-ltb m (2 * (i - from .0)) near) (moved-by-rules (from .0) can))
+      (λ far. rw (lt-ltb m (2 * (i - from .0)) far) (afresh-by-rules (some (from .0)) can))
+      (le-or-lt (2 * (i - from .0)) m))

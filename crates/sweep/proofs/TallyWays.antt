@@ -10,6 +10,7 @@ use lib.Dec.{ltb, leb}
 use lib.ListN.{length}
 use borrow.Author.Tests.{lt-ltb, le-ltb, le-leb, lt-leb, ltb-false}
 use Rattle.lists.proofs.Cases.{by-test}
+use Rattle.answers.specs.declared.places.LinePlace.{LinePlace}
 use Rattle.tally.specs.Windows.{windowAt, IsWindow}
 use Rattle.tally.specs.Counts.{mostCounts, canCount, TallyTo, countedTo, IsCounted}
 use Rattle.moves.specs.Moves.{CountsAt, unmoved, canMove, IsMoved}
@@ -42,27 +43,27 @@ module _ (ring doubled line : List ℕ) (i : ℕ) (old : List ℕ) where
   unfolding tallyBy
   tallied-first last edges new z none handed counted = record { is = rw none (afresh-is edges new z handed counted) }
 
-  module _ (last : LastVerified) (from : ℕ) (after : last ≡ At from) where
+  module _ (last : LastVerified) (from : LinePlace) (after : last ≡ At from) where
     -- Not beyond the last verified start.
-    pub tallied-behind : (edges new : List ℕ) (z : Least) → i ≤ from → IsWindow line i m edges → IsCounted doubled edges old new z
+    pub tallied-behind : (edges new : List ℕ) (z : Least) → i ≤ from .0 → IsWindow line i m edges → IsCounted doubled edges old new z
         → IsTallied ring doubled line i last old new z
     unfolding tallyBy
-    tallied-behind edges new z behind handed counted = record { is = rw (after, le-leb i from behind) (afresh-is edges new z handed counted) }
+    tallied-behind edges new z behind handed counted = record { is = rw (after, le-leb i (from .0) behind) (afresh-is edges new z handed counted) }
 
     -- Far beyond it.
-    pub tallied-far : (edges new : List ℕ) (z : Least) → from < i → m < 2 * (i - from) → IsWindow line i m edges → IsCounted doubled edges old new z
+    pub tallied-far : (edges new : List ℕ) (z : Least) → from .0 < i → m < 2 * (i - from .0) → IsWindow line i m edges → IsCounted doubled edges old new z
         → IsTallied ring doubled line i last old new z
     unfolding tallyBy
     tallied-far edges new z beyond far handed counted = record {
-      is = rw (after, lt-leb i from beyond, lt-ltb m (2 * (i - from)) far) (afresh-is edges new z handed counted);
+      is = rw (after, lt-leb i (from .0) beyond, lt-ltb m (2 * (i - from .0)) far) (afresh-is edges new z handed counted);
     }
 
     -- Moved.
-    pub tallied-moved : (new : List ℕ) (r : Reached) → from < i → 2 * (i - from) ≤ m → IsMoved ring line from (i - from) 0 old new r
+    pub tallied-moved : (new : List ℕ) (r : Reached) → from .0 < i → 2 * (i - from .0) ≤ m → IsMoved ring line (from .0) (i - from .0) 0 old new r
         → IsTallied ring doubled line i last old new (record { least = r .least; looks = r .looks })
     unfolding tallyBy movedTo
     tallied-moved new r beyond near moved = record {
-      is = rw (after, lt-leb i from beyond, le-ltb m (2 * (i - from)) near)
+      is = rw (after, lt-leb i (from .0) beyond, le-ltb m (2 * (i - from .0)) near)
           (ap (λ (p : CountsAt). record { counts = p .counts; least = p .least; looks = p .looks }) (moved .is));
     }
 
@@ -85,8 +86,8 @@ module _ (ring doubled line : List ℕ) (i : ℕ) (old : List ℕ) where
   unfolding tallyBy
   tally-looks Nothing most = afresh-looks (windowAt m line i)
   tally-looks (At from) most =
-      by-test (λ (t : TallyTo). t .looks ≤ mostTally) (leb i from)
+      by-test (λ (t : TallyTo). t .looks ≤ mostTally) (leb i (from .0))
       (λ _. afresh-looks (windowAt m line i))
-      (λ _. by-test (λ (t : TallyTo). t .looks ≤ mostTally) (ltb m (2 * (i - from)))
+      (λ _. by-test (λ (t : TallyTo). t .looks ≤ mostTally) (ltb m (2 * (i - from .0)))
       (λ _. afresh-looks (windowAt m line i))
-      (λ e. moved-looks from most (ltb-false m (2 * (i - from)) e)))
+      (λ e. moved-looks (from .0) most (ltb-false m (2 * (i - from .0)) e)))

@@ -29,7 +29,7 @@ pub record StillWindows (m : ℕ) (table line : List ℕ) (k from i looks : ℕ)
 
 -- How far so many windows go: to a start in the line or just past it, at 256 looks at most for each.
 pub record WindowsGo (n looks left : ℕ) (to : WindowsRead) : Type 0 where
-  pub start-le : to .start ≤ n + 1
+  pub start-le : to .start .0 ≤ n + 1
   pub looks-le : to .looks ≤ looks + mostCounts * left
 
 -- A test picks its first where it passes, and else its second.
@@ -55,7 +55,7 @@ module _ (m : ℕ) (table line : List ℕ) (k : ℕ) where
 
   -- A candidate.
   pub windows-found : (left i looks : ℕ) → i + m ≤ n → read i .breaks ≤ k
-      → windowsOn m table line k (suc left) i looks ≡ record { start = i; next = i + read i .left + 1; looks = looks + read i .looks; candidate = true }
+      → windowsOn m table line k (suc left) i looks ≡ record { start = record { 0 = i }; next = record { 0 = i + read i .left + 1 }; looks = looks + read i .looks; candidate = true }
   unfolding windowsOn
   windows-found left i looks in-line few =
       picks-first (leb (i + m) n) _ _ (le-leb (i + m) n in-line) ∙ picks-first (leb (read i .breaks) k) _ _ (le-leb (read i .breaks) k few)
@@ -109,9 +109,9 @@ module _ (m : ℕ) (table line : List ℕ) (k : ℕ) where
 
         -- A candidate.
         pub windows-stop : r .breaks ≤ k
-            → record { start = i; next = i + r .left + 1; looks = looks + r .looks; candidate = true } ≡ windowsBy m table line k from
+            → record { start = record { 0 = i }; next = record { 0 = i + r .left + 1 }; looks = looks + r .looks; candidate = true } ≡ windowsBy m table line k from
         windows-stop few =
-            ap (λ (x : WindowRead). record { start = i; next = i + x .left + 1; looks = looks + x .looks; candidate = true }) is-read
+            ap (λ (x : WindowRead). record { start = record { 0 = i }; next = record { 0 = i + x .left + 1 }; looks = looks + x .looks; candidate = true }) is-read
             ∙ sym (windows-found (known .left - 1) i looks in-line (rw is-read at few)) ∙ from-here
 
         -- A window that is left.

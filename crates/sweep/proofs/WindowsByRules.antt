@@ -61,7 +61,7 @@ module _ (ring table line : List ℕ) (k from : ℕ) (own : OwnVectors ring tabl
 
       -- It is the candidate.
       stops-here : read i .breaks ≤ k
-          → IsWindowsRead ring line k from (record { start = i; next = i + read i .left + 1; looks = looks + read i .looks; candidate = true })
+          → IsWindowsRead ring line k from (record { start = record { 0 = i }; next = record { 0 = i + read i .left + 1 }; looks = looks + read i .looks; candidate = true })
       stops-here few = record {
         looks = looks;
         left-to = h;

@@ -46,7 +46,7 @@ readBy table window k = readWith table window k (wordCount (length window))
 
 -- No window is in the line any more.
 abbrev pub noneLeft : ℕ → ℕ → WindowsRead
-noneLeft i looks = record { start = i; next = i; looks = looks; candidate = false }
+noneLeft i looks = record { start = record { 0 = i }; next = record { 0 = i }; looks = looks; candidate = false }
 
 -- The windows from start i on. Rule 1: "While a window fits in the line". Rule 3: "With j edges read, the next window starts m − j + 1 further on." Rule 4: "A
 -- window with all m edges read and at most k breaks is a candidate." Each window starts past the one before, so there are at most as many as `left`.
@@ -54,7 +54,7 @@ unfoldable pub windowsOn : ℕ → List ℕ → List ℕ → ℕ → ℕ → ℕ
 windowsOn m table line k zero i looks = noneLeft i looks
 windowsOn m table line k (suc left) i looks =
     let read : WindowRead = readBy table (windowAt m line i) k in
-    let found : WindowsRead = record { start = i; next = i + read .left + 1; looks = looks + read .looks; candidate = true } in
+    let found : WindowsRead = record { start = record { 0 = i }; next = record { 0 = i + read .left + 1 }; looks = looks + read .looks; candidate = true } in
     let later : WindowsRead = windowsOn m table line k left (i + read .left + 1) (looks + read .looks) in
     let tried : WindowsRead = cond (leb (read .breaks) k) found later in
     let none : WindowsRead = noneLeft i looks in

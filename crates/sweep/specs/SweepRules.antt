@@ -78,57 +78,57 @@ pub data LeftTo (ring line : List ℕ) (k from : ℕ) : ℕ → ℕ → Type 0 w
 -- Rule 4, "A window with all m edges read and at most k breaks is a candidate": the one at which reading stopped, the start after it, and its reads among
 -- the looks.
 pub record IsCandidateRead (ring line : List ℕ) (k looks : ℕ) (r : WindowsRead) : Type 0 where
-  pub in-line : r .start + length ring ≤ length line
-  pub few : readWindow ring line k (r .start) .breaks ≤ k
-  pub next-is : r .next ≡ sweptStart ring line k (r .start)
-  pub looks-are : r .looks ≡ looks + readWindow ring line k (r .start) .read
+  pub in-line : r .start .0 + length ring ≤ length line
+  pub few : readWindow ring line k (r .start .0) .breaks ≤ k
+  pub next-is : r .next .0 ≡ sweptStart ring line k (r .start .0)
+  pub looks-are : r .looks ≡ looks + readWindow ring line k (r .start .0) .read
 
 -- From `from` on every window is left, up to the first candidate, or to where no window is in the line.
 pub record IsWindowsRead (ring line : List ℕ) (k from : ℕ) (r : WindowsRead) : Type 0 where
   pub looks : ℕ
-  pub left-to : LeftTo ring line k from (r .start) looks
+  pub left-to : LeftTo ring line k from (r .start .0) looks
   pub candidate-is : r .candidate ≡ true → IsCandidateRead ring line k looks r
-  pub ended : r .candidate ≡ false → (length line < r .start + length ring) × (r .next ≡ r .start) × (r .looks ≡ looks)
+  pub ended : r .candidate ≡ false → (length line < r .start .0 + length ring) × (r .next .0 ≡ r .start .0) × (r .looks ≡ looks)
 
 -- What sweeping by the rules asks: a ring and a line within the limits, the ring's vectors and its double, a start of at most n + 1, the tally of the last verified
 -- start, and room for more looks. The allowance may be any.
 pub record CanSweepOn (ring doubled table line counts : List ℕ) (at : Sweep) : Type 0 where
-  pub can-sweep : CanSweep (length ring) (length line) (at .start) (at .looks)
+  pub can-sweep : CanSweep (length ring) (length line) (at .start .0) (at .looks)
   pub size : length counts ≡ mostCounts
   pub occurs : Occurrences ring table
   pub twice : IsDoubled ring doubled
-  pub before : TalliedBefore ring line (at .start) counts (lastOf (at .last))
+  pub before : TalliedBefore ring line (at .start .0) counts (lastOf (at .last))
 
 -- One window is swept by the rules, and the counts hold the tally of the start that was verified last.
 pub record IsSwept (ring line : List ℕ) (k : ℕ) (at : Sweep) (r : Swept) (counts : List ℕ) : Type 0 where
-  pub start-is : stateOf r .start ≡ sweptStart ring line k (at .start)
-  pub last-is : lastOf (stateOf r .last) ≡ sweptLast ring line k (at .start) (lastOf (at .last))
-  pub looks-are : stateOf r .looks ≡ sweptLooks ring line k (at .start) (lastOf (at .last)) (at .looks)
-  pub found-are : foundOf r ≡ sweptFound ring line k (at .start)
-  pub before : TalliedBefore ring line (stateOf r .start) counts (lastOf (stateOf r .last))
+  pub start-is : stateOf r .start .0 ≡ sweptStart ring line k (at .start .0)
+  pub last-is : lastOf (stateOf r .last) ≡ sweptLast ring line k (at .start .0) (lastOf (at .last))
+  pub looks-are : stateOf r .looks ≡ sweptLooks ring line k (at .start .0) (lastOf (at .last)) (at .looks)
+  pub found-are : foundOf r ≡ sweptFound ring line k (at .start .0)
+  pub before : TalliedBefore ring line (stateOf r .start .0) counts (lastOf (stateOf r .last))
   pub size : length counts ≡ mostCounts
 
 -- A candidate is swept: its window is in the line and has at most k breaks.
 pub record IsCandidateSwept (ring line : List ℕ) (k : ℕ) (at : Sweep) (r : Swept) (counts : List ℕ) : Type 0 where
-  pub in-line : at .start + length ring ≤ length line
-  pub few : readWindow ring line k (at .start) .breaks ≤ k
+  pub in-line : at .start .0 + length ring ≤ length line
+  pub few : readWindow ring line k (at .start .0) .breaks ≤ k
   pub swept : IsSwept ring line k at r counts
 
 -- No window is in the line any more, and the counts still hold the tally of the start that was verified last.
 pub record HasEnded (ring line : List ℕ) (at next : Sweep) (counts : List ℕ) : Type 0 where
-  pub past : length line < at .start + length ring
+  pub past : length line < at .start .0 + length ring
   pub next-is : next ≡ at
-  pub before : TalliedBefore ring line (at .start) counts (lastOf (at .last))
+  pub before : TalliedBefore ring line (at .start .0) counts (lastOf (at .last))
   pub size : length counts ≡ mostCounts
 
 -- Where the sweep stands once windows are left: only its start and its looks have changed.
 abbrev pub leftState : Sweep → ℕ → ℕ → Sweep
-leftState at i looks = record { start = i; last = at .last; looks = at .looks + looks }
+leftState at i looks = record { start = record { 0 = i }; last = at .last; looks = at .looks + looks }
 
 -- Every window is left, up to the first candidate, which is swept, or to where no window is in the line.
 pub record IsSweptOn (ring line : List ℕ) (k : ℕ) (at : Sweep) (r : Swept) (counts : List ℕ) : Type 0 where
   pub stop : ℕ
   pub looks : ℕ
-  pub left-to : LeftTo ring line k (at .start) stop looks
+  pub left-to : LeftTo ring line k (at .start .0) stop looks
   pub ended : hasEnded r ≡ true → HasEnded ring line (leftState at stop looks) (stateOf r) counts
   pub candidate : hasEnded r ≡ false → IsCandidateSwept ring line k (leftState at stop looks) r counts

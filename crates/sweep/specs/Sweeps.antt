@@ -39,9 +39,9 @@ unfoldable pub tallyBy : List ℕ → List ℕ → List ℕ → ℕ → LastVeri
 tallyBy ring doubled line i Nothing old = countedTo doubled (windowAt (length ring) line i) old
 tallyBy ring doubled line i (At from) old =
     let afresh : TallyTo = countedTo doubled (windowAt (length ring) line i) old in
-    let moved : TallyTo = movedTo ring line from (i - from) old in
-    let beyond : TallyTo = cond (ltb (length ring) (2 * (i - from))) afresh moved in
-    cond (leb i from) afresh beyond
+    let moved : TallyTo = movedTo ring line (from .0) (i - from .0) old in
+    let beyond : TallyTo = cond (ltb (length ring) (2 * (i - from .0))) afresh moved in
+    cond (leb i (from .0)) afresh beyond
 
 -- What a sweep gives: its answer, and the counts.
 pub record SweptTo : Type 0 where
@@ -51,12 +51,12 @@ pub record SweptTo : Type 0 where
 -- The sweep to the next candidate. Rule 4: "Each candidate is verified, and reported if it is a finding."
 unfoldable pub sweepBy : List ℕ → List ℕ → List ℕ → List ℕ → ℕ → Sweep → List ℕ → SweptTo
 sweepBy ring doubled table line k at old =
-    let read : WindowsRead = windowsBy (length ring) table line k (at .start) in
+    let read : WindowsRead = windowsBy (length ring) table line k (at .start .0) in
     let looks : ℕ = at .looks + read .looks in
-    let tally : TallyTo = tallyBy ring doubled line (read .start) (at .last) old in
+    let tally : TallyTo = tallyBy ring doubled line (read .start .0) (at .last) old in
     let next : Sweep = record { start = read .next; last = At (read .start); looks = looks + tally .looks } in
     let rotation : ℕ = lowestWith (length ring) (tally .counts) (tally .least) in
-    let finding : FindingStruct = record { start = record { 0 = read .start }; rotation = record { 0 = rotation }; distance = tally .least } in
+    let finding : FindingStruct = record { start = read .start; rotation = record { 0 = rotation }; distance = tally .least } in
     let ended : SweptTo = record { swept = Ended (record { start = read .start; last = at .last; looks = looks }); counts = old } in
     let none : SweptTo = record { swept = NoFinding next; counts = tally .counts } in
     let found : SweptTo = record { swept = Found next finding; counts = tally .counts } in
@@ -76,7 +76,7 @@ canSweep m n start looks = (ltb 0 m && leb m mostCounts) && (ltb n mostPlaces &&
 -- go on stays where it is, and no count changes.
 pub record IsSweptBy (ring doubled table line : List ℕ) (k : ℕ) (at : Sweep) (old new : List ℕ) (r : Swept) : Type 0 where
   pub is : record { swept = r; counts = new }
-      ≡ cond (canSweep (length ring) (length line) (at .start) (at .looks)) (sweepBy ring doubled table line k at old) (record { swept = Ended at; counts = old })
+      ≡ cond (canSweep (length ring) (length line) (at .start .0) (at .looks)) (sweepBy ring doubled table line k at old) (record { swept = Ended at; counts = old })
 
 -- From here on: what private functions ask and promise.
 

@@ -18,7 +18,7 @@ use Rattle.sweep.specs.declared.verifying.LastVerified.the-variants.{Not
 -- The last verified start, if there is one.
 abbrev pub lastOf : LastVerified → Option ℕ
 lastOf Nothing = none
-lastOf (At i) = some i
+lastOf (At start) = some (start .0)
 
 -- The counts hold the tally of the last verified start, if there is one; it is before i.
 abbrev pub TalliedBefore : List ℕ → List ℕ → ℕ → List ℕ → Option ℕ → Type 0

@@ -20,7 +20,7 @@ const MOST_LOOKS: usize = 4611686018427387904;
 
 // Where a sweep stands: the start of the window to be read next, the last verified start, the looks so far.
 pub struct Sweep {
-    pub start: usize,
+    pub start: LinePlace,
     pub last: LastVerified,
     pub looks: usize,
 }
@@ -36,8 +36,8 @@ pub enum Swept {
 // How far windows were read: the start of the candidate, the start after it, and the looks of all windows up to it; or,
 // where there is no candidate, the first start that has no window in the line, twice.
 pub struct WindowsRead {
-    pub start: usize,
-    pub next: usize,
+    pub start: LinePlace,
+    pub next: LinePlace,
     pub looks: usize,
     pub candidate: bool,
 }
@@ -50,12 +50,12 @@ fn read_windows(
     table: &[u64; TABLE_WORDS],
     line: &[u8],
     k: usize,
-    from: usize,
+    from: LinePlace,
 ) -> WindowsRead
-    requires { ⌜ CanReadWindows m (length (now line)) from ⌝ }
-    ensures { λ z. ⌜ z ≡ windowsBy m (now (table .entry)) (now (line .entry)) k from ⌝ }
+    requires { ⌜ CanReadWindows m (length (now line)) (from .0) ⌝ }
+    ensures { λ z. ⌜ z ≡ windowsBy m (now (table .entry)) (now (line .entry)) k (from .0) ⌝ }
 {
-    let mut i = from;
+    let mut i = from.0;
     let mut looks: usize = 0;
     while i + m <= line.len() {
         let read = read_window(window(line, LinePlace(i), m), table, k);
@@ -63,8 +63,8 @@ fn read_windows(
         let next = i + read.left + 1;
         if read.breaks <= k {
             return WindowsRead {
-                start: i,
-                next,
+                start: LinePlace(i),
+                next: LinePlace(next),
                 looks,
                 candidate: true,
             };
@@ -72,8 +72,8 @@ fn read_windows(
         i = next;
     }
     WindowsRead {
-        start: i,
-        next: i,
+        start: LinePlace(i),
+        next: LinePlace(i),
         looks,
         candidate: false,
     }
@@ -89,24 +89,21 @@ fn to_candidate(
     k: usize,
     counts: &mut [u16; MOST_COUNTS],
 ) -> Swept
-    requires { ⌜ CanSweep (length (now ring)) (length (now line)) (at .start) (at .looks) ⌝ }
+    requires { ⌜ CanSweep (length (now ring)) (length (now line)) (at .start .0) (at .looks) ⌝ }
     ensures { λ r. ⌜ IsSweptTo (now (ring .entry)) (now (doubled .entry)) (now (table .entry)) (now (line .entry)) k at (now (counts .entry)) (now (counts .exit)) r ⌝ }
 {
     let last = at.last;
     let read = read_windows(ring.len(), table, line, k, at.start);
-    let i = read.start;
+    let start = read.start;
     let looks = at.looks + read.looks;
     if !read.candidate {
-        return Swept::Ended(Sweep {
-            start: i,
-            last,
-            looks,
-        });
+        return Swept::Ended(Sweep { start, last, looks });
     }
-    let verified = verify(counts, ring, doubled, line, i, last);
+    let verified = verify(counts, ring, doubled, line, start, last);
+    let after = read.next;
     let next = Sweep {
-        start: read.next,
-        last: LastVerified::At(i),
+        start: after,
+        last: LastVerified::At(start),
         looks: looks + verified.looks,
     };
     let distance = verified.least;
@@ -117,7 +114,7 @@ fn to_candidate(
     Swept::Found(
         next,
         Finding {
-            start: LinePlace(i),
+            start,
             rotation,
             distance,
         },
@@ -126,8 +123,8 @@ fn to_candidate(
 
 // Whether a sweep can go on from a start with so many looks: a ring within the limit, a line that has places for its
 // starts, a start of at most n + 1, and room for more looks.
-fn can_sweep(m: usize, n: usize, start: usize, taken: usize) -> bool
-    ensures { λ r. ⌜ r ≡ canSweep m n start taken ⌝ }
+fn can_sweep(m: usize, n: usize, start: LinePlace, taken: usize) -> bool
+    ensures { λ r. ⌜ r ≡ canSweep m n (start .0) taken ⌝ }
 {
     if m == 0 {
         return false;
@@ -138,7 +135,7 @@ fn can_sweep(m: usize, n: usize, start: usize, taken: usize) -> bool
     if MOST_PLACES <= n {
         return false;
     }
-    if n + 1 < start {
+    if n + 1 < start.0 {
         return false;
     }
     taken <= MOST_LOOKS

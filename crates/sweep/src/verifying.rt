@@ -12,7 +12,7 @@ ghost use Rattle.sweep.specs.Sweeps.{IsTallied};
 // The last verified start, if there is one.
 pub enum LastVerified {
     Nothing,
-    At(usize),
+    At(LinePlace),
 }
 
 // Rule 5: "With no earlier tally, or if the new start is s beyond the last verified one and 2·s > m, it is counted
@@ -22,25 +22,25 @@ pub fn verify(
     ring: &[u8],
     doubled: &[u8],
     line: &[u8],
-    i: usize,
+    start: LinePlace,
     last: LastVerified,
 ) -> Least
-    requires { ⌜ i ≤ mostPlaces ⌝ }
-    ensures { λ z. ⌜ IsTallied (now (ring .entry)) (now (doubled .entry)) (now (line .entry)) i last (now (counts .entry)) (now (counts .exit)) z ⌝ }
+    requires { ⌜ start .0 ≤ mostPlaces ⌝ }
+    ensures { λ z. ⌜ IsTallied (now (ring .entry)) (now (doubled .entry)) (now (line .entry)) (start .0) last (now (counts .entry)) (now (counts .exit)) z ⌝ }
 {
     let m = ring.len();
     match last {
-        LastVerified::Nothing => count_afresh(counts, doubled, window(line, LinePlace(i), m)),
+        LastVerified::Nothing => count_afresh(counts, doubled, window(line, start, m)),
         LastVerified::At(from) => {
-            if i <= from {
-                return count_afresh(counts, doubled, window(line, LinePlace(i), m));
+            if start.0 <= from.0 {
+                return count_afresh(counts, doubled, window(line, start, m));
             }
-            let s = i - from;
+            let s = start.0 - from.0;
             if m < 2 * s {
-                count_afresh(counts, doubled, window(line, LinePlace(i), m))
+                count_afresh(counts, doubled, window(line, start, m))
             } else {
                 // No least count is below 0: it moves all the s steps.
-                let reached = move_counts(counts, ring, line, LinePlace(from), s, 0);
+                let reached = move_counts(counts, ring, line, from, s, 0);
                 Least {
                     least: reached.least,
                     looks: reached.looks,

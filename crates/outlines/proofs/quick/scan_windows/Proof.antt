@@ -18,7 +18,7 @@ Inv-loop ring doubled table line k counts₀ words₀ m at₀ found₀ counts wo
     (m ≡ length ring) × (length words ≡ length words₀) × ScanAll ring line k words₀ at found counts words
 
 abbrev μ-loop : tie.MeasureT-loop
-μ-loop ring doubled table line k counts₀ words₀ m at₀ found₀ counts words at found = length line + 1 - at .start
+μ-loop ring doubled table line k counts₀ words₀ m at₀ found₀ counts words at found = length line + 1 - at .start .0
 
 loop-holds : tie.Need-loop-holds Inv-loop μ-loop
 loop-holds c = (refl, refl, all-start (c .before .before .before .before .pre) refl refl refl)

@@ -18,7 +18,7 @@ Inv-loop cell ring-number ring doubled table line k book counts₀ words₀ m at
     (m ≡ length ring) × (length words ≡ length words₀) × ReportKeeps cell ring-number ring line k book words₀ at asked counts words
 
 abbrev μ-loop : tie.MeasureT-loop
-μ-loop cell ring-number ring doubled table line k book counts₀ words₀ m at₀ asked₀ counts words at asked = length line + 1 - at .start
+μ-loop cell ring-number ring doubled table line k book counts₀ words₀ m at₀ asked₀ counts words at asked = length line + 1 - at .start .0
 
 address-of-requires : tie.Need-address-of-requires Inv-loop μ-loop
 address-of-requires c κs = omega arith

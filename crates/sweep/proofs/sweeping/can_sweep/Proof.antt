@@ -29,7 +29,7 @@ returns-4 c = test-fails (can-sweep-iff _ _ _ _) (λ can. omega (arith, can .win
 -- All that is left is room for more looks.
 returns-5 : tie.Need-returns-5
 returns-5 c =
-    let places = c .before in
+    let places = c .before .before in
     let most = places .before in
     can-sweep-last _ _ _ _
     (record {

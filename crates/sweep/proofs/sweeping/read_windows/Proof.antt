@@ -11,10 +11,10 @@ use Rattle.sweep.proofs.sweeping.read_windows.Statement.{statement}
 use Rattle.sweep.proofs.sweeping.read_windows.Tie as tie
 
 abbrev Inv-loop : tie.InvT-loop
-Inv-loop m table line k from i₀ looks₀ i looks = StillWindows m table line k from i looks
+Inv-loop m table line k from looks₀ i looks = StillWindows m table line k from i looks
 
 abbrev μ-loop : tie.MeasureT-loop
-μ-loop m table line k from i₀ looks₀ i looks = length line + 1 - i
+μ-loop m table line k from looks₀ i looks = length line + 1 - i
 
 loop-holds : tie.Need-loop-holds Inv-loop μ-loop
 loop-holds c = windows-start _ _ _ _ _ (c .before .pre)

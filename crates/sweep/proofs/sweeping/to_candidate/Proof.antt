@@ -10,42 +10,45 @@ use Rattle.sweep.proofs.sweeping.to_candidate.Tie as tie
 read-windows-requires : tie.Need-read-windows-requires
 read-windows-requires c κs = c .before .before .before .pre .windows
 
+-- the windows read, from where the test of the candidate stands, and the function's entry
+abbrev at-read : tie.After-struct-known3 → tie.After-read-windows
+at-read c = c .before .before .before .before
+
+abbrev at-entry : tie.After-read-windows → tie.Start
+at-entry c = c .before .before .before .before
+
 add-looks : tie.Need-add-looks
 add-looks c =
-    let read = c .before .before in
-    let start = read .before .before .before .before in
+    let read = c .before .before .before in
+    let start = at-entry read in
     omega (arith, sweep-looks-le _ (start .args .table .now) (start .args .line .now) (start .args .k) (start .args .at) (start .pre) _ (read .read-windows .ensures))
 
 -- No candidate.
 returns : tie.Need-returns
-returns c =
-    let read = c .before .before .before .before in
-    way-ended _ _ _ _ _ _ _ _ (read .read-windows .ensures) (not-true _ (c .if1 .taken))
+returns c = way-ended _ _ _ _ _ _ _ _ (at-read (c .before) .read-windows .ensures) (not-true _ (c .if1 .taken))
 
 verify-requires : tie.Need-verify-requires
 verify-requires c κs =
-    let read = c .before .before .before .before .before in
-    let start = read .before .before .before .before in
+    let read = at-read (c .before .before) in
+    let start = at-entry read in
     sweep-start-le _ (start .args .table .now) (start .args .line .now) (start .args .k) (start .args .at) (start .pre) _ (read .read-windows .ensures)
 
 add-lowest-rotation : tie.Need-add-lowest-rotation
 add-lowest-rotation c =
-    let verified = c .before in
+    let verified = c .before .before in
     let candidate = verified .before .before in
-    let read = candidate .before .before .before .before in
-    let start = read .before .before .before .before in
+    let read = at-read (candidate .before) in
     omega (
       arith,
-      sweep-all-looks-le _ _ _ _ _ _ _ _ (read .read-windows .ensures) (not-false _ (candidate .if1 .left)) _ _ (verified .verify .ensures) (start .pre),
+      sweep-all-looks-le _ _ _ _ _ _ _ _ (read .read-windows .ensures) (not-false _ (candidate .if1 .left)) _ _ (verified .verify .ensures) (at-entry read .pre),
     )
 
 -- Verified, and no finding.
 returns-2 : tie.Need-returns-2
 returns-2 c =
-    let verified = c .before .before in
+    let verified = c .before .before .before in
     let candidate = verified .before .before in
-    let read = candidate .before .before .before .before in
-    way-none _ _ _ _ _ _ _ _ (read .read-windows .ensures) (not-false _ (candidate .if1 .left)) _ _ (verified .verify .ensures)
+    way-none _ _ _ _ _ _ _ _ (at-read (candidate .before) .read-windows .ensures) (not-false _ (candidate .if1 .left)) _ _ (verified .verify .ensures)
     (omega (arith, c .if2 .taken))
 
 lowest-rotation-requires : tie.Need-lowest-rotation-requires
@@ -55,10 +58,9 @@ lowest-rotation-requires c κs = search needs
 returns-3 : tie.Need-returns-3
 returns-3 c =
     let tested = c .before .before in
-    let verified = tested .before .before in
+    let verified = tested .before .before .before in
     let candidate = verified .before .before in
-    let read = candidate .before .before .before .before in
-    way-found _ _ _ _ _ _ _ _ (read .read-windows .ensures) (not-false _ (candidate .if1 .left)) _ _ (verified .verify .ensures) _
+    way-found _ _ _ _ _ _ _ _ (at-read (candidate .before) .read-windows .ensures) (not-false _ (candidate .if1 .left)) _ _ (verified .verify .ensures) _
     (omega (arith, tested .if2 .left))
     (c .lowest-rotation .ensures)
 

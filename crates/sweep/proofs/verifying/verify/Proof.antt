@@ -6,6 +6,10 @@ use Rattle.sweep.proofs.TallyWays.{tallied-first, tallied-behind, talli
 use Rattle.sweep.proofs.verifying.verify.Statement.{statement}
 use Rattle.sweep.proofs.verifying.verify.Tie as tie
 
+-- where the last verified start is told, from the test whether the new one is beyond it
+abbrev at-last : tie.After-struct-known2 → tie.After-last
+at-last c = c .before .before .before
+
 enum-told : tie.Need-enum-told
 enum-told c = search needs
 
@@ -29,7 +33,7 @@ returns : tie.Need-returns
 returns c =
     let counted = c .before in
     let behind = counted .before .before in
-    tallied-behind _ _ _ _ _ _ _ (behind .before .before .last .given .1) _ _ _ (omega (arith, behind .if1 .taken)) (counted .window2 .ensures) (c .count-afresh2 .ensures)
+    tallied-behind _ _ _ _ _ _ _ (at-last (behind .before) .last .given .1) _ _ _ (omega (arith, behind .if1 .taken)) (counted .window2 .ensures) (c .count-afresh2 .ensures)
 
 sub-s : tie.Need-sub-s
 sub-s c = search needs
@@ -57,16 +61,16 @@ returns-3 : tie.Need-returns-3
 returns-3 c =
     let counted = c .before in
     let far = counted .before .before in
-    let beyond = far .before in
-    tallied-far _ _ _ _ _ _ _ (beyond .before .before .last .given .1) _ _ _ (omega (arith, beyond .if1 .left)) (omega (arith, far .if2 .taken)) (counted .window3 .ensures)
+    let beyond = far .before .before .before in
+    tallied-far _ _ _ _ _ _ _ (at-last (beyond .before) .last .given .1) _ _ _ (omega (arith, beyond .if1 .left)) (omega (arith, far .if2 .taken)) (counted .window3 .ensures)
     (c .count-afresh3 .ensures)
 
 -- Otherwise.
 returns-4 : tie.Need-returns-4
 returns-4 c =
     let near = c .before .before in
-    let beyond = near .before in
-    tallied-moved _ _ _ _ _ _ _ (beyond .before .before .last .given .1) _ _ (omega (arith, beyond .if1 .left)) (omega (arith, near .if2 .left)) (c .move-counts .ensures)
+    let beyond = near .before .before .before in
+    tallied-moved _ _ _ _ _ _ _ (at-last (beyond .before) .last .given .1) _ _ (omega (arith, beyond .if1 .left)) (omega (arith, near .if2 .left)) (c .move-counts .ensures)
 
 pub verify-spec : {M : Type 1} → statement M
 verify-spec =
