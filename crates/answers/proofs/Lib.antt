@@ -4,5 +4,6 @@ pub mod Conversions
 pub mod PlacesUndo
 pub mod PlaceSamples
 pub mod Rows
+pub mod AnswerCases
 pub mod OneAnswer
 pub mod RefusalNumbers

@@ -13,7 +13,7 @@ use Rattle.book.specs.declared.answering.BookAnswer.{BookAnswer}
 use Rattle.silences.specs.Silences.{Silence}
 use Rattle.silences.specs.Reading.{mostBytes, readBook}
 use Rattle.book.specs.Calls.{answerOf, recordsOf, IsRead}
-use Rattle.silences.proofs.AnswerCases.{accepted-not-refused}
+use Rattle.answers.proofs.AnswerCases.{accepted-not-refused}
 use Rattle.silences.proofs.FieldsRead.{read-length-le}
 use Rattle.silences.proofs.AcceptedIsLayout.{IsReadWhole, accepted-whole-iff}
 

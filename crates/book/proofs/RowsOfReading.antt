@@ -12,7 +12,8 @@ use Rattle.book.specs.declared.answering.BookAnswer.{BookAnswer}
 use Rattle.book.specs.declared.answering.BookAnswer.the-variants.{Records}
 use Rattle.silences.specs.Silences.{Silence}
 use Rattle.silences.specs.Reading.{readBook}
-use Rattle.silences.specs.Books.{IsBytes, IsBook}
+use Rattle.lists.specs.Bounds.{IsBytes}
+use Rattle.silences.specs.Books.{IsBook}
 use Rattle.silences.specs.Rows.{IsFieldFault, IsOrderFault}
 use Rattle.book.specs.Calls.{paperOf, IsRead}
 use Rattle.silences.proofs.AcceptedIsLayout.{accepted-iff}

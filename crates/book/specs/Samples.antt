@@ -1,9 +1,10 @@
 -- Seeking in the book of the report program's example, computed.
 use mathlib.Core.Path.{_≡_, refl}
 use mathlib.Core.Bool.{true, false}
-use Rattle.silences.specs.Numbers.{numberAt}
+use Rattle.fields.specs.Numbers.{numberAt}
 use Rattle.silences.specs.Silences.{silence, isBelow, isSame}
-use Rattle.silences.specs.Reading.{whole, faulty, lengthByTag, silenceAt, isWhole, fieldBy, fieldAt}
+use Rattle.fields.specs.Tagged.{isWhole}
+use Rattle.silences.specs.Reading.{whole, faulty, lengthByTag, silenceAt, fieldBy, fieldAt}
 use Rattle.silences.specs.Samples.{example}
 use Rattle.book.specs.Seeking.{seekFields, seekFrom, isFor}
 

@@ -9,8 +9,8 @@ use lib.ListN.{length}
 use borrow.Author.Tests.{lt-ltb, le-ltb}
 use Rattle.answers.specs.declared.refusals.Refusal.the-variants.{Input}
 use Rattle.answers.specs.Paper.{refused}
-use Rattle.silences.specs.Numbers.{numberAt}
-use Rattle.silences.specs.Reading.{headLength}
+use Rattle.fields.specs.Numbers.{numberAt}
+use Rattle.fields.specs.Tagged.{headLength}
 use Rattle.input.specs.declared.asking.Asked.the-variants.{Parts as PartsCase, Refused}
 use Rattle.input.specs.Fields.{lineField}
 use Rattle.input.specs.Input.{mostInput, fieldsOf, requestOf}

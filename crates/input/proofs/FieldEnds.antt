@@ -12,9 +12,10 @@ use lib.Dec.{leb, eqb}
 use lib.ListN.{length, getD}
 use borrow.Author.Tests.{le-leb, lt-leb, eq-eqb, ne-eqb, leb-true, eqb-true}
 use Rattle.lists.proofs.Cases.{and-true}
-use Rattle.input.specs.declared.fields.FieldEnd.{FieldEnd}
-use Rattle.input.specs.declared.fields.FieldEnd.the-variants.{At, NoField}
-use Rattle.input.specs.Fields.{FieldKind, longAt, nextAt, isField, fieldEndAt}
+use Rattle.input.specs.declared.field.FieldEnd.{FieldEnd}
+use Rattle.input.specs.declared.field.FieldEnd.the-variants.{At, NoField}
+use Rattle.fields.specs.Tagged.{longAt}
+use Rattle.input.specs.Fields.{FieldKind, nextAt, isField, fieldEndAt}
 use Rattle.input.specs.Parsing.{endOf, IsEnd}
 use Rattle.input.specs.RowEleven.{IsFieldAt, NoFieldAt}
 

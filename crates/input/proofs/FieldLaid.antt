@@ -8,12 +8,11 @@ use native.Mathlib.Omega.{arith}
 use native.Mathlib.Numerals.{add-one}
 use lib.ListN.{length, getD, take, drop, length-append, length-take, length-drop, take-append-drop}
 use lib.Seq.{drop-cons, drop-drop, getD-drop, take-append-seam, drop-append-seam}
-use Rattle.silences.specs.Numbers.{bytesOf, numberAt}
-use Rattle.silences.specs.Layout.{field}
-use Rattle.silences.specs.Reading.{headLength, fieldEnd}
-use Rattle.silences.specs.Books.{IsBytes}
-use Rattle.silences.proofs.NumberBytes.{bytesOf-length, number-of-bytes, bytes-of-number}
-use Rattle.input.specs.Fields.{FieldKind, longAt, between}
+use Rattle.fields.specs.Numbers.{bytesOf, numberAt}
+use Rattle.fields.specs.Tagged.{field, headLength, longAt, fieldEnd}
+use Rattle.lists.specs.Bounds.{IsBytes}
+use Rattle.fields.proofs.NumberBytes.{bytesOf-length, number-of-bytes, bytes-of-number}
+use Rattle.input.specs.Fields.{FieldKind, between}
 use Rattle.input.specs.RowEleven.{IsFieldAt}
 
 -- A number is the same in the bytes from some byte offset on.

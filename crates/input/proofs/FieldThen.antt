@@ -9,8 +9,8 @@ use mathlib.Core.Option.{Option, none, some}
 use Rattle.answers.specs.declared.refusals.Refusal.{Refusal}
 use Rattle.answers.specs.declared.refusals.Refusal.the-variants.{Input}
 use Rattle.answers.specs.Paper.{Answer, accepted, refused}
-use Rattle.silences.specs.Reading.{headLength}
-use Rattle.silences.proofs.AnswerCases.{accepted-not-refused}
+use Rattle.fields.specs.Tagged.{headLength}
+use Rattle.answers.proofs.AnswerCases.{accepted-not-refused}
 use Rattle.input.specs.Fields.{FieldKind, fieldEndAt}
 use Rattle.input.specs.Input.{Request, endThen, fieldThen}
 use Rattle.input.specs.RowEleven.{IsFieldAt, NoFieldAt}

@@ -7,10 +7,9 @@ use mathlib.Core.List.{List, _++_}
 use native.Mathlib.Omega.{arith}
 use lib.ListN.{length, drop}
 use Rattle.answers.specs.Paper.{accepted}
-use Rattle.silences.specs.Numbers.{bytesOf}
-use Rattle.silences.specs.Layout.{field}
-use Rattle.silences.specs.Reading.{fieldEnd}
-use Rattle.silences.proofs.NumberBytes.{bytesOf-length}
+use Rattle.fields.specs.Numbers.{bytesOf}
+use Rattle.fields.specs.Tagged.{field, fieldEnd}
+use Rattle.fields.proofs.NumberBytes.{bytesOf-length}
 use Rattle.input.specs.Fields.{cellField, ringNumberField, allowanceField, ringField, lineField}
 use Rattle.input.specs.Input.{Request, requestOf, laidDown, CanLayDown}
 use Rattle.input.specs.RowEleven.{CellStands, RingNumberStands, AllowanceStands, RingStands}

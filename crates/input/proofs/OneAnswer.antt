@@ -8,7 +8,7 @@ use native.Mathlib.Omega.{arith}
 use lib.ListN.{length, drop, length-drop}
 use lib.Seq.{length-take-le}
 use Rattle.answers.specs.Paper.{Answer, accepted, refused}
-use Rattle.silences.specs.Reading.{headLength}
+use Rattle.fields.specs.Tagged.{headLength}
 use Rattle.input.specs.declared.asking.Asked.{Asked}
 use Rattle.input.specs.declared.asking.Asked.the-variants.{Parts as PartsCase, Refused}
 use Rattle.input.specs.Fields.{between}

@@ -12,12 +12,11 @@ use lib.ListN.{length, take, drop, length-take}
 use borrow.Author.Tests.{ltb-false}
 use Rattle.answers.specs.declared.refusals.Refusal.the-variants.{Input}
 use Rattle.answers.specs.Paper.{accepted, refused}
-use Rattle.silences.specs.Numbers.{bytesOf, numberAt}
-use Rattle.silences.specs.Layout.{field}
-use Rattle.silences.specs.Reading.{headLength}
-use Rattle.silences.specs.Books.{IsBytes}
-use Rattle.silences.proofs.AnswerCases.{accepted-not-refused, accepted-unique}
-use Rattle.silences.proofs.NumberBytes.{numberAt-lt, bytes-of-number}
+use Rattle.fields.specs.Numbers.{bytesOf, numberAt}
+use Rattle.fields.specs.Tagged.{field, headLength}
+use Rattle.lists.specs.Bounds.{IsBytes}
+use Rattle.answers.proofs.AnswerCases.{accepted-not-refused, accepted-unique}
+use Rattle.fields.proofs.NumberBytes.{numberAt-lt, bytes-of-number}
 use Rattle.input.specs.Fields.{FieldKind, cellField, ringNumberField, allowanceField, ringField, lineField, between}
 use Rattle.input.specs.Input.{Request, mostInput, fieldsOf, requestOf, laidDown, CanLayDown}
 use Rattle.input.specs.RowEleven.{IsFieldAt, CellStands, RingNumberStands, AllowanceStands, RingStands}

@@ -12,7 +12,7 @@ use borrow.Author.Tests.{ltb-true, ltb-false}
 use Rattle.answers.specs.declared.refusals.Refusal.{Refusal}
 use Rattle.answers.specs.declared.refusals.Refusal.the-variants.{Input}
 use Rattle.answers.specs.Paper.{refused}
-use Rattle.silences.proofs.AnswerCases.{accepted-not-refused}
+use Rattle.answers.proofs.AnswerCases.{accepted-not-refused}
 use Rattle.input.specs.Fields.{cellField, ringNumberField, allowanceField, ringField, lineField}
 use Rattle.input.specs.Input.{mostInput, fieldsOf, requestOf}
 use Rattle.input.specs.RowEleven.{CellStands, RingNumberStands, AllowanceStands, IsInputFault, longer, no-cell, no-ring-number, no-allowance, no-ring, no-line}

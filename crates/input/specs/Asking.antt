@@ -10,7 +10,7 @@ use mathlib.Core.Path.{_≡_}
 use mathlib.Core.List.{List}
 use lib.ListN.{length, drop}
 use Rattle.answers.specs.Paper.{Answer, accepted, refused}
-use Rattle.silences.specs.Reading.{headLength}
+use Rattle.fields.specs.Tagged.{headLength}
 use Rattle.input.specs.declared.asking.Asked.{Asked}
 use Rattle.input.specs.declared.asking.Asked.the-variants.{Parts as PartsCase, Refused}
 use Rattle.input.specs.declared.asking.Parts.{Parts}

@@ -5,7 +5,7 @@
 --   cellField, ringNumberField,   the five kinds
 --   allowanceField, ringField,
 --   lineField
---   longAt, nextAt                the length that a field says, and the byte offset just past it
+--   nextAt                        the byte offset just past a field
 --   isField                       a field of a kind stands at a byte offset
 --   fieldEndAt                    the byte offset just past it, if it stands
 --   between                       the bytes from one byte offset up to another
@@ -17,8 +17,7 @@ use mathlib.Core.List.{List}
 use mathlib.Core.Option.{Option, none, some}
 use lib.Dec.{leb, eqb}
 use lib.ListN.{length, getD, take, drop}
-use Rattle.silences.specs.Numbers.{numberAt}
-use Rattle.silences.specs.Reading.{fieldEnd}
+use Rattle.fields.specs.Tagged.{longAt, fieldEnd}
 
 -- A kind of field: its tag, and the least and the most bytes that its value has.
 pub record FieldKind : Type 0 where
@@ -45,10 +44,6 @@ ringField = record { tag = 0x31; least = 0; most = 65535 }
 -- "32 line (at most 4,096)"
 abbrev pub lineField : FieldKind
 lineField = record { tag = 0x32; least = 0; most = 4096 }
-
--- The "two-byte length" of the field at a byte offset.
-abbrev pub longAt : List ℕ → ℕ → ℕ
-longAt input at = numberAt 2 input (at + 1)
 
 -- The byte offset just past the field at a byte offset.
 abbrev pub nextAt : List ℕ → ℕ → ℕ

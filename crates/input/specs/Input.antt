@@ -18,9 +18,8 @@ use lib.Dec.{ltb}
 use lib.ListN.{length, drop}
 use Rattle.answers.specs.declared.refusals.Refusal.the-variants.{Input}
 use Rattle.answers.specs.Paper.{Answer, accepted, refused}
-use Rattle.silences.specs.Numbers.{numberAt, bytesOf}
-use Rattle.silences.specs.Layout.{field}
-use Rattle.silences.specs.Reading.{headLength}
+use Rattle.fields.specs.Numbers.{numberAt, bytesOf}
+use Rattle.fields.specs.Tagged.{field, headLength}
 use Rattle.input.specs.Fields.{FieldKind, cellField, ringNumberField, allowanceField, ringField, lineField, fieldEndAt, between}
 
 -- What the program is asked: the report of a cell, a ring number, a ring, a line, an allowance and a book.

@@ -3,8 +3,8 @@ use Prim.Native.Nat.{ℕ}
 use mathlib.Core.Path.{_≡_}
 use mathlib.Core.List.{List}
 use mathlib.Core.Option.{Option, none, some}
-use Rattle.input.specs.declared.fields.FieldEnd.{FieldEnd}
-use Rattle.input.specs.declared.fields.FieldEnd.the-variants.{At, NoField}
+use Rattle.input.specs.declared.field.FieldEnd.{FieldEnd}
+use Rattle.input.specs.declared.field.FieldEnd.the-variants.{At, NoField}
 use Rattle.input.specs.Fields.{fieldEndAt}
 
 -- The end that an enum's case stands for.

@@ -11,7 +11,8 @@ use Prim.Native.Nat.{ℕ, _≤_, _<_}
 use mathlib.Core.Path.{_≡_}
 use mathlib.Core.List.{List}
 use lib.ListN.{length, getD}
-use Rattle.input.specs.Fields.{FieldKind, cellField, ringNumberField, allowanceField, ringField, lineField, longAt, nextAt}
+use Rattle.fields.specs.Tagged.{longAt}
+use Rattle.input.specs.Fields.{FieldKind, cellField, ringNumberField, allowanceField, ringField, lineField, nextAt}
 use Rattle.input.specs.Input.{mostInput}
 
 -- A field of this kind stands at a byte offset and ends at another: it is neither wrongly tagged nor wrongly long, and not cut.

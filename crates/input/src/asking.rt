@@ -1,9 +1,9 @@
 // What the program is asked: the five fields in their order, and then the book.
-use crate::fields::FieldEnd;
-use crate::fields::field_end;
+use crate::field::FieldEnd;
+use crate::field::field_end;
 use answers::Refusal;
-use silences::HEAD_LENGTH;
-use silences::number_at;
+use fields::HEAD_LENGTH;
+use fields::number_at;
 ghost use Rattle.input.specs.Asking.{IsAsked};
 
 // "It reads at most 32,768 bytes of standard input".

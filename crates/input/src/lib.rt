@@ -1,7 +1,7 @@
 // The report program's input read: the five fields in their order, and then the book; or refusal 11. What a request is and
 // which inputs are refused stands in specs/Input.antt. No public function has a `requires`: each takes every input.
 mod asking;
-mod fields;
+mod field;
 
 pub use asking::Asked;
 pub use asking::Parts;

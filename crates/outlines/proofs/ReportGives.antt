@@ -17,7 +17,8 @@ use Rattle.answers.specs.Paper.{Answer, accepted, refused, Paper, answerPaper}
 use Rattle.answers.proofs.OneAnswer.{number-in}
 use Rattle.silences.specs.Silences.{Silence}
 use Rattle.silences.specs.Reading.{readBook}
-use Rattle.silences.specs.Books.{IsBytes, IsBook}
+use Rattle.lists.specs.Bounds.{IsBytes}
+use Rattle.silences.specs.Books.{IsBook}
 use Rattle.silences.proofs.AcceptedIsLayout.{accepted-iff}
 use Rattle.outlines.specs.declared.reporting.Reported.{Reported}
 use Rattle.outlines.specs.declared.reporting.Reported.the-variants.{Counts as CountsCase, Refused}

@@ -9,7 +9,7 @@ use native.Mathlib.Omega.{arith}
 use lib.ListN.{length}
 use Rattle.answers.specs.declared.refusals.Refusal.the-variants.{Ring, Allowance, Line, FindingsRoom, BookLength, Field, NotAbove}
 use Rattle.answers.specs.Paper.{refused}
-use Rattle.silences.specs.Books.{IsBytes}
+use Rattle.lists.specs.Bounds.{IsBytes}
 use Rattle.silences.specs.Rows.{IsFieldFault, IsOrderFault}
 use Rattle.silences.proofs.BookRows.{book-row-5-iff, book-row-6-iff, book-row-7-iff}
 use Rattle.outlines.specs.declared.reporting.Reported.{Reported}

@@ -6,11 +6,11 @@ use mathlib.Core.Path.{_≡_, sym, ap, _∙_}
 use mathlib.Core.List.{List, _++_, append-assoc}
 use native.Mathlib.Omega.{arith}
 use lib.ListN.{length, length-append}
-use Rattle.silences.specs.Numbers.{bytesOf}
+use Rattle.fields.specs.Numbers.{bytesOf}
 use Rattle.silences.specs.Silences.{Silence}
 use Rattle.silences.specs.Layout.{silenceTag, valueOf, fieldOf}
 use Rattle.packing.specs.Putting.{IsPut}
-use Rattle.silences.proofs.NumberBytes.{bytesOf-length}
+use Rattle.fields.proofs.NumberBytes.{bytesOf-length}
 use Rattle.silences.proofs.FieldBytes.{fieldOf-is}
 use Rattle.packing.proofs.WrittenAt.{put-append}
 

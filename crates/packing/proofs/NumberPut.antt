@@ -9,9 +9,9 @@ use mathlib.Core.Path.{_≡_, refl, sym, ap, _∙_}
 use mathlib.Core.List.{List}
 use native.Mathlib.Omega.{arith}
 use lib.ListN.{length, set, length-set}
-use Rattle.silences.specs.Numbers.{bytesOf}
+use Rattle.fields.specs.Numbers.{bytesOf}
 use Rattle.packing.specs.Putting.{writtenAt, IsPut}
-use Rattle.silences.proofs.NumberBytes.{bytesOf-length}
+use Rattle.fields.proofs.NumberBytes.{bytesOf-length}
 use Rattle.packing.proofs.WrittenAt.{writtenAt-none, writtenAt-last}
 
 -- What the loop keeps.

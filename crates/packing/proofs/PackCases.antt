@@ -21,7 +21,7 @@ use Rattle.packing.specs.declared.judging.Judged.{Judged}
 use Rattle.packing.specs.declared.judging.Judged.the-variants.{Accepted, Refused as RefusedBy}
 use Rattle.packing.specs.Calls.{IsPacked}
 use Rattle.packing.specs.Judging.{Sizes, sized, sizes, sizesOf, judgedOf}
-use Rattle.silences.proofs.AnswerCases.{accepted-not-refused, accepted-unique}
+use Rattle.answers.proofs.AnswerCases.{accepted-not-refused, accepted-unique}
 use Rattle.silences.proofs.AreaAtExit.{area-refused}
 use Rattle.silences.proofs.RecordRows.{packedRecords}
 use Rattle.silences.proofs.PackRows.{packed-counted, packable, packed-8-iff, packed-10-iff, packed-accepted-iff}

@@ -14,7 +14,7 @@ use Rattle.book.specs.declared.answering.BookAnswer.the-variants.{Records}
 use Rattle.silences.specs.Silences.{Silence}
 use Rattle.silences.specs.Layout.{layout}
 use Rattle.silences.specs.Packing.{wordsOfSilences, areaAtExit, packed, unpacked}
-use Rattle.silences.specs.Books.{IsBytes, IsWords}
+use Rattle.lists.specs.Bounds.{IsBytes, IsWords}
 use Rattle.book.specs.Calls.{paperOf, recordsPaper, IsUnpacked}
 use Rattle.packing.specs.Calls.{IsPacked}
 use Rattle.silences.proofs.LayoutRead.{layout-length}

@@ -1,11 +1,11 @@
 // What packing asks of the words before it writes a byte: rows 9 and 7, record by record, and the sizes of the output.
 use answers::Refusal;
+use fields::LENGTH_BYTES;
+use fields::TAG_BYTES;
 use silences::Address;
-use silences::LENGTH_BYTES;
 use silences::Last;
 use silences::RECORD_WORDS;
 use silences::SILENCE_LENGTH;
-use silences::TAG_BYTES;
 use silences::is_above;
 ghost use mathlib.Core.Path.{_≡_};
 ghost use mathlib.Core.Option.{none};

@@ -1,17 +1,17 @@
 // Writing a book's bytes, number after number and field after field.
+use fields::LENGTH_BYTES;
+use fields::TAG_BYTES;
 use silences::CELL_BYTES;
-use silences::LENGTH_BYTES;
 use silences::RECORD_WORDS;
 use silences::RING_NUMBER_BYTES;
 use silences::SILENCE_LENGTH;
 use silences::SILENCE_TAG;
 use silences::START_BYTES;
-use silences::TAG_BYTES;
 ghost use mathlib.Core.Path.{_≡_};
 ghost use Prim.Native.Nat.{_+_, _≤_};
 ghost use lib.ListN.{length};
 ghost use Rattle.lists.specs.Areas.{written};
-ghost use Rattle.silences.specs.Numbers.{bytesOf};
+ghost use Rattle.fields.specs.Numbers.{bytesOf};
 ghost use Rattle.silences.specs.Silences.{silence};
 ghost use Rattle.silences.specs.Layout.{fieldOf, layout};
 ghost use Rattle.silences.specs.Packing.{silencesOf};

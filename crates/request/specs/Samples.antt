@@ -11,9 +11,10 @@ use Rattle.meaning.specs.Stretch.{begins, fits}
 use Rattle.meaning.specs.Rules.{readEdge, readLeft, readWindow, windowsFrom, candidatesOf}
 use Rattle.meaning.specs.Looks.{readLooks, tallyLooks, verifyLooks}
 use Rattle.lists.specs.Texts.{ascii}
-use Rattle.silences.specs.Numbers.{numberAt, bytesOf}
+use Rattle.fields.specs.Numbers.{numberAt, bytesOf}
 use Rattle.silences.specs.Silences.{isBelow, isSame, names}
-use Rattle.silences.specs.Reading.{lengthByTag, silenceAt, isWhole, fieldBy, fieldAt, fieldsFrom, readFrom, readBook}
+use Rattle.fields.specs.Tagged.{isWhole}
+use Rattle.silences.specs.Reading.{lengthByTag, silenceAt, fieldBy, fieldAt, fieldsFrom, readFrom, readBook}
 use Rattle.findings.specs.Admitting.{refusalOf}
 use Rattle.outlines.specs.Report.{those, admittedSilences}
 use Rattle.input.specs.Fields.{isField, fieldEndAt}

@@ -13,9 +13,10 @@ use Rattle.answers.specs.Paper.{accepted}
 use Rattle.silences.specs.Silences.{Silence}
 use Rattle.silences.specs.Layout.{layout}
 use Rattle.silences.specs.Reading.{mostBytes, readBook}
-use Rattle.silences.specs.Books.{IsBytes, IsBook}
+use Rattle.lists.specs.Bounds.{IsBytes}
+use Rattle.silences.specs.Books.{IsBook}
 use Rattle.silences.specs.Rows.{IsFineBefore}
-use Rattle.silences.proofs.AnswerCases.{accepted-not-refused}
+use Rattle.answers.proofs.AnswerCases.{accepted-not-refused}
 use Rattle.silences.proofs.ReadFrom.{readBook-fields}
 use Rattle.silences.proofs.FieldsRead.{FieldsRead, ReadsAs, read-all, reads-as-is, book-reads}
 use Rattle.silences.proofs.LayoutRead.{layout-length, read-fine, fine-read}

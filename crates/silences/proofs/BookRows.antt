@@ -12,10 +12,11 @@ use Rattle.answers.specs.declared.refusals.Refusal.{Refusal}
 use Rattle.answers.specs.declared.refusals.Refusal.the-variants.{BookLength, Field, NotAbove}
 use Rattle.answers.specs.Refusals.{numberOf}
 use Rattle.answers.specs.Paper.{refused}
-use Rattle.silences.specs.Reading.{headLength, silenceAt, readBook}
-use Rattle.silences.specs.Books.{IsBytes}
+use Rattle.fields.specs.Tagged.{headLength}
+use Rattle.silences.specs.Reading.{silenceAt, readBook}
+use Rattle.lists.specs.Bounds.{IsBytes}
 use Rattle.silences.specs.Rows.{IsNotAbove, IsFieldFault, IsOrderFault}
-use Rattle.silences.proofs.AnswerCases.{row-unique}
+use Rattle.answers.proofs.AnswerCases.{row-unique}
 use Rattle.silences.proofs.ReadFrom.{readBook-long, readBook-fields}
 use Rattle.silences.proofs.FieldTest.{field-whole-is, field-whole-iff, field-faulty-iff}
 use Rattle.silences.proofs.AscendingAfter.{not-above-iff}

@@ -8,12 +8,13 @@ use mathlib.Core.List.{List, [], _∷_, _++_, append-assoc}
 use native.Mathlib.Omega.{arith}
 use lib.ListN.{length, take, drop, length-append, take-append-drop}
 use lib.Seq.{drop-append-seam, drop-drop, take-add}
-use Rattle.silences.specs.Numbers.{bytesOf, numberAt}
+use Rattle.fields.specs.Numbers.{bytesOf, numberAt}
 use Rattle.silences.specs.Silences.{Silence, InRange}
 use Rattle.silences.specs.Layout.{valueOf, fieldOf}
 use Rattle.silences.specs.Reading.{silenceAt, whole, fieldAt}
-use Rattle.silences.specs.Books.{IsBytes, IsField}
-use Rattle.silences.proofs.NumberBytes.{bytesOf-length, number-of-bytes, numberAt-lt, bytes-of-number}
+use Rattle.lists.specs.Bounds.{IsBytes}
+use Rattle.silences.specs.Books.{IsField}
+use Rattle.fields.proofs.NumberBytes.{bytesOf-length, number-of-bytes, numberAt-lt, bytes-of-number}
 use Rattle.silences.proofs.FieldTest.{field-whole-is, field-whole-iff}
 
 -- the value of a silence has 10 bytes

@@ -10,9 +10,10 @@ use lib.Dec.{leb, eqb}
 use lib.ListN.{length, getD}
 use borrow.Author.Tests.{leb-true}
 use Rattle.lists.proofs.Cases.{by-test, and-true}
-use Rattle.silences.specs.Numbers.{numberAt}
+use Rattle.fields.specs.Numbers.{numberAt}
 use Rattle.silences.specs.Silences.{Silence}
-use Rattle.silences.specs.Reading.{lengthByTag, FieldAt, whole, faulty, fieldEnd, isWhole, fieldBy, fieldAt}
+use Rattle.fields.specs.Tagged.{fieldEnd, isWhole}
+use Rattle.silences.specs.Reading.{lengthByTag, FieldAt, whole, faulty, fieldBy, fieldAt}
 
 -- A faulty field is not whole.
 pub faulty-not-whole : {s : Silence} {next : ℕ} → faulty ≡ whole s next → ⊥

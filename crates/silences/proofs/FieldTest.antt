@@ -13,10 +13,11 @@ use lib.ListN.{length, getD, take, drop}
 use lib.Seq.{getD-drop, getD-take}
 use borrow.Author.Tests.{eqb-true, eqb-false, leb-true, leb-false}
 use Rattle.lists.proofs.Records.{drop-three}
-use Rattle.silences.specs.Numbers.{numberAt}
+use Rattle.fields.specs.Numbers.{numberAt}
 use Rattle.silences.specs.Silences.{Silence, silence}
 use Rattle.silences.specs.Layout.{silenceTag}
-use Rattle.silences.specs.Reading.{headLength, lengthByTag, silenceAt, whole, faulty, isWhole, fieldBy, fieldAt}
+use Rattle.fields.specs.Tagged.{headLength, isWhole}
+use Rattle.silences.specs.Reading.{lengthByTag, silenceAt, whole, faulty, fieldBy, fieldAt}
 use Rattle.silences.specs.Books.{IsField}
 use Rattle.silences.proofs.FieldEnds.{faulty-not-whole, whole-silence-unique, whole-next-unique}
 

@@ -10,7 +10,7 @@ use lib.ListN.{length, take, drop, length-append, take-append-drop}
 use lib.Seq.{take-at}
 use Rattle.silences.specs.Silences.{Silence, AllInRange}
 use Rattle.silences.specs.Layout.{fieldOf, layout}
-use Rattle.silences.specs.Books.{IsBytes}
+use Rattle.lists.specs.Bounds.{IsBytes}
 use Rattle.silences.specs.Rows.{IsFineBefore}
 use Rattle.silences.specs.Reading.{whole, fieldAt}
 use Rattle.silences.proofs.FieldBytes.{field-length, field-of-silence, field-next-is, silence-of-field}

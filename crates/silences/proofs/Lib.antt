@@ -1,16 +1,13 @@
 -- Laws behind silences: what the definitions of a silence and of a book come to, and what the functions' proofs cite. Read AcceptedIsLayout, NamesIff, ZeroIsOrdinary,
 -- BookRows, PackRows, RoundTrips and OneAnswer first: they are the theorems, and their heads name what they rest on. Below each group stands on those before it.
 
--- answers, and the order of silences
-pub mod AnswerCases
+-- the order of silences
 pub mod SilenceOrder
 pub mod StrictOrder
 pub mod AscendingAfter
 pub mod NamesIff
 pub mod ZeroIsOrdinary
--- one field: its numbers, where it ends, what row 6 says of it, its bytes and its silence
-pub mod NumberBytes
-pub mod NumberWithin
+-- one field: where it ends, what row 6 says of it, its bytes and its silence
 pub mod FieldEnds
 pub mod FieldTest
 pub mod FieldBytes
@@ -30,6 +27,5 @@ pub mod PackRows
 pub mod UnpackRows
 pub mod AreaAtExit
 pub mod RoundTrips
--- what the functions' proofs cite, and that each of them has one answer
-pub mod NumberLoop
+-- each of the functions has one answer
 pub mod OneAnswer

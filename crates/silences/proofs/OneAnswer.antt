@@ -9,7 +9,6 @@ use Rattle.silences.specs.declared.addresses.Address.{Address}
 use Rattle.silences.specs.declared.addresses.Sought.{Sought}
 use Rattle.silences.specs.declared.addresses.Sought.the-variants.{Field, Nothing}
 use Rattle.silences.specs.declared.order.Last.{Last}
-use Rattle.silences.specs.Numbers.{IsNumberRead}
 use Rattle.silences.specs.Silences.{isBelow, isSame, isAbove}
 use Rattle.silences.specs.Reading.{FieldAt, whole, faulty, fieldAt}
 use Rattle.silences.specs.Addresses.{silenceOf, lastOf, soughtOf}
@@ -31,10 +30,6 @@ sought-unique r r′ e = sym (sought-back r) ∙ ap soughtBack e ∙ sought-back
 -- Any two answers of `field_at` are equal.
 pub field-at-unique : (book : List ℕ) (at : ℕ) (r r′ : Sought) → soughtOf r ≡ fieldAt book at → soughtOf r′ ≡ fieldAt book at → r ≡ r′
 field-at-unique book at r r′ p p′ = sought-unique r r′ (p ∙ sym p′)
-
--- Any two answers of `number_at` are equal.
-pub number-at-unique : (bytes : List ℕ) (at count r r′ : ℕ) → IsNumberRead bytes at count r → IsNumberRead bytes at count r′ → r ≡ r′
-number-at-unique bytes at count r r′ p p′ = p .is ∙ sym (p′ .is)
 
 -- Any two answers of `is_below` are equal.
 pub is-below-unique : (a b : Address) (r r′ : Bool) → r ≡ isBelow (silenceOf a) (silenceOf b) → r′ ≡ isBelow (silenceOf a) (silenceOf b) → r ≡ r′

@@ -18,7 +18,7 @@ use Rattle.silences.specs.Silences.{Silence, Ascending}
 use Rattle.silences.specs.Layout.{layout}
 use Rattle.silences.specs.Packing.{mostWords, recordWords, silencesOf, isWordCount, packed, inRoom}
 use Rattle.silences.specs.Rows.{HasWordCount, AllRingNumbers, IsRingFault, IsRecordFault, IsPackable}
-use Rattle.silences.proofs.AnswerCases.{accepted-not-refused, row-unique}
+use Rattle.answers.proofs.AnswerCases.{accepted-not-refused, row-unique}
 use Rattle.silences.proofs.RoomRows.{in-room-accepted-iff, in-room-row-iff, in-room-10-iff}
 use Rattle.silences.proofs.RecordRows.{packedRecords, records-rows, records-accepted-iff, records-9-iff, records-7-iff}
 

@@ -16,7 +16,7 @@ use Rattle.answers.specs.Refusals.{numberOf}
 use Rattle.answers.specs.Paper.{Answer, accepted, refused}
 use Rattle.silences.specs.Silences.{Silence}
 use Rattle.silences.specs.Packing.{inRoom}
-use Rattle.silences.proofs.AnswerCases.{accepted-not-refused, accepted-unique, row-unique}
+use Rattle.answers.proofs.AnswerCases.{accepted-not-refused, accepted-unique, row-unique}
 
 module _ (output : List Silence → List ℕ) (room : ℕ) where
   -- With room for the output, it is accepted.

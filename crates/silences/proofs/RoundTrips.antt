@@ -10,7 +10,8 @@ use Rattle.answers.specs.Paper.{accepted}
 use Rattle.silences.specs.Silences.{Silence, Ascending}
 use Rattle.silences.specs.Layout.{layout}
 use Rattle.silences.specs.Packing.{wordsOfSilences, silencesOf, packed, unpacked}
-use Rattle.silences.specs.Books.{IsBytes, IsWords, IsBook}
+use Rattle.lists.specs.Bounds.{IsBytes, IsWords}
+use Rattle.silences.specs.Books.{IsBook}
 use Rattle.silences.specs.Rows.{AllRingNumbers, IsPackable}
 use Rattle.silences.proofs.AcceptedIsLayout.{book-accepted, accepted-iff}
 use Rattle.silences.proofs.WordsOfSilences.{words-length, silences-of-words, words-of-silences, silences-length, silences-in-range, in-range-rings}

@@ -10,7 +10,7 @@ use lib.ListN.{length, getD, drop, length-drop}
 use Rattle.lists.proofs.Records.{drop-three}
 use Rattle.silences.specs.Silences.{Silence, silence, AllInRange}
 use Rattle.silences.specs.Packing.{silenceWords, wordsOfSilences, silencesOf, recordWords}
-use Rattle.silences.specs.Books.{IsWords}
+use Rattle.lists.specs.Bounds.{IsWords}
 use Rattle.silences.specs.Rows.{AllRingNumbers}
 
 -- Three words for each silence.

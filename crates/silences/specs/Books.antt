@@ -1,27 +1,14 @@
 -- Document 01, "Silence book", as propositions: what a book is, said of its bytes and silences and of no reading. That reading accepts exactly these is
 -- `accepted-iff` of proofs/AcceptedIsLayout.antt.
 --
---   AllBelow, IsBytes, IsWords   each of a list of numbers fits a byte, or a 32-bit word
---   IsField                      row 6, "13 bytes beginning 21 00 0A hex", and not cut off
---   IsBook                       the layout of an ascending list of at most 1,000 silences in range
-use Prim.Native.Nat.{ℕ, _+_, _≤_, _<_, _^_}
+--   IsField   row 6, "13 bytes beginning 21 00 0A hex", and not cut off
+--   IsBook    the layout of an ascending list of at most 1,000 silences in range
+use Prim.Native.Nat.{ℕ, _+_, _≤_}
 use mathlib.Core.Path.{_≡_}
 use mathlib.Core.List.{List, [], _∷_}
-use lib.ListN.{length, getD, take, drop}
+use lib.ListN.{length, take, drop}
 use Rattle.silences.specs.Silences.{Silence, AllInRange, Ascending}
 use Rattle.silences.specs.Layout.{layout}
-
--- Each of a list of numbers is below a bound.
-pub record AllBelow (bound : ℕ) (numbers : List ℕ) : Type 0 where
-  pub each-lt : (i : ℕ) → getD numbers i 0 < bound
-
--- Each is a byte, "0 to 255".
-abbrev pub IsBytes : List ℕ → Type 0
-IsBytes = AllBelow (2 ^ 8)
-
--- Each is one of the "32-bit words".
-abbrev pub IsWords : List ℕ → Type 0
-IsWords = AllBelow (2 ^ 32)
 
 -- At this byte offset stands a field of a silence: "13 bytes beginning 21 00 0A hex", and it is not cut off.
 pub record IsField (book : List ℕ) (at : ℕ) : Type 0 where

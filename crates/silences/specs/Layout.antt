@@ -1,6 +1,5 @@
 -- Document 01, "Silence book": the bytes of a book, field after field, apart from any code that reads or writes them.
 --
---   field          "one-byte tag, two-byte length, value"
 --   silenceTag     "tag 21 hex"
 --   valueOf        "cell (4 bytes), ring number (2), start (4)"
 --   fieldOf        a silence's field
@@ -9,13 +8,9 @@
 -- How long a field is follows from its value; nothing counts fields by a common length.
 use Prim.Native.Nat.{ℕ}
 use mathlib.Core.List.{List, [], _∷_, _++_}
-use lib.ListN.{length}
-use Rattle.silences.specs.Numbers.{bytesOf}
+use Rattle.fields.specs.Numbers.{bytesOf}
+use Rattle.fields.specs.Tagged.{field}
 use Rattle.silences.specs.Silences.{Silence}
-
--- "A house format of tagged fields: one-byte tag, two-byte length, value; numbers high byte first."
-abbrev pub field : ℕ → List ℕ → List ℕ
-field tag value = tag ∷ bytesOf 2 (length value) ++ value
 
 -- "tag 21 hex"
 abbrev pub silenceTag : ℕ

@@ -1,6 +1,5 @@
--- Silences and the silence book. Numbers to Packing, Books and Rows state document 01; Addresses is what the functions' types stand for.
+-- Silences and the silence book. Silences to Packing, Books and Rows state document 01; Addresses is what the functions' types stand for.
 -- Samples are computed.
-pub mod Numbers
 pub mod Silences
 pub mod Layout
 pub mod Reading

@@ -1,7 +1,7 @@
 -- Document 01, "Silence book" and rows 5, 6 and 7: what reading a book's bytes gives, on any bytes at all.
 --
 --   lengthByTag             "tag 21 hex, length 10"
---   headLength, silenceAt   the bytes before a value, and the silence of a value
+--   silenceAt               the silence of a value
 --   mostBytes               row 5's limit
 --   FieldAt, fieldAt        what stands at a byte offset: a whole field, or a faulty one (row 6)
 --   readFrom                the fields from a byte offset on; "the first faulty field decides, 6 before 7"
@@ -11,20 +11,17 @@
 -- it, `readFrom-end` and `readFrom-step` of proofs/ReadFrom.antt; nothing after them looks at the count. Places count from the book's first byte.
 -- Stricter than document 01 nowhere; `readFrom` also has a value past the book's end, where nothing is read.
 use Prim.Native.Nat.{ℕ, zero, suc, _+_, _-_}
-use mathlib.Core.Bool.{Bool, cond, _&&_}
+use mathlib.Core.Bool.{cond}
 use mathlib.Core.List.{List, [], _∷_}
 use mathlib.Core.Option.{Option, none, some}
 use lib.Dec.{ltb, leb, eqb}
 use lib.ListN.{length, getD}
 use Rattle.answers.specs.declared.refusals.Refusal.the-variants.{BookLength, Field, NotAbove}
 use Rattle.answers.specs.Paper.{Answer, accepted, refused}
-use Rattle.silences.specs.Numbers.{numberAt}
+use Rattle.fields.specs.Numbers.{numberAt}
+use Rattle.fields.specs.Tagged.{headLength, fieldEnd, isWhole}
 use Rattle.silences.specs.Silences.{Silence, isAbove}
 use Rattle.silences.specs.Layout.{silenceTag}
-
--- "one-byte tag, two-byte length": the bytes of a field before its value.
-abbrev pub headLength : ℕ
-headLength = 3
 
 -- "tag 21 hex, length 10": the length of the value that goes with a tag. No other tag is a silence's.
 unfoldable pub lengthByTag : ℕ → Option ℕ
@@ -38,14 +35,6 @@ silenceAt book at = record { cell = numberAt 4 book at; ringNumber = numberAt 2 
 pub data FieldAt : Type 0 where
   whole : Silence → ℕ → FieldAt
   faulty : FieldAt
-
--- The byte offset just past a field at `at` whose value has length `long`.
-abbrev pub fieldEnd : ℕ → ℕ → ℕ
-fieldEnd at long = at + headLength + long
-
--- A field at `at` whose value has length `long`: its two length bytes say so, and it is not cut off.
-unfoldable pub isWhole : List ℕ → ℕ → ℕ → Bool
-isWhole book at long = eqb (numberAt 2 book (at + 1)) long && leb (fieldEnd at long) (length book)
 
 -- The field at `at`, by the length that goes with its tag.
 unfoldable pub fieldBy : Option ℕ → List ℕ → ℕ → FieldAt

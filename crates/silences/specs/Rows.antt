@@ -19,7 +19,8 @@ use mathlib.Core.List.{List, [], _∷_, _++_}
 use lib.ListN.{length, take}
 use Rattle.silences.specs.Silences.{Silence, AllInRange, Below, Ascending}
 use Rattle.silences.specs.Layout.{layout}
-use Rattle.silences.specs.Reading.{headLength, silenceAt}
+use Rattle.fields.specs.Tagged.{headLength}
+use Rattle.silences.specs.Reading.{silenceAt}
 use Rattle.silences.specs.Packing.{silencesOf}
 use Rattle.silences.specs.Books.{IsField}
 

@@ -1,5 +1,4 @@
--- Document 01's samples of books, computed: the book of the report program's example, what stands at the edges of rows 5 to 10, what a silence names, and numbers within
--- and past the bytes.
+-- Document 01's samples of books, computed: the book of the report program's example, what stands at the edges of rows 5 to 10, and what a silence names.
 use Prim.Native.Nat.{ℕ}
 use mathlib.Core.Path.{_≡_, refl}
 use mathlib.Core.Bool.{true, false}
@@ -8,10 +7,11 @@ use lib.ListN.{replicate}
 use Rattle.answers.specs.declared.refusals.Refusal.the-variants.{BookLength, Field, NotAbove, WordCount, RingNumber, OutputRoom}
 use Rattle.answers.specs.Paper.{accepted, refused}
 use Rattle.lists.specs.Areas.{written}
-use Rattle.silences.specs.Numbers.{bytesOf, numberAt, numberWithin}
+use Rattle.fields.specs.Numbers.{bytesOf, numberAt}
+use Rattle.fields.specs.Tagged.{isWhole}
 use Rattle.silences.specs.Silences.{silence, isBelow, isSame, names}
 use Rattle.silences.specs.Layout.{valueOf, fieldOf, layout}
-use Rattle.silences.specs.Reading.{lengthByTag, silenceAt, isWhole, fieldBy, fieldAt, fieldsFrom, readFrom, readBook}
+use Rattle.silences.specs.Reading.{lengthByTag, silenceAt, fieldBy, fieldAt, fieldsFrom, readFrom, readBook}
 use Rattle.silences.specs.Packing.{silencesOf, wordsOfSilences, isWordCount, packRecords, packed, unpacked, areaAtExit}
 
 -- The book of the report program's example: "21 00 0A 00 00 00 07 00 02 00 00 00 01".
@@ -68,13 +68,3 @@ unpacked-right = (refl, refl, refl)
 names-right : (names (silence 7 2 1 ∷ []) 7 2 1 ≡ true) × (names (silence 7 2 1 ∷ []) 0 2 1 ≡ false) × (names (silence 0 2 1 ∷ []) 7 2 1 ≡ false)
 unfolding isSame names
 names-right = (refl, refl, refl)
-
--- The bytes of the example as numbers: its length is in the two bytes from byte 1 on, its start in the last four. Asked past its end, by a byte or by
--- all, or for five bytes, there is none, which is 0.
-numbers-right : (numberWithin 2 example 1 ≡ 10)
-    × (numberWithin 4 example 9 ≡ 1)
-    × (numberWithin 4 example 10 ≡ 0)
-    × (numberWithin 1 example 13 ≡ 0)
-    × (numberWithin 5 example 2 ≡ 0)
-unfolding example numberAt numberWithin
-numbers-right = (refl, refl, refl, refl, refl)

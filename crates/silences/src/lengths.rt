@@ -1,13 +1,4 @@
-// The bytes of a silence's field, part by part, and the words of a record.
-
-// "one-byte tag"
-pub const TAG_BYTES: usize = 1;
-
-// "two-byte length"
-pub const LENGTH_BYTES: usize = 2;
-
-// The bytes of a field before its value.
-pub const HEAD_LENGTH: usize = TAG_BYTES + LENGTH_BYTES;
+// The bytes of a silence's value, part by part, and the words of a record.
 
 // "tag 21 hex"
 pub const SILENCE_TAG: u8 = 0x21;

@@ -2,24 +2,19 @@
 // What a book is, and what reading, packing and unpacking give, stands in specs/. No public function has a `requires`:
 // each takes every input.
 mod addresses;
-mod fields;
+mod field;
 mod lengths;
-mod numbers;
 mod order;
 
 pub use addresses::Address;
 pub use addresses::Sought;
-pub use fields::field_at;
+pub use field::field_at;
 pub use lengths::CELL_BYTES;
-pub use lengths::HEAD_LENGTH;
-pub use lengths::LENGTH_BYTES;
 pub use lengths::RECORD_WORDS;
 pub use lengths::RING_NUMBER_BYTES;
 pub use lengths::SILENCE_LENGTH;
 pub use lengths::SILENCE_TAG;
 pub use lengths::START_BYTES;
-pub use lengths::TAG_BYTES;
-pub use numbers::number_at;
 pub use order::Last;
 pub use order::is_above;
 pub use order::is_below;

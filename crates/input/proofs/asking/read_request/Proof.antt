@@ -5,7 +5,7 @@ use Prim.Native.Nat.{ℕ}
 use mathlib.Core.List.{List}
 use native.Mathlib.Omega.{arith}
 use borrow.Author.Needs.{needs}
-use Rattle.silences.proofs.NumberWithin.{number-read}
+use Rattle.fields.proofs.NumberWithin.{number-read}
 use Rattle.input.specs.RowEleven.{CellStands, RingNumberStands, AllowanceStands, RingStands, longer, no-cell, no-ring-number, no-allowance, no-ring, no-line}
 use Rattle.input.proofs.FieldEnds.{told-stands, told-none}
 use Rattle.input.proofs.AskedCases.{LineStands, asked-fault, asked-parts}

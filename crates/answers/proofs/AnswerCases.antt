@@ -1,12 +1,11 @@
 -- An answer is accepted or refused, never both, and holds one thing: what is accepted has one value, and what is refused one row of the table. These laws know no
 -- book.
--- Assumes nothing.
 use Prim.Native.Nat.{ℕ}
 use mathlib.Core.Path.{_≡_, ap}
 use native.Mathlib.Omega.{arith}
 use Rattle.answers.specs.declared.refusals.Refusal.{Refusal}
 use Rattle.answers.specs.Refusals.{numberOf}
 use Rattle.answers.specs.Paper.{Answer, accepted, refused}
 
 module _ {A : Type 0} where
   -- What is accepted is not refused.

@@ -8,8 +8,8 @@ use native.Mathlib.Nat.{div-add-mod', pow-suc}
 use native.Mathlib.Omega.{arith}
 use lib.ListN.{length, getD, take, drop, length-append, length-drop}
 use lib.Seq.{take-suc, getD-drop, getD-append-add, getD-at}
-use Rattle.silences.specs.Numbers.{bytesOf, numberAt}
-use Rattle.silences.specs.Books.{IsBytes}
+use Rattle.fields.specs.Numbers.{bytesOf, numberAt}
+use Rattle.lists.specs.Bounds.{IsBytes}
 
 -- So many bytes as are asked for.
 pub bytesOf-length : (count number : ℕ) → length (bytesOf count number) ≡ count

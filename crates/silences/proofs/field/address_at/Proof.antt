@@ -1,10 +1,10 @@
--- `silences::fields::address_at` meets its contract: the three numbers are those of the value; the ring number's two bytes fit sixteen bits.
+-- `silences::field::address_at` meets its contract: the three numbers are those of the value; the ring number's two bytes fit sixteen bits.
 -- Assumes nothing.
 use native.Mathlib.Omega.{arith}
-use Rattle.silences.proofs.NumberWithin.{number-read}
+use Rattle.fields.proofs.NumberWithin.{number-read}
 use Rattle.silences.proofs.FieldTest.{silence-read}
-use Rattle.silences.proofs.fields.address_at.Statement.{statement}
-use Rattle.silences.proofs.fields.address_at.Tie as tie
+use Rattle.silences.proofs.field.address_at.Statement.{statement}
+use Rattle.silences.proofs.field.address_at.Tie as tie
 
 add-ring-number-at : tie.Need-add-ring-number-at
 add-ring-number-at c = omega arith

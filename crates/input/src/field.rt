@@ -1,8 +1,8 @@
 // One field of the program's input: "one-byte tag, two-byte length, value; numbers high byte first".
-use silences::HEAD_LENGTH;
-use silences::LENGTH_BYTES;
-use silences::TAG_BYTES;
-use silences::number_at;
+use fields::HEAD_LENGTH;
+use fields::LENGTH_BYTES;
+use fields::TAG_BYTES;
+use fields::number_at;
 ghost use Prim.Native.Nat.{_≤_};
 ghost use lib.ListN.{length};
 ghost use Rattle.input.specs.Parsing.{IsEnd};

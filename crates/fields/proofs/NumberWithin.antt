@@ -6,7 +6,7 @@ use mathlib.Core.Bool.{and-false}
 use mathlib.Core.List.{List}
 use lib.ListN.{length}
 use borrow.Author.Tests.{le-leb, lt-leb}
-use Rattle.silences.specs.Numbers.{numberAt, mostNumberBytes, numberWithin, IsNumberRead}
+use Rattle.fields.specs.Numbers.{numberAt, mostNumberBytes, numberWithin, IsNumberRead}
 
 module _ (count : ℕ) (bytes : List ℕ) (at : ℕ) where
   -- Of at most 4 bytes that lie within those given it is their number.

@@ -1,11 +1,11 @@
--- `silences::numbers::number_at` meets its contract. More than four bytes, and bytes past those given, give 0. After so many bytes the number is theirs
+-- `fields::numbers::number_at` meets its contract. More than four bytes, and bytes past those given, give 0. After so many bytes the number is theirs
 -- (`Numbered`), and at the end it is that of them all, which lie within; what is left of `count` falls.
 -- Assumes nothing.
 use Prim.Native.Nat.{_+_, _-_}
 use native.Mathlib.Omega.{arith}
-use Rattle.silences.proofs.NumberLoop.{Numbered, number-many, number-past, number-start, number-turn, number-lt, number-end}
-use Rattle.silences.proofs.numbers.number_at.Statement.{statement}
-use Rattle.silences.proofs.numbers.number_at.Tie as tie
+use Rattle.fields.proofs.NumberLoop.{Numbered, number-many, number-past, number-start, number-turn, number-lt, number-end}
+use Rattle.fields.proofs.numbers.number_at.Statement.{statement}
+use Rattle.fields.proofs.numbers.number_at.Tie as tie
 
 abbrev Inv-loop : tie.InvT-loop
 Inv-loop book at count number₀ done₀ number done = Numbered book at count number done

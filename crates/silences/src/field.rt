@@ -2,14 +2,14 @@
 use crate::addresses::Address;
 use crate::addresses::Sought;
 use crate::lengths::CELL_BYTES;
-use crate::lengths::HEAD_LENGTH;
-use crate::lengths::LENGTH_BYTES;
 use crate::lengths::RING_NUMBER_BYTES;
 use crate::lengths::SILENCE_LENGTH;
 use crate::lengths::SILENCE_TAG;
 use crate::lengths::START_BYTES;
-use crate::lengths::TAG_BYTES;
-use crate::numbers::number_at;
+use fields::HEAD_LENGTH;
+use fields::LENGTH_BYTES;
+use fields::TAG_BYTES;
+use fields::number_at;
 ghost use mathlib.Core.Path.{_≡_};
 ghost use Prim.Native.Nat.{_+_, _≤_};
 ghost use lib.ListN.{length};

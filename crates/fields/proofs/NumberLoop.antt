@@ -8,8 +8,8 @@ use native.Mathlib.Nat.{pow-suc, pow-le-pow-right}
 use native.Mathlib.Numerals.{add-one}
 use native.Mathlib.Omega.{arith}
 use lib.ListN.{length, getD}
-use Rattle.silences.specs.Numbers.{numberAt, mostNumberBytes, IsNumberRead}
-use Rattle.silences.proofs.NumberWithin.{numberWithin-is, numberWithin-many, numberWithin-past}
+use Rattle.fields.specs.Numbers.{numberAt, mostNumberBytes, IsNumberRead}
+use Rattle.fields.proofs.NumberWithin.{numberWithin-is, numberWithin-many, numberWithin-past}
 
 -- The number of the first bytes that are done, of `count` bytes.
 pub record Numbered (bytes : List ℕ) (at count number done : ℕ) : Type 0 where

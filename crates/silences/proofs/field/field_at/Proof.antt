@@ -1,11 +1,11 @@
--- `silences::fields::field_at` meets its contract: each return is one case of what stands at a byte offset.
+-- `silences::field::field_at` meets its contract: each return is one case of what stands at a byte offset.
 -- Assumes nothing.
 use mathlib.Core.Path.{sym, _∙_}
 use native.Mathlib.Omega.{arith}
-use Rattle.silences.proofs.NumberWithin.{number-read}
+use Rattle.fields.proofs.NumberWithin.{number-read}
 use Rattle.silences.proofs.FieldTest.{field-tag-no, field-length-no, field-cut-off, field-is-whole}
-use Rattle.silences.proofs.fields.field_at.Statement.{statement}
-use Rattle.silences.proofs.fields.field_at.Tie as tie
+use Rattle.silences.proofs.field.field_at.Statement.{statement}
+use Rattle.silences.proofs.field.field_at.Tie as tie
 
 -- past the book's end
 returns : tie.Need-returns

@@ -1,6 +1,6 @@
 // Numbers of a few bytes, "high byte first".
 ghost use mathlib.Core.Path.{_≡_};
-ghost use Rattle.silences.specs.Numbers.{IsNumberRead};
+ghost use Rattle.fields.specs.Numbers.{IsNumberRead};
 
 // The most bytes of a number: it fits 32 bits.
 const MOST_NUMBER_BYTES: usize = 4;
