@@ -1,11 +1,13 @@
 -- What an area holds after numbers are written at its beginning: they stand at its front, the rest is as it was, and more can be stored behind them.
-use Prim.Native.Nat.{ℕ, _+_, _≤_}
-use mathlib.Core.Path.{_≡_, ap, _∙_}
-use mathlib.Core.List.{List, _++_}
+-- The same from any place on: numbers that come one after the other are written one after the other (`writtenAt-append`), and the last of them can be stored
+-- first (`writtenAt-last`), so a writer may go either way.
+use Prim.Native.Nat.{ℕ, suc, _+_, _≤_, _<_}
+use mathlib.Core.Path.{_≡_, refl, sym, ap, _∙_}
+use mathlib.Core.List.{List, [], _∷_, _++_, append-assoc}
 use native.Mathlib.Omega.{arith}
-use lib.ListN.{length, getD, take, drop, length-append, length-drop}
-use lib.Seq.{sets, sets-eq, take-at, getD-append-add, getD-drop, take-append-seam, drop-append-add, drop-drop}
-use Rattle.lists.specs.Areas.{written}
+use lib.ListN.{length, getD, take, drop, set, length-append, length-drop, take-append-drop}
+use lib.Seq.{sets, sets-eq, take-at, drop-at, getD-append-add, getD-drop, take-append-seam, drop-append-add, drop-drop, length-take-le, append-snoc, set-split, take-set-le, drop-set-add}
+use Rattle.lists.specs.Areas.{written, writtenAt}
 
 module _ (numbers area : List ℕ) where
   -- Where there is room, the area keeps its length.
@@ -34,3 +36,43 @@ unfolding written
 written-more a b area room =
     sets-eq b (a ++ drop (length a) area) (length a) (simp (length-append, length-drop) (omega arith))
     ∙ simp (take-append-seam, drop-append-add, drop-drop, length-append)
+
+-- At place 0 numbers are written at the area's beginning.
+pub writtenAt-zero : (numbers area : List ℕ) → writtenAt 0 numbers area ≡ written numbers area
+unfolding writtenAt
+writtenAt-zero numbers area = refl
+
+module _ (at : ℕ) where
+  -- No numbers change nothing.
+  pub writtenAt-none : (area : List ℕ) → writtenAt at [] area ≡ area
+  unfolding writtenAt written
+  writtenAt-none area = take-append-drop at area
+
+  -- Numbers and then more just past them: both at once.
+  pub writtenAt-append : (a b area : List ℕ) → at + length a ≤ length area → writtenAt (at + length a) b (writtenAt at a area) ≡ writtenAt at (a ++ b) area
+  unfolding writtenAt written
+  writtenAt-append a b area h =
+      let front : List ℕ = take at area ++ a in
+      let behind : List ℕ = drop (length a) (drop at area) in
+      let front-length : length front ≡ at + length a = length-append (take at area) a ∙ ap (λ (n : ℕ). n + length a) (length-take-le at area (omega arith)) in
+      ap (writtenAt (at + length a) b) (sym (append-assoc (take at area) a behind))
+      ∙ (λ i. take-at front behind (at + length a) front-length i ++ (b ++ drop (length b) (drop-at front behind (at + length a) front-length i)))
+      ∙ append-assoc (take at area) a (b ++ drop (length b) behind)
+      ∙ ap (λ (l : List ℕ). take at area ++ l) (sym (append-assoc a b (drop (length b) behind)))
+      ∙ ap (λ (l : List ℕ). take at area ++ (a ++ b ++ l)) (drop-drop (length b) (length a) (drop at area) ∙ ap (λ (n : ℕ). drop n (drop at area)) (sym (length-append a b)))
+
+  -- Numbers and one more after them: the last one can be stored first.
+  pub writtenAt-last : (numbers : List ℕ) (number : ℕ) (area : List ℕ) → at + length numbers < length area
+      → writtenAt at numbers (set area (at + length numbers) number) ≡ writtenAt at (numbers ++ number ∷ []) area
+  unfolding writtenAt written
+  writtenAt-last numbers number area h =
+      let behind : List ℕ = drop at area in
+      let room : length numbers < length behind = simp length-drop (omega arith) in
+      let stored : drop (length numbers) (set behind (length numbers) number) ≡ number ∷ drop (suc (length numbers)) behind =
+      ap (drop (length numbers)) (set-split behind (length numbers) number room)
+      ∙ drop-at (take (length numbers) behind) (number ∷ drop (suc (length numbers)) behind) (length numbers) (length-take-le (length numbers) behind (omega arith)) in
+      let long : suc (length numbers) ≡ length (numbers ++ number ∷ []) = omega (arith, length-append numbers (number ∷ [])) in
+      (λ i. take-set-le at area (at + length numbers) number (omega arith) i ++ (numbers ++ drop (length numbers) (drop-set-add at area (length numbers) number i)))
+      ∙ ap (λ (l : List ℕ). take at area ++ (numbers ++ l)) stored
+      ∙ ap (λ (l : List ℕ). take at area ++ l) (sym (append-snoc numbers number (drop (suc (length numbers)) behind)))
+      ∙ ap (λ (n : ℕ). take at area ++ (numbers ++ number ∷ [] ++ drop n behind)) long

@@ -1,18 +1,29 @@
 -- A field is put by putting its numbers one after the other: tag, length, cell, ring number, start. Each begins where the one before it ends, and together they are
 -- the field's bytes (`fieldOf-is`).
--- Assumes nothing.
 use Prim.Native.Nat.{ℕ, _+_, _≤_}
 use mathlib.Core.Path.{_≡_, sym, ap, _∙_}
 use mathlib.Core.List.{List, _++_, append-assoc}
 use native.Mathlib.Omega.{arith}
 use lib.ListN.{length, length-append}
+use Rattle.lists.specs.Areas.{writtenAt}
+use Rattle.lists.proofs.Areas.{writtenAt-append}
 use Rattle.fields.specs.Numbers.{bytesOf}
 use Rattle.silences.specs.Silences.{Silence}
 use Rattle.silences.specs.Layout.{silenceTag, valueOf, fieldOf}
 use Rattle.packing.specs.Putting.{IsPut}
 use Rattle.fields.proofs.NumberBytes.{bytesOf-length}
 use Rattle.silences.proofs.FieldBytes.{fieldOf-is}
-use Rattle.packing.proofs.WrittenAt.{put-append}
+
+-- Bytes are put, and then more just past them: both are put.
+pub put-append : {at next last : ℕ} {a b area mid out : List ℕ} → at + length a ≤ length area → IsPut at a area next mid → IsPut next b mid last out
+    → IsPut at (a ++ b) area last out
+put-append {at} {next} {last} {a} {b} {area} {mid} {out} room first then =
+    record {
+      next-is = omega (arith, first .next-is, then .next-is, length-append a b);
+      area-is = then .area-is
+          ∙ (λ i. writtenAt (first .next-is i) b (first .area-is i))
+          ∙ writtenAt-append at a b area room;
+    }
 
 -- What comes behind a number begins as many bytes on as the number has.
 pub number-next : {at next : ℕ} {area out : List ℕ} (count number : ℕ) → IsPut at (bytesOf count number) area next out → next ≡ at + count

@@ -1,6 +1,5 @@
 -- The loop that writes the fields. Before each turn the silences of the words from `at` on are to be written yet: their layout, written from `to` on over what the
 -- area holds now, gives the whole layout over the area as it was. A turn puts the first of their fields (`writtenAt-append`).
--- Assumes nothing.
 --
 --   words, area    the words, and the area as it was at the start
 --   at, to, out    the word to read next, the byte offset to write next, the area now
@@ -9,13 +8,13 @@ use mathlib.Core.Path.{_≡_, refl, sym, ap, _∙_}
 use mathlib.Core.List.{List, _++_}
 use native.Mathlib.Omega.{arith}
 use lib.ListN.{length, drop, length-append}
-use Rattle.lists.specs.Areas.{written}
+use Rattle.lists.specs.Areas.{written, writtenAt}
+use Rattle.lists.proofs.Areas.{writtenAt-zero, writtenAt-none, writtenAt-append}
 use Rattle.silences.specs.Silences.{Silence}
 use Rattle.silences.specs.Layout.{fieldOf, layout}
 use Rattle.silences.specs.Packing.{silencesOf, recordWords}
-use Rattle.packing.specs.Putting.{writtenAt, IsPut}
+use Rattle.packing.specs.Putting.{IsPut}
 use Rattle.silences.proofs.WordsOfSilences.{silenceOfWords, silencesOf-step, silencesOf-end}
-use Rattle.packing.proofs.WrittenAt.{writtenAt-zero, writtenAt-none, writtenAt-append}
 
 -- The layout of the silences of the words from `at` on.
 abbrev pub layoutFrom : List ℕ → ℕ → List ℕ

@@ -7,7 +7,6 @@ pub mod RowsOfPacking
 pub mod RefusedCalls
 pub mod RoundTripsOfCalls
 -- what each function's proof cites: bytes written from an offset on, loops, and the cases of the call
-pub mod WrittenAt
 pub mod NumberPut
 pub mod FieldPut
 pub mod FieldsLoop

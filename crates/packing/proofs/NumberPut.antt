@@ -1,6 +1,6 @@
 -- The loop that writes a number, high byte first, from its last byte to its first. Before each turn `left` bytes are to be written yet, those of `rest`: written
 -- over what the area holds now they give the whole number over the area as it was. A turn stores the last of them (`writtenAt-last`).
--- One law for every count of bytes. Assumes nothing.
+-- One law for every count of bytes.
 --
 --   at, count, number    the byte offset, how many bytes, the number; area as it was at the start
 --   rest, left, out      the number left, the bytes left, the area now
@@ -9,10 +9,11 @@ use mathlib.Core.Path.{_≡_, refl, sym, ap, _∙_}
 use mathlib.Core.List.{List}
 use native.Mathlib.Omega.{arith}
 use lib.ListN.{length, set, length-set}
+use Rattle.lists.specs.Areas.{writtenAt}
+use Rattle.lists.proofs.Areas.{writtenAt-none, writtenAt-last}
 use Rattle.fields.specs.Numbers.{bytesOf}
-use Rattle.packing.specs.Putting.{writtenAt, IsPut}
+use Rattle.packing.specs.Putting.{IsPut}
 use Rattle.fields.proofs.NumberBytes.{bytesOf-length}
-use Rattle.packing.proofs.WrittenAt.{writtenAt-none, writtenAt-last}
 
 -- What the loop keeps.
 pub record PutNumber (at count number : ℕ) (area : List ℕ) (rest left : ℕ) (out : List ℕ) : Type 0 where
