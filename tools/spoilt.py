@@ -49,6 +49,7 @@ def copies(tree, check):
     yield "a number is added", at_look("{look}looks += 2;\n"), NO_SUM
     yield "a count is multiplied", at_look("{look}looks += looks * 2;\n"), NO_SUM
     yield "a count is added twice", with_text(adder, ADDED.sub(lambda m: m[0] * 2, tree[adder], count=1)), NO_SUM
+    yield "a count is added to itself", at_look("{look}looks += looks;\n"), NO_SUM
     yield "a count is set", at_look("{look}looks = m;\n"), NO_SUM
     yield "a count starts at another number", at_start("let mut looks: usize = m;"), NO_SUM
     yield "a count is bound by a pattern", at_start("let (mut looks, _) = (m, 0);"), NO_SUM
