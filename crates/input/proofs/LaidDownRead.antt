@@ -14,7 +14,8 @@ use Rattle.input.specs.Fields.{cellField, ringNumberField, allowanceFiel
 use Rattle.input.specs.Input.{Request, requestOf, laidDown, CanLayDown}
 use Rattle.input.specs.RowEleven.{CellStands, RingNumberStands, AllowanceStands, RingStands}
 use Rattle.input.proofs.AskedCases.{LineStands, asked-parts}
-use Rattle.input.proofs.FieldLaid.{laid-rest, laid-between, laid-stands, laid-number}
+use Rattle.fields.proofs.FieldLaid.{laid-rest}
+use Rattle.input.proofs.FieldLaid.{laid-between, laid-stands, laid-number}
 
 module _ (q : Request) (can : CanLayDown q) where
   abbrev whole : List ℕ
