@@ -3,7 +3,7 @@ use answers::Refusal;
 ghost use Rattle.findings.specs.Admitting.{IsVerdict};
 
 // "Ring: m edges, 1 to 256."
-const MOST_RING: usize = 256;
+pub const MOST_RING: usize = 256;
 // "Line: n edges, 0 to 65,536."
 const MOST_LINE: usize = 65536;
 // "three 32-bit words each"

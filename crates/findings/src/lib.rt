@@ -8,6 +8,7 @@ mod admitting;
 mod putting;
 mod searching;
 
+pub use admitting::MOST_RING;
 pub use admitting::Verdict;
 pub use admitting::WORDS_EACH;
 pub use admitting::admit;

@@ -2,14 +2,10 @@
 -- is that list. Induction on the length.
 use Prim.Native.Nat.{ℕ, zero, suc, _≤_, _<_}
 use mathlib.Core.Path.{_≡_, refl, sym, ap, _∙_}
-use mathlib.Core.Bool.{cond}
 use mathlib.Core.List.{List}
 use native.Mathlib.Omega.{arith}
-use lib.Dec.{ltb}
 use lib.ListN.{length, getD, List·getD-eq-default}
 use lib.Seq.{ext-getD}
-use borrow.Author.Tests.{ltb-true, ltb-false}
-use Rattle.lists.proofs.Cases.{by-test}
 use Rattle.lists.specs.ByPlace.{listOf}
 
 -- It has n places.
@@ -34,17 +30,3 @@ pub listOf-is : (xs : List ℕ) (n : ℕ) (f : ℕ → ℕ) → length xs ≡ n 
 listOf-is xs n f size each =
     ext-getD 0 xs (listOf n f) (size ∙ sym (listOf-length n f))
     (λ p l. each p (omega arith) ∙ sym (listOf-at n f p (omega arith)))
-
--- A list whose first m places have f, and whose others are those of another list of its length, is the list given so.
-pub listOf-first : (xs old : List ℕ) (m : ℕ) (f : ℕ → ℕ) → length xs ≡ length old → ((p : ℕ) → p < m → getD xs p 0 ≡ f p)
-    → ((p : ℕ) → m ≤ p → getD xs p 0 ≡ getD old p 0) → xs ≡ listOf (length old) (λ p. cond (ltb p m) (f p) (getD old p 0))
-listOf-first xs old m f size first kept =
-    listOf-is xs (length old) (λ p. cond (ltb p m) (f p) (getD old p 0)) size
-    (λ p l. by-test (λ (x : ℕ). getD xs p 0 ≡ x) (ltb p m) (λ e. first p (ltb-true p m e)) (λ e. kept p (ltb-false p m e)))
-
--- At one of the first m places it has f.
-pub listOf-first-at : (old : List ℕ) (m : ℕ) (f : ℕ → ℕ) (p : ℕ) → p < m → m ≤ length old
-    → getD (listOf (length old) (λ p. cond (ltb p m) (f p) (getD old p 0))) p 0 ≡ f p
-listOf-first-at old m f p l room =
-    listOf-at (length old) (λ p. cond (ltb p m) (f p) (getD old p 0)) p (omega arith)
-    ∙ by-test (λ (x : ℕ). x ≡ f p) (ltb p m) (λ _. refl) (λ e. absurd (omega (arith, ltb-false p m e)))

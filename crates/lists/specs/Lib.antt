@@ -3,6 +3,7 @@
 --   written, writtenAt   what a lent area holds after numbers are written into it    Areas
 --   IsBytes, IsWords     each of a list of numbers fits a byte, or a 32-bit word        Bounds
 --   listOf               a list given place by place                                 ByPlace
+--   storedFirst          a list with other numbers at its first places               ByPlace
 --   wordsOfEach          the words of a list of records, whatever a record is        Records
 --   ascii                the bytes of a text                                         Texts
 pub mod Areas

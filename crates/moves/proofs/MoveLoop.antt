@@ -1,7 +1,6 @@
 -- The loop that moves the counts along the line: what is still to be moved from start i on comes to the same place as the whole way (`Moving`). The leaving
 -- edge is the first of the window at i, the entering edge the last of the window at i + 1, so a turn is `stepOn`; it ends the way where the least
 -- count is below `below`. The looks so far are at most 512 for each step, so none are lost.
--- Assumes nothing.
 use Prim.Native.Nat.{ℕ, zero, suc, _+_, _-_, _*_, _≤_, _<_}
 use mathlib.Core.Path.{_≡_, refl, sym, ap, _∙_}
 use mathlib.Core.List.{List}
@@ -17,7 +16,7 @@ use Rattle.tally.specs.declared.counts.Least.{Least}
 use Rattle.tally.specs.Windows.{IsWindow}
 use Rattle.tally.specs.Counts.{mostCounts, leastOf, RingFits}
 use Rattle.moves.specs.Moves.{steppedCounts, CountsAt, unmoved, stepOn, moveOn, CanMove, IsStepped, IsMovedOn}
-use Rattle.lists.proofs.ByPlace.{listOf-length}
+use Rattle.lists.proofs.StoreLoop.{storedFirst-length}
 use Rattle.tally.proofs.WindowEdges.{start-edge}
 
 module _ (ring line : List ℕ) (below : ℕ) where
@@ -105,11 +104,10 @@ module _ (ring line : List ℕ) (from steps below : ℕ) (old : List ℕ) (can :
 
       -- Or it goes on.
       pub moving-turn : below ≤ z .least → Moving ring line from steps below old new (z .least) (looks + z .looks) (i + 1)
-      unfolding steppedCounts
       moving-turn far = record {
         from-le = omega (arith, before .from-le);
         start-le = omega arith;
-        size = ap length (stepped .written) ∙ listOf-length (length counts) _ ∙ before .size;
+        size = ap length (stepped .written) ∙ storedFirst-length m _ counts ∙ before .size;
         looks-le = omega (arith, before .looks-le, before .from-le, stepped .looks-are, can .fits .most);
         still = ap (moveOn ring line below (from + steps - (i + 1))) (sym step-is)
             ∙ sym (move-goes-on ring line below (from + steps - (i + 1)) here-at (omega (arith, least-of-step)))

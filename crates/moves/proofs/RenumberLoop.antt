@@ -1,7 +1,6 @@
--- The loop that renumbers the counts, from the last down: each turn copies the count before r to r, which was copied on already. So the count
--- to copy is still the old one. The last count is held aside and goes to 0 at the end; the counts past the last are not touched.
--- Assumes nothing.
-use Prim.Native.Nat.{ℕ, _+_, _-_, _≤_, _<_}
+-- The loop that renumbers the counts, from the last down: a turn copies the count before r to r, whose own count was copied on already. So the count
+-- to copy is still the old one. The last count is kept aside and goes to 0 at the end; the counts from m on are not touched.
+use Prim.Native.Nat.{ℕ, _-_, _≤_, _<_}
 use mathlib.Core.Path.{_≡_, refl, sym, ap, _∙_}
 use mathlib.Core.List.{List}
 use mathlib.Core.Logic.{dite}
@@ -9,14 +8,15 @@ use native.Mathlib.Decide.{ℕ-discrete}
 use native.Mathlib.Omega.{arith}
 use lib.ListN.{length, getD, set, length-set}
 use lib.Seq.{getD-set-same, getD-set-other}
-use Rattle.moves.specs.Moves.{Renumbered}
+use Rattle.lists.specs.ByPlace.{StoredFirst}
+use Rattle.moves.specs.Moves.{earlier}
 use Rattle.moves.proofs.NextRotation.{earlier-first, earlier-later}
 
--- Before a turn at r: the counts from r on, but for the last, stand under the next number; up to r they are the old ones.
+-- Before a turn at r: above r each count is the old one before it, up to r it is its own old one.
 pub record Renumbering (m : ℕ) (old new : List ℕ) (r : ℕ) : Type 0 where
   pub turn-lt : r < m
   pub size : length new ≡ length old
-  pub moved : (s : ℕ) → r ≤ s → s + 1 < m → getD new (s + 1) 0 ≡ getD old s 0
+  pub moved : (s : ℕ) → r < s → s < m → getD new s 0 ≡ getD old (s - 1) 0
   pub kept : (s : ℕ) → s ≤ r → getD new s 0 ≡ getD old s 0
   pub past : (s : ℕ) → m ≤ s → getD new s 0 ≡ getD old s 0
 
@@ -32,24 +32,20 @@ module _ (m : ℕ) (old : List ℕ) (room : m ≤ length old) where
       record {
         turn-lt = omega (arith, before .turn-lt);
         size = length-set new r count ∙ before .size;
-        moved = λ s l below. dite (ℕ-discrete (s + 1) r)
-            (λ same. let here : s ≡ r - 1 = omega arith in
-            rw (same, here) (getD-set-same new r count 0 (omega (arith, before .turn-lt, before .size)) ∙ before .kept (r - 1) (omega arith)))
-            (λ other. getD-set-other new r (s + 1) count 0 other ∙ before .moved s (omega (arith, other)) below);
+        moved = λ s l below. dite (ℕ-discrete s r)
+            (λ here. rw here (getD-set-same new r count 0 (omega (arith, before .turn-lt, before .size)) ∙ before .kept (r - 1) (omega arith)))
+            (λ other. getD-set-other new r s count 0 other ∙ before .moved s (omega (arith, other)) below);
         kept = λ s l. getD-set-other new r s count 0 (λ e. omega arith) ∙ before .kept s (omega arith);
         past = λ s l. getD-set-other new r s count 0 (λ e. omega (arith, before .turn-lt)) ∙ before .past s l;
       }
 
   -- With the last count under 0 every count stands under the next rotation's number.
-  pub renumbering-end : (new : List ℕ) (r last : ℕ) → Renumbering m old new r → r ≤ 0 → last ≡ getD old (m - 1) 0 → Renumbered m old (set new 0 last)
+  pub renumbering-end : (new : List ℕ) (r last : ℕ) → Renumbering m old new r → r ≤ 0 → last ≡ getD old (m - 1) 0
+      → StoredFirst m (λ s. getD old (earlier m s) 0) old (set new 0 last)
   renumbering-end new r last end done is = record {
     size = length-set new 0 last ∙ end .size;
-    each = λ s l. dite (ℕ-discrete s 0)
-        (λ first. rw first (getD-set-same new 0 last 0 (omega (arith, end .size)) ∙ is)
-        ∙ ap (λ (p : ℕ). getD old p 0) (sym (earlier-first m s first)))
-        (λ later.
-        let here : s - 1 + 1 ≡ s = omega (arith, later) in
-        getD-set-other new 0 s last 0 later ∙ (rw here at (end .moved (s - 1) (omega arith) (omega arith)))
-        ∙ ap (λ (p : ℕ). getD old p 0) (sym (earlier-later m s later)));
-    kept = λ s l. getD-set-other new 0 s last 0 (λ e. omega (arith, end .turn-lt)) ∙ end .past s l;
+    first = λ s l. dite (ℕ-discrete s 0)
+        (λ first. rw (first, earlier-first m 0 refl) (getD-set-same new 0 last 0 (omega (arith, end .size)) ∙ is))
+        (λ later. rw (earlier-later m s later) (getD-set-other new 0 s last 0 later ∙ end .moved s (omega (arith, later)) l));
+    rest = λ s l. getD-set-other new 0 s last 0 (λ e. omega (arith, end .turn-lt)) ∙ end .past s l;
   }

@@ -1,7 +1,6 @@
 -- A step of the counts is a step of the tally: from the tally of start i, with the first edge of its window leaving and the last edge of the next
 -- window entering, the counts become the tally of start i + 1. No count wraps: it has the leaving edge's comparison to lose, since that is one of those
 -- counted, and is at most 256.
--- Assumes nothing.
 use Prim.Native.Nat.{ℕ, suc, _+_, _-_, _%_, _≤_, _<_}
 use mathlib.Core.Path.{_≡_, ap, _∙_}
 use mathlib.Core.List.{List}
@@ -15,7 +14,7 @@ use Rattle.meaning.proofs.TallyStep.{distance-step}
 use Rattle.tally.specs.Counts.{mostCounts}
 use Rattle.moves.specs.Moves.{changedAt, earlier, steppedCounts}
 use Rattle.tally.specs.Tallied.{Tallied}
-use Rattle.lists.proofs.ByPlace.{listOf-length, listOf-first-at}
+use Rattle.lists.proofs.StoreLoop.{storedFirst-length, storedFirst-at}
 use Rattle.moves.proofs.NextRotation.{every-next, earlier-next}
 
 module _ (ring line : List ℕ) (i : ℕ) where
@@ -61,12 +60,11 @@ module _ (ring line : List ℕ) (i : ℕ) where
 
     -- A step gives the tally of the next start.
     pub tallied-step : Tallied ring line (i + 1) (steppedCounts ring leaving entering counts)
-    unfolding steppedCounts
     tallied-step = record {
-      size = listOf-length (length counts) _ ∙ tallied .size;
+      size = storedFirst-length m _ counts ∙ tallied .size;
       each = every-next (λ (s : ℕ). getD (steppedCounts ring leaving entering counts) s 0 ≡ distance ring line (i + 1) s) m
           (λ r l.
-          listOf-first-at counts m (λ s. changedAt ring leaving entering counts (earlier m s)) ((r + 1) % m) (mod-lt (r + 1) (omega arith))
+          storedFirst-at m (λ s. changedAt ring leaving entering counts (earlier m s)) counts ((r + 1) % m) (mod-lt (r + 1) (omega arith))
           (omega (arith, tallied .size))
           ∙ ap (changedAt ring leaving entering counts) (earlier-next m r l)
           ∙ changed-distance r l);

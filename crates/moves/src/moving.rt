@@ -8,7 +8,7 @@ ghost use lib.ListN.{length};
 ghost use Rattle.moves.specs.Moves.{canMove, CanMove, IsMovedOn, IsMoved};
 
 // A line place goes out as one word of 32 bits, so no line has more places.
-pub const MOST_PLACES: usize = 4294967296;
+pub const MOST_PLACES: usize = 1 << 32;
 
 // One count for each rotation.
 pub struct Tally {

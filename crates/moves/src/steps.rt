@@ -6,18 +6,19 @@ use tally::MOST_COUNTS;
 use tally::differing;
 use tally::window;
 ghost use mathlib.Core.Path.{_≡_};
-ghost use lib.ListN.{length};
+ghost use lib.ListN.{length, getD};
 ghost use Rattle.meaning.specs.Looks.{stepLooks};
+ghost use Rattle.lists.specs.ByPlace.{StoredFirst};
 ghost use Rattle.tally.specs.Counts.{RingFits, IsLeast};
-ghost use Rattle.moves.specs.Moves.{changedCount, Changed, Renumbered, IsStepped, CanMove, IsMovedOn};
+ghost use Rattle.moves.specs.Moves.{changedCount, changedAt, earlier, IsStepped, CanMove, IsMovedOn};
 
-// How many numbers a count of sixteen bits can be.
-const SIXTEEN_BITS: u32 = 65536;
-// The largest of them. The least count starts with it, since no count is above it.
+// A count has sixteen bits.
+const SIXTEEN_BITS: u32 = 1 << 16;
+// The largest count. The least starts with it, since no count is above it.
 const LAST_COUNT: u16 = 65535;
 
-// A count that has lost one comparison and won another. One that has nothing to lose wraps: the sum is taken in 32 bits,
-// where it does not overflow, and cut to sixteen.
+// count − lost + won, mod 2^16: `lost` is 1 where the leaving edge differs, `won` where the entering edge does. The sum is taken
+// in 32 bits, where it does not overflow. Counts that are a tally never wrap, others may.
 fn changed(count: u16, lost: u16, won: u16) -> u16
     ensures { λ r. ⌜ r ≡ changedCount count lost won ⌝ }
 {
@@ -29,7 +30,7 @@ fn changed(count: u16, lost: u16, won: u16) -> u16
 // next rotation does at the next start, so both meet the ring's edge at r. Counts that are no tally may wrap.
 fn change(counts: &mut [u16; MOST_COUNTS], ring: &[u8], leaving: u8, entering: u8) -> Least
     requires { ⌜ RingFits (length (now ring)) (length (now counts)) ⌝ }
-    ensures { λ z. ⌜ Changed (now (ring .entry)) leaving entering (now (counts .entry)) (now (counts .exit))
+    ensures { λ z. ⌜ StoredFirst (length (now (ring .entry))) (changedAt (now (ring .entry)) leaving entering (now (counts .entry))) (now (counts .entry)) (now (counts .exit))
         × IsLeast (length (now (ring .entry))) (now (counts .exit)) (z .least)
         × (z .looks ≡ stepLooks (length (now (ring .entry)))) ⌝ }
 {
@@ -56,7 +57,7 @@ fn change(counts: &mut [u16; MOST_COUNTS], ring: &[u8], leaving: u8, entering: u
 // Each count moves on to the next rotation's number, from the last down so that none is overwritten before it is moved.
 fn renumber(counts: &mut [u16; MOST_COUNTS], m: usize)
     requires { ⌜ RingFits m (length (now counts)) ⌝ }
-    ensures { λ _. ⌜ Renumbered m (now (counts .entry)) (now (counts .exit)) ⌝ }
+    ensures { λ _. ⌜ StoredFirst m (λ r. getD (now (counts .entry)) (earlier m r) 0) (now (counts .entry)) (now (counts .exit)) ⌝ }
 {
     let last = counts[m - 1];
     let mut r = m - 1;

@@ -1,7 +1,6 @@
 -- The loop of `count_edges`: after q edges of the window the count of rotation r is the number of the first q places where window and rotation
 -- r differ. A turn counts one edge for every rotation, at the ring place that rotation 0 has over it. A count is at most q, so sixteen bits hold
--- it; the looks are q·m, at most 256·q. `place-under-is` says that the place helper gives that ring place.
--- Assumes nothing.
+-- it; the looks are q·m, at most 256·q. `place-under-is` says that `to_ring` gives that ring place.
 use Prim.Native.Nat.{ℕ, _+_, _*_, _%_, _≤_, _<_}
 use mathlib.Core.Path.{_≡_, refl, sym, ap, _∙_}
 use mathlib.Core.List.{List}
@@ -15,80 +14,65 @@ use Rattle.answers.specs.Places.{lastPlace, IsRingPlace}
 use Rattle.answers.specs.declared.places.RingPlace.{RingPlace}
 use Rattle.answers.specs.declared.places.LinePlace.{LinePlace}
 use Rattle.answers.proofs.PlacesUndo.{ring-place-is}
-use Rattle.tally.specs.Counts.{mostCounts, differsThere, afreshCount, afreshCounts, CanCount, Cleared, EdgeCounted, IsLeast, IsCountedAfresh}
-use Rattle.lists.proofs.ByPlace.{listOf-first}
+use Rattle.lists.specs.ByPlace.{StoredFirst}
+use Rattle.lists.proofs.StoreLoop.{stored-again, stored-is}
+use Rattle.tally.specs.Counts.{mostCounts, differsThere, afreshCount, afreshCounts, edgeCounted, CanCount, IsLeast, IsCountedAfresh}
 use Rattle.tally.proofs.LeastIsOne.{leastOf-only}
 
 -- Before turn q, of counts that were cleared: each rotation's count is that of the first q places.
-pub record CountingAfresh (doubled window old counts : List ℕ) (looks q : ℕ) : Type 0 where
+pub record CountingAfresh (doubled window cleared counts : List ℕ) (looks q : ℕ) : Type 0 where
   pub turn-le : q ≤ length window
-  pub size : length counts ≡ length old
-  pub each : (r : ℕ) → r < length window → getD counts r 0 ≡ count (differsThere doubled window r) 0 q
-  pub kept : (r : ℕ) → length window ≤ r → getD counts r 0 ≡ getD old r 0
+  pub stored : StoredFirst (length window) (λ r. count (differsThere doubled window r) 0 q) cleared counts
   pub looks-are : looks ≡ q * length window
   pub looks-le : looks ≤ mostCounts * q
 
-module _ (doubled window first old : List ℕ) (can-first : CanCount (length window) (length first) (length doubled)) (cleared : Cleared (length window) first old) where
+module _ (doubled window old cleared : List ℕ) (can : CanCount (length window) (length old) (length doubled)) (none : StoredFirst (length window) (λ _. 0) old cleared) where
   abbrev m : ℕ
   m = length window
 
-  -- Clearing leaves as many counts.
-  can : CanCount m (length old) (length doubled)
-  can = record {
-    fits = record { some-edge = can-first .fits .some-edge; most = can-first .fits .most; room = omega (arith, cleared .size, can-first .fits .room) };
-    twice = can-first .twice;
-  }
-
   -- Before the first turn every count is 0.
-  pub counting-afresh-start : CountingAfresh doubled window old old 0 0
+  pub counting-afresh-start : CountingAfresh doubled window cleared cleared 0 0
   unfolding count
   counting-afresh-start = record {
     turn-le = omega arith;
-    size = refl;
-    each = cleared .each;
-    kept = λ r l. refl;
+    stored = record { size = refl; first = none .first; rest = λ r l. refl };
     looks-are = sym (zero-mul m);
     looks-le = omega arith;
   }
 
-  module _ (counts : List ℕ) (looks q : ℕ) (known : CountingAfresh doubled window old counts looks q) where
+  module _ {counts : List ℕ} {looks q : ℕ} (known : CountingAfresh doubled window cleared counts looks q) where
     -- The counts stay as many, so the window can still be counted.
     pub counting-afresh-can : CanCount m (length counts) (length doubled)
     counting-afresh-can = record {
-      fits = record { some-edge = can .fits .some-edge; most = can .fits .most; room = omega (arith, known .size, can .fits .room) };
+      fits = record { some-edge = can .fits .some-edge; most = can .fits .most; room = omega (arith, known .stored .size, none .size, can .fits .room) };
       twice = can .twice;
     }
 
     -- No count is above 256.
     pub counting-afresh-le : (r : ℕ) → r < m → getD counts r 0 ≤ mostCounts
-    counting-afresh-le r l = omega (arith, known .each r l, known .turn-le, can .fits .most, count-le (differsThere doubled window r) 0 q)
+    counting-afresh-le r l = omega (arith, known .stored .first r l, known .turn-le, can .fits .most, count-le (differsThere doubled window r) 0 q)
 
     -- A turn counts the window's edge at q for every rotation.
-    pub counting-afresh-turn : (new : List ℕ) (place looked : ℕ) → q < m → place ≡ q
-        → EdgeCounted m doubled counts place (getD window q 0) new × (looked ≡ m) → CountingAfresh doubled window old new (looks + looked) (q + 1)
-    counting-afresh-turn new place looked h placed counted = record {
+    pub counting-afresh-turn : {new : List ℕ} {place looked : ℕ} → q < m → place ≡ q
+        → StoredFirst m (edgeCounted doubled counts place (getD window q 0)) counts new × (looked ≡ m) → CountingAfresh doubled window cleared new (looks + looked) (q + 1)
+    counting-afresh-turn h placed counted = record {
       turn-le = omega arith;
-      size = counted .0 .size ∙ known .size;
-      each = λ r l. counted .0 .each r l
-          ∙ rw (placed, known .each r l, add-one q)
-          (sym (count-last (differsThere doubled window r) 0 q ∙ ap (λ (p : ℕ). count (differsThere doubled window r) 0 q + oneIf (differsThere doubled window r p)) (zero-add q)));
-      kept = λ r l. counted .0 .kept r l ∙ known .kept r l;
+      stored = stored-again (known .stored) (counted .0)
+          (λ r l. rw (placed, known .stored .first r l, add-one q)
+          (sym (count-last (differsThere doubled window r) 0 q ∙ ap (λ (p : ℕ). count (differsThere doubled window r) 0 q + oneIf (differsThere doubled window r p)) (zero-add q))));
       looks-are = omega (arith, known .looks-are, counted .1, add-mul q 1 m);
       looks-le = omega (arith, known .looks-le, counted .1, can .fits .most);
     }
 
     -- At the end the counts are those of the window, at m·m looks.
-    pub counting-afresh-end : (least : ℕ) → m ≤ q → IsLeast m counts least
-        → IsCountedAfresh doubled window first counts (record { least = least; looks = looks })
-    unfolding afreshCount afreshCounts
-    counting-afresh-end least h is-least =
+    pub counting-afresh-end : {least : ℕ} → m ≤ q → IsLeast m counts least → IsCountedAfresh doubled window old counts (record { least = least; looks = looks })
+    unfolding afreshCount
+    counting-afresh-end {least} h is-least =
         let all : q ≡ m = omega (arith, known .turn-le) in
-        let written : counts ≡ afreshCounts doubled window first =
-        listOf-first counts first m (afreshCount doubled window) (known .size ∙ cleared .size)
-        (λ r l. known .each r l ∙ ap (count (differsThere doubled window r) 0) all) (λ r l. known .kept r l ∙ cleared .kept r l) in
+        let written : counts ≡ afreshCounts doubled window old = stored-is (stored-again none (known .stored) (λ r l. ap (count (differsThere doubled window r) 0) all)) in
         record {
           written = written;
-          least-is = leastOf-only m (afreshCounts doubled window first) least (rw written at is-least);
+          least-is = leastOf-only m (afreshCounts doubled window old) least (rw written at is-least);
           looks-are = known .looks-are ∙ ap (λ (n : ℕ). n * m) all;
         }
 

@@ -19,7 +19,7 @@ use Rattle.tally.specs.Windows.{IsWindow}
 use Rattle.tally.specs.Counts.{mostCounts, differsThere, afreshCount, afreshCounts, canCount, countedTo, IsDoubled, IsCounted}
 use Rattle.tally.specs.Tallied.{Verified}
 use Rattle.tally.proofs.WindowEdges.{start-window, start-length}
-use Rattle.lists.proofs.ByPlace.{listOf-length, listOf-first-at}
+use Rattle.lists.proofs.StoreLoop.{storedFirst-length, storedFirst-at}
 use Rattle.tally.proofs.LeastIsOne.{leastOf-is}
 use Rattle.tally.proofs.DoubledLoop.{doubled-edge, doubled-length}
 use Rattle.tally.proofs.CountCases.{can-count-iff}
@@ -51,15 +51,15 @@ module _ (ring doubled window : List ℕ) (some : 0 < length ring) (most : lengt
   -- The window is verified.
   afresh-verified : (old new : List ℕ) (z : Least) → length old ≡ mostCounts → IsCounted doubled window old new z
       → Verified ring window 0 (afreshLooks m) new (z .least) (z .looks)
-  unfolding afreshCounts countedTo
+  unfolding countedTo
   afresh-verified old new z size counted =
       let can = can-be old size in
       let is : new ≡ afreshCounts doubled window old = rw can at (counted .written) in
       record {
         tallied = record {
-          size = ap length is ∙ listOf-length (length old) _ ∙ size;
+          size = ap length is ∙ storedFirst-length _ _ old ∙ size;
           each = λ r l. ap (λ (xs : List ℕ). getD xs r 0) is
-              ∙ listOf-first-at old (length window) (afreshCount doubled window) r (omega (arith, long)) (omega (arith, long, most))
+              ∙ storedFirst-at (length window) (afreshCount doubled window) old r (omega (arith, long)) (omega (arith, long, most))
               ∙ count-distance r l;
         };
         least-is = rw (rw can at (counted .least-is), is, sym long) (leastOf-is (length window) (afreshCounts doubled window old) (omega (arith, long)));

@@ -1,6 +1,5 @@
 -- The loop of `double`: a turn stores the ring's edge p twice, at p and a whole ring further on; past both rings nothing is stored. A place past the first
 -- ring is a ring's length and a place of the second, and that sum mod m is the place.
--- Assumes nothing.
 use Prim.Native.Nat.{ℕ, _+_, _-_, _*_, _%_, _≤_, _<_}
 use mathlib.Core.Path.{_≡_, refl, sym, ap, _∙_}
 use mathlib.Core.List.{List}
@@ -15,7 +14,6 @@ use borrow.Author.Tests.{ltb-true, ltb-false, lt-ltb, le-leb, lt-leb}
 use Rattle.lists.proofs.Cases.{by-test}
 use Rattle.tally.specs.Counts.{mostCounts, doubledEdge, IsDoubled}
 use Rattle.lists.proofs.ByPlace.{listOf-is, listOf-at, listOf-length}
-use Rattle.tally.proofs.StoredBelow.{stored-below}
 
 -- Before turn p: both rings are there below p, and past them nothing.
 pub record Doubling (ring doubled : List ℕ) (p : ℕ) : Type 0 where
@@ -54,19 +52,19 @@ module _ (ring : List ℕ) where
     doubling-turn doubled p known h =
         let edge : ℕ = getD ring p 0 in
         let once : List ℕ = set doubled p edge in
-        let once-size : length once ≡ 2 * mostCounts = length-set doubled p edge ∙ known .size in
+        let size : length once ≡ 2 * mostCounts = length-set doubled p edge ∙ known .size in
+        let others : (s : ℕ) → (s ≡ p → ⊥) → (s ≡ m + p → ⊥) → getD (set once (m + p) edge) s 0 ≡ getD doubled s 0 =
+        λ s not-first not-second. getD-set-other once (m + p) s edge 0 not-second ∙ getD-set-other doubled p s edge 0 not-first in
         record {
           turn-le = omega arith;
-          size = length-set once (m + p) edge ∙ once-size;
-          first = λ s l. getD-set-other once (m + p) s edge 0 (λ e. omega arith)
-              ∙ stored-below (λ t x. x ≡ getD ring t 0) doubled p edge (omega (arith, known .size)) (known .first) refl s l;
+          size = length-set once (m + p) edge ∙ size;
+          first = λ s l. dite (ℕ-discrete s p)
+              (λ here. rw here (getD-set-other once (m + p) p edge 0 (λ e. omega arith) ∙ getD-set-same doubled p edge 0 (omega (arith, known .size))))
+              (λ other. others s other (λ e. omega arith) ∙ known .first s (omega (arith, other)));
           second = λ s l. dite (ℕ-discrete s p)
-              (λ same. rw same (getD-set-same once (m + p) edge 0 (omega arith)))
-              (λ differ. getD-set-other once (m + p) (m + s) edge 0 (λ e. differ (omega arith))
-              ∙ getD-set-other doubled p (m + s) edge 0 (λ e. omega arith)
-              ∙ known .second s (omega (arith, differ)));
-          past = λ s l below. getD-set-other once (m + p) s edge 0 (λ e. omega arith) ∙ getD-set-other doubled p s edge 0 (λ e. omega arith)
-              ∙ known .past s l below;
+              (λ here. rw here (getD-set-same once (m + p) edge 0 (omega arith)))
+              (λ other. others (m + s) (λ e. omega arith) (λ e. other (omega arith)) ∙ known .second s (omega (arith, other)));
+          past = λ s l below. others s (λ e. omega arith) (λ e. omega arith) ∙ known .past s l below;
         }
 
     -- An edge of the ring twice.

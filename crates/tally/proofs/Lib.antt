@@ -1,15 +1,11 @@
 -- Laws behind the tally, one module for each idea; the functions' proofs cite them. In the order in which they build on each other.
 pub mod WindowEdges
 -- Lists given place by place, and loops over counts.
-pub mod StoredBelow
 pub mod LeastSoFar
-pub mod LeastLoop
 pub mod LeastIsOne
-pub mod ClearLoop
 pub mod LowestLoop
 -- The tally counted afresh.
 pub mod DoubledLoop
-pub mod EdgeLoop
 pub mod AfreshLoop
 pub mod CountCases
 -- What the counts hold at a start, and what a start's tally says of it.

@@ -3,42 +3,42 @@
 --   mostCounts           one count for each rotation of the longest ring
 --   leastOf              the least of the first m counts
 --   lowestWith           the lowest rotation that has a given count
---   doubledRing          the ring twice, end to end: each rotation is a part of it, so no place has to be taken mod m
+--   doubledRing          the ring twice, end to end: each rotation is a part of it, so no place is taken mod m
 --   afreshCount          how many edges of a window differ from a rotation's
---   afreshCounts         the counts after that: one for each rotation, the others kept
+--   afreshCounts         the counts after a window: one for each rotation, the others kept
 --   canCount, CanCount   whether a window can be counted: the test, and the same as facts
---   countedTo            what counting comes to: the counts, their least, and the looks
---   IsComparison, IsDoubled, IsCounted, IsLowestWith   what `differing`, `double`, `count_afresh` and `lowest_rotation` promise
---   RingFits, Cleared, EdgeCounted, IsLeast, IsCountedAfresh   what private functions ask and promise
--- Assumes nothing.
+--   countedTo            the result of a fresh count: the counts, their least, the looks
+--   IsComparison, IsDoubled, IsCounted, IsLowestWith   the contracts of `differing`, `double`, `count_afresh` and `lowest_rotation`
+--   RingFits, edgeCounted, IsLeast, IsCountedAfresh    preconditions and contracts of private functions
 use Prim.Native.Nat.{ℕ, zero, suc, _+_, _*_, _%_, _≤_, _<_, min}
 use mathlib.Core.Path.{_≡_}
 use mathlib.Core.Bool.{Bool, cond, _&&_}
 use mathlib.Core.List.{List, [], _∷_}
 use lib.Dec.{ltb, leb, eqb}
 use lib.ListN.{length, getD}
-use Rattle.lists.specs.ByPlace.{listOf}
+use Rattle.lists.specs.ByPlace.{listOf, storedFirst}
 use Rattle.meaning.specs.Numbers.{oneIf, count, lowest}
 use Rattle.meaning.specs.Meanings.{unequal}
 use Rattle.meaning.specs.Looks.{afreshLooks}
+use Rattle.findings.specs.Admitting.{mostRing}
 use Rattle.tally.specs.declared.counts.Least.{Least}
 
 -- One count for each rotation of the longest ring.
 abbrev pub mostCounts : ℕ
-mostCounts = 256
+mostCounts = mostRing
 
 -- The least of the first m counts.
 unfoldable pub leastOf : ℕ → List ℕ → ℕ
 leastOf m counts = getD counts (lowest (λ r. getD counts r 0) m) 0
 
--- The lowest of the n rotations from r on that has this count, and the number past them where none has it.
+-- The lowest of the n rotations from r on that has this count; r + n where none has it.
 unfoldable pub lowestFrom : List ℕ → ℕ → ℕ → ℕ → ℕ
 lowestFrom counts least zero r = r
 lowestFrom counts least (suc n) r =
     let later : ℕ = lowestFrom counts least n (r + 1) in
     cond (eqb (getD counts r 0) least) r later
 
--- The lowest of m rotations that has this count, and m where none has it. There are counts for 256 rotations, so a larger m counts as 256.
+-- The lowest of m rotations that has this count; m where none has it. There are 256 counts, so a larger m counts as 256.
 abbrev pub lowestWith : ℕ → List ℕ → ℕ → ℕ
 lowestWith m counts least = lowestFrom counts least (min m mostCounts) 0
 
@@ -59,22 +59,21 @@ unfoldable pub afreshCount : List ℕ → List ℕ → ℕ → ℕ
 afreshCount doubled window r = count (differsThere doubled window r) 0 (length window)
 
 -- The counts after a window of m edges: m are counted, the others are kept.
-unfoldable pub afreshCounts : List ℕ → List ℕ → List ℕ → List ℕ
-afreshCounts doubled window old =
-    listOf (length old) (λ r. cond (ltb r (length window)) (afreshCount doubled window r) (getD old r 0))
+abbrev pub afreshCounts : List ℕ → List ℕ → List ℕ → List ℕ
+afreshCounts doubled window old = storedFirst (length window) (afreshCount doubled window) old
 
--- Whether a window of m edges can be counted with `room` counts and `long` edges of a doubled ring: one edge at least, no more than 256 and no more than there are
+-- Whether a window of m edges can be counted with `room` counts and `long` edges of a doubled ring: at least one edge, at most 256, at most as many as there are
 -- counts, and a ring of m edges twice.
 unfoldable pub canCount : ℕ → ℕ → ℕ → Bool
 canCount m room long = (ltb 0 m && leb m mostCounts) && (leb m room && leb (2 * m) long)
 
--- What counting comes to: the counts, their least, and the looks that it took.
+-- The result of a fresh count: the counts, their least, the looks.
 pub record TallyTo : Type 0 where
   pub counts : List ℕ
   pub least : ℕ
   pub looks : ℕ
 
--- A window counted afresh, at m·m looks. One that cannot be counted changes no count, and takes no look.
+-- A window counted afresh, at m·m looks. Where it cannot be counted, no count changes and no look is taken.
 unfoldable pub countedTo : List ℕ → List ℕ → List ℕ → TallyTo
 countedTo doubled window old =
     let new : List ℕ = afreshCounts doubled window old in
@@ -82,25 +81,25 @@ countedTo doubled window old =
     let unchanged : TallyTo = record { counts = old; least = 0; looks = 0 } in
     cond (canCount (length window) (length old) (length doubled)) counted unchanged
 
--- What `differing` promises: one comparison counts 1 where the two edges differ.
+-- The contract of `differing`: 1 where the two edges differ.
 pub record IsComparison (a b r : ℕ) : Type 0 where
   pub is : r ≡ oneIf (unequal a b)
 
--- What `double` promises.
+-- The contract of `double`.
 pub record IsDoubled (ring doubled : List ℕ) : Type 0 where
   pub is : doubled ≡ doubledRing ring
 
--- What `count_afresh` promises: of the doubled ring, a window, the counts, the counts at exit and the answer.
+-- The contract of `count_afresh`: `old` are the counts at entry, `new` those at exit, `z` is the returned struct.
 pub record IsCounted (doubled window old new : List ℕ) (z : Least) : Type 0 where
   pub written : new ≡ countedTo doubled window old .counts
   pub least-is : z .least ≡ countedTo doubled window old .least
   pub looks-are : z .looks ≡ countedTo doubled window old .looks
 
--- What `lowest_rotation` promises.
+-- The contract of `lowest_rotation`: r is the number of the ring place returned.
 pub record IsLowestWith (m : ℕ) (counts : List ℕ) (least r : ℕ) : Type 0 where
   pub is : r ≡ lowestWith m counts least
 
--- From here on: what private functions ask and promise.
+-- From here on: preconditions and contracts of private functions.
 
 -- A ring of m edges, and room for its rotations in so many counts.
 pub record RingFits (m counts : ℕ) : Type 0 where
@@ -113,17 +112,9 @@ pub record CanCount (m room long : ℕ) : Type 0 where
   pub fits : RingFits m room
   pub twice : 2 * m ≤ long
 
--- Every rotation's count is 0, the others are kept.
-pub record Cleared (m : ℕ) (old new : List ℕ) : Type 0 where
-  pub size : length new ≡ length old
-  pub each : (r : ℕ) → r < m → getD new r 0 ≡ 0
-  pub kept : (r : ℕ) → m ≤ r → getD new r 0 ≡ getD old r 0
-
--- One window edge, at the place where rotation 0 has ring place `place`, compared with every rotation's edge there.
-pub record EdgeCounted (m : ℕ) (doubled old : List ℕ) (place edge : ℕ) (new : List ℕ) : Type 0 where
-  pub size : length new ≡ length old
-  pub each : (r : ℕ) → r < m → getD new r 0 ≡ getD old r 0 + oneIf (unequal edge (getD doubled (place + r) 0))
-  pub kept : (r : ℕ) → m ≤ r → getD new r 0 ≡ getD old r 0
+-- Rotation r's count after one window edge: the edge is compared with the doubled ring's at place + r, `place` the ring place that rotation 0 has over it.
+abbrev pub edgeCounted : List ℕ → List ℕ → ℕ → ℕ → ℕ → ℕ
+edgeCounted doubled old place edge r = getD old r 0 + oneIf (unequal edge (getD doubled (place + r) 0))
 
 -- The least of the first m counts: none is below it, and one is as low.
 pub record IsLeast (m : ℕ) (counts : List ℕ) (least : ℕ) : Type 0 where
@@ -132,7 +123,7 @@ pub record IsLeast (m : ℕ) (counts : List ℕ) (least : ℕ) : Type 0 where
   pub place-lt : place < m
   pub is : getD counts place 0 ≡ least
 
--- A window is counted: the counts, their least, and the looks.
+-- A window is counted: the counts, their least, the looks.
 pub record IsCountedAfresh (doubled window old new : List ℕ) (z : Least) : Type 0 where
   pub written : new ≡ afreshCounts doubled window old
   pub least-is : z .least ≡ leastOf (length window) (afreshCounts doubled window old)

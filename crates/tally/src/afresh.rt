@@ -11,7 +11,8 @@ use answers::to_ring;
 ghost use mathlib.Core.Path.{_≡_};
 ghost use Prim.Native.Nat.{ℕ, _<_, _≤_};
 ghost use lib.ListN.{length, getD};
-ghost use Rattle.tally.specs.Counts.{canCount, CanCount, IsDoubled, EdgeCounted, IsCountedAfresh, IsCounted};
+ghost use Rattle.lists.specs.ByPlace.{StoredFirst};
+ghost use Rattle.tally.specs.Counts.{mostCounts, canCount, CanCount, IsDoubled, edgeCounted, IsCountedAfresh, IsCounted};
 
 // The edges of the longest ring twice.
 const DOUBLED: usize = 2 * MOST_COUNTS;
@@ -36,21 +37,23 @@ pub fn double(ring: &[u8]) -> [u8; DOUBLED]
     doubled
 }
 
-// One window edge against every rotation's edge over it: rotation r has there the doubled ring's edge at place + r.
+// One window edge against every rotation's edge over it. Rotation 0 has the ring's edge at `place` there, rotation r the doubled
+// ring's at place + r.
 fn count_edge(
     counts: &mut [u16; MOST_COUNTS],
     doubled: &[u8],
     m: usize,
-    place: usize,
+    place: RingPlace,
     edge: u8,
 ) -> usize
-    requires { ⌜ CanCount m (length (now counts)) (length (now doubled)) × (place < m) × ((r : ℕ) → r < m → getD (now counts) r 0 ≤ 256) ⌝ }
-    ensures { λ looks. ⌜ EdgeCounted m (now (doubled .entry)) (now (counts .entry)) place edge (now (counts .exit)) × (looks ≡ m) ⌝ }
+    requires { ⌜ CanCount m (length (now counts)) (length (now doubled)) × (place .0 < m) × ((r : ℕ) → r < m → getD (now counts) r 0 ≤ mostCounts) ⌝ }
+    ensures { λ looks. ⌜ StoredFirst m (edgeCounted (now (doubled .entry)) (now (counts .entry)) (place .0) edge) (now (counts .entry)) (now (counts .exit)) × (looks ≡ m) ⌝ }
 {
+    let first = place.0;
     let mut looks: usize = 0;
     let mut r = 0;
     while r < m {
-        counts[r] = counts[r] + differing(edge, doubled[place + r]);
+        counts[r] = counts[r] + differing(edge, doubled[first + r]);
         looks += 1; // one look
         r += 1;
     }
@@ -69,7 +72,7 @@ fn count_edges(counts: &mut [u16; MOST_COUNTS], doubled: &[u8], window: &[u8]) -
     let mut q = 0;
     while q < m {
         let place = to_ring(LinePlace(q), LinePlace(0), RingPlace(0), m);
-        looks += count_edge(counts, doubled, m, place.0, window[q]);
+        looks += count_edge(counts, doubled, m, place, window[q]);
         q += 1;
     }
     let least = wide(least_of(counts, m));

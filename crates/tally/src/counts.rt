@@ -1,12 +1,14 @@
 // Counts of differing edges, one for each rotation. A count is at most 256, which eight bits do not hold.
 use answers::RingPlace;
+use findings::MOST_RING;
 ghost use mathlib.Core.Path.{_≡_};
 ghost use Prim.Native.Nat.{min};
 ghost use lib.ListN.{length};
-ghost use Rattle.tally.specs.Counts.{mostCounts, IsComparison, RingFits, Cleared, IsLeast, IsLowestWith};
+ghost use Rattle.lists.specs.ByPlace.{StoredFirst};
+ghost use Rattle.tally.specs.Counts.{mostCounts, IsComparison, RingFits, IsLeast, IsLowestWith};
 
 // One count for each rotation of the longest ring.
-pub const MOST_COUNTS: usize = 256;
+pub const MOST_COUNTS: usize = MOST_RING;
 
 // The least of a start's counts, and the looks that its tally took.
 pub struct Least {
@@ -21,17 +23,17 @@ pub fn differing(a: u8, b: u8) -> u16
     if a == b { 0 } else { 1 }
 }
 
-// A count as a distance: it is compared with the allowance, and goes out in a finding.
+// A count as a distance: it is compared with the allowance and goes into a finding.
 pub fn wide(count: u16) -> usize
     ensures { λ r. ⌜ r ≡ count ⌝ }
 {
     count as usize
 }
 
-// Every count of m rotations starts at 0.
+// The counts of m rotations start at 0.
 pub fn clear(counts: &mut [u16; MOST_COUNTS], m: usize)
     requires { ⌜ RingFits m (length (now counts)) ⌝ }
-    ensures { λ _. ⌜ Cleared m (now (counts .entry)) (now (counts .exit)) ⌝ }
+    ensures { λ _. ⌜ StoredFirst m (λ _. 0) (now (counts .entry)) (now (counts .exit)) ⌝ }
 {
     let mut r = 0;
     while r < m {
@@ -64,8 +66,8 @@ fn rotations(m: usize) -> usize
     if m < MOST_COUNTS { m } else { MOST_COUNTS }
 }
 
-// The lowest of m rotations whose count is the least, and m where none has that count; a larger m counts as 256. It is
-// looked for only where a start is a finding.
+// The lowest of m rotations whose count is the least; m where none has that count; an m above 256 counts as 256. It is called
+// only for a finding.
 pub fn lowest_rotation(counts: &[u16; MOST_COUNTS], m: usize, least: usize) -> RingPlace
     ensures { λ r. ⌜ IsLowestWith m (now (counts .entry)) least (r .0) ⌝ }
 {

@@ -14,7 +14,7 @@ use Rattle.vectors.specs.Bits.{wordBits, Vector, bit, firstWord, firstBi
 use Rattle.vectors.specs.Rotating.{Within}
 use Rattle.vectors.proofs.WordBits.{bit-ones, bit-ones-past}
 use Rattle.vectors.proofs.WordByWord.{vectorOf-vector, vectorOf-isSet, vectorOf-isSet-past}
-use Rattle.lists.proofs.ByPlace.{listOf-length, listOf-at}
+use Rattle.lists.proofs.ByPlace.{listOf-length}
 
 -- In word w the bits whose place in the vector is below m are set.
 first-word-low : (m w j : ℕ) → j < wordBits → wordBits * w + j < m → bit (firstWord m w) j ≡ 1
@@ -47,11 +47,6 @@ pub first-bits-vector : (m count : ℕ) → Vector (firstBits m count)
 unfolding firstBits firstWord
 first-bits-vector m count = vectorOf-vector count (firstWord m) (λ w h. lt-of-lt-of-le
     (ones-lt (min wordBits (m - wordBits * w))) (pow-mono {i = min wordBits (m - wordBits * w)} {j = wordBits} (omega arith)))
-
--- Word w of the vector, as a loop stores it.
-pub first-bits-word : (m count w : ℕ) → w < count → firstWord m w ≡ getD (firstBits m count) w 0
-unfolding firstBits
-first-bits-word m count w h = sym (listOf-at count (firstWord m) w h)
 
 -- Its first m bits are all that it has.
 pub first-bits-within : (m : ℕ) (ws : List ℕ) → FirstBits m ws → Within m ws

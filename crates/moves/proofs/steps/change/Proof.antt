@@ -1,23 +1,28 @@
--- `moves::steps::change` meets its contract: before turn r the counts below r are changed and their least is known (`Changing`). What is left of
+-- `moves::steps::change` meets its contract: before turn r the counts below r are changed and their least is known (`ChangeLoop`). What is left of
 -- the ring falls.
--- Assumes nothing.
-use Prim.Native.Nat.{_-_}
+use Prim.Native.Nat.{_-_, _*_, _≤_}
+use mathlib.Core.Path.{_≡_, refl}
 use mathlib.Core.Logic.{⊎-elim}
 use native.Mathlib.Omega.{arith}
 use borrow.Author.Needs.{needs}
 use lib.ListN.{length}
-use Rattle.moves.proofs.ChangeLoop.{Changing, changing-start, changing-turn-less, changing-turn-kept, changing-end}
+use Rattle.lists.specs.ByPlace.{StoredFirst}
+use Rattle.lists.proofs.StoreLoop.{stored-start, stored-turn, stored-end}
+use Rattle.tally.proofs.LeastSoFar.{LeastSoFar, least-so-far-start, least-so-far-stored-less, least-so-far-stored-kept}
+use Rattle.moves.specs.Moves.{changedAt}
+use Rattle.moves.proofs.ChangeLoop.{lastCount, changed-here, changed-least}
 use Rattle.moves.proofs.steps.change.Statement.{statement}
 use Rattle.moves.proofs.steps.change.Tie as tie
 
 abbrev Inv-loop : tie.InvT-loop
-Inv-loop counts₀ ring leaving entering least₀ looks₀ r₀ counts least looks r = Changing ring leaving entering counts₀ counts least looks r
+Inv-loop counts₀ ring leaving entering least₀ looks₀ r₀ counts least looks r =
+    (r ≤ length ring) × (looks ≡ 2 * r) × StoredFirst r (changedAt ring leaving entering counts₀) counts₀ counts × LeastSoFar lastCount counts least r
 
 abbrev μ-loop : tie.MeasureT-loop
 μ-loop counts₀ ring leaving entering least₀ looks₀ r₀ counts least looks r = length ring - r
 
 loop-holds : tie.Need-loop-holds Inv-loop μ-loop
-loop-holds c = changing-start _ _ _ _
+loop-holds c = (omega arith, omega arith, stored-start, least-so-far-start _ _)
 
 shared-slice-read-edge : tie.Need-shared-slice-read-edge Inv-loop μ-loop
 shared-slice-read-edge c = search needs
@@ -62,21 +67,25 @@ loop-again c =
     let won = changed .before .before in
     let lost = won .before in
     let turn = lost .before .before in
-    let fits = turn .before .before .before .pre in
-    ⊎-elim
-    (λ lower.
-    changing-turn-less _ _ _ _ fits _ _ _ _ _ _ _ (turn .before .loop .inv) (turn .loop-test .taken)
-    (lost .differing .ensures .is) (won .differing2 .ensures .is) (changed .changed .ensures) _ (lower .0 .taken) (lower .1))
-    (λ kept.
-    changing-turn-kept _ _ _ _ fits _ _ _ _ _ _ _ (turn .before .loop .inv) (turn .loop-test .taken)
-    (lost .differing .ensures .is) (won .differing2 .ensures .is) (changed .changed .ensures) _ (kept .0 .left) (kept .1))
-    (c .if1 .came)
+    let stored = turn .before .loop .inv .2 in
+    let so-far = turn .before .loop .inv .3 in (
+      omega arith,
+      omega arith,
+      stored-turn stored (omega arith) (changed-here _ _ _ _ stored (lost .differing .ensures .is) (won .differing2 .ensures .is) (changed .changed .ensures)),
+      ⊎-elim
+          (λ lower. rw (lower .1) (least-so-far-stored-less so-far (omega arith) (lower .0 .taken)))
+          (λ kept. rw (kept .1) (least-so-far-stored-kept so-far (omega arith) (kept .0 .left)))
+          (c .if1 .came),
+    )
 
 cast-low : tie.Need-cast-low Inv-loop μ-loop
-cast-low c = omega (arith, c .before .loop .inv .least-le)
+cast-low c = omega (arith, c .before .loop .inv .3 .top-le)
 
 returns : tie.Need-returns Inv-loop μ-loop
-returns c = changing-end _ _ _ _ _ _ _ _ (c .before .before .before .pre) (c .before .loop .inv) (c .loop-test .left)
+returns c =
+    let stored = c .before .loop .inv .2 in
+    let all : c .before .loop .r ≡ length (c .before .before .before .args .ring .now) = omega arith in
+    (stored-end stored all, changed-least _ _ _ _ stored (c .before .loop .inv .3) all (omega arith), omega arith)
 
 pub change-spec : {M : Type 1} → statement M
 change-spec =

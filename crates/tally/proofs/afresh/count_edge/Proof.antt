@@ -1,20 +1,29 @@
--- `tally::afresh::count_edge` meets its contract: its loop is `CountingEdge`, and m - r falls.
--- Assumes nothing.
-use Prim.Native.Nat.{_-_}
+-- `tally::afresh::count_edge` meets its contract: a turn stores rotation r's count with the comparison added (`StoreLoop` of crates/lists). A count of at most 256
+-- and one comparison are at most 257, which sixteen bits hold. m - r falls.
+use Prim.Native.Nat.{ℕ, _-_, _≤_}
+use mathlib.Core.Path.{_≡_, refl}
 use native.Mathlib.Omega.{arith}
 use borrow.Author.Needs.{needs}
-use Rattle.tally.proofs.EdgeLoop.{CountingEdge, counting-edge-start, counting-edge-le, counting-edge-turn, counting-edge-end}
+use Rattle.meaning.specs.Meanings.{unequal}
+use Rattle.meaning.proofs.Count.{oneIf-le}
+use Rattle.lists.specs.ByPlace.{StoredFirst}
+use Rattle.lists.proofs.StoreLoop.{stored-start, stored-turn, stored-end}
+use Rattle.tally.specs.Counts.{IsComparison, edgeCounted}
 use Rattle.tally.proofs.afresh.count_edge.Statement.{statement}
 use Rattle.tally.proofs.afresh.count_edge.Tie as tie
 
+-- A comparison counts one at most.
+comparison-le : {a b d : ℕ} → IsComparison a b d → d ≤ 1
+comparison-le {a} {b} one = omega (arith, one .is, oneIf-le (unequal a b))
+
 abbrev Inv-loop : tie.InvT-loop
-Inv-loop counts₀ doubled m place edge looks₀ r₀ counts looks r = CountingEdge m doubled counts₀ place edge counts looks r
+Inv-loop counts₀ doubled m edge first looks₀ r₀ counts looks r = (r ≤ m) × (looks ≡ r) × StoredFirst r (edgeCounted doubled counts₀ first edge) counts₀ counts
 
 abbrev μ-loop : tie.MeasureT-loop
-μ-loop counts₀ doubled m place edge looks₀ r₀ counts looks r = m - r
+μ-loop counts₀ doubled m edge first looks₀ r₀ counts looks r = m - r
 
 loop-holds : tie.Need-loop-holds Inv-loop μ-loop
-loop-holds c = counting-edge-start _ _ _ _ _
+loop-holds c = (omega arith, refl, stored-start)
 
 mul-counts : tie.Need-mul-counts Inv-loop μ-loop
 mul-counts c = search needs
@@ -35,7 +44,7 @@ add-counts : tie.Need-add-counts Inv-loop μ-loop
 add-counts c =
     let turn = c .before .before .before in
     let pre = turn .before .before .before .pre in
-    omega (arith, counting-edge-le _ _ _ _ _ _ _ _ _ _ (turn .before .loop .inv) (pre .2 _ (turn .loop-test .taken)) (c .differing .ensures .is))
+    omega (arith, turn .before .loop .inv .2 .rest (turn .before .loop .r) (omega arith), pre .2 _ (turn .loop-test .taken), comparison-le (c .differing .ensures))
 
 mul-counts-2 : tie.Need-mul-counts-2 Inv-loop μ-loop
 mul-counts-2 c = search needs
@@ -55,11 +64,11 @@ loop-less c = search needs
 loop-again : tie.Need-loop-again Inv-loop μ-loop
 loop-again c =
     let turn = c .before .before .before in
-    let pre = turn .before .before .before .pre in
-    counting-edge-turn _ _ _ _ _ _ _ _ _ (turn .before .loop .inv) (turn .loop-test .taken) (pre .0 .fits .room) (c .differing .ensures .is)
+    let stored = turn .before .loop .inv .2 in
+    (omega arith, omega arith, stored-turn stored (omega arith) (omega (arith, stored .rest (turn .before .loop .r) (omega arith), c .differing .ensures .is)))
 
 returns : tie.Need-returns Inv-loop μ-loop
-returns c = counting-edge-end _ _ _ _ _ _ _ _ (c .before .loop .inv) (c .loop-test .left)
+returns c = (stored-end (c .before .loop .inv .2) (omega arith), omega arith)
 
 pub count-edge-spec : {M : Type 1} → statement M
 count-edge-spec =

@@ -1,6 +1,5 @@
 -- `tally::afresh::count_edges` meets its contract: its loop is `CountingAfresh`, and m - q falls. Before it the counts are cleared, after it
 -- the least is taken.
--- Assumes nothing.
 use Prim.Native.Nat.{_-_}
 use mathlib.Core.Path.{sym}
 use native.Mathlib.Omega.{arith}
@@ -34,9 +33,9 @@ count-edge-requires c κs =
     let cleared = turn .before .before in
     let pre = cleared .before .before .before .before .pre in
     let place-is = place-under-is _ _ _ _ _ (sym (zero-add _)) (turn .loop-test .taken) (omega (arith, pre .fits .most)) (c .before .before .to-ring .ensures) in (
-      counting-afresh-can _ _ _ _ pre (cleared .clear .ensures) _ _ _ (turn .before .loop .inv),
+      counting-afresh-can _ _ _ _ pre (cleared .clear .ensures) (turn .before .loop .inv),
       omega (arith, place-is, turn .loop-test .taken),
-      counting-afresh-le _ _ _ _ pre (cleared .clear .ensures) _ _ _ (turn .before .loop .inv),
+      counting-afresh-le _ _ _ _ pre (cleared .clear .ensures) (turn .before .loop .inv),
     )
 
 add-looks : tie.Need-add-looks Inv-loop μ-loop
@@ -57,14 +56,14 @@ loop-again c =
     let cleared = turn .before .before in
     let pre = cleared .before .before .before .before .pre in
     let place-is = place-under-is _ _ _ _ _ (sym (zero-add _)) (turn .loop-test .taken) (omega (arith, pre .fits .most)) (c .before .before .before .to-ring .ensures) in
-    counting-afresh-turn _ _ _ _ pre (cleared .clear .ensures) _ _ _ (turn .before .loop .inv) _ _ _ (turn .loop-test .taken) place-is (c .count-edge .ensures)
+    counting-afresh-turn _ _ _ _ pre (cleared .clear .ensures) (turn .before .loop .inv) (turn .loop-test .taken) place-is (c .count-edge .ensures)
 
 least-of-requires : tie.Need-least-of-requires Inv-loop μ-loop
 least-of-requires c κs =
     let at-loop = c .before .before in
     let cleared = at-loop .before in
     let pre = cleared .before .before .before .before .pre in
-    counting-afresh-can _ _ _ _ pre (cleared .clear .ensures) _ _ _ (at-loop .loop .inv) .fits
+    counting-afresh-can _ _ _ _ pre (cleared .clear .ensures) (at-loop .loop .inv) .fits
 
 wide-requires : tie.Need-wide-requires Inv-loop μ-loop
 wide-requires c κs = search needs
@@ -74,7 +73,7 @@ returns c =
     let done = c .before .before .before in
     let cleared = done .before .before in
     let pre = cleared .before .before .before .before .pre in
-    counting-afresh-end _ _ _ _ pre (cleared .clear .ensures) _ _ _ (done .before .loop .inv) _ (done .loop-test .left) (rw (c .wide .ensures) (c .before .least-of .ensures))
+    counting-afresh-end _ _ _ _ pre (cleared .clear .ensures) (done .before .loop .inv) (done .loop-test .left) (rw (c .wide .ensures) (c .before .least-of .ensures))
 
 pub count-edges-spec : {M : Type 1} → statement M
 count-edges-spec =

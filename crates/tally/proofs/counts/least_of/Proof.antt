@@ -1,14 +1,15 @@
--- `tally::counts::least_of` meets its contract: its loop is `SeekingLeast`, and m - r falls.
--- Assumes nothing.
-use Prim.Native.Nat.{_-_}
+-- `tally::counts::least_of` meets its contract: the least begins with the first count, each turn is one of `LeastSoFar`, and m - r falls.
+use Prim.Native.Nat.{_-_, _≤_, _<_}
+use mathlib.Core.Path.{sym}
 use mathlib.Core.Logic.{⊎-elim}
+use native.Mathlib.Omega.{arith}
 use borrow.Author.Needs.{needs}
-use Rattle.tally.proofs.LeastLoop.{SeekingLeast, seeking-least-start, seeking-least-turn-less, seeking-least-turn-kept, seeking-least-end}
+use Rattle.tally.proofs.LeastSoFar.{LeastSoFar, least-so-far-first, least-so-far-less, least-so-far-kept, least-so-far-end}
 use Rattle.tally.proofs.counts.least_of.Statement.{statement}
 use Rattle.tally.proofs.counts.least_of.Tie as tie
 
 abbrev Inv-loop : tie.InvT-loop
-Inv-loop counts m least₀ r₀ least r = SeekingLeast counts m least r
+Inv-loop counts m least₀ r₀ least r = (0 < r) × (r ≤ m) × LeastSoFar least₀ counts least r
 
 abbrev μ-loop : tie.MeasureT-loop
 μ-loop counts m least₀ r₀ least r = m - r
@@ -17,7 +18,7 @@ element-copy-out-least : tie.Need-element-copy-out-least Inv-loop μ-loop
 element-copy-out-least c = search needs
 
 loop-holds : tie.Need-loop-holds Inv-loop μ-loop
-loop-holds c = seeking-least-start _ _ (c .before .pre .some-edge)
+loop-holds c = (omega arith, omega arith, least-so-far-first _)
 
 mul-count : tie.Need-mul-count Inv-loop μ-loop
 mul-count c = search needs
@@ -34,15 +35,14 @@ loop-less c = search needs
 -- The count is less, or it is not.
 loop-again : tie.Need-loop-again Inv-loop μ-loop
 loop-again c =
-    let turn = c .before .before .before .loop in
-    let goes-on = c .before .before .loop-test .taken in
-    ⊎-elim
-    (λ less. rw (less .1) (seeking-least-turn-less _ _ _ _ (turn .inv) goes-on (less .0 .taken)))
-    (λ kept. rw (kept .1) (seeking-least-turn-kept _ _ _ _ (turn .inv) goes-on (kept .0 .left)))
-    (c .if1 .came)
+    let so-far = c .before .before .before .loop .inv .2 in (
+      omega arith,
+      omega arith,
+      ⊎-elim (λ less. rw (less .1) (least-so-far-less so-far (less .0 .taken))) (λ kept. rw (kept .1) (least-so-far-kept so-far (kept .0 .left))) (c .if1 .came),
+    )
 
 returns : tie.Need-returns Inv-loop μ-loop
-returns c = seeking-least-end _ _ _ _ (c .before .loop .inv) (c .loop-test .left)
+returns c = least-so-far-end (c .before .loop .inv .2) (omega arith) (omega arith) sym
 
 pub least-of-spec : {M : Type 1} → statement M
 least-of-spec =
