@@ -1,6 +1,5 @@
 -- Laws of `around`: with no ring it is 0, in a ring it is %, and of a sum it is the sum of the two parts mod m, less m where that reaches m. A sum of two numbers
 -- below m is below 2·m, so at most one m is taken off.
--- Assumes nothing.
 use Prim.Native.Nat.{ℕ, _+_, _-_, _%_, _≤_, _<_}
 use mathlib.Core.Path.{_≡_, sym, _∙_}
 use native.Mathlib.Nat.{mod-lt, mod-eq-of-lt, add-mod, mod-eq-sub-mod}

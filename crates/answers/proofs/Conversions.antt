@@ -1,6 +1,5 @@
 -- What the two conversions of a place return is what their definitions give, a law for each `return` of `to_ring` and `to_line`.
 -- A place before the start is no way along; where the sum of start and way fits a usize the cap does nothing.
--- Assumes nothing.
 use Prim.Native.Nat.{ℕ, _+_, _-_, _%_, _≤_, _<_, min}
 use mathlib.Core.Path.{_≡_, ap, _∙_}
 use native.Mathlib.Omega.{arith}

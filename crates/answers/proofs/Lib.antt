@@ -3,7 +3,10 @@ pub mod AroundRing
 pub mod Conversions
 pub mod PlacesUndo
 pub mod PlaceSamples
-pub mod Rows
 pub mod AnswerCases
+pub mod RefusalTable
+pub mod FirstRow
+pub mod RowsExactly
 pub mod OneAnswer
 pub mod RefusalNumbers
+pub mod AnswerByRows

@@ -1,6 +1,5 @@
 -- Number and place determine the refusal, and the paper determines the answer, whatever its counts are. Each by a left inverse: `refusalOf` and
 -- `answerOf` read the answer back. So any two answers that meet a contract on the paper are equal. Last, a law for each function of this crate: its contract is one equation.
--- Assumes nothing.
 use Prim.Native.Nat.{ℕ, _≤_}
 use mathlib.Core.Path.{_≡_, refl, sym, ap, ap₂, _∙_}
 use mathlib.Core.Bool.{cond}

@@ -1,5 +1,4 @@
 -- The two conversions of a place, computed on a window across the ring's seam and on each kind of input that document 01 does not speak of.
--- Assumes nothing.
 use Prim.Native.Nat.{ℕ}
 use mathlib.Core.Path.{_≡_, refl}
 use Rattle.answers.specs.declared.places.RingPlace.{RingPlace}

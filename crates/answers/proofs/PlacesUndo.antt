@@ -1,7 +1,6 @@
 -- The two conversions of a place undo each other, both ways. Along the window by q and back: (r + q) mod m, and on by the m − r that are left
 -- of the turn, is q + m mod m, which is q. The rotation is below m, the place is in the window or the ring, and start + m is at most
 -- the largest usize, as for every window of document 01 (its lines have at most 65,536 edges).
--- Assumes nothing.
 use Prim.Native.Nat.{ℕ, _+_, _-_, _%_, _≤_, _<_, min}
 use mathlib.Core.Path.{_≡_, ap, _∙_}
 use native.Mathlib.Nat.{mod-eq-of-lt, mod-add-mod, add-mod-mod, add-mod-right}

@@ -1,6 +1,5 @@
 -- From numbers and places to refusals, of any answer, whatever it counts: a paper has a refusal's number and place exactly when the answer is that refusal, and
 -- where the table's place is always 0 the number alone says so. The rows of every call are stated through these.
--- Assumes nothing.
 use Prim.Native.Nat.{ℕ}
 use mathlib.Core.Logic.{_↔_}
 use mathlib.Core.Path.{_≡_, refl, sym, ap, subst, _∙_}

@@ -1,132 +1,95 @@
--- Which of rows 1 to 4 is given, if one is: the cases of `refusalOf` as propositions (`RowGiven`), and from them each row as an iff.
--- Assumes nothing.
-use Prim.Native.Nat.{ℕ, _+_, _-_, _*_, _≤_, _<_}
-use mathlib.Core.Path.{_≡_, sym, subst, _∙_}
-use mathlib.Core.Logic.{_↔_, _⊎_, inl, inr, ⊎-elim}
-use mathlib.Core.Option.{Option, none, some}
+-- Which of rows 1 to 4 is given, if one is: what each row says (`is-row-1` to `is-row-4`), and from these each row as the table has it, by `RowsExactly` of
+-- the answers: given exactly when, and no row before it.
+use Prim.Native.Nat.{ℕ, _≤_, _<_}
+use mathlib.Core.Path.{_≡_, refl}
+use mathlib.Core.Logic.{_↔_, _⊎_, inl, inr, ⊎-elim, Iff·trans}
+use mathlib.Core.Option.{none, some}
 use native.Mathlib.Omega.{arith}
-use Rattle.lists.proofs.Cases.{le-or-lt}
+use Rattle.meaning.proofs.SizesTested.{lt-iff, le-iff, eq-iff, and-iff, or-iff}
 use Rattle.answers.specs.declared.refusals.Refusal.{Refusal}
 use Rattle.answers.specs.declared.refusals.Refusal.the-variants.{Ring, Allowance, Line, FindingsRoom}
 use Rattle.answers.specs.Refusals.{numberOf, placeOf}
-use Rattle.findings.specs.Admitting.{IsRing, refusalOf, Admitted}
-use Rattle.findings.proofs.AdmitCases.{row1-empty, row1-long, row2-is, row3-is, row4-is, short-accepted, room-accepted}
-
--- The first of rows 1 to 4 that is given, or that none is.
-pub data RowGiven (m k n room : ℕ) : Option Refusal → Type 0 where
-  row-1 : (m ≡ 0) ⊎ (256 < m) → RowGiven m k n room (some Ring)
-  row-2 : IsRing m → m ≤ k → RowGiven m k n room (some Allowance)
-  row-3 : IsRing m → k < m → 65536 < n → RowGiven m k n room (some Line)
-  row-4 : IsRing m → k < m → n ≤ 65536 → m ≤ n → room < 3 * (n - m + 1) → RowGiven m k n room (some FindingsRoom)
-  no-row : Admitted m k n room → RowGiven m k n room none
+use Rattle.answers.specs.Rows.{row}
+use Rattle.answers.proofs.RowsExactly.{IsRow, is-row, end, row-has, first-has, at-row, past-row, no-row, no-last-row}
+use Rattle.findings.specs.Admitting.{mostRing, mostLine, roomAsked, isRow1, isRow2, isRow3, isRow4, admitRows, refusalOf, IsRing, Admitted}
 
 module _ (m k n room : ℕ) where
-  -- each case is given by its row
-  given-is : {o : Option Refusal} → RowGiven m k n room o → o ≡ refusalOf m k n room
-  given-is (row-1 h) = ⊎-elim (row1-empty m k n room) (row1-long m k n room) h
-  given-is (row-2 ring h) = row2-is m k n room (ring .some-edge) (ring .most) h
-  given-is (row-3 ring allowed h) = row3-is m k n room (ring .some-edge) (ring .most) allowed h
-  given-is (row-4 ring allowed fits starts h) = row4-is m k n room (ring .some-edge) (ring .most) allowed fits starts h
-  given-is (no-row a) =
-      ⊎-elim
-      (λ (starts : m ≤ n). room-accepted m k n room (a .some-edge) (a .most-ring) (a .allowed) (a .most-line) starts (a .room-for starts))
-      (λ (short : n < m). short-accepted m k n room (a .some-edge) (a .most-ring) (a .allowed) (a .most-line) short)
-      (le-or-lt m n)
+  -- "m = 0 or m > 256"
+  is-row-1 : IsRow (row (isRow1 m) Ring) Ring ((m ≡ 0) ⊎ (mostRing < m)) (IsRing m)
+  is-row-1 =
+      is-row (or-iff (eq-iff m 0) (lt-iff mostRing m))
+      (λ ring. ⊎-elim (λ empty. omega (arith, ring .some-edge)) (λ long. omega (arith, ring .most)))
+      (λ not.
+      let not-empty : m ≡ 0 → ⊥ = λ e. not (inl e) in
+      let not-long : mostRing < m → ⊥ = λ l. not (inr l) in
+      record { some-edge = omega arith; most = omega arith })
 
-  -- and there is always one
-  given : (o : Option Refusal) × RowGiven m k n room o
-  given =
-      ⊎-elim
-      (λ (empty : m ≤ 0). (some Ring, row-1 (inl (omega arith))))
-      (λ (some-edge : 0 < m).
-      ⊎-elim
-      (λ (most : m ≤ 256).
-      let ring : IsRing m = record { some-edge = some-edge; most = most } in
-      ⊎-elim
-      (λ (h : m ≤ k). (some Allowance, row-2 ring h))
-      (λ (allowed : k < m).
-      ⊎-elim
-      (λ (fits : n ≤ 65536). room-or-not ring allowed fits)
-      (λ (h : 65536 < n). (some Line, row-3 ring allowed h))
-      (le-or-lt n 65536))
-      (le-or-lt m k))
-      (λ (long : 256 < m). (some Ring, row-1 (inr long)))
-      (le-or-lt m 256))
-      (le-or-lt m 0)
-    where
-      admitted : IsRing m → k < m → n ≤ 65536 → (m ≤ n → 3 * (n - m + 1) ≤ room) → (o : Option Refusal) × RowGiven m k n room o
-      admitted ring allowed fits enough = (
-        none,
-        no-row (record { some-edge = ring .some-edge; most-ring = ring .most; allowed = allowed; most-line = fits; room-for = enough }),
-      )
+  -- "k ≥ m"
+  is-row-2 : IsRow (row (isRow2 m k) Allowance) Allowance (m ≤ k) (k < m)
+  is-row-2 = is-row (le-iff m k) (λ allowed h. omega arith) (λ not. omega arith)
 
-      room-or-not : IsRing m → k < m → n ≤ 65536 → (o : Option Refusal) × RowGiven m k n room o
-      room-or-not ring allowed fits =
-          ⊎-elim
-          (λ (starts : m ≤ n).
-          ⊎-elim
-          (λ (enough : 3 * (n - m + 1) ≤ room). admitted ring allowed fits (λ _. enough))
-          (λ (short : room < 3 * (n - m + 1)). (some FindingsRoom, row-4 ring allowed fits starts short))
-          (le-or-lt (3 * (n - m + 1)) room))
-          (λ (short : n < m). admitted ring allowed fits (λ starts. absurd (omega arith)))
-          (le-or-lt m n)
+  -- "n > 65,536"
+  is-row-3 : IsRow (row (isRow3 n) Line) Line (mostLine < n) (n ≤ mostLine)
+  is-row-3 = is-row (lt-iff mostLine n) (λ in-limit h. omega arith) (λ not. omega arith)
 
-  -- What `refusalOf` gives is the row that is given.
-  pub row-given : (o : Option Refusal) → (refusalOf m k n room ≡ o) ↔ RowGiven m k n room o
-  row-given o = (
-    λ e. subst (RowGiven m k n room) (given-is (given .1) ∙ e) (given .1),
-    λ h. sym (given-is h),
-  )
+  -- "n ≥ m and fewer than 3·(n − m + 1) words are lent for findings"
+  is-row-4 : IsRow (row (isRow4 m n room) FindingsRoom) FindingsRoom ((m ≤ n) × (room < roomAsked m n)) (m ≤ n → roomAsked m n ≤ room)
+  is-row-4 =
+      is-row (and-iff (le-iff m n) (lt-iff room (roomAsked m n))) (λ enough h. omega (arith, enough (h .0)))
+      (λ not starts.
+      let not-short : room < roomAsked m n → ⊥ = λ short. not (starts, short) in
+      omega arith)
 
   -- Row 1: "m = 0 or m > 256".
-  pub row-1-iff : (refusalOf m k n room ≡ some Ring) ↔ ((m ≡ 0) ⊎ (256 < m))
-  row-1-iff = (λ e. back (row-given (some Ring) .0 e), λ h. row-given (some Ring) .1 (row-1 h))
-    where
-      back : RowGiven m k n room (some Ring) → (m ≡ 0) ⊎ (256 < m)
-      back (row-1 h) = h
+  pub row-1-iff : (refusalOf m k n room ≡ some Ring) ↔ ((m ≡ 0) ⊎ (mostRing < m))
+  unfolding admitRows
+  row-1-iff = at-row is-row-1 (row-has is-row-2 (omega arith) (row-has is-row-3 (omega arith) (row-has is-row-4 (omega arith) end))) .exactly
 
   -- Row 2: "k ≥ m", row 1 not given.
   pub row-2-iff : (refusalOf m k n room ≡ some Allowance) ↔ (IsRing m × (m ≤ k))
-  row-2-iff = (λ e. back (row-given (some Allowance) .0 e), λ h. row-given (some Allowance) .1 (row-2 (h .0) (h .1)))
-    where
-      back : RowGiven m k n room (some Allowance) → IsRing m × (m ≤ k)
-      back (row-2 ring h) = (ring, h)
+  unfolding admitRows
+  row-2-iff = past-row is-row-1 (omega arith) (at-row is-row-2 (row-has is-row-3 (omega arith) (row-has is-row-4 (omega arith) end))) .exactly
 
   -- Row 3: "n > 65,536", rows 1 and 2 not given.
-  pub row-3-iff : (refusalOf m k n room ≡ some Line) ↔ (IsRing m × (k < m) × (65536 < n))
-  row-3-iff = (λ e. back (row-given (some Line) .0 e), λ h. row-given (some Line) .1 (row-3 (h .0) (h .1) (h .2)))
-    where
-      back : RowGiven m k n room (some Line) → IsRing m × (k < m) × (65536 < n)
-      back (row-3 ring allowed h) = (ring, allowed, h)
+  pub row-3-iff : (refusalOf m k n room ≡ some Line) ↔ (IsRing m × ((k < m) × (mostLine < n)))
+  unfolding admitRows
+  row-3-iff =
+      past-row is-row-1 (omega arith) (past-row is-row-2 (omega arith) (at-row is-row-3 (row-has is-row-4 (omega arith) end))) .exactly
 
   -- Row 4: "n ≥ m and fewer than 3·(n − m + 1) words are lent for findings", rows 1 to 3 not given.
-  pub row-4-iff : (refusalOf m k n room ≡ some FindingsRoom) ↔ (IsRing m × (k < m) × (n ≤ 65536) × (m ≤ n) × (room < 3 * (n - m + 1)))
-  row-4-iff = (λ e. back (row-given (some FindingsRoom) .0 e), λ h. row-given (some FindingsRoom) .1 (row-4 (h .0) (h .1) (h .2) (h .3) (h .4)))
-    where
-      back : RowGiven m k n room (some FindingsRoom) → IsRing m × (k < m) × (n ≤ 65536) × (m ≤ n) × (room < 3 * (n - m + 1))
-      back (row-4 ring allowed fits starts h) = (ring, allowed, fits, starts, h)
+  pub row-4-iff : (refusalOf m k n room ≡ some FindingsRoom) ↔ (IsRing m × ((k < m) × ((n ≤ mostLine) × ((m ≤ n) × (room < roomAsked m n)))))
+  unfolding admitRows
+  row-4-iff =
+      past-row is-row-1 (omega arith) (past-row is-row-2 (omega arith) (past-row is-row-3 (omega arith) (at-row is-row-4 end))) .exactly
 
-  -- None of them is given exactly within all limits, and with room.
+  -- None of them is given exactly when each is not.
+  pub none-iff : (refusalOf m k n room ≡ none) ↔ (IsRing m × ((k < m) × ((n ≤ mostLine) × (m ≤ n → roomAsked m n ≤ room))))
+  unfolding admitRows
+  none-iff = no-row is-row-1 (no-row is-row-2 (no-row is-row-3 (no-last-row is-row-4))) .exactly
+
+  -- The same as one record.
   pub no-row-iff : (refusalOf m k n room ≡ none) ↔ Admitted m k n room
-  no-row-iff = (λ e. back (row-given none .0 e), λ a. row-given none .1 (no-row a))
-    where
-      back : RowGiven m k n room none → Admitted m k n room
-      back (no-row a) = a
+  no-row-iff =
+      Iff·trans none-iff (
+        λ h. record { some-edge = h .0 .some-edge; most-ring = h .0 .most; allowed = h .1 .0; most-line = h .1 .1 .0; room-for = h .1 .1 .1 },
+        λ a. (record { some-edge = a .some-edge; most = a .most-ring }, (a .allowed, (a .most-line, a .room-for))),
+      )
 
-  -- These are rows 1 to 4, and the table's place of each is 0.
-  row-tells : (refusal : Refusal) → refusalOf m k n room ≡ some refusal → (numberOf refusal ≤ 4) × (placeOf refusal ≡ 0)
-  row-tells refusal e = by-row (row-given (some refusal) .0 e)
-    where
-      by-row : {q : Refusal} → RowGiven m k n room (some q) → (numberOf q ≤ 4) × (placeOf q ≡ 0)
-      by-row (row-1 h) = omega arith
-      by-row (row-2 ring h) = omega arith
-      by-row (row-3 ring allowed h) = omega arith
-      by-row (row-4 ring allowed fits starts h) = omega arith
+  -- What holds of each row where it is the first holds of the one that is given.
+  pub by-row : (P : Refusal → Type 0) → ((m ≡ 0) ⊎ (mostRing < m) → P Ring) → (IsRing m × (m ≤ k) → P Allowance)
+      → (IsRing m × ((k < m) × (mostLine < n)) → P Line)
+      → (IsRing m × ((k < m) × ((n ≤ mostLine) × ((m ≤ n) × (room < roomAsked m n)))) → P FindingsRoom)
+      → (q : Refusal) → refusalOf m k n room ≡ some q → P q
+  unfolding admitRows
+  by-row P one two three four q e =
+      first-has {P = λ (r : Refusal). refusalOf m k n room ≡ some r → P r}
+      (row-has is-row-1 (λ f. one (row-1-iff .0 f))
+      (row-has is-row-2 (λ f. two (row-2-iff .0 f)) (row-has is-row-3 (λ f. three (row-3-iff .0 f)) (row-has is-row-4 (λ f. four (row-4-iff .0 f)) end)))) q e e
 
   -- The first row that is given is one of rows 1 to 4.
-  pub row-numbers : (refusal : Refusal) → refusalOf m k n room ≡ some refusal → numberOf refusal ≤ 4
-  row-numbers refusal e = row-tells refusal e .0
+  pub row-numbers : (q : Refusal) → refusalOf m k n room ≡ some q → numberOf q ≤ 4
+  row-numbers = by-row (λ q. numberOf q ≤ 4) (λ _. omega arith) (λ _. omega arith) (λ _. omega arith) (λ _. omega arith)
 
   -- Its place is 0.
-  pub row-places : (refusal : Refusal) → refusalOf m k n room ≡ some refusal → placeOf refusal ≡ 0
-  row-places refusal e = row-tells refusal e .1
+  pub row-places : (q : Refusal) → refusalOf m k n room ≡ some q → placeOf q ≡ 0
+  row-places = by-row (λ q. placeOf q ≡ 0) (λ _. refl) (λ _. refl) (λ _. refl) (λ _. refl)

@@ -1,6 +1,5 @@
 -- Laws behind what the calls share, one module for each idea; the functions' proofs cite them. In the order in which they build on each other.
 -- Rows 1 to 4.
-pub mod AdmitCases
 pub mod AdmitRows
 -- A finding's words.
 pub mod WordsPut

@@ -1,6 +1,5 @@
 -- A search's two answers, by the first row that is given: refused, and nothing written; or accepted, with the line searched. Stated once over the looks, for
 -- survey and scan.
--- Assumes nothing.
 use Prim.Native.Nat.{ℕ}
 use mathlib.Core.Path.{_≡_, ap, _∙_}
 use mathlib.Core.List.{List}
@@ -12,7 +11,8 @@ use Rattle.answers.specs.declared.refusals.Refusal.{Refusal}
 use Rattle.answers.specs.Paper.{answerPaper}
 use Rattle.findings.specs.declared.searching.Searched.the-variants.{Counts as CountsCase, Refused}
 use Rattle.findings.specs.Admitting.{refusalOf}
-use Rattle.findings.specs.Searching.{noCounts, answerBy, wordsBy, searched, searchedWords, LineSearched, searchPaper, IsSearched}
+use Rattle.answers.specs.Rows.{answerBy, areaBy}
+use Rattle.findings.specs.Searching.{noCounts, searched, searchedWords, LineSearched, searchPaper, IsSearched}
 
 module _ (ring line : List ℕ) (k : ℕ) (words : List ℕ) where
   -- the first row that is given, if one is
@@ -26,9 +26,9 @@ module _ (ring line : List ℕ) (k : ℕ) (words : List ℕ) where
   paper-by o asked e = ap (λ (p : Option Refusal). answerPaper noCounts (answerBy p (record { found = length (findings ring line k); looks = asked }))) e
 
   -- and so do the words
-  words-by : (o : Option Refusal) → o ≡ row → wordsBy o (written (wordsOf (findings ring line k)) words) words ≡ searchedWords ring line k words
+  words-by : (o : Option Refusal) → o ≡ row → areaBy o (written (wordsOf (findings ring line k)) words) words ≡ searchedWords ring line k words
   unfolding searchedWords
-  words-by o e = ap (λ (p : Option Refusal). wordsBy p (written (wordsOf (findings ring line k)) words) words) e
+  words-by o e = ap (λ (p : Option Refusal). areaBy p (written (wordsOf (findings ring line k)) words) words) e
 
 module _ {ring line : List ℕ} {k asked : ℕ} {words : List ℕ} where
   -- A row is given: the refusal, and the words as they were.

@@ -3,19 +3,22 @@
 --   mostRing, mostLine    the document's limits
 --   roomAsked             the words asked for findings
 --   isRow1 to isRow4      when each row is given
---   refusalOf             "Order: survey and scan 1 to 4": the first row that is given, if one is
+--   admitRows             "Order: survey and scan 1 to 4"
+--   refusalOf             the first of these rows that is given, if one is
 --   IsRing                row 1 is not given
 --   Admitted              no row is given: what is known of an accepted call
 --   verdictOf             the refusal that a verdict stands for, if one is given
 --   IsVerdict             what `admit` promises
 use Prim.Native.Nat.{ℕ, _+_, _-_, _*_, _≤_, _<_}
 use mathlib.Core.Path.{_≡_}
-use mathlib.Core.Bool.{Bool, cond, _&&_, _||_}
+use mathlib.Core.Bool.{Bool, _&&_, _||_}
+use mathlib.Core.List.{List, [], _∷_}
 use mathlib.Core.Option.{Option, none, some}
 use lib.Dec.{ltb, leb, eqb}
 use Rattle.meaning.specs.Findings.{wordsEach}
 use Rattle.answers.specs.declared.refusals.Refusal.{Refusal}
 use Rattle.answers.specs.declared.refusals.Refusal.the-variants.{Ring, Allowance, Line, FindingsRoom}
+use Rattle.answers.specs.Rows.{row, firstGiven}
 use Rattle.findings.specs.declared.admitting.Verdict.{Verdict}
 use Rattle.findings.specs.declared.admitting.Verdict.the-variants.{Accepted, Refused}
 
@@ -47,18 +50,19 @@ isRow3 n = ltb mostLine n
 abbrev pub isRow4 : ℕ → ℕ → ℕ → Bool
 isRow4 m n room = leb m n && ltb room (roomAsked m n)
 
--- "Order: survey and scan 1 to 4": the first of these rows that is given, if one is.
-unfoldable pub refusalOf : ℕ → ℕ → ℕ → ℕ → Option Refusal
-refusalOf m k n room =
-    cond (isRow1 m) (some Ring)
-    (cond (isRow2 m k) (some Allowance)
-    (cond (isRow3 n) (some Line)
-    (cond (isRow4 m n room) (some FindingsRoom) none)))
+-- "Order: survey and scan 1 to 4"
+unfoldable pub admitRows : ℕ → ℕ → ℕ → ℕ → List (Option Refusal)
+admitRows m k n room =
+    row (isRow1 m) Ring ∷ row (isRow2 m k) Allowance ∷ row (isRow3 n) Line ∷ row (isRow4 m n room) FindingsRoom ∷ []
+
+-- The first of these rows that is given, if one is.
+abbrev pub refusalOf : ℕ → ℕ → ℕ → ℕ → Option Refusal
+refusalOf m k n room = firstGiven (admitRows m k n room)
 
 -- "Ring: m edges, 1 to 256": row 1 is not given.
 pub record IsRing (m : ℕ) : Type 0 where
   pub some-edge : 0 < m
-  pub most : m ≤ 256
+  pub most : m ≤ mostRing
 
 -- What is known of an accepted call: the document's limits, and room for the findings.
 pub record Admitted (m k n room : ℕ) : Type 0 where

@@ -19,9 +19,11 @@ pub record SearchRows (m k n : ℕ) (words : List ℕ) (p : Paper Counts) (out :
   -- "k ≥ m", row 1 not given
   pub row-2 : (p .number ≡ 2) ↔ (IsRing m × (m ≤ k))
   -- "n > 65,536", rows 1 and 2 not given
-  pub row-3 : (p .number ≡ 3) ↔ (IsRing m × (k < m) × (65536 < n))
+  pub row-3 : (p .number ≡ 3) ↔ (IsRing m × ((k < m) × (65536 < n)))
   -- "n ≥ m and fewer than 3·(n − m + 1) words are lent for findings", rows 1 to 3 not given
-  pub row-4 : (p .number ≡ 4) ↔ (IsRing m × (k < m) × (n ≤ 65536) × (m ≤ n) × (length words < 3 * (n - m + 1)))
+  pub row-4 : (p .number ≡ 4) ↔ (IsRing m × ((k < m) × ((n ≤ 65536) × ((m ≤ n) × (length words < 3 * (n - m + 1))))))
+  -- Accepted exactly when none of these rows is given.
+  pub accepted : (p .number ≡ 0) ↔ (IsRing m × ((k < m) × ((n ≤ 65536) × (m ≤ n → 3 * (n - m + 1) ≤ length words))))
   -- No other row.
   pub number-le : p .number ≤ 4
   -- The table's place of each: 0.

@@ -2,7 +2,6 @@
 -- words. They differ in their looks alone, so both are stated over the looks.
 --
 --   Counts               found and looks
---   answerBy, wordsBy    the answer, and the words at exit, by the first row that is given
 --   searched             what a search gives: the refusal, or its counts
 --   searchedWords        the lent words at exit
 --   LineSearched         a line searched, once a call is accepted
@@ -18,6 +17,7 @@ use Rattle.meaning.specs.Findings.{findings, wordsOf}
 use Rattle.lists.specs.Areas.{written}
 use Rattle.answers.specs.declared.refusals.Refusal.{Refusal}
 use Rattle.answers.specs.Paper.{Answer, accepted, refused, Paper, answerPaper}
+use Rattle.answers.specs.Rows.{answerBy, areaBy}
 use Rattle.findings.specs.declared.searching.Searched.{Searched}
 use Rattle.findings.specs.declared.searching.Searched.the-variants.{Counts as CountsCase, Refused}
 use Rattle.findings.specs.Admitting.{refusalOf}
@@ -31,16 +31,6 @@ pub record Counts : Type 0 where
 abbrev pub noCounts : Counts
 noCounts = record { found = 0; looks = 0 }
 
--- The answer by the first row that is given, if one is.
-abbrev pub answerBy : {A : Type 0} → Option Refusal → A → Answer A
-answerBy none a = accepted a
-answerBy (some refusal) a = refused refusal
-
--- The lent words at exit, by the first row that is given: a refusal "writes nothing to any lent area".
-abbrev pub wordsBy : Option Refusal → List ℕ → List ℕ → List ℕ
-wordsBy none new old = new
-wordsBy (some refusal) new old = old
-
 -- What a search with so many looks gives, with room for so many words: refusals 1 to 4, or how many findings there are and the looks.
 unfoldable pub searched : List ℕ → List ℕ → ℕ → ℕ → ℕ → Answer Counts
 searched ring line k room looks =
@@ -49,7 +39,7 @@ searched ring line k room looks =
 -- The lent words after a search: the words of the findings "by rising start", and then as they were.
 unfoldable pub searchedWords : List ℕ → List ℕ → ℕ → List ℕ → List ℕ
 searchedWords ring line k words =
-    wordsBy (refusalOf (length ring) k (length line) (length words)) (written (wordsOf (findings ring line k)) words) words
+    areaBy (refusalOf (length ring) k (length line) (length words)) (written (wordsOf (findings ring line k)) words) words
 
 -- A line is searched, with so many looks: found, looks and the words at exit.
 pub record LineSearched (ring line : List ℕ) (k asked : ℕ) (words : List ℕ) (found looks : ℕ) (out : List ℕ) : Type 0 where

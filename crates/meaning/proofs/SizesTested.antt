@@ -1,13 +1,12 @@
 -- Tests of sizes. A function that tests sizes answers a conjunction of comparisons, and a record says the same as facts; that the two agree is put together from the
--- comparisons (`lt-iff`, `le-iff`, `and-iff`). Code answers false at the first comparison that fails (`test-fails`), and else its last comparison, which then decides
+-- comparisons (`lt-iff`, `le-iff`, `eq-iff`, `and-iff`, `or-iff`). Code answers false at the first comparison that fails (`test-fails`), and else its last comparison, which then decides
 -- alone (`test-same`). They know no ring.
--- Assumes nothing.
 use Prim.Native.Nat.{ℕ, _≤_, _<_}
 use mathlib.Core.Path.{_≡_, refl, sym, _∙_}
-use mathlib.Core.Bool.{Bool, true, false, _&&_, false≢true}
-use mathlib.Core.Logic.{_↔_}
-use lib.Dec.{ltb, leb}
-use borrow.Author.Tests.{ltb-true, leb-true, lt-ltb, le-leb}
+use mathlib.Core.Bool.{Bool, true, false, _&&_, _||_, false≢true}
+use mathlib.Core.Logic.{_↔_, _⊎_, inl, inr, ⊎-elim}
+use lib.Dec.{ltb, leb, eqb}
+use borrow.Author.Tests.{ltb-true, leb-true, eqb-true, lt-ltb, le-leb, eq-eqb}
 use Rattle.lists.proofs.Cases.{and-true, and-yes, not-passed}
 
 -- One comparison: below.
@@ -17,6 +16,15 @@ lt-iff a b = (ltb-true a b, lt-ltb a b)
 -- One comparison: at most.
 pub le-iff : (a b : ℕ) → (leb a b ≡ true) ↔ (a ≤ b)
 le-iff a b = (leb-true a b, le-leb a b)
+
+-- One comparison: equal.
+pub eq-iff : (a b : ℕ) → (eqb a b ≡ true) ↔ (a ≡ b)
+eq-iff a b = (eqb-true a b, eq-eqb a b)
+
+-- One test or the other passes exactly where one of them does.
+pub or-iff : {s t : Bool} {P Q : Type 0} → ((s ≡ true) ↔ P) → ((t ≡ true) ↔ Q) → ((s || t) ≡ true) ↔ (P ⊎ Q)
+or-iff {s = true} first second = (λ e. inl (first .0 refl), λ h. refl)
+or-iff {s = false} first second = (λ e. inr (second .0 e), ⊎-elim (λ h. absurd (false≢true (first .1 h))) (second .1))
 
 -- A conjunction of tests passes exactly where both of them do.
 pub and-iff : {s t : Bool} {P Q : Type 0} → ((s ≡ true) ↔ P) → ((t ≡ true) ↔ Q) → ((s && t) ≡ true) ↔ (P × Q)

@@ -20,7 +20,8 @@ use Rattle.findings.specs.declared.searching.Searched.the-variants.{Counts as S
 use Rattle.outlines.specs.declared.reporting.Reported.{Reported}
 use Rattle.outlines.specs.declared.reporting.Reported.the-variants.{Counts as CountsCase, Refused}
 use Rattle.findings.specs.Admitting.{refusalOf}
-use Rattle.findings.specs.Searching.{Counts, noCounts, answerBy, wordsBy, searched, searchedWords, answerOf as scanAnswerOf}
+use Rattle.answers.specs.Rows.{answerBy, areaBy}
+use Rattle.findings.specs.Searching.{Counts, noCounts, searched, searchedWords, answerOf as scanAnswerOf}
 use Rattle.outlines.specs.Scan.{IsScanned}
 use Rattle.outlines.specs.Report.{those, shown, hidden, ReportCounts, noReportCounts, silencesBy, admittedSilences, reportedBy, reportedWordsBy, answerOf, IsReported}
 use Rattle.outlines.proofs.ReportOneAnswer.{report-unique}
@@ -67,7 +68,7 @@ module _ (cell ringNumber : ℕ) where
 
     -- and so with the words
     written-same : (o : Option Refusal)
-        → wordsBy o (written (wordsOf (findings ring line k)) words) words ≡ reportedWordsBy ring line k cell ringNumber words (silencesBy o (readBook []))
+        → areaBy o (written (wordsOf (findings ring line k)) words) words ≡ reportedWordsBy ring line k cell ringNumber words (silencesBy o (readBook []))
     written-same (some refusal) = refl
     written-same none =
         ap (λ (l : List Finding). written (wordsOf l) words) (sym (shown-all (findings ring line k)))

@@ -44,13 +44,13 @@ module _ (cell ringNumber : ℕ) (ring line : List ℕ) (k : ℕ) (book words : 
       (Iff·trans (early-row-iff ring line k book room Allowance (omega arith)) (row-2-iff m k n room))
 
   -- Row 3: "n > 65,536", rows 1 and 2 not given.
-  pub report-row-3 : (paperOf r .number ≡ 3) ↔ (IsRing m × (k < m) × (65536 < n))
+  pub report-row-3 : (paperOf r .number ≡ 3) ↔ (IsRing m × ((k < m) × (65536 < n)))
   report-row-3 =
       Iff·trans (report-number-iff cell ringNumber ring line k book words r out meets Line (omega arith))
       (Iff·trans (early-row-iff ring line k book room Line (omega arith)) (row-3-iff m k n room))
 
   -- Row 4: "n ≥ m and fewer than 3·(n − m + 1) words are lent for findings", rows 1 to 3 not given. What is hidden makes no difference to the room asked.
-  pub report-row-4 : (paperOf r .number ≡ 4) ↔ (IsRing m × (k < m) × (n ≤ 65536) × (m ≤ n) × (room < 3 * (n - m + 1)))
+  pub report-row-4 : (paperOf r .number ≡ 4) ↔ (IsRing m × ((k < m) × ((n ≤ 65536) × ((m ≤ n) × (room < 3 * (n - m + 1))))))
   report-row-4 =
       Iff·trans (report-number-iff cell ringNumber ring line k book words r out meets FindingsRoom (omega arith))
       (Iff·trans (early-row-iff ring line k book room FindingsRoom (omega arith)) (row-4-iff m k n room))

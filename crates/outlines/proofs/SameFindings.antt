@@ -12,7 +12,8 @@ use Rattle.answers.specs.declared.refusals.Refusal.{Refusal}
 use Rattle.answers.specs.Paper.{Paper, answerPaper}
 use Rattle.findings.specs.declared.searching.Searched.{Searched}
 use Rattle.findings.specs.Admitting.{refusalOf}
-use Rattle.findings.specs.Searching.{Counts, noCounts, answerBy, searched, paperOf, searchPaper}
+use Rattle.answers.specs.Rows.{answerBy}
+use Rattle.findings.specs.Searching.{Counts, noCounts, searched, paperOf, searchPaper}
 use Rattle.outlines.specs.Scan.{IsScanned}
 use Rattle.survey.specs.Survey.{IsSurveyed}
 

@@ -3,17 +3,18 @@
 -- Assumes nothing.
 use Prim.Native.Nat.{ℕ, _≤_, _<_}
 use mathlib.Core.Path.{_≡_, refl, ap}
-use mathlib.Core.Bool.{Bool, true, false, cond}
-use mathlib.Core.List.{List}
-use mathlib.Core.Option.{Option, none, some}
+use mathlib.Core.Bool.{Bool, true, false}
+use mathlib.Core.List.{List, [], _∷_}
+use mathlib.Core.Option.{Option}
 use native.Mathlib.Omega.{arith}
 use lib.Dec.{leb, eqb}
 use lib.ListN.{length}
 use borrow.Author.Tests.{le-ltb, leb-true, eqb-false}
 use Rattle.answers.specs.declared.refusals.Refusal.{Refusal}
 use Rattle.answers.specs.declared.refusals.Refusal.the-variants.{Ring, Allowance, Line, FindingsRoom}
+use Rattle.answers.specs.Rows.{row, firstGiven}
 use Rattle.silences.specs.Reading.{readBook}
-use Rattle.findings.specs.Admitting.{roomAsked, isRow1, isRow2, isRow3, isRow4, refusalOf}
+use Rattle.findings.specs.Admitting.{roomAsked, isRow1, isRow2, isRow3, isRow4, admitRows, refusalOf}
 use Rattle.outlines.specs.Report.{silencesBy, admittedSilences}
 
 module _ (m k n room : ℕ) (enough : 0 < m → m ≤ n → roomAsked m n ≤ room) where
@@ -27,7 +28,7 @@ module _ (m k n room : ℕ) (enough : 0 < m → m ≤ n → roomAsked m n ≤ ro
 
   -- the first row that is given is the same with either room
   refusal-same : refusalOf m k n room ≡ refusalOf m k n (roomAsked m n)
-  unfolding refusalOf
+  unfolding admitRows firstGiven
   refusal-same = go (eqb m 0) refl
     where
       go : (t : Bool) → eqb m 0 ≡ t → refusalOf m k n room ≡ refusalOf m k n (roomAsked m n)
@@ -35,9 +36,7 @@ module _ (m k n room : ℕ) (enough : 0 < m → m ≤ n → roomAsked m n ≤ ro
       go false e =
           let none-empty : 0 < m = omega (arith, eqb-false m 0 e) in
           ap
-          (λ (t : Bool).
-          cond (isRow1 m) (some Ring)
-          (cond (isRow2 m k) (some Allowance) (cond (isRow3 n) (some Line) (cond t (some FindingsRoom) none))))
+          (λ (t : Bool). firstGiven (row (isRow1 m) Ring ∷ row (isRow2 m k) Allowance ∷ row (isRow3 n) Line ∷ row t FindingsRoom ∷ []))
           (row-4-same none-empty)
 
 -- The silences that a report goes by, or its refusal, are the same with either room.

@@ -7,13 +7,12 @@ use mathlib.Core.Option.{Option, none, some}
 use native.Mathlib.Omega.{arith}
 use lib.ListN.{length}
 use Rattle.answers.specs.declared.refusals.Refusal.{Refusal}
-use Rattle.answers.specs.declared.refusals.Refusal.the-variants.{Ring, Allowance, Line, FindingsRoom}
 use Rattle.answers.specs.Refusals.{numberOf}
 use Rattle.answers.specs.Paper.{refused}
 use Rattle.silences.specs.Reading.{readBook}
 use Rattle.silences.proofs.BookRows.{book-rows}
 use Rattle.findings.specs.Admitting.{roomAsked, refusalOf}
-use Rattle.findings.proofs.AdmitRows.{RowGiven, row-1, row-2, row-3, row-4, row-given}
+use Rattle.findings.proofs.AdmitRows.{by-row}
 use Rattle.outlines.specs.Report.{silencesBy, admittedSilences}
 use Rattle.input.specs.Fields.{lineField}
 use Rattle.input.specs.Input.{Request}
@@ -26,11 +25,9 @@ module _ (q : Request) (line-le : length (q .line) ≤ lineField .most) where
   n = length (q .line)
 
   -- of rows 1 to 4 only 1 and 2
-  early-rows : (refusal : Refusal) → RowGiven m (q .allowance) n (roomAsked m n) (some refusal) → numberOf refusal ≤ 2
-  early-rows Ring (row-1 h) = omega arith
-  early-rows Allowance (row-2 ring h) = omega arith
-  early-rows Line (row-3 ring allowed h) = absurd (omega arith)
-  early-rows FindingsRoom (row-4 ring allowed fits starts h) = absurd (omega arith)
+  early-rows : (refusal : Refusal) → refusalOf m (q .allowance) n (roomAsked m n) ≡ some refusal → numberOf refusal ≤ 2
+  early-rows =
+      by-row m (q .allowance) n (roomAsked m n) (λ (r : Refusal). numberOf r ≤ 2) (λ _. omega arith) (λ _. omega arith) (λ long. absurd (omega arith)) (λ short. absurd (omega arith))
 
   -- A request's refusal is neither 3 nor 4.
   pub rows-3-4-never : (refusal : Refusal) → admittedSilences (q .ring) (q .line) (q .allowance) (q .book) (roomAsked m n) ≡ refused refusal
@@ -42,7 +39,7 @@ module _ (q : Request) (line-le : length (q .line) ≤ lineField .most) where
           → (numberOf refusal ≡ 3 → ⊥) × (numberOf refusal ≡ 4 → ⊥)
       go (some p) e h =
           let same : p ≡ refusal = cc in
-          let early : numberOf p ≤ 2 = early-rows p (row-given m (q .allowance) n (roomAsked m n) (some p) .0 e) in
+          let early : numberOf p ≤ 2 = early-rows p e in
           let number-same : numberOf p ≡ numberOf refusal = ap numberOf same in
           (λ k. omega arith, λ k. omega arith)
       go none e h = let late = book-rows (q .book) refusal h .0 in (λ k. omega arith, λ k. omega arith)

@@ -1,6 +1,5 @@
 -- `answers::places::sum_around` meets its contract: each return cites the law of `around` for its case, and what is taken from m is
 -- a number mod m.
--- Assumes nothing.
 use native.Mathlib.Nat.{mod-lt}
 use native.Mathlib.Omega.{arith}
 use borrow.Author.Needs.{needs}

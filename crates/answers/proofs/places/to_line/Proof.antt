@@ -1,5 +1,4 @@
 -- `answers::places::to_line` meets its contract: its three returns are the three laws of a line place, with what `sum_around` ensures.
--- Assumes nothing.
 use native.Mathlib.Nat.{mod-lt}
 use native.Mathlib.Omega.{arith}
 use borrow.Author.Needs.{needs}

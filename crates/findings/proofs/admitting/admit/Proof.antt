@@ -1,30 +1,31 @@
 -- `findings::admitting::admit` meets its contract: each return is one case of rows 1 to 4.
--- Assumes nothing.
+use mathlib.Core.Path.{sym}
+use mathlib.Core.Logic.{inl, inr}
 use native.Mathlib.Omega.{arith}
 use borrow.Author.Needs.{needs}
-use Rattle.findings.proofs.AdmitCases.{row1-empty, row1-long, row2-is, row3-is, row4-is, short-accepted, room-accepted}
+use Rattle.findings.proofs.AdmitRows.{row-1-iff, row-2-iff, row-3-iff, row-4-iff, no-row-iff}
 use Rattle.findings.proofs.admitting.admit.Statement.{statement}
 use Rattle.findings.proofs.admitting.admit.Tie as tie
 
 -- An empty ring.
 returns : tie.Need-returns
-returns c = record { is = row1-empty _ _ _ _ (omega arith) }
+returns c = record { is = sym (row-1-iff _ _ _ _ .1 (inl (omega arith))) }
 
 -- A ring that is too long.
 returns-2 : tie.Need-returns-2
-returns-2 c = record { is = row1-long _ _ _ _ (omega arith) }
+returns-2 c = record { is = sym (row-1-iff _ _ _ _ .1 (inr (omega arith))) }
 
 -- An allowance that is too large.
 returns-3 : tie.Need-returns-3
-returns-3 c = record { is = row2-is _ _ _ _ (omega arith) (omega arith) (omega arith) }
+returns-3 c = record { is = sym (row-2-iff _ _ _ _ .1 (omega arith)) }
 
 -- A line that is too long.
 returns-4 : tie.Need-returns-4
-returns-4 c = record { is = row3-is _ _ _ _ (omega arith) (omega arith) (omega arith) (omega arith) }
+returns-4 c = record { is = sym (row-3-iff _ _ _ _ .1 (omega arith)) }
 
 -- A line shorter than the ring.
 returns-5 : tie.Need-returns-5
-returns-5 c = record { is = short-accepted _ _ _ _ (omega arith) (omega arith) (omega arith) (omega arith) (omega arith) }
+returns-5 c = record { is = sym (no-row-iff _ _ _ _ .1 (omega arith)) }
 
 add-if6 : tie.Need-add-if6
 add-if6 c = search needs
@@ -34,11 +35,11 @@ mul-if6 c = search needs
 
 -- Too little room.
 returns-6 : tie.Need-returns-6
-returns-6 c = record { is = row4-is _ _ _ _ (omega arith) (omega arith) (omega arith) (omega arith) (omega arith) (omega arith) }
+returns-6 c = record { is = sym (row-4-iff _ _ _ _ .1 (omega arith)) }
 
 -- Room enough.
 returns-7 : tie.Need-returns-7
-returns-7 c = record { is = room-accepted _ _ _ _ (omega arith) (omega arith) (omega arith) (omega arith) (omega arith) (omega arith) }
+returns-7 c = record { is = sym (no-row-iff _ _ _ _ .1 (omega arith)) }
 
 pub admit-spec : {M : Type 1} → statement M
 admit-spec =

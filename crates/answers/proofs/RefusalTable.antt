@@ -1,7 +1,6 @@
 -- Document 01's table once more, as rows of name, number and place, and a test that the definitions give each of them. It is computed: a wrong
 -- number or place in the definitions is refused here, by its row. Where the table gives a place, the row has one of its own, so that two
 -- places cannot be taken for each other.
--- Assumes nothing.
 use Prim.Native.Nat.{ℕ}
 use mathlib.Core.Path.{_≡_, refl}
 use mathlib.Core.Bool.{Bool, true, _&&_}
