@@ -18,6 +18,19 @@ ring-place-eq a b e = ap (λ (n : ℕ). record { 0 = n }) e
 line-place-eq : (a b : LinePlace) → a .0 ≡ b .0 → a ≡ b
 line-place-eq a b e = ap (λ (n : ℕ). record { 0 = n }) e
 
+module _ (start : LinePlace) (rotation : RingPlace) (m : ℕ) (turned : rotation .0 < m) where
+  -- The document's rule: the window's place q is over the ring place (rotation + q) mod m.
+  pub ring-place-is : (place : LinePlace) (q : ℕ) → place .0 ≡ start .0 + q → ringPlaceOf place start rotation m .0 ≡ (rotation .0 + q) % m
+  unfolding ringPlaceOf
+  ring-place-is place q e =
+      let along : place .0 - start .0 ≡ q = omega arith in
+      ap (λ (n : ℕ). around m (rotation .0 + n)) along ∙ around-is m (rotation .0 + q) (omega arith)
+
+  -- What a line place is turned into is below m.
+  pub ring-place-lt : (place : LinePlace) → ringPlaceOf place start rotation m .0 < m
+  unfolding ringPlaceOf
+  ring-place-lt place = around-lt m (rotation .0 + (place .0 - start .0)) (omega arith)
+
 module _ (start : LinePlace) (rotation : RingPlace) (m : ℕ) (turned : rotation .0 < m) (ends : start .0 + m ≤ lastPlace) where
   -- how far along the window a ring place stands
   way : RingPlace → ℕ
@@ -73,18 +86,6 @@ module _ (start : LinePlace) (rotation : RingPlace) (m : ℕ) (turned : rotation
       ring-place-eq (ringPlaceOf (linePlaceOf place start rotation m) start rotation m) place
       (ap (λ (n : ℕ). around m (rotation .0 + n)) along ∙ sum-of-way (place .0) below)
 
-  -- What a line place is turned into is below m.
-  pub ring-place-lt : (place : LinePlace) → ringPlaceOf place start rotation m .0 < m
-  unfolding ringPlaceOf
-  ring-place-lt place = around-lt m (rotation .0 + (place .0 - start .0)) (omega arith)
-
   -- What a ring place is turned into is in the window.
   pub line-place-in : (place : RingPlace) → (start .0 ≤ linePlaceOf place start rotation m .0) × (linePlaceOf place start rotation m .0 < start .0 + m)
   line-place-in place = (omega (arith, line-place-is place), omega (arith, line-place-is place, way-lt place))
-
-  -- The document's rule: the window's place q is over the ring place (rotation + q) mod m.
-  pub ring-place-is : (place : LinePlace) (q : ℕ) → place .0 ≡ start .0 + q → ringPlaceOf place start rotation m .0 ≡ (rotation .0 + q) % m
-  unfolding ringPlaceOf
-  ring-place-is place q e =
-      let along : place .0 - start .0 ≡ q = omega arith in
-      ap (λ (n : ℕ). around m (rotation .0 + n)) along ∙ around-is m (rotation .0 + q) (omega arith)

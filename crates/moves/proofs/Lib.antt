@@ -1,5 +1,8 @@
 -- Laws behind the tally moved along the line, one module for each idea. In the order in which they build on each other.
 pub mod NextRotation
+-- Where the edges of a step meet the ring.
+pub mod EdgesMeetRing
+-- A step of the counts, and a move.
 pub mod ChangeLoop
 pub mod RenumberLoop
 pub mod SteppedCounts

@@ -26,8 +26,9 @@ fn changed(count: u16, lost: u16, won: u16) -> u16
     (sum % SIXTEEN_BITS) as u16
 }
 
-// The leaving and the entering edge, each against every ring edge. Rotation r at this start stands over the ring as the
-// next rotation does at the next start, so both meet the ring's edge at r. Counts that are no tally may wrap.
+// The leaving and the entering edge, each against every ring edge. Rotation r has the ring's edge at place r over the leaving
+// edge, and at the next start the next rotation has the same edge over the entering edge: `to_ring` gives r for both
+// (`leaving-meets`, `entering-meets` in proofs/EdgesMeetRing.antt). So no place is converted here.
 fn change(counts: &mut [u16; MOST_COUNTS], ring: &[u8], leaving: u8, entering: u8) -> Least
     requires { ⌜ RingFits (length (now ring)) (length (now counts)) ⌝ }
     ensures { λ z. ⌜ StoredFirst (length (now (ring .entry))) (changedAt (now (ring .entry)) leaving entering (now (counts .entry))) (now (counts .entry)) (now (counts .exit))

@@ -10,7 +10,7 @@ use native.Mathlib.Omega.{arith}
 use lib.ListN.{length, getD}
 use Rattle.meaning.specs.Numbers.{oneIf, count}
 use Rattle.meaning.proofs.Count.{count-last, count-le}
-use Rattle.answers.specs.Places.{lastPlace, IsRingPlace}
+use Rattle.answers.specs.Places.{IsRingPlace}
 use Rattle.answers.specs.declared.places.RingPlace.{RingPlace}
 use Rattle.answers.specs.declared.places.LinePlace.{LinePlace}
 use Rattle.answers.proofs.PlacesUndo.{ring-place-is}
@@ -77,10 +77,10 @@ module _ (doubled window old cleared : List ℕ) (can : CanCount (length window)
         }
 
 -- The ring place under the window's place q, for rotation 0, is q.
-pub place-under-is : (place start : LinePlace) (under : RingPlace) (m q : ℕ) → place .0 ≡ start .0 + q → q < m → start .0 + m ≤ lastPlace
+pub place-under-is : (place start : LinePlace) (under : RingPlace) (m q : ℕ) → place .0 ≡ start .0 + q → q < m
     → IsRingPlace place start (record { 0 = 0 }) m under → under .0 ≡ q
-place-under-is place start under m q along h ends converted =
+place-under-is place start under m q along h converted =
     ap (λ (p : RingPlace). p .0) (converted .is)
-    ∙ ring-place-is start (record { 0 = 0 }) m (omega arith) ends place q along
+    ∙ ring-place-is start (record { 0 = 0 }) m (omega arith) place q along
     ∙ ap (λ (n : ℕ). n % m) (zero-add q)
     ∙ mod-eq-of-lt h

@@ -32,7 +32,7 @@ count-edge-requires c κs =
     let turn = c .before .before .before in
     let cleared = turn .before .before in
     let pre = cleared .before .before .before .before .pre in
-    let place-is = place-under-is _ _ _ _ _ (sym (zero-add _)) (turn .loop-test .taken) (omega (arith, pre .fits .most)) (c .before .before .to-ring .ensures) in (
+    let place-is = place-under-is _ _ _ _ _ (sym (zero-add _)) (turn .loop-test .taken) (c .before .before .to-ring .ensures) in (
       counting-afresh-can _ _ _ _ pre (cleared .clear .ensures) (turn .before .loop .inv),
       omega (arith, place-is, turn .loop-test .taken),
       counting-afresh-le _ _ _ _ pre (cleared .clear .ensures) (turn .before .loop .inv),
@@ -55,7 +55,7 @@ loop-again c =
     let turn = c .before .before .before .before in
     let cleared = turn .before .before in
     let pre = cleared .before .before .before .before .pre in
-    let place-is = place-under-is _ _ _ _ _ (sym (zero-add _)) (turn .loop-test .taken) (omega (arith, pre .fits .most)) (c .before .before .before .to-ring .ensures) in
+    let place-is = place-under-is _ _ _ _ _ (sym (zero-add _)) (turn .loop-test .taken) (c .before .before .before .to-ring .ensures) in
     counting-afresh-turn _ _ _ _ pre (cleared .clear .ensures) (turn .before .loop .inv) (turn .loop-test .taken) place-is (c .count-edge .ensures)
 
 least-of-requires : tie.Need-least-of-requires Inv-loop μ-loop
