@@ -31,21 +31,21 @@ fn verify_on(
     doubled: &[u8],
     line: &[u8],
     k: usize,
-    i: usize,
+    start: LinePlace,
 ) -> Reached
-    requires { ⌜ CanVerifyOn (now ring) (now doubled) (now line) k i (now counts) ⌝ }
-    ensures { λ z. ⌜ IsVerifiedOn (now (ring .entry)) (now (line .entry)) k i (now (counts .exit)) z ⌝ }
+    requires { ⌜ CanVerifyOn (now ring) (now doubled) (now line) k (start .0) (now counts) ⌝ }
+    ensures { λ z. ⌜ IsVerifiedOn (now (ring .entry)) (now (line .entry)) k (start .0) (now (counts .exit)) z ⌝ }
 {
     let m = ring.len();
-    if i == 0 {
-        let first = count_afresh(counts, doubled, window(line, LinePlace(i), m));
+    if start.0 == 0 {
+        let first = count_afresh(counts, doubled, window(line, start, m));
         Reached {
-            start: LinePlace(i),
+            start,
             least: first.least,
             looks: first.looks,
         }
     } else {
-        let from = i - 1;
+        let from = start.0 - 1;
         move_counts(
             counts,
             ring,
@@ -57,29 +57,29 @@ fn verify_on(
     }
 }
 
-// The starts from i on, to the next finding or to the last.
+// The starts from this one on, to the next finding or to the last.
 fn survey_on(
     counts: &mut [u16; MOST_COUNTS],
     ring: &[u8],
     doubled: &[u8],
     line: &[u8],
     k: usize,
-    i: usize,
+    start: LinePlace,
 ) -> Surveyed
-    requires { ⌜ CanVerifyOn (now ring) (now doubled) (now line) k i (now counts) ⌝ }
-    ensures { λ r. ⌜ IsSurveyedOn (now (ring .entry)) (now (line .entry)) k i r (now (counts .exit)) ⌝ }
+    requires { ⌜ CanVerifyOn (now ring) (now doubled) (now line) k (start .0) (now counts) ⌝ }
+    ensures { λ r. ⌜ IsSurveyedOn (now (ring .entry)) (now (line .entry)) k (start .0) r (now (counts .exit)) ⌝ }
 {
-    let reached = verify_on(counts, ring, doubled, line, k, i);
+    let reached = verify_on(counts, ring, doubled, line, k, start);
     let distance = reached.least;
     if k < distance {
         return Surveyed::NoFinding(reached);
     }
-    let start = reached.start;
+    let found = reached.start;
     let rotation = lowest_rotation(counts, ring.len(), distance);
     Surveyed::Found(
         reached,
         Finding {
-            start,
+            start: found,
             rotation,
             distance,
         },
@@ -103,7 +103,7 @@ fn survey_starts(
     let mut looks: usize = 0;
     let mut i = 0;
     while i + m <= line.len() {
-        match survey_on(counts, ring, doubled, line, k, i) {
+        match survey_on(counts, ring, doubled, line, k, LinePlace(i)) {
             Surveyed::NoFinding(reached) => {
                 looks += reached.looks;
                 i = reached.start.0 + 1;

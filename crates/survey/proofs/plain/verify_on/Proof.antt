@@ -28,18 +28,22 @@ add-move-counts c = search needs
 move-counts-requires : tie.Need-move-counts-requires
 move-counts-requires c κs = search needs
 
+-- the function's entry, from the test whether it is the first start
+abbrev at-entry : tie.After-struct-known → tie.Start
+at-entry c = c .before .before .before .before
+
 -- The first start.
 returns : tie.Need-returns
 returns c =
     let at-window = c .before in
-    let at-entry = at-window .before .before .before .before .before .before in
-    first-verified (at-entry .pre) (omega (arith, at-window .before .before .if1 .taken)) (at-window .window .ensures) (c .count-afresh .ensures)
+    let tested = at-window .before .before in
+    first-verified (at-entry (tested .before) .pre) (omega (arith, tested .if1 .taken)) (at-window .window .ensures) (c .count-afresh .ensures)
 
 -- A later one, and those after it.
 returns-2 : tie.Need-returns-2
 returns-2 c =
-    let at-entry = c .before .before .before .before .before .before in
-    moved-verified (at-entry .pre) (omega (arith, c .before .before .if1 .left)) (c .move-counts .ensures)
+    let tested = c .before .before .before in
+    moved-verified (at-entry (tested .before) .pre) (omega (arith, tested .if1 .left)) (c .move-counts .ensures)
 
 pub verify-on-spec : {M : Type 1} → statement M
 verify-on-spec =
