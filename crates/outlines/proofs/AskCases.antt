@@ -1,5 +1,4 @@
 -- The book asked for one finding, by its two cases: what `seek_on` and `is_for` promise of the finding's address is what `hides` says.
--- Assumes nothing.
 use Prim.Native.Nat.{ℕ, _+_}
 use mathlib.Core.Path.{_≡_, refl, ap, _∙_}
 use mathlib.Core.Bool.{Bool, true, false, cond}
@@ -10,8 +9,8 @@ use Rattle.silences.specs.declared.addresses.Sought.{Sought}
 use Rattle.book.specs.Seeking.{isFor}
 use Rattle.silences.specs.Addresses.{silenceOf, soughtOf}
 use Rattle.book.specs.Calls.{IsSoughtOn, IsAskedFor}
-use Rattle.outlines.specs.declared.reporting.Asked.{Asked}
-use Rattle.outlines.specs.Asking.{addressOf, heldFor, hides, IsAsked}
+use Rattle.outlines.specs.declared.asking.Asked.{Asked}
+use Rattle.outlines.specs.Asking.{addressOf, heldFor, hides, IsHiddenOrShown}
 
 module _ (book : List ℕ) (asked : Asked) (f : Finding) (cell ringNumber : ℕ) (address : Address) (address-is : silenceOf address ≡ addressOf cell ringNumber f)
     (held : Sought) (sought : IsSoughtOn book (asked .held) address held) (t : Bool) (asked-for : IsAskedFor held address t) where
@@ -22,7 +21,7 @@ module _ (book : List ℕ) (asked : Asked) (f : Finding) (cell ringNumber : ℕ)
   hides-is = rw address-is at (asked-for .is) ∙ ap (isFor (addressOf cell ringNumber f)) held-is
 
   is-asked : (now-shown now-hidden : ℕ) → now-shown ≡ cond t (asked .shown) (asked .shown + 1) → now-hidden ≡ cond t (asked .hidden + 1) (asked .hidden)
-      → IsAsked cell ringNumber book asked f (record { shown = now-shown; hidden = now-hidden; held = held })
+      → IsHiddenOrShown cell ringNumber book asked f (record { shown = now-shown; hidden = now-hidden; held = held })
   is-asked now-shown now-hidden s h = record {
     held-is = held-is;
     shown-is = s ∙ ap (λ (b : Bool). cond b (asked .shown) (asked .shown + 1)) hides-is;
@@ -30,9 +29,9 @@ module _ (book : List ℕ) (asked : Asked) (f : Finding) (cell ringNumber : ℕ)
   }
 
   -- The field is for the finding: it is hidden.
-  pub ask-hidden : t ≡ true → IsAsked cell ringNumber book asked f (record { shown = asked .shown; hidden = asked .hidden + 1; held = held })
+  pub ask-hidden : t ≡ true → IsHiddenOrShown cell ringNumber book asked f (record { shown = asked .shown; hidden = asked .hidden + 1; held = held })
   ask-hidden e = is-asked (asked .shown) (asked .hidden + 1) (rw e refl) (rw e refl)
 
   -- It is not: the finding is shown.
-  pub ask-shown : t ≡ false → IsAsked cell ringNumber book asked f (record { shown = asked .shown + 1; hidden = asked .hidden; held = held })
+  pub ask-shown : t ≡ false → IsHiddenOrShown cell ringNumber book asked f (record { shown = asked .shown + 1; hidden = asked .hidden; held = held })
   ask-shown e = is-asked (asked .shown + 1) (asked .hidden) (rw e refl) (rw e refl)

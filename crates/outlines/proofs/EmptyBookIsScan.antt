@@ -1,6 +1,5 @@
 -- With an empty book the report is the scan: the same refusal, or the same found and looks with hidden 0, and the same words. An empty book names nothing, so
 -- all findings are shown; a scan's answer with hidden 0 meets the report's contract, and there is only one such answer.
--- Assumes nothing.
 use Prim.Native.Nat.{ℕ}
 use mathlib.Core.Path.{_≡_, refl, sym, ap, _∙_}
 use mathlib.Core.List.{List, [], _∷_}
@@ -12,7 +11,7 @@ use Rattle.meaning.specs.Looks.{quickLooks}
 use Rattle.answers.specs.declared.refusals.Refusal.{Refusal}
 use Rattle.answers.specs.Paper.{Answer, accepted, refused, answerPaper}
 use Rattle.answers.proofs.OneAnswer.{answer-unique}
-use Rattle.silences.specs.Silences.{names}
+use Rattle.silences.specs.Silences.{Silence, names}
 use Rattle.silences.specs.Samples.{empty-book}
 use Rattle.silences.specs.Reading.{readBook}
 use Rattle.findings.specs.declared.searching.Searched.{Searched}
@@ -21,9 +20,10 @@ use Rattle.outlines.specs.declared.reporting.Reported.{Reported}
 use Rattle.outlines.specs.declared.reporting.Reported.the-variants.{Counts as CountsCase, Refused}
 use Rattle.findings.specs.Admitting.{refusalOf}
 use Rattle.answers.specs.Rows.{answerBy, areaBy}
-use Rattle.findings.specs.Searching.{Counts, noCounts, searched, searchedWords, answerOf as scanAnswerOf}
+use Rattle.findings.specs.Searching.{Counts, noCounts, searched, searchedWords, LineSearched, answerOf as scanAnswerOf}
 use Rattle.outlines.specs.Scan.{IsScanned}
 use Rattle.outlines.specs.Report.{those, shown, hidden, ReportCounts, noReportCounts, silencesBy, admittedSilences, reportedBy, reportedWordsBy, answerOf, IsReported}
+use Rattle.outlines.specs.Asking.{LineScanned}
 use Rattle.outlines.proofs.ReportOneAnswer.{report-unique}
 
 -- A scan's answer as a report's: nothing hidden.
@@ -51,6 +51,20 @@ module _ (cell ringNumber : ℕ) where
   unfolding those names
   hidden-none [] = refl
   hidden-none (f ∷ fs) = hidden-none fs
+
+  -- A line scanned with an empty book is searched: all its findings are shown.
+  pub empty-book-searched : {ring line : List ℕ} {k : ℕ} {words : List ℕ} {found hid looks : ℕ} {out : List ℕ}
+      → LineScanned cell ringNumber ring line k [] words found hid looks out → LineSearched ring line k (quickLooks ring line k) words found looks out
+  empty-book-searched {ring} {line} {k} {words} done =
+      let no-silence : done .silences ≡ [] = cc (done .book-is, empty-book) in
+      record {
+        found-is = done .found-is;
+        looks-are = done .looks-are;
+        written =
+            done .words-are
+            ∙ ap (λ (ss : List Silence). written (wordsOf (shown ss cell ringNumber (findings ring line k))) words) no-silence
+            ∙ ap (λ (l : List Finding). written (wordsOf l) words) (shown-all (findings ring line k));
+      }
 
   module _ (ring line : List ℕ) (k : ℕ) (words : List ℕ) where
     -- what a scan gives, with nothing hidden, is what a report gives

@@ -1,6 +1,5 @@
--- The field that a report holds was sought for a start which is not above the window's. Starts rise, so the held field, asked for the start of the window's
--- finding, is what seeking it from the first byte on would give, and is for it exactly when the book names the finding.
--- Assumes nothing.
+-- The field that the loop holds was sought for a start that is not above the next window's. Starts rise, so this field, asked for the start of the next
+-- finding, gives what seeking from the book's first byte would give. It is for the finding exactly when the book names the finding.
 use Prim.Native.Nat.{ℕ, _≤_}
 use mathlib.Core.Path.{_≡_, refl, sym, subst}
 use mathlib.Core.List.{List}
@@ -17,28 +16,29 @@ use Rattle.book.proofs.SoughtRising.{sought-start}
 use Rattle.outlines.specs.Report.{isHidden}
 use Rattle.outlines.specs.Asking.{addressOf, heldFor, hides, IsAccepted}
 
--- A field that was sought for a start which is not above this one.
+-- A field that was sought for a start at or below i.
 pub record HeldFrom (cell ringNumber : ℕ) (book : List ℕ) (i : ℕ) (held : Sought) : Type 0 where
   pub last-asked : ℕ
   pub asked-le : last-asked ≤ i
   pub seeking : Seeking book (silence cell ringNumber last-asked) (soughtOf held)
 
-module _ (cell ringNumber : ℕ) (book : List ℕ) where
+module _ {cell ringNumber : ℕ} {book : List ℕ} where
   -- The book is first asked for start 0.
-  pub held-start : (first : Address) (held : Sought) → silenceOf first ≡ silence cell ringNumber 0 → IsSought book 0 first held → HeldFrom cell ringNumber book 0 held
-  held-start first held zero meets = record {
+  pub held-start : (i : ℕ) {first : Address} {held : Sought} → silenceOf first ≡ silence cell ringNumber 0 → IsSought book 0 first held
+      → HeldFrom cell ringNumber book i held
+  held-start i {first} {held} zero meets = record {
     last-asked = 0;
     asked-le = omega arith;
     seeking = subst (λ (a : Silence). Seeking book a (soughtOf held)) zero (sought-start book first held meets);
   }
 
-  module _ (i : ℕ) (held : Sought) (h : HeldFrom cell ringNumber book i held) where
-    -- It stays that at every later start.
-    pub held-later : (i′ : ℕ) → i ≤ i′ → HeldFrom cell ringNumber book i′ held
-    held-later i′ l = record { last-asked = h .last-asked; asked-le = omega (arith, h .asked-le); seeking = h .seeking }
+  module _ {i : ℕ} {held : Sought} (h : HeldFrom cell ringNumber book i held) where
+    -- It serves every later start.
+    pub held-later : {i′ : ℕ} → i ≤ i′ → HeldFrom cell ringNumber book i′ held
+    held-later l = record { last-asked = h .last-asked; asked-le = omega (arith, h .asked-le); seeking = h .seeking }
 
-    module _ (f : Finding) (starts : f .start ≡ i) where
-      -- what is then held for the finding, as if it were sought from the first byte on
+    module _ (f : Finding) (from-le : i ≤ f .start) where
+      -- the field for the finding, as if it were sought from the first byte
       held-next : Seeking book (addressOf cell ringNumber f) (heldFor cell ringNumber book f (soughtOf held))
       held-next =
           let asked-le : h .last-asked ≤ f .start = omega (arith, h .asked-le) in
@@ -46,14 +46,12 @@ module _ (cell ringNumber : ℕ) (book : List ℕ) where
           (start-not-below (silence cell ringNumber (h .last-asked)) (addressOf cell ringNumber f) refl refl asked-le)
           (soughtOf held) (h .seeking)
 
-      -- The next field is held for that start, and so for every later one.
-      pub held-turn : (held′ : Sought) (i′ : ℕ) → soughtOf held′ ≡ heldFor cell ringNumber book f (soughtOf held) → i ≤ i′ → HeldFrom cell ringNumber book i′ held′
-      held-turn held′ i′ is l = record {
-        last-asked = f .start;
-        asked-le = omega arith;
-        seeking = subst (Seeking book (addressOf cell ringNumber f)) (sym is) held-next;
-      }
+      -- The field for the finding is held from then on.
+      pub held-turn : {held′ : Sought} {i′ : ℕ} → soughtOf held′ ≡ heldFor cell ringNumber book f (soughtOf held) → f .start ≤ i′
+          → HeldFrom cell ringNumber book i′ held′
+      held-turn is l =
+          record { last-asked = f .start; asked-le = l; seeking = subst (Seeking book (addressOf cell ringNumber f)) (sym is) held-next }
 
-      -- It is for the finding exactly when the book names it.
+      -- It is for the finding exactly when the book names the finding.
       pub held-hides : (read : IsAccepted book) → hides cell ringNumber book f (soughtOf held) ≡ isHidden (read .silences) cell ringNumber f
       held-hides read = seeking-names book (read .silences) (addressOf cell ringNumber f) (heldFor cell ringNumber book f (soughtOf held)) (read .is) held-next

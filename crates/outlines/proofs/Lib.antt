@@ -1,8 +1,4 @@
 -- Laws behind the calls, one module for each idea; the functions' proofs cite them. In the order in which they build on each other.
--- The quick scan.
-pub mod ScanWindows
-pub mod ScanKeeps
-pub mod ScanAll
 -- What any answer of a scan gives, and that a survey gives the same.
 pub mod ScanGives
 pub mod OneScanAnswer
@@ -11,11 +7,12 @@ pub mod SameFindings
 pub mod TakenByTest
 pub mod ShownExactly
 pub mod ShownAndHidden
--- The report.
+-- The loop over windows.
+pub mod SweepKeeps
+pub mod WindowLoop
 pub mod AskCases
 pub mod HeldFrom
-pub mod ReportKeeps
-pub mod ReportTurns
+-- The report.
 pub mod ReportAnswers
 -- What any answer of a report gives.
 pub mod ReportOneAnswer

@@ -1,6 +1,5 @@
 -- The report's answers by their cases, as code goes by them: a row of 1 to 4 is given; none is, and reading the book gives a row of 5 to 7; or the line is
 -- reported. A refusal leaves the words as they were.
--- Assumes nothing.
 use Prim.Native.Nat.{ℕ}
 use mathlib.Core.Path.{_≡_, sym, ap, _∙_}
 use mathlib.Core.List.{List}
@@ -18,7 +17,7 @@ use Rattle.book.proofs.AcceptedBook.{HasRecords, has-records, read-answer-is}
 use Rattle.outlines.specs.declared.reporting.Reported.the-variants.{Counts as CountsCase, Refused}
 use Rattle.findings.specs.Admitting.{refusalOf}
 use Rattle.outlines.specs.Report.{noReportCounts, silencesBy, admittedSilences, reportedBy, reportedWordsBy, IsReported}
-use Rattle.outlines.specs.Asking.{IsAccepted, LineReported}
+use Rattle.outlines.specs.Asking.{IsAccepted, LineScanned}
 
 -- What `read` answers with so many records is accepted.
 pub read-accepted : (book : List ℕ) (r : BookAnswer) (records : ℕ) → IsRead book r → r ≡ Records records → IsAccepted book
@@ -62,11 +61,13 @@ module _ (cell ringNumber : ℕ) (ring line : List ℕ) (k : ℕ) (book words : 
     report-refused-book refusal e = report-refused refusal (by-book ∙ e)
 
     -- No row is given: found, hidden, looks and the words of the shown findings.
-    pub report-accepted : (found hidden looks : ℕ) (out : List ℕ) → LineReported cell ringNumber ring line k book words found hidden looks out
-        → IsReported cell ringNumber ring line k book words (CountsCase found hidden looks) out
-    report-accepted found hidden looks out done = record {
-      paper =
-          ap (answerPaper noReportCounts) (done .counts-are)
-          ∙ ap (λ (a : Answer (List Silence)). answerPaper noReportCounts (reportedBy ring line k cell ringNumber a)) (sym by-book);
-      written = done .written ∙ ap (reportedWordsBy ring line k cell ringNumber words) (sym by-book);
-    }
+    pub report-accepted : {found hid looks : ℕ} {out : List ℕ} → LineScanned cell ringNumber ring line k book words found hid looks out
+        → IsReported cell ringNumber ring line k book words (CountsCase found hid looks) out
+    report-accepted done =
+        let goes-by = by-book ∙ done .book-is in
+        record {
+          paper =
+              (λ j. record { number = 0; place = 0; counts = record { found = done .found-is j; hidden = done .hidden-is j; looks = done .looks-are j } })
+              ∙ sym (ap (λ (a : Answer (List Silence)). answerPaper noReportCounts (reportedBy ring line k cell ringNumber a)) goes-by);
+          written = done .words-are ∙ sym (ap (reportedWordsBy ring line k cell ringNumber words) goes-by);
+        }

@@ -1,14 +1,11 @@
 -- What an accepted report gives: found are all findings, hidden those that the book names, looks the steps of rules 1 to 5 and at most 3·m·n. And it is accepted
 -- exactly when no row is given, the book being that of some silences.
--- Assumes nothing.
 use Prim.Native.Nat.{ℕ, _*_, _≤_}
 use mathlib.Core.Logic.{_↔_}
 use mathlib.Core.Path.{_≡_, refl, sym, ap, _∙_}
 use mathlib.Core.List.{List}
 use native.Mathlib.Omega.{arith}
 use lib.ListN.{length}
-use Rattle.meaning.specs.Findings.{findings, wordsOf}
-use Rattle.lists.specs.Areas.{written}
 use Rattle.meaning.specs.Looks.{quickLooks}
 use Rattle.meaning.proofs.LookBound.{quickLooks-most}
 use Rattle.answers.specs.declared.refusals.Refusal.{Refusal}
@@ -16,25 +13,15 @@ use Rattle.answers.specs.Refusals.{numberOf}
 use Rattle.answers.specs.Paper.{Answer, accepted, refused, Paper, answerPaper}
 use Rattle.answers.proofs.OneAnswer.{number-in}
 use Rattle.silences.specs.Silences.{Silence}
-use Rattle.silences.specs.Reading.{readBook}
 use Rattle.lists.specs.Bounds.{IsBytes}
 use Rattle.silences.specs.Books.{IsBook}
 use Rattle.silences.proofs.AcceptedIsLayout.{accepted-iff}
 use Rattle.outlines.specs.declared.reporting.Reported.{Reported}
 use Rattle.outlines.specs.declared.reporting.Reported.the-variants.{Counts as CountsCase, Refused}
 use Rattle.findings.specs.Admitting.{Admitted}
-use Rattle.outlines.specs.Report.{shown, hidden, ReportCounts, noReportCounts, admittedSilences, reportedBy, reportedWordsBy, paperOf, IsReported}
+use Rattle.outlines.specs.Report.{ReportCounts, noReportCounts, admittedSilences, reportedBy, reportedWordsBy, paperOf, IsReported}
+use Rattle.outlines.specs.Asking.{LineScanned}
 use Rattle.outlines.proofs.GoesBy.{by-book-iff}
-
--- An accepted report: its limits, the silences that it goes by, its counts and its words.
-pub record IsGiven (cell ringNumber : ℕ) (ring line : List ℕ) (k : ℕ) (book words : List ℕ) (found hid looks : ℕ) (out : List ℕ) : Type 0 where
-  pub silences : List Silence
-  pub book-is : readBook book ≡ accepted silences
-  pub admitted : Admitted (length ring) k (length line) (length words)
-  pub found-is : found ≡ length (findings ring line k)
-  pub hidden-is : hid ≡ length (hidden silences cell ringNumber (findings ring line k))
-  pub looks-are : looks ≡ quickLooks ring line k
-  pub words-are : out ≡ written (wordsOf (shown silences cell ringNumber (findings ring line k))) words
 
 module _ (cell ringNumber : ℕ) (ring line : List ℕ) (k : ℕ) (book words : List ℕ) where
   abbrev goesBy : Answer (List Silence)
@@ -43,12 +30,12 @@ module _ (cell ringNumber : ℕ) (ring line : List ℕ) (k : ℕ) (book words : 
   module _ (r : Reported) (out : List ℕ) (meets : IsReported cell ringNumber ring line k book words r out) where
     module _ (found hid looks : ℕ) (e : r ≡ CountsCase found hid looks) where
       -- What an accepted report gives.
-      pub report-gives : IsGiven cell ringNumber ring line k book words found hid looks out
+      pub report-gives : LineScanned cell ringNumber ring line k book words found hid looks out
       report-gives = go goesBy refl (sym (ap paperOf e) ∙ meets .paper) (meets .written)
         where
           go : (a : Answer (List Silence)) → goesBy ≡ a
               → paperOf (CountsCase found hid looks) ≡ answerPaper noReportCounts (reportedBy ring line k cell ringNumber a)
-              → out ≡ reportedWordsBy ring line k cell ringNumber words a → IsGiven cell ringNumber ring line k book words found hid looks out
+              → out ≡ reportedWordsBy ring line k cell ringNumber words a → LineScanned cell ringNumber ring line k book words found hid looks out
           go (refused p) is paper put =
               absurd (let number-is : 0 ≡ numberOf p = ap (λ (q : Paper ReportCounts). q .number) paper in omega (arith, number-in p .0))
           go (accepted ss) is paper put =

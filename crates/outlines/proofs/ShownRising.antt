@@ -1,6 +1,5 @@
 -- The shown findings stand by strictly rising start, and so do the hidden ones: so no finding is counted twice, and hidden counts findings, whatever the
 -- number of records. The words after those of the last shown one keep their values.
--- Assumes nothing.
 use Prim.Native.Nat.{ℕ, _+_, _-_, _*_}
 use mathlib.Core.Path.{_≡_, sym, ap, subst, _∙_}
 use mathlib.Core.List.{List}
@@ -13,9 +12,9 @@ use Rattle.meaning.proofs.Words.{words-length}
 use Rattle.lists.proofs.Areas.{written-rest}
 use Rattle.silences.specs.Silences.{Silence}
 use Rattle.outlines.specs.Report.{isHidden, isShown, shown, hidden}
+use Rattle.outlines.specs.Asking.{LineScanned}
 use Rattle.outlines.proofs.TakenByTest.{taken-rising}
 use Rattle.outlines.proofs.ShownAndHidden.{shown-hidden-length}
-use Rattle.outlines.proofs.ReportGives.{IsGiven}
 
 module _ (silences : List Silence) (cell ringNumber : ℕ) where
   module _ (ring line : List ℕ) (k : ℕ) where
@@ -28,7 +27,7 @@ module _ (silences : List Silence) (cell ringNumber : ℕ) where
     hidden-rising = taken-rising (isHidden silences cell ringNumber) 0 0 (length line) (findings ring line k) (omega arith) (findings-rising ring line k)
 
 module _ (cell ringNumber : ℕ) (ring line : List ℕ) (k : ℕ) (book words : List ℕ) (found hid looks : ℕ) (out : List ℕ)
-    (given : IsGiven cell ringNumber ring line k book words found hid looks out) where
+    (given : LineScanned cell ringNumber ring line k book words found hid looks out) where
   -- "found (hidden ones included)": the others are shown
   found-shown-is : found - hid ≡ length (shown (given .silences) cell ringNumber (findings ring line k))
   found-shown-is = omega (arith, given .found-is, given .hidden-is, shown-hidden-length (given .silences) cell ringNumber (findings ring line k))

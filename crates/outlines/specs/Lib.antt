@@ -1,4 +1,4 @@
--- Scan and report. Scan and Report state document 01 and what the two calls promise; Asking is what private functions ask and promise. ReportSamples are computed.
+-- Scan and report. Scan and Report state document 01 and the contracts of the two calls; Asking has the contracts of private functions. ReportSamples are computed.
 pub mod Scan
 pub mod Report
 pub mod Asking

@@ -4,6 +4,7 @@
 // what it refuses and what it writes stand in specs/Scan.antt. `report` is the scan with the silence book asked for each finding before
 // it is written: specs/Report.antt. `survey`, the plain survey, verifies every start and gives the same findings: crates/survey.
 // No public function has a `requires`: each takes every input.
+mod asking;
 mod quick;
 mod reporting;
 

@@ -1,10 +1,14 @@
-// The quick scan: the findings of a ring in a line, and the looks that finding them took.
+// The quick scan, rules 1 to 5. A silence book is asked for each finding before its words are written: the report lends
+// its own book, and the scan an empty one, which names no finding.
+use crate::asking::Asked;
+use crate::asking::address_of;
+use crate::asking::ask;
+use crate::asking::put_shown;
 use answers::LinePlace;
-use findings::Counted;
+use book::seek;
 use findings::Searched;
 use findings::Verdict;
 use findings::admit;
-use findings::put_finding;
 use sweep::LastVerified;
 use sweep::Sweep;
 use sweep::Swept;
@@ -13,22 +17,31 @@ use tally::MOST_COUNTS;
 use tally::double;
 use vectors::TABLE_WORDS;
 use vectors::occurrences;
-ghost use lib.ListN.{length};
-ghost use Rattle.findings.specs.Admitting.{Admitted};
-ghost use Rattle.outlines.specs.Scan.{CanScan, LineScanned, IsScanned};
+ghost use Rattle.outlines.specs.Scan.{IsScanned};
+ghost use Rattle.outlines.specs.Asking.{CanScan, CanScanLine, LineScanned};
 
-// Candidate after candidate, while a window fits in the line.
+// "found (hidden ones included), hidden, looks" of one line.
+pub struct LineCounts {
+    pub found: usize,
+    pub hidden: usize,
+    pub looks: usize,
+}
+
+// Candidate after candidate, while a window fits in the line. The book is first asked for the first start.
 fn scan_windows(
+    cell: u32,
+    ring_number: u16,
     ring: &[u8],
     doubled: &[u8],
     table: &[u64; TABLE_WORDS],
     line: &[u8],
     k: usize,
+    book: &[u8],
     counts: &mut [u16; MOST_COUNTS],
     words: &mut [u32],
-) -> Counted
-    requires { ⌜ CanScan (now ring) (now doubled) (now table) (now line) k (now counts) (now words) ⌝ }
-    ensures { λ z. ⌜ LineScanned (now (ring .entry)) (now (line .entry)) k (now (words .entry)) (z .found) (z .looks) (now (words .exit)) ⌝ }
+) -> LineCounts
+    requires { ⌜ CanScan (now ring) (now doubled) (now table) (now line) k (now book) (now counts) (now words) ⌝ }
+    ensures { λ z. ⌜ LineScanned cell «ring_number» (now (ring .entry)) (now (line .entry)) k (now (book .entry)) (now (words .entry)) (z .found) (z .hidden) (z .looks) (now (words .exit)) ⌝ }
 {
     let m = ring.len();
     let mut at = Sweep {
@@ -36,48 +49,72 @@ fn scan_windows(
         last: LastVerified::Nothing,
         looks: 0,
     };
-    let mut found: usize = 0;
+    let held = seek(book, 0, address_of(cell, ring_number, at.start));
+    let mut asked = Asked {
+        shown: 0,
+        hidden: 0,
+        held,
+    };
     while at.start.0 + m <= line.len() {
         match sweep_on(at, ring, doubled, table, line, k, counts) {
-            Swept::Ended(next) => {
-                at = next;
-            }
-            Swept::NoFinding(next) => {
+            Swept::Ended(next) | Swept::NoFinding(next) => {
                 at = next;
             }
             Swept::Found(next, finding) => {
-                put_finding(words, found, finding);
-                found += 1;
+                let before = asked.shown;
+                asked = ask(cell, ring_number, book, asked, finding);
+                put_shown(words, before, asked.shown, finding);
                 at = next;
             }
         }
     }
-    Counted {
+    let found = asked.shown + asked.hidden;
+    LineCounts {
         found,
+        hidden: asked.hidden,
         looks: at.looks,
     }
 }
 
-// The ring's occurrence vectors, its double and the counts are made once for a call. Making them reads no line edge.
-fn scan_line(ring: &[u8], line: &[u8], k: usize, words: &mut [u32]) -> Counted
-    requires { ⌜ Admitted (length (now ring)) k (length (now line)) (length (now words)) ⌝ }
-    ensures { λ z. ⌜ LineScanned (now (ring .entry)) (now (line .entry)) k (now (words .entry)) (z .found) (z .looks) (now (words .exit)) ⌝ }
+// The ring's occurrence vectors, its double and the counts are made once for each call. Making them reads no line edge.
+pub fn scan_line(
+    cell: u32,
+    ring_number: u16,
+    ring: &[u8],
+    line: &[u8],
+    k: usize,
+    book: &[u8],
+    words: &mut [u32],
+) -> LineCounts
+    requires { ⌜ CanScanLine (now ring) (now line) k (now book) (now words) ⌝ }
+    ensures { λ z. ⌜ LineScanned cell «ring_number» (now (ring .entry)) (now (line .entry)) k (now (book .entry)) (now (words .entry)) (z .found) (z .hidden) (z .looks) (now (words .exit)) ⌝ }
 {
     let mut table = [0u64; TABLE_WORDS];
     occurrences(ring, &mut table);
     let doubled = double(ring);
     let mut counts = [0u16; MOST_COUNTS];
-    scan_windows(ring, &doubled, &table, line, k, &mut counts, words)
+    scan_windows(
+        cell,
+        ring_number,
+        ring,
+        &doubled,
+        &table,
+        line,
+        k,
+        book,
+        &mut counts,
+        words,
+    )
 }
 
-// Rules 1 to 5.
+// The scan: with an empty book all findings are shown, whatever the cell and the ring number.
 pub fn scan(ring: &[u8], line: &[u8], k: usize, words: &mut [u32]) -> Searched
     ensures { λ r. ⌜ IsScanned (now (ring .entry)) (now (line .entry)) k (now (words .entry)) r (now (words .exit)) ⌝ }
 {
     match admit(ring.len(), k, line.len(), words.len()) {
         Verdict::Refused(refusal) => Searched::Refused(refusal),
         Verdict::Accepted => {
-            let counted = scan_line(ring, line, k, words);
+            let counted = scan_line(0, 0, ring, line, k, b"", words);
             Searched::Counts {
                 found: counted.found,
                 looks: counted.looks,

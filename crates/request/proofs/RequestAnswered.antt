@@ -15,7 +15,8 @@ use Rattle.outlines.specs.declared.reporting.Reported.{Reported}
 use Rattle.outlines.specs.declared.reporting.Reported.the-variants.{Counts as CountsCase, Refused}
 use Rattle.outlines.specs.Report.{shown, hidden, ReportCounts, reportCounts, admittedSilences, paperOf, IsReported}
 use Rattle.outlines.proofs.ReportRefusals.{report-refusal-iff}
-use Rattle.outlines.proofs.ReportGives.{IsGiven, report-gives}
+use Rattle.outlines.specs.Asking.{LineScanned}
+use Rattle.outlines.proofs.ReportGives.{report-gives}
 use Rattle.outlines.proofs.GoesBy.{by-book-iff}
 use Rattle.outlines.proofs.ShownAndHidden.{shown-hidden-length}
 use Rattle.input.specs.Fields.{lineField}
@@ -64,7 +65,7 @@ module _ {cell ringNumber k : ℕ} {ring line book words out : List ℕ} {r : Re
   unfolding reportLines
   counted-text {found} {hid} {looks} cell-lt ring-number-lt e =
       let q : Request = request cell ringNumber k ring line book in
-      let given : IsGiven cell ringNumber ring line k book words found hid looks out =
+      let given : LineScanned cell ringNumber ring line k book words found hid looks out =
       report-gives cell ringNumber ring line k book words r out meets found hid looks e in
       let all : List Finding = findings ring line k in
       let seen : List Finding = shown (given .silences) cell ringNumber all in

@@ -1,11 +1,13 @@
--- `outlines::quick::scan` meets its contract: a row is given and the call refused, or none is and the line is scanned: a search's two answers
--- (`SearchAnswers` of the findings).
--- Assumes nothing.
+-- `outlines::quick::scan` meets its contract: the call is refused, or the line is scanned with an empty book (`empty-book-searched`). These are a search's two
+-- answers (`SearchAnswers` of crates/findings).
 use mathlib.Core.Path.{sym, ap, _∙_}
+use mathlib.Core.List.{[]}
 use borrow.Author.Needs.{needs}
+use Rattle.silences.specs.Samples.{empty-book}
 use Rattle.findings.specs.Admitting.{verdictOf}
 use Rattle.findings.proofs.AdmitRows.{no-row-iff}
 use Rattle.findings.proofs.SearchAnswers.{refused-search, accepted-search}
+use Rattle.outlines.proofs.EmptyBookIsScan.{empty-book-searched}
 use Rattle.outlines.proofs.quick.scan.Statement.{statement}
 use Rattle.outlines.proofs.quick.scan.Tie as tie
 
@@ -18,10 +20,16 @@ enum-known-refusal c = search needs
 enum-told : tie.Need-enum-told
 enum-told c = search needs
 
+slice-aggregate-scan-line : tie.Need-slice-aggregate-scan-line
+slice-aggregate-scan-line c = search needs
+
 scan-line-requires : tie.Need-scan-line-requires
 scan-line-requires c κs =
-    let admitted = c .before .before .before in
-    no-row-iff _ _ _ _ .0 (sym (admitted .admit .ensures .is) ∙ ap verdictOf (c .before .enum-told .given .1))
+    let told = c .before .before in
+    record {
+      admitted = no-row-iff _ _ _ _ .0 (sym (told .before .before .admit .ensures .is) ∙ ap verdictOf (told .enum-told .given .1));
+      book-read = record { silences = []; is = empty-book };
+    }
 
 -- Refused.
 returns : tie.Need-returns
@@ -36,8 +44,9 @@ same-length c = search needs
 returns-2 : tie.Need-returns-2
 returns-2 c =
     let scanned = c .before .before in
-    let told = scanned .before .before in
-    accepted-search (sym (ap verdictOf (told .enum-told .given .1)) ∙ told .before .before .admit .ensures .is) (scanned .scan-line .ensures)
+    let told = scanned .before .before .before in
+    accepted-search (sym (ap verdictOf (told .enum-told .given .1)) ∙ told .before .before .admit .ensures .is)
+    (empty-book-searched 0 0 (scanned .scan-line .ensures))
 
 pub scan-spec : {M : Type 1} → statement M
 scan-spec =
@@ -46,6 +55,7 @@ scan-spec =
     admit-requires
     enum-known-refusal
     enum-told
+    slice-aggregate-scan-line
     scan-line-requires
     returns
     same-length

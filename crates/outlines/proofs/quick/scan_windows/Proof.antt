@@ -1,127 +1,109 @@
--- `outlines::quick::scan_windows` meets its contract. The loop keeps `ScanAll`; its three turns are what the sweep gave, and the places up to the
--- line's end fall.
--- Assumes nothing.
+-- `outlines::quick::scan_windows` meets its contract. The loop keeps `WindowLoop`. A turn goes by the sweep's answer: no finding, or one, which the book is
+-- asked for. The starts up to the line's end fall.
 use Prim.Native.Nat.{_+_, _-_}
 use mathlib.Core.Path.{_≡_, refl, ap}
 use native.Mathlib.Omega.{arith}
 use borrow.Author.Needs.{needs}
 use lib.ListN.{length}
-use Rattle.findings.proofs.PutCases.{words-are-put}
-use Rattle.sweep.specs.SweepRules.{stateOf, foundOf, hasEnded}
-use Rattle.outlines.proofs.ScanKeeps.{keeps-swept, keeps-left, keeps-ended, keeps-less, keeps-none, keeps-can-put, keeps-put-length, keeps-put}
-use Rattle.outlines.proofs.ScanAll.{ScanAll, all-start, all-next, all-found-le, all-end}
+use Rattle.sweep.specs.SweepRules.{stateOf, foundOf}
+use Rattle.outlines.proofs.WindowLoop.{WindowLoop, window-start, window-found-le, window-length, window-end, window-less, window-none, window-can-ask, window-found}
 use Rattle.outlines.proofs.quick.scan_windows.Statement.{statement}
 use Rattle.outlines.proofs.quick.scan_windows.Tie as tie
 
 abbrev Inv-loop : tie.InvT-loop
-Inv-loop ring doubled table line k counts₀ words₀ m at₀ found₀ counts words at found =
-    (m ≡ length ring) × (length words ≡ length words₀) × ScanAll ring line k words₀ at found counts words
+Inv-loop cell ring-number ring doubled table line k book counts₀ words₀ m at₀ asked₀ counts words at asked =
+    (m ≡ length ring) × WindowLoop cell ring-number ring doubled table line k book counts₀ words₀ at asked counts words
 
 abbrev μ-loop : tie.MeasureT-loop
-μ-loop ring doubled table line k counts₀ words₀ m at₀ found₀ counts words at found = length line + 1 - at .start .0
+μ-loop cell ring-number ring doubled table line k book counts₀ words₀ m at₀ asked₀ counts words at asked = length line + 1 - at .start .0
+
+address-of-requires : tie.Need-address-of-requires Inv-loop μ-loop
+address-of-requires c κs = omega arith
+
+seek-requires : tie.Need-seek-requires Inv-loop μ-loop
+seek-requires c κs = tt
 
 loop-holds : tie.Need-loop-holds Inv-loop μ-loop
-loop-holds c = (refl, refl, all-start (c .before .before .before .before .pre) refl refl refl)
+loop-holds c =
+    let start = c .before .before .before .before .before .before .before in
+    (refl, window-start (start .pre) refl refl refl refl refl (c .before .address-of .ensures) (c .seek .ensures))
 
 add-if1 : tie.Need-add-if1 Inv-loop μ-loop
-add-if1 c = omega (arith, c .before .loop .inv .2 .keeps .start-le)
+add-if1 c = omega (arith, c .before .loop .inv .1 .sweep .start-le)
 
 sweep-on-requires : tie.Need-sweep-on-requires Inv-loop μ-loop
 sweep-on-requires c κs = search needs
 
--- No window is in the line any more.
 enum-known-next : tie.Need-enum-known-next Inv-loop μ-loop
 enum-known-next c = search needs
 
-loop-less : tie.Need-loop-less Inv-loop μ-loop
-loop-less c =
-    let swept = c .before .before .before in
-    let at = swept .before .before .before .before in
-    let can = at .before .before .before .before .before .pre in
-    let keeps = at .loop .inv .2 .keeps in
-    keeps-less can keeps (keeps-swept can keeps (swept .sweep-on .ensures)) (ap stateOf (c .before .next .given .1)) (swept .before .before .if1 .taken)
-
-loop-again : tie.Need-loop-again Inv-loop μ-loop
-loop-again c =
-    let swept = c .before .before .before in
-    let at = swept .before .before .before .before in
-    let can = at .before .before .before .before .before .pre in
-    let keeps = at .loop .inv .2 .keeps in
-    let told = c .before .next .given .1 in
-    let on = keeps-swept can keeps (swept .sweep-on .ensures) in
-    (refl, at .loop .inv .1, all-next (keeps-ended can keeps on (ap stateOf told) (ap hasEnded told)))
-
--- A candidate that is no finding.
 enum-known-next-2 : tie.Need-enum-known-next-2 Inv-loop μ-loop
 enum-known-next-2 c = search needs
 
+enum-known-next-3 : tie.Need-enum-known-next-3 Inv-loop μ-loop
+enum-known-next-3 c = search needs
+
+-- A finding, which the book is asked for.
+ask-requires : tie.Need-ask-requires Inv-loop μ-loop
+ask-requires c κs =
+    let swept = c .before .before .before in
+    let told = c .before .next3 .given .1 in
+    window-can-ask (swept .before .before .before .before .loop .inv .1) (swept .sweep-on .ensures) (ap stateOf told) (ap foundOf told)
+
+put-shown-requires : tie.Need-put-shown-requires Inv-loop μ-loop
+put-shown-requires c κs = tt
+
+loop-less : tie.Need-loop-less Inv-loop μ-loop
+loop-less c =
+    let is-told = c .before .before .before .before .before .before in
+    let swept = is-told .before .before in
+    let told = is-told .next3 .given .1 in
+    window-less (swept .before .before .before .before .loop .inv .1) (swept .sweep-on .ensures) (ap stateOf told) (swept .before .before .if1 .taken)
+
+loop-again : tie.Need-loop-again Inv-loop μ-loop
+loop-again c =
+    let put = c .before .before in
+    let asked = put .before .before in
+    let is-told = asked .before .before in
+    let swept = is-told .before .before in
+    let told = is-told .next3 .given .1 in
+    (refl, window-found (swept .before .before .before .before .loop .inv .1) (swept .sweep-on .ensures) (ap stateOf told) (ap foundOf told) (asked .ask .ensures) (put .put-shown .ensures))
+
+-- No window is in the line any more.
 loop-less-2 : tie.Need-loop-less-2 Inv-loop μ-loop
 loop-less-2 c =
     let swept = c .before .before .before in
-    let at = swept .before .before .before .before in
-    let can = at .before .before .before .before .before .pre in
-    let keeps = at .loop .inv .2 .keeps in
-    keeps-less can keeps (keeps-swept can keeps (swept .sweep-on .ensures)) (ap stateOf (c .before .next2 .given .1)) (swept .before .before .if1 .taken)
+    let told = c .before .next .given .1 in
+    window-less (swept .before .before .before .before .loop .inv .1) (swept .sweep-on .ensures) (ap stateOf told) (swept .before .before .if1 .taken)
 
 loop-again-2 : tie.Need-loop-again-2 Inv-loop μ-loop
 loop-again-2 c =
     let swept = c .before .before .before in
-    let at = swept .before .before .before .before in
-    let can = at .before .before .before .before .before .pre in
-    let told = c .before .next2 .given .1 in
-    let on = keeps-swept can (at .loop .inv .2 .keeps) (swept .sweep-on .ensures) in
-    let candidate = on .candidate (ap hasEnded told) in
-    let here = keeps-left can (at .loop .inv .2 .keeps) (on .left-to) in
-    (refl, at .loop .inv .1, all-next (keeps-none can here (candidate .in-line) (candidate .swept) (ap stateOf told) (ap foundOf told)))
+    let told = c .before .next .given .1 in
+    (refl, window-none (swept .before .before .before .before .loop .inv .1) (swept .sweep-on .ensures) (ap stateOf told) (ap foundOf told))
 
--- A finding.
-enum-known-next-3 : tie.Need-enum-known-next-3 Inv-loop μ-loop
-enum-known-next-3 c = search needs
-
-put-finding-requires : tie.Need-put-finding-requires Inv-loop μ-loop
-put-finding-requires c κs = search needs
-
-add-found : tie.Need-add-found Inv-loop μ-loop
-add-found c =
-    let swept = c .before .before .before .before .before .before .before in
-    let at = swept .before .before .before .before in
-    let can = at .before .before .before .before .before .pre in
-    omega (arith, all-found-le can (at .loop .inv .2) (swept .before .before .if1 .taken))
-
+-- A candidate that is no finding.
 loop-less-3 : tie.Need-loop-less-3 Inv-loop μ-loop
 loop-less-3 c =
-    let told = c .before .before .before .before .before in
-    let swept = told .before .before in
-    let at = swept .before .before .before .before in
-    let can = at .before .before .before .before .before .pre in
-    let keeps = at .loop .inv .2 .keeps in
-    keeps-less can keeps (keeps-swept can keeps (swept .sweep-on .ensures)) (ap stateOf (told .next3 .given .1)) (swept .before .before .if1 .taken)
+    let swept = c .before .before .before in
+    let told = c .before .next2 .given .1 in
+    window-less (swept .before .before .before .before .loop .inv .1) (swept .sweep-on .ensures) (ap stateOf told) (swept .before .before .if1 .taken)
 
 loop-again-3 : tie.Need-loop-again-3 Inv-loop μ-loop
 loop-again-3 c =
-    let told = c .before .before .before .before .before in
-    let swept = told .before .before in
-    let at = swept .before .before .before .before in
-    let can = at .before .before .before .before .before .pre in
-    let is = told .next3 .given .1 in
-    let on = keeps-swept can (at .loop .inv .2 .keeps) (swept .sweep-on .ensures) in
-    let candidate = on .candidate (ap hasEnded is) in
-    let here = keeps-left can (at .loop .inv .2 .keeps) (on .left-to) in
-    let can-put = keeps-can-put can here (candidate .in-line) (candidate .swept) (ap stateOf is) (ap foundOf is) in
-    let put = words-are-put _ _ _ _ can-put (c .before .before .put-finding .ensures) in (
-      refl,
-      keeps-put-length can here (candidate .in-line) (candidate .swept) (ap stateOf is) (ap foundOf is) put,
-      rw put (all-next (keeps-put can here (candidate .in-line) (candidate .swept) (ap stateOf is) (ap foundOf is))),
-    )
+    let swept = c .before .before .before in
+    let told = c .before .next2 .given .1 in
+    (refl, window-none (swept .before .before .before .before .loop .inv .1) (swept .sweep-on .ensures) (ap stateOf told) (ap foundOf told))
 
 -- Past the last window.
+add-found : tie.Need-add-found Inv-loop μ-loop
+add-found c = omega (arith, window-found-le (c .before .before .before .loop .inv .1))
+
 same-length : tie.Need-same-length Inv-loop μ-loop
-same-length c = c .before .before .loop .inv .1
+same-length c = window-length (c .before .before .before .loop .inv .1)
 
 returns : tie.Need-returns Inv-loop μ-loop
-returns c =
-    let at = c .before .before in
-    all-end (at .before .before .before .before .before .pre) (at .loop .inv .2) (c .if1 .left)
+returns c = window-end (c .before .before .before .loop .inv .1) (c .before .if1 .left)
 
 pub scan-windows-spec : {M : Type 1} → statement M
 scan-windows-spec =
@@ -129,19 +111,22 @@ scan-windows-spec =
     (tie.spec
     Inv-loop
     μ-loop
+    address-of-requires
+    seek-requires
     loop-holds
     add-if1
     sweep-on-requires
     enum-known-next
+    enum-known-next-2
+    enum-known-next-3
+    ask-requires
+    put-shown-requires
     loop-less
     loop-again
-    enum-known-next-2
     loop-less-2
     loop-again-2
-    enum-known-next-3
-    put-finding-requires
-    add-found
     loop-less-3
     loop-again-3
+    add-found
     same-length
     returns)

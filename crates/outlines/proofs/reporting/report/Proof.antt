@@ -1,5 +1,4 @@
--- `outlines::reporting::report` meets its contract: a row of 1 to 4 is given; none is, and the book is refused; or the line is reported.
--- Assumes nothing.
+-- `outlines::reporting::report` meets its contract: a row of 1 to 4 is given; none is, and the book is refused; or the line is scanned with the book.
 use mathlib.Core.Path.{sym, ap, _∙_}
 use borrow.Author.Needs.{needs}
 use Rattle.findings.specs.Admitting.{verdictOf}
@@ -26,8 +25,8 @@ enum-known-refusal-2 c = search needs
 enum-told-2 : tie.Need-enum-told-2
 enum-told-2 c = search needs
 
-report-line-requires : tie.Need-report-line-requires
-report-line-requires c κs =
+scan-line-requires : tie.Need-scan-line-requires
+scan-line-requires c κs =
     let read = c .before .before .before in
     let told = read .before in
     record {
@@ -55,10 +54,10 @@ same-length c = search needs
 -- Accepted.
 returns-3 : tie.Need-returns-3
 returns-3 c =
-    let reported = c .before .before in
-    let told = reported .before .before .before .before .before in
-    report-accepted _ _ _ _ _ _ _ (sym (ap verdictOf (told .enum-told .given .1)) ∙ told .before .before .admit .ensures .is) _ _ _ _
-    (reported .report-line .ensures)
+    let scanned = c .before .before in
+    let told = scanned .before .before .before .before .before in
+    report-accepted _ _ _ _ _ _ _ (sym (ap verdictOf (told .enum-told .given .1)) ∙ told .before .before .admit .ensures .is)
+    (scanned .scan-line .ensures)
 
 pub report-spec : {M : Type 1} → statement M
 report-spec =
@@ -70,7 +69,7 @@ report-spec =
     read-requires
     enum-known-refusal-2
     enum-told-2
-    report-line-requires
+    scan-line-requires
     returns
     returns-2
     same-length

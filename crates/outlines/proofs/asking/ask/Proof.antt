@@ -1,9 +1,8 @@
--- `outlines::reporting::ask` meets its contract: the finding is hidden or shown, as the field that is held for its address is for it or not.
--- Assumes nothing.
+-- `outlines::asking::ask` meets its contract: the finding is hidden or shown, as the field that is held for its address is for it or not.
 use borrow.Author.Needs.{needs}
 use Rattle.outlines.proofs.AskCases.{ask-hidden, ask-shown}
-use Rattle.outlines.proofs.reporting.ask.Statement.{statement}
-use Rattle.outlines.proofs.reporting.ask.Tie as tie
+use Rattle.outlines.proofs.asking.ask.Statement.{statement}
+use Rattle.outlines.proofs.asking.ask.Tie as tie
 
 address-of-requires : tie.Need-address-of-requires
 address-of-requires c κs = search needs

@@ -1,0 +1,143 @@
+-- The sweep's part of the loop over windows. Before each window the findings so far and the looks so far are right (`ScanLoop` of crates/meaning), and the
+-- counts hold the tally of the start verified last. A turn is one call of `sweep_on`: windows left at break k + 1 find nothing (`left-scanned` of crates/sweep),
+-- and a candidate is verified (`scan-verified`). Each turn ends past the start where it began, so the starts that are left fall.
+use Prim.Native.Nat.{ℕ, _+_, _-_, _≤_, _<_}
+use mathlib.Core.Path.{_≡_, refl, sym, ap, _∙_}
+use mathlib.Core.Bool.{false}
+use mathlib.Core.List.{List, [], _∷_, _++_, append-nil}
+use mathlib.Core.Option.{none}
+use native.Mathlib.Nat.{mul-le-mul}
+use native.Mathlib.Omega.{arith}
+use lib.ListN.{length}
+use borrow.Author.Tests.{le-leb}
+use Rattle.meaning.specs.Findings.{Finding, foundAt}
+use Rattle.meaning.proofs.LookBound.{quickLooks-most}
+use Rattle.meaning.proofs.Places.{found-small}
+use Rattle.meaning.proofs.ScanLoop.{ScanLoop, scan-start, scan-so-far-le, scan-verified}
+use Rattle.tally.specs.Counts.{mostCounts}
+use Rattle.findings.specs.Putting.{IsThreeWords}
+use Rattle.findings.proofs.WordsSoFar.{admitted-three-words}
+use Rattle.sweep.specs.declared.sweeping.Sweep.{Sweep}
+use Rattle.sweep.specs.declared.sweeping.Swept.{Swept}
+use Rattle.sweep.specs.declared.sweeping.Swept.the-variants.{Ended, NoFinding, Found}
+use Rattle.sweep.specs.Sweeps.{IsSweptBy}
+use Rattle.sweep.specs.SweepRules.{stateOf, foundOf, hasEnded, CanSweepOn, IsSweptOn, IsCandidateSwept, leftState}
+use Rattle.sweep.specs.VerifyingRules.{TalliedBefore, lastOf}
+use Rattle.sweep.proofs.SweptByRules.{swept-by-rules}
+use Rattle.sweep.proofs.WindowsLeft.{left-from-le, left-start-le, left-scanned}
+use Rattle.outlines.specs.Asking.{CanScan}
+
+-- What the sweep keeps.
+pub record SweepKeeps (ring line : List ℕ) (k : ℕ) (so-far : List Finding) (at : Sweep) (counts : List ℕ) : Type 0 where
+  pub scanning : ScanLoop ring line k (at .start .0) (lastOf (at .last)) so-far (at .looks)
+  pub before : TalliedBefore ring line (at .start .0) counts (lastOf (at .last))
+  pub size : length counts ≡ mostCounts
+  pub start-le : at .start .0 ≤ length line + 1
+
+-- A finding that starts between two windows; its three numbers are 32-bit words.
+pub record FoundBetween (from to : ℕ) (f : Finding) : Type 0 where
+  pub from-le : from ≤ f .start
+  pub to-le : f .start ≤ to
+  pub three-words : IsThreeWords f
+
+-- One turn, by the sweep's answer: what is found comes behind what was found before, and the next window is a later one.
+pub record SweepTurn (ring line : List ℕ) (k : ℕ) (so-far : List Finding) (at : Sweep) (r : Swept) (counts : List ℕ) : Type 0 where
+  pub keeps : SweepKeeps ring line k (so-far ++ foundOf r) (stateOf r) counts
+  pub later : at .start .0 ≤ stateOf r .start .0
+  pub less : at .start .0 + length ring ≤ length line → length line + 1 - stateOf r .start .0 < length line + 1 - at .start .0
+  pub found : (f : Finding) → foundOf r ≡ f ∷ [] → FoundBetween (at .start .0) (stateOf r .start .0) f
+
+module _ {ring doubled table line : List ℕ} {k : ℕ} {book counts₀ area : List ℕ} (can : CanScan ring doubled table line k book counts₀ area) where
+  abbrev m : ℕ
+  m = length ring
+
+  abbrev n : ℕ
+  n = length line
+
+  -- Before the first window nothing is found.
+  pub sweep-start : {at : Sweep} → at .start .0 ≡ 0 → lastOf (at .last) ≡ none → at .looks ≡ 0 → SweepKeeps ring line k [] at counts₀
+  sweep-start s l o = record {
+    scanning = rw (s, l, o) (scan-start ring line k (can .admitted .some-edge));
+    before = rw l tt;
+    size = can .size;
+    start-le = omega arith;
+  }
+
+  module _ {so-far : List Finding} {at : Sweep} {counts : List ℕ} (h : SweepKeeps ring line k so-far at counts) where
+    -- `sweep_on` can go on from there
+    can-sweep : CanSweepOn ring doubled table line counts at
+    can-sweep = record {
+      can-sweep = record {
+        windows = record {
+          some-edge = can .admitted .some-edge;
+          most = can .admitted .most-ring;
+          most-line = omega (arith, can .admitted .most-line);
+          start-le = h .start-le;
+        };
+        looks-le = omega (
+          arith,
+          scan-so-far-le ring line k _ _ _ _ (h .scanning),
+          quickLooks-most ring line k (can .admitted .some-edge),
+          mul-le-mul (can .admitted .most-ring) (can .admitted .most-line),
+        );
+      };
+      size = h .size;
+      occurs = can .occurs;
+      twice = can .twice;
+      before = h .before;
+    }
+
+    module _ {counts′ : List ℕ} where
+      -- no window is in the line any more
+      turn-ended : (next : Sweep) → IsSweptOn ring line k at (Ended next) counts′ → SweepTurn ring line k so-far at (Ended next) counts′
+      turn-ended next on =
+          let e = on .ended refl in
+          let rises : at .start .0 ≤ on .stop = left-from-le ring line k (at .start .0) (on .left-to) in
+          let start-is : next .start .0 ≡ on .stop = ap (λ (s : Sweep). s .start .0) (e .next-is) in
+          record {
+            keeps = record {
+              scanning = rw (append-nil, e .next-is) (left-scanned ring line k (at .start .0) (lastOf (at .last)) so-far (at .looks) (on .left-to) (h .scanning));
+              before = rw (e .next-is) (e .before);
+              size = e .size;
+              start-le = omega (arith, left-start-le ring line k (at .start .0) (h .start-le) (on .left-to));
+            };
+            later = omega arith;
+            less = λ in-line. omega (arith, e .past);
+            found = λ f none-is. absurd (let z : _≡_ {A = ℕ} 0 1 = cc in omega arith);
+          }
+
+      -- a candidate is verified
+      turn-verified : (r : Swept) → hasEnded r ≡ false → IsSweptOn ring line k at r counts′ → SweepTurn ring line k so-far at r counts′
+      turn-verified r verified on =
+          let c = on .candidate verified in
+          let rises : at .start .0 ≤ on .stop = left-from-le ring line k (at .start .0) (on .left-to) in
+          let left = left-scanned ring line k (at .start .0) (lastOf (at .last)) so-far (at .looks) (on .left-to) (h .scanning) in
+          let found-are : foundOf r ≡ foundAt ring line k (on .stop) = rw (le-leb _ _ (c .few)) at (c .swept .found-are) in
+          record {
+            keeps = record {
+              scanning =
+                  rw (c .swept .start-is, c .swept .last-is, c .swept .looks-are, le-leb _ _ (c .few), found-are)
+                  (scan-verified ring line k (on .stop) (lastOf (at .last)) so-far _ left (c .in-line) (c .few));
+              before = c .swept .before;
+              size = c .swept .size;
+              start-le = omega (arith, c .swept .start-is, c .in-line);
+            };
+            later = omega (arith, c .swept .start-is);
+            less = λ in-line. omega (arith, c .swept .start-is, c .in-line);
+            found = λ f is.
+                let small = found-small ring line k (on .stop) f (can .admitted .some-edge) (sym found-are ∙ is) in
+                record {
+                  from-le = omega (arith, small .0);
+                  to-le = omega (arith, small .0, c .swept .start-is);
+                  three-words = admitted-three-words (can .admitted) (omega (arith, small .0, c .in-line)) (small .1) (small .2);
+                };
+          }
+
+      -- One turn.
+      pub sweep-turn : {r : Swept} → IsSweptBy ring doubled table line k at counts counts′ r → SweepTurn ring line k so-far at r counts′
+      sweep-turn {r} by = go r (swept-by-rules ring doubled table line k counts at can-sweep counts′ r by)
+        where
+          go : (r′ : Swept) → IsSweptOn ring line k at r′ counts′ → SweepTurn ring line k so-far at r′ counts′
+          go (Ended next) on = turn-ended next on
+          go (NoFinding next) on = turn-verified (NoFinding next) refl on
+          go (Found next f) on = turn-verified (Found next f) refl on

@@ -1,0 +1,170 @@
+-- The loop over windows, of a scan and of a report. Of the findings so far (`SweepKeeps`) the shown ones stand in the words and are counted, the hidden ones are
+-- counted, and a field of the book is held (`HeldFrom`). A finding that the book names is hidden, any other is shown (`held-hides`).
+use Prim.Native.Nat.{ℕ, _+_, _-_, _*_, _≤_, _<_}
+use mathlib.Core.Path.{_≡_, refl, sym, ap, _∙_}
+use mathlib.Core.Bool.{Bool, true, false, not}
+use mathlib.Core.Logic.{⊎-elim}
+use mathlib.Core.List.{List, [], _∷_, _++_, append-nil}
+use mathlib.Core.Option.{none}
+use native.Mathlib.Omega.{arith}
+use lib.ListN.{length, length-append}
+use Rattle.lists.proofs.Cases.{le-or-lt}
+use Rattle.lists.specs.Areas.{written}
+use Rattle.meaning.specs.Findings.{Finding, findings, wordsOf, wordsEach}
+use Rattle.meaning.proofs.FindingsBelow.{below-length-le, findings-length-le, findings-short}
+use Rattle.meaning.proofs.ScanLoop.{scan-found-le, scan-end}
+use Rattle.silences.specs.declared.addresses.Address.{Address}
+use Rattle.silences.specs.Silences.{Silence, silence}
+use Rattle.silences.specs.Addresses.{silenceOf, soughtOf}
+use Rattle.book.specs.Calls.{IsSought}
+use Rattle.findings.specs.Admitting.{mostLine, Admitted}
+use Rattle.findings.proofs.WordsSoFar.{WordsSoFar, so-far-none, so-far-length, so-far-more}
+use Rattle.sweep.specs.declared.sweeping.Sweep.{Sweep}
+use Rattle.sweep.specs.declared.sweeping.Swept.{Swept}
+use Rattle.sweep.specs.Sweeps.{IsSweptBy}
+use Rattle.sweep.specs.SweepRules.{stateOf, foundOf}
+use Rattle.sweep.specs.VerifyingRules.{lastOf}
+use Rattle.outlines.specs.declared.asking.Asked.{Asked}
+use Rattle.outlines.specs.Report.{isHidden, isShown, those, shown, hidden}
+use Rattle.outlines.specs.Asking.{hides, CanAsk, IsHiddenOrShown, IsShownPut, IsAccepted, CanScan, LineScanned}
+use Rattle.outlines.proofs.TakenByTest.{taken-more-no, taken-more-yes}
+use Rattle.outlines.proofs.ShownAndHidden.{shown-hidden-length}
+use Rattle.outlines.proofs.HeldFrom.{HeldFrom, held-start, held-later, held-turn, held-hides}
+use Rattle.outlines.proofs.SweepKeeps.{SweepKeeps, SweepTurn, sweep-start, sweep-turn}
+
+-- What the loop keeps.
+pub record WindowLoop (cell ringNumber : ℕ) (ring doubled table line : List ℕ) (k : ℕ) (book counts₀ area : List ℕ) (at : Sweep) (asked : Asked) (counts words : List ℕ) : Type 0 where
+  pub can : CanScan ring doubled table line k book counts₀ area
+  pub so-far : List Finding
+  pub sweep : SweepKeeps ring line k so-far at counts
+  pub in-words : WordsSoFar area (shown (can .book-read .silences) cell ringNumber so-far) (asked .shown) words
+  pub hidden-is : asked .hidden ≡ length (hidden (can .book-read .silences) cell ringNumber so-far)
+  pub held-from : HeldFrom cell ringNumber book (at .start .0) (asked .held)
+
+-- an accepted call has room for the words of all findings
+room-for-all : (ring line : List ℕ) (k : ℕ) {room : ℕ} → Admitted (length ring) k (length line) room → wordsEach * length (findings ring line k) ≤ room
+room-for-all ring line k admitted =
+    ⊎-elim
+    (λ long. omega (arith, admitted .room-for long, findings-length-le ring line k (admitted .some-edge) long))
+    (λ short. omega (arith, ap (λ (l : List Finding). length l) (findings-short ring line k short)))
+    (le-or-lt (length ring) (length line))
+
+module _ {cell ringNumber : ℕ} {ring doubled table line : List ℕ} {k : ℕ} {book counts₀ area : List ℕ} where
+  -- Before the first window the book is asked for start 0.
+  pub window-start : (can : CanScan ring doubled table line k book counts₀ area) {at : Sweep} {asked : Asked} {first : Address}
+      → at .start .0 ≡ 0 → lastOf (at .last) ≡ none → at .looks ≡ 0
+      → asked .shown ≡ 0 → asked .hidden ≡ 0 → silenceOf first ≡ silence cell ringNumber 0 → IsSought book 0 first (asked .held)
+      → WindowLoop cell ringNumber ring doubled table line k book counts₀ area at asked counts₀ area
+  unfolding those
+  window-start can {at} s l o no-shown no-hidden zero sought = record {
+    can = can;
+    so-far = [];
+    sweep = sweep-start can s l o;
+    in-words = rw no-shown (so-far-none area);
+    hidden-is = no-hidden;
+    held-from = held-start (at .start .0) zero sought;
+  }
+
+  module _ {at : Sweep} {asked : Asked} {counts words : List ℕ} (h : WindowLoop cell ringNumber ring doubled table line k book counts₀ area at asked counts words) where
+    abbrev ss : List Silence
+    ss = h .can .book-read .silences
+
+    -- shown and hidden together are the findings so far
+    counts-add : asked .shown + asked .hidden ≡ length (h .so-far)
+    counts-add = omega (arith, h .in-words .count-is, h .hidden-is, shown-hidden-length ss cell ringNumber (h .so-far))
+
+    -- Shown and hidden together are at most 65,536.
+    pub window-found-le : asked .shown + asked .hidden ≤ mostLine
+    window-found-le = omega (arith, counts-add, scan-found-le ring line k _ _ _ _ (h .sweep .scanning), below-length-le ring line k (length line), h .can .admitted .most-line)
+
+    -- The words keep their length.
+    pub window-length : length words ≡ length area
+    window-length = so-far-length (h .in-words) (omega (arith, counts-add, scan-found-le ring line k _ _ _ _ (h .sweep .scanning), room-for-all ring line k (h .can .admitted)))
+
+    -- Past the last window the line is scanned.
+    pub window-end : length line < at .start .0 + length ring
+        → LineScanned cell ringNumber ring line k book area (asked .shown + asked .hidden) (asked .hidden) (at .looks) words
+    window-end past =
+        let e = scan-end ring line k _ _ _ _ (h .sweep .scanning) past in
+        record {
+          silences = ss;
+          book-is = h .can .book-read .is;
+          admitted = h .can .admitted;
+          found-is = counts-add ∙ ap (λ (l : List Finding). length l) (e .0);
+          hidden-is = h .hidden-is ∙ ap (λ (l : List Finding). length (hidden ss cell ringNumber l)) (e .0);
+          looks-are = e .1;
+          words-are = h .in-words .words-are ∙ ap (λ (l : List Finding). written (wordsOf (shown ss cell ringNumber l)) area) (e .0);
+        }
+
+    module _ {r : Swept} {next : Sweep} {counts′ : List ℕ} (swept : IsSweptBy ring doubled table line k at counts counts′ r) (is-next : stateOf r ≡ next) where
+      turn : SweepTurn ring line k (h .so-far) at r counts′
+      turn = sweep-turn (h .can) (h .sweep) swept
+
+      -- The next window is a later one: the starts that are left fall.
+      pub window-less : at .start .0 + length ring ≤ length line → length line + 1 - next .start .0 < length line + 1 - at .start .0
+      window-less in-line = rw is-next at (turn .less in-line)
+
+      -- A turn that finds nothing.
+      pub window-none : foundOf r ≡ [] → WindowLoop cell ringNumber ring doubled table line k book counts₀ area next asked counts′ words
+      window-none e = record {
+        can = h .can;
+        so-far = h .so-far;
+        sweep = rw (is-next, e, append-nil) at (turn .keeps);
+        in-words = h .in-words;
+        hidden-is = h .hidden-is;
+        held-from = held-later (h .held-from) (rw is-next at (turn .later));
+      }
+
+      module _ {f : Finding} (e : foundOf r ≡ f ∷ []) where
+        -- The book can be asked for what it finds.
+        pub window-can-ask : CanAsk asked f
+        window-can-ask =
+            let found-le = window-found-le in
+            record { start-lt = turn .found f e .three-words .start-lt; shown-le = omega arith; hidden-le = omega arith }
+
+        module _ {asked′ : Asked} (asks : IsHiddenOrShown cell ringNumber book asked f asked′) {out : List ℕ} (put : IsShownPut words (asked .shown) (asked′ .shown) f out) where
+          sweep-next : SweepKeeps ring line k (h .so-far ++ f ∷ []) next counts′
+          sweep-next = rw (is-next, e) at (turn .keeps)
+
+          -- there is room for its words
+          room-behind : wordsEach * asked .shown + wordsEach ≤ length area
+          room-behind =
+              omega (arith, counts-add, scan-found-le ring line k _ _ _ _ (sweep-next .scanning), length-append (h .so-far) (f ∷ []), room-for-all ring line k (h .can .admitted))
+
+          -- A turn that finds something, which the book was asked for.
+          pub window-found : WindowLoop cell ringNumber ring doubled table line k book counts₀ area next asked′ counts′ out
+          window-found =
+              go (isHidden ss cell ringNumber f) refl (held-hides (h .held-from) f (turn .found f e .from-le) (h .can .book-read))
+            where
+              next-loop : WordsSoFar area (shown ss cell ringNumber (h .so-far ++ f ∷ [])) (asked′ .shown) out
+                  → asked′ .hidden ≡ length (hidden ss cell ringNumber (h .so-far ++ f ∷ []))
+                  → WindowLoop cell ringNumber ring doubled table line k book counts₀ area next asked′ counts′ out
+              next-loop in-words hidden-is = record {
+                can = h .can;
+                so-far = h .so-far ++ f ∷ [];
+                sweep = sweep-next;
+                in-words = in-words;
+                hidden-is = hidden-is;
+                held-from = held-turn (h .held-from) f (turn .found f e .from-le) (asks .held-is) (rw is-next at (turn .found f e .to-le));
+              }
+
+              go : (t : Bool) → isHidden ss cell ringNumber f ≡ t → hides cell ringNumber book f (soughtOf (asked .held)) ≡ t
+                  → WindowLoop cell ringNumber ring doubled table line k book counts₀ area next asked′ counts′ out
+              go true named same =
+                  let shown-is : asked′ .shown ≡ asked .shown = rw same at (asks .shown-is) in
+                  next-loop
+                  (rw (taken-more-no (isShown ss cell ringNumber) (h .so-far) f (ap not named), shown-is, put .hidden-same (omega arith)) (h .in-words))
+                  (rw same at (asks .hidden-is)
+                  ∙ omega (
+                    arith,
+                    h .hidden-is,
+                    ap (λ (l : List Finding). length l) (taken-more-yes (isHidden ss cell ringNumber) (h .so-far) f named),
+                    length-append (hidden ss cell ringNumber (h .so-far)) (f ∷ []),
+                  ))
+              go false named same =
+                  let shown-is : asked′ .shown ≡ asked .shown + 1 = rw same at (asks .shown-is) in
+                  next-loop
+                  (rw (taken-more-yes (isShown ss cell ringNumber) (h .so-far) f (ap not named), shown-is)
+                  (so-far-more (h .in-words) room-behind (turn .found f e .three-words) (put .shown-put (omega arith))))
+                  (rw same at (asks .hidden-is) ∙ h .hidden-is
+                  ∙ ap (λ (l : List Finding). length l) (sym (taken-more-no (isHidden ss cell ringNumber) (h .so-far) f named)))

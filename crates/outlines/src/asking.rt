@@ -1,0 +1,68 @@
+// The silence book asked for one finding: it is hidden or shown.
+use answers::LinePlace;
+use book::is_for;
+use book::seek_on;
+use findings::Finding;
+use findings::put_finding;
+use silences::Address;
+use silences::Sought;
+ghost use mathlib.Core.Path.{_≡_};
+ghost use Prim.Native.Nat.{_<_, _^_};
+ghost use Rattle.silences.specs.Silences.{silence};
+ghost use Rattle.silences.specs.Addresses.{silenceOf};
+ghost use Rattle.findings.specs.Putting.{findingOf};
+ghost use Rattle.outlines.specs.Asking.{CanAsk, IsHiddenOrShown, IsShownPut};
+
+// How many findings are shown so far, how many are hidden, and the field that the book gave for the last start. Starts
+// rise, so no field before that one is read again.
+pub struct Asked {
+    pub shown: usize,
+    pub hidden: usize,
+    pub held: Sought,
+}
+
+// The address that names a start: cell, ring number and start.
+pub fn address_of(cell: u32, ring_number: u16, start: LinePlace) -> Address
+    requires { ⌜ start .0 < 2 ^ 32 ⌝ }
+    ensures { λ r. ⌜ silenceOf r ≡ silence cell «ring_number» (start .0) ⌝ }
+{
+    Address {
+        cell,
+        ring_number,
+        start: start.0 as u32,
+    }
+}
+
+// One finding more is counted: hidden if the book has a field for its address, else shown. No word is written.
+pub fn ask(cell: u32, ring_number: u16, book: &[u8], asked: Asked, finding: Finding) -> Asked
+    requires { ⌜ CanAsk asked (findingOf finding) ⌝ }
+    ensures { λ r. ⌜ IsHiddenOrShown cell «ring_number» (now (book .entry)) asked (findingOf finding) r ⌝ }
+{
+    let start = finding.start;
+    let address = address_of(cell, ring_number, start);
+    let before = asked.held;
+    let held = seek_on(book, before, address);
+    if is_for(held, address) {
+        let hidden = asked.hidden + 1;
+        return Asked {
+            shown: asked.shown,
+            hidden,
+            held,
+        };
+    }
+    let shown = asked.shown + 1;
+    Asked {
+        shown,
+        hidden: asked.hidden,
+        held,
+    }
+}
+
+// A shown finding's words go behind those of the shown ones before it. For a hidden finding nothing is written.
+pub fn put_shown(words: &mut [u32], before: usize, shown: usize, finding: Finding)
+    ensures { λ _. ⌜ IsShownPut (now (words .entry)) before shown (findingOf finding) (now (words .exit)) ⌝ }
+{
+    if before < shown {
+        put_finding(words, before, finding);
+    }
+}
