@@ -37,7 +37,7 @@ const MOST_RING_BYTES: usize = 65535;
 const LINE_TAG: u8 = 0x32;
 
 // And how many bytes its value has at most.
-const MOST_LINE_BYTES: usize = 4096;
+pub const MOST_LINE_BYTES: usize = 4096;
 
 // The numbers of a request, and the byte offsets between which its ring and its line stand. The book begins where the line
 // ends.

@@ -4,5 +4,6 @@ mod asking;
 mod field;
 
 pub use asking::Asked;
+pub use asking::MOST_LINE_BYTES;
 pub use asking::Parts;
 pub use asking::read_request;

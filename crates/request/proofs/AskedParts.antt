@@ -1,6 +1,5 @@
--- What the two cases of a read request come to: its parts, where they lie in the input, and the text; or refusal 11 and its line. And any text that `answer` gives
--- lies within the array (`answer-within`).
--- Assumes nothing.
+-- The two cases of a read request: its parts, which lie in the input, and its text; or refusal 11 and its line. And the text of `answer` lies within its array
+-- (`answer-within`).
 use Prim.Native.Nat.{ℕ, _-_, _≤_}
 use mathlib.Core.Path.{_≡_, sym, ap, subst, _∙_}
 use mathlib.Core.List.{List}

@@ -1,7 +1,6 @@
 -- Decimal digits by their two equations: a number below 10 is one digit, and any other is the digits of a tenth of it and then its last digit. These hide that
 -- `decimal` counts down: any count above the number gives the same digits (`digits-enough`). And a bound: a number below 10 to the power of
 -- c + 1 has at most c + 1 digits.
--- Assumes nothing.
 use Prim.Native.Nat.{ℕ, zero, suc, _/_, _%_, _^_, _≤_, _<_}
 use mathlib.Core.Path.{_≡_, sym, ap, _∙_}
 use mathlib.Core.List.{List, [], _∷_, _++_}

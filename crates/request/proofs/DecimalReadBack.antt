@@ -1,6 +1,5 @@
 -- A number's decimal digits, said of no division (`IsDecimal`): they are digits, read back they give the number, and none leads that is a zero. By a tenth of the
 -- number and its last digit: the first digit of both is the same.
--- Assumes nothing.
 use Prim.Native.Nat.{ℕ, zero, suc, _+_, _-_, _*_, _/_, _%_, _≤_, _<_}
 use mathlib.Core.Path.{_≡_, refl, sym, ap, subst, _∙_}
 use mathlib.Core.Logic.{⊎-elim}

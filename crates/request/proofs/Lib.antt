@@ -1,11 +1,10 @@
--- Laws behind the report program's text: what its definitions come to, and what the functions' proofs cite.
+-- Laws of the report program's text, and what the functions' proofs cite.
 pub mod DecimalDigits
 pub mod TextWritten
-pub mod BytesLoop
-pub mod LinePieces
+pub mod PutLoop
+pub mod FormLoop
 pub mod WordsOfFindings
 pub mod LinesLoop
-pub mod LineLengths
 pub mod RoomEnough
 pub mod TextRoom
 pub mod RequestAnswered

@@ -1,5 +1,4 @@
--- What follows for any answer of `answer`: there is one text only.
--- Assumes nothing.
+-- The contract of `answer` leaves one text only.
 use Prim.Native.Nat.{ℕ}
 use mathlib.Core.Path.{_≡_, sym, _∙_}
 use mathlib.Core.List.{List}

@@ -1,6 +1,5 @@
--- What a report's answer comes to in the text of a request. A refusal is the text's one line. Counts are three pieces of text: the first line, the lines of the
--- findings whose words the report wrote, and the last line; together they are no longer than the program's array.
--- Assumes nothing.
+-- From a report's answer to the text of a request. A refusal is the text's one line. Counts give three pieces of text: the first line, the lines of the findings
+-- whose words the report wrote, and the last line; together they are no longer than the program's array.
 use Prim.Native.Nat.{ℕ, _+_, _-_, _*_, _^_, _≤_, _<_}
 use mathlib.Core.Path.{_≡_, sym, ap, ap₂, _∙_}
 use mathlib.Core.List.{List, _++_}
@@ -23,17 +22,13 @@ use Rattle.input.specs.Fields.{lineField}
 use Rattle.input.specs.Input.{Request}
 use Rattle.request.specs.Lines.{firstLine, findingLines, lastLine, refusalLine}
 use Rattle.request.specs.Answering.{reportLines, linesBy, requestText}
-use Rattle.request.specs.Writing.{findingsOf, countsOf, mostText, request}
+use Rattle.request.specs.Writing.{findingsOf, countsOf, mostText, mostFindingWords, request}
 use Rattle.lists.proofs.Areas.{written-front, written-le}
 use Rattle.request.proofs.RoomEnough.{silences-same}
 use Rattle.request.proofs.WordsOfFindings.{findingsOf-words}
 use Rattle.request.proofs.TextRoom.{report-lines-le}
 
--- As many words as row 4 asks at most: three for each edge of the longest line.
-abbrev mostWords : ℕ
-mostWords = 3 * 4096
-
--- What counts and words come to: the pieces of the text, and how long it is at most.
+-- The text that counts and words give, in its three pieces, and how long it is at most.
 pub record Answered (q : Request) (found hid looks : ℕ) (words : List ℕ) : Type 0 where
   pub hidden-le : hid ≤ found
   pub words-le : wordsEach * (found - hid) ≤ length words
@@ -42,15 +37,15 @@ pub record Answered (q : Request) (found hid looks : ℕ) (words : List ℕ) : T
       ≡ requestText q
   pub length-le : length (requestText q) ≤ mostText
 
--- the text of a request by what the report goes by, with the words that the program lends
-text-by : (q : Request) (room : ℕ) {a : Answer (List Silence)} → length (q .line) ≤ lineField .most → mostWords ≤ room
+-- the text of a request, from the report's silences or its refusal, with the words that the program lends
+text-by : (q : Request) (room : ℕ) {a : Answer (List Silence)} → length (q .line) ≤ lineField .most → mostFindingWords ≤ room
     → admittedSilences (q .ring) (q .line) (q .allowance) (q .book) room ≡ a → requestText q ≡ linesBy q a
 unfolding requestText
 text-by q room line-le enough e =
     ap (linesBy q) (sym (silences-same (q .ring) (q .line) (q .allowance) (q .book) room (λ some-edge fits. omega arith)) ∙ e)
 
 module _ {cell ringNumber k : ℕ} {ring line book words out : List ℕ} {r : Reported} (meets : IsReported cell ringNumber ring line k book words r out)
-    (line-le : length line ≤ lineField .most) (enough : mostWords ≤ length words) where
+    (line-le : length line ≤ lineField .most) (enough : mostFindingWords ≤ length words) where
   -- A refusal is the text's one line.
   pub refused-text : (refusal : Refusal) → r ≡ Refused refusal → refusalLine refusal ≡ requestText (request cell ringNumber k ring line book)
   refused-text refusal e =

@@ -1,6 +1,5 @@
--- The words that the program lends are as good as those that row 4 asks: with either, row 4 is not given, and no other row looks at the room. So a report goes by the
--- same silences, or is refused by the same row (`silences-same`).
--- Assumes nothing.
+-- The program lends at least as many words as row 4 requires, so row 4 is not given, and no other row depends on the room. So a report has the same silences, or is
+-- refused by the same row (`silences-same`).
 use Prim.Native.Nat.{ℕ, _≤_, _<_}
 use mathlib.Core.Path.{_≡_, refl, ap}
 use mathlib.Core.Bool.{Bool, true, false}

@@ -1,6 +1,5 @@
 -- Which refusals a request is given: not 3, its line being at most 4,096 edges, and not 4, the report being lent as many words as row 4 asks. So of the
 -- report's rows 1 to 7 there come 1, 2, 5, 6 and 7, after 11.
--- Assumes nothing.
 use Prim.Native.Nat.{ℕ, _≤_}
 use mathlib.Core.Path.{_≡_, refl, ap}
 use mathlib.Core.Option.{Option, none, some}

@@ -1,5 +1,4 @@
 -- The text by what the input is: row 11 at a place is its line, and an input laid down from a request has the text of that request.
--- Assumes nothing.
 use Prim.Native.Nat.{ℕ}
 use mathlib.Core.Path.{_≡_, ap}
 use mathlib.Core.List.{List}

@@ -1,7 +1,6 @@
 -- A text being written. Its pieces: bytes written and then more bytes are both written (`written-then`), so what a writer writes is its pieces one after the other,
 -- and no step of it asks for room. The whole: a text that there is room for stands at the area's beginning (`text-stands`), for with room no byte is left out
 -- (`putBytes-sets`).
--- Assumes nothing.
 use Prim.Native.Nat.{ℕ, suc, _+_, _≤_, _<_}
 use mathlib.Core.Path.{_≡_, refl, sym, ap, _∙_}
 use mathlib.Core.List.{List, [], _∷_, _++_}

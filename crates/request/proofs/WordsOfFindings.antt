@@ -1,6 +1,5 @@
 -- The equations of `findingsOf` as a walk through the words meets them: from a word on, the finding of three words there and the findings after it; or, with fewer
 -- than three words left, none. And the findings of the words of findings are those findings.
--- Assumes nothing.
 use Prim.Native.Nat.{ℕ, _+_, _≤_, _<_}
 use mathlib.Core.Path.{_≡_, refl, ap}
 use mathlib.Core.List.{List, [], _∷_}

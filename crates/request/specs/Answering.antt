@@ -1,13 +1,13 @@
--- Document 01, "The report program": the program's whole output for an input's bytes, on every input, and what `answer` promises.
+-- Document 01, "The report program": the program's whole output for an input's bytes, on every input, and the contract of `answer`.
 --
 --   reportLines    the lines of a report that goes by some silences
 --   requestText    the output for a request: the report's lines, or its refusal
 --   answerText     the output for an input's bytes: "Refusal 11 comes before all others"
---   IsAnswered     what `answer` promises
+--   IsAnswered     the contract of `answer`
 --
--- What a report goes by, its refusals and its counts are outlines' own, in specs/Report.antt there. "Book places count from the book's first byte": a request
--- has its book apart, so the report's places are the right ones. The report meant is one that is lent as many words as row 4 asks, so row 4 is never given;
--- nor is row 3, a line being at most 4,096 edges (`rows-3-4-never` of proofs/RowsNeverGiven.antt).
+-- The report's silences, refusals and counts are defined in crates/outlines, specs/Report.antt. "Book places count from the book's first byte": a request
+-- holds its book apart, so the report's places are the right ones. The report is lent as many words as row 4 requires, so row 4 is never given; nor is
+-- row 3, because a line has at most 4,096 edges (`rows-3-4-never` of proofs/RowsNeverGiven.antt).
 use Prim.Native.Nat.{ℕ}
 use mathlib.Core.Path.{_≡_}
 use mathlib.Core.List.{List, _++_}
@@ -46,8 +46,8 @@ textBy (refused refusal) = refusalLine refusal
 unfoldable pub answerText : List ℕ → List ℕ
 answerText input = textBy (requestOf input)
 
--- What `answer` promises: of the input, the area lent for the text, how long the text is, and the area at exit. It begins with the text, and the
--- bytes after the text keep their values.
+-- The contract of `answer`. `area` is lent for the text; at exit it is `out`, which begins with the text, of `long` bytes. The bytes after the text
+-- keep their values.
 pub record IsAnswered (input area : List ℕ) (long : ℕ) (out : List ℕ) : Type 0 where
   pub long-is : long ≡ length (answerText input)
   pub written : out ≡ written (answerText input) area

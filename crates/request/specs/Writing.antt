@@ -1,24 +1,24 @@
--- What the private functions promise that write the text. Nothing here is the public call's meaning.
+-- The contracts of the private functions that write the text. Nothing here is part of the public call's meaning.
 --
 --   Text, putByte, putBytes    a text being written, and bytes put one after the other while there is room
---   IsWritten                  what a writer of bytes promises; it asks for no room
---   IsText                     what a writer of a whole text promises; that there is room for it is shown once
---   numbered, named            the pieces of a line
+--   IsWritten                  the contract of a writer of bytes; it requires no room
+--   IsText                     the contract of a writer of a whole text; that there is room for it is shown once
+--   hole, filled               a line's form with its numbers
 --   findingsOf                 the findings of words
---   mostText, CanAnswer        room for every text, and what the text of a request asks of its line's length and of the room
+--   mostFirstLine, ..          the most bytes of each line and of a text
+--   CanAnswer                  the precondition of `answer_request`
 use Prim.Native.Nat.{ℕ, _+_, _*_, _≤_}
 use mathlib.Core.Path.{_≡_}
 use mathlib.Core.Bool.{cond}
 use mathlib.Core.List.{List, [], _∷_, _++_}
-use lib.Dec.{ltb}
-use lib.ListN.{length, set}
-use Rattle.meaning.specs.Findings.{Finding}
+use lib.Dec.{ltb, eqb}
+use lib.ListN.{length, getD, drop, set}
+use Rattle.meaning.specs.Findings.{Finding, wordsEach}
 use Rattle.lists.specs.Areas.{written}
 use Rattle.outlines.specs.Report.{ReportCounts}
 use Rattle.input.specs.Fields.{lineField}
 use Rattle.input.specs.Input.{Request}
 use Rattle.request.specs.Decimal.{decimal}
-use Rattle.request.specs.Lines.{space}
 
 -- A text being written: the area that holds it, and the byte offset of its next byte.
 pub record Text : Type 0 where
@@ -40,23 +40,26 @@ unfoldable pub putBytes : List ℕ → Text → Text
 putBytes [] text = text
 putBytes (byte ∷ bytes) text = putBytes bytes (putByte byte text)
 
--- What a writer of these bytes promises, of the area and the next offset at entry, and both at exit.
+-- The contract of a writer of these bytes: from the area and the next offset at entry (`area`, `at`) to both at exit (`out`, `next`).
 pub record IsWritten (bytes area : List ℕ) (at : ℕ) (out : List ℕ) (next : ℕ) : Type 0 where
   pub is : textIn out next ≡ putBytes bytes (textIn area at)
 
--- What a writer of a whole text promises, of the area, how long the text is, and the area at exit. It begins with the text, and the bytes after the text
--- keep their values.
+-- The contract of a writer of a whole text, of `long` bytes: the area at exit, `out`, begins with the text, and the bytes after the text keep their values.
 pub record IsText (text area : List ℕ) (long : ℕ) (out : List ℕ) : Type 0 where
   pub long-is : long ≡ length text
   pub written : out ≡ written text area
 
--- A number, and the byte that comes after it.
-abbrev pub numbered : ℕ → ℕ → List ℕ
-numbered number after = decimal number ++ after ∷ []
+-- The byte of a line's form that stands for a number: `#`.
+abbrev pub hole : ℕ
+hole = 0x23
 
--- A name, one space, a number, and the byte that comes after it.
-abbrev pub named : List ℕ → ℕ → ℕ → List ℕ
-named name number after = name ++ space ∷ numbered number after
+-- A line's form with numbers: each `#` is the next number in decimal digits, and every other byte is itself. (Past the last number a `#` is 0.)
+unfoldable pub filled : List ℕ → List ℕ → List ℕ
+filled [] numbers = []
+filled (byte ∷ form) numbers =
+    let number-here : List ℕ = decimal (getD numbers 0 0) ++ filled form (drop 1 numbers) in
+    let byte-here : List ℕ = byte ∷ filled form numbers in
+    cond (eqb byte hole) number-here byte-here
 
 -- The finding of this start, rotation and distance.
 abbrev pub findingOf : ℕ → ℕ → ℕ → Finding
@@ -73,17 +76,32 @@ findingsOf (start ∷ rotation ∷ distance ∷ words) = findingOf start rotatio
 abbrev pub countsOf : ℕ → ℕ → ℕ → ReportCounts
 countsOf found hid looks = record { found = found; hidden = hid; looks = looks }
 
--- No text is longer. A report has `cell C ring R edges M allow K` with 10, 5, 3 and 3 digits, a line with 4, 3 and 3 for each of 4,096 findings, and
--- `found F hidden H looks L` with 4, 4 and 7, at most, each line with its LF; a refusal's line is shorter.
+-- The most bytes of the first line, `cell C ring R edges M allow K`: 26 that are no digit, LF among them, and at most 10, 5, 3 and 3 digits.
+abbrev pub mostFirstLine : ℕ
+mostFirstLine = 26 + (10 + 5 + 3 + 3)
+
+-- The most bytes of a finding's line: a space or LF after each number, and at most 4, 3 and 3 digits.
+abbrev pub mostFindingLine : ℕ
+mostFindingLine = wordsEach + (4 + 3 + 3)
+
+-- The most bytes of the last line, `found F hidden H looks L`: 22 that are no digit, LF among them, and at most 4, 4 and 7 digits.
+abbrev pub mostLastLine : ℕ
+mostLastLine = 22 + (4 + 4 + 7)
+
+-- No text is longer: there is at most a finding for each edge of the line. (A refusal's line is shorter.)
 abbrev pub mostText : ℕ
-mostText = 47 + 4096 * 13 + 37
+mostText = mostFirstLine + mostFindingLine * lineField .most + mostLastLine
+
+-- Words for a finding at each edge of the longest line.
+abbrev pub mostFindingWords : ℕ
+mostFindingWords = wordsEach * lineField .most
 
 -- The request of these numbers and bytes.
 abbrev pub request : ℕ → ℕ → ℕ → List ℕ → List ℕ → List ℕ → Request
 request cell ringNumber allowance ring line book =
     record { cell = cell; ringNumber = ringNumber; allowance = allowance; ring = ring; line = line; book = book }
 
--- What answering a request asks, of the line's length and of the room for the text: no line is longer than a field holds, and there is room for every text.
+-- The precondition of `answer_request`: the line is no longer than its field may be, and there is room for every text.
 pub record CanAnswer (n room : ℕ) : Type 0 where
   pub line-le : n ≤ lineField .most
   pub room-for : mostText ≤ room

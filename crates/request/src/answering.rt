@@ -1,10 +1,10 @@
 // The program's input to its output: read the request, make the report, write its lines.
 use crate::lines::put_finding_lines;
-use crate::lines::put_first_line;
-use crate::lines::put_last_line;
+use crate::lines::put_line;
 use crate::refusing::put_refusal;
 use findings::WORDS_EACH;
 use input::Asked;
+use input::MOST_LINE_BYTES;
 use input::read_request;
 use outlines::Reported;
 use outlines::report;
@@ -12,12 +12,20 @@ ghost use lib.ListN.{length};
 ghost use Rattle.request.specs.Answering.{requestText, IsAnswered};
 ghost use Rattle.request.specs.Writing.{request, CanAnswer, IsText};
 
-// Room for the words of a finding at each place of the longest line, three words each: row 4 never asks for more.
-const MOST_WORDS: usize = 12288;
+// Words for a finding at each edge of the longest line: row 4 never asks for more.
+const MOST_FINDING_WORDS: usize = WORDS_EACH * MOST_LINE_BYTES;
 
-// Bytes enough for every text: a first line of 47 (10, 5, 3 and 3 digits), a line of 13 (4, 3 and 3) for each of 4,096
-// findings, and a last line of 37 (4, 4 and 7).
-pub const MOST_TEXT: usize = 53332;
+// The most bytes of the first line: 26 that are no digit, and at most 10, 5, 3 and 3 digits.
+const MOST_FIRST_LINE: usize = 26 + (10 + 5 + 3 + 3);
+
+// The most bytes of a finding's line: a space or LF after each number, and at most 4, 3 and 3 digits.
+const MOST_FINDING_LINE: usize = WORDS_EACH + (4 + 3 + 3);
+
+// The most bytes of the last line: 22 that are no digit, and at most 4, 4 and 7 digits.
+const MOST_LAST_LINE: usize = 22 + (4 + 4 + 7);
+
+// Bytes enough for every text: there is at most a finding for each edge of the line. (A refusal's line is shorter.)
+pub const MOST_TEXT: usize = MOST_FIRST_LINE + MOST_FINDING_LINE * MOST_LINE_BYTES + MOST_LAST_LINE;
 
 // The output for a request: its report's lines, or the report's refusal.
 fn answer_request(
@@ -32,7 +40,7 @@ fn answer_request(
     requires { ⌜ CanAnswer (length (now line)) (length (now text)) ⌝ }
     ensures { λ r. ⌜ IsText (requestText (request cell «ring_number» allowance (now (ring .entry)) (now (line .entry)) (now (book .entry)))) (now (text .entry)) r (now (text .exit)) ⌝ }
 {
-    let mut words = [0u32; MOST_WORDS];
+    let mut words = [0u32; MOST_FINDING_WORDS];
     match report(cell, ring_number, ring, line, allowance, book, &mut words) {
         Reported::Refused(refusal) => put_refusal(text, refusal),
         Reported::Counts {
@@ -41,21 +49,16 @@ fn answer_request(
             looks,
         } => {
             let to = WORDS_EACH * (found - hidden);
-            let findings_at = put_first_line(
-                text,
-                0,
-                cell as usize,
-                ring_number as usize,
-                ring.len(),
-                allowance,
-            );
+            let first = [cell as usize, ring_number as usize, ring.len(), allowance];
+            let findings_at = put_line(text, 0, b"cell # ring # edges # allow #\n", &first);
             let last_at = put_finding_lines(text, findings_at, &words[..to]);
-            put_last_line(text, last_at, found, hidden, looks)
+            let last = [found, hidden, looks];
+            put_line(text, last_at, b"found # hidden # looks #\n", &last)
         }
     }
 }
 
-// The program's whole output for its input, at the beginning of `text`; answers how long it is.
+// The program's whole output for its input, at the beginning of `text`; returns its length.
 pub fn answer(input: &[u8], text: &mut [u8; MOST_TEXT]) -> usize
     ensures { λ r. ⌜ IsAnswered (now (input .entry)) (now (text .entry)) r (now (text .exit)) ⌝ }
 {

@@ -1,10 +1,9 @@
-// Bytes put into the text one after the other. One that there is no room for is left out: so no writer asks for room, and what
-// it writes is its pieces one after the other. It never happens: that a whole text has room is shown once, where its first byte
-// is put, in refusing.rt and answering.rt.
+// One byte of the text. If there is no room for it, it is left out: so no writer requires room, and what a writer puts is its
+// pieces one after the other. There always is room: the proofs of refusing.rt and answering.rt show it once for each whole text.
 ghost use mathlib.Core.List.{[], _∷_};
 ghost use Rattle.request.specs.Writing.{IsWritten};
 
-// Puts a byte at `at`, and answers the offset of the next one.
+// Puts a byte at `at`, and returns the offset of the next one.
 pub fn put_byte(text: &mut [u8], at: usize, byte: u8) -> usize
     ensures { λ r. ⌜ IsWritten (byte ∷ []) (now (text .entry)) at (now (text .exit)) r ⌝ }
 {
@@ -13,17 +12,4 @@ pub fn put_byte(text: &mut [u8], at: usize, byte: u8) -> usize
         return at + 1;
     }
     at
-}
-
-// Puts bytes from `at` on, and answers the offset of the next one.
-pub fn put_bytes(text: &mut [u8], at: usize, bytes: &[u8]) -> usize
-    ensures { λ r. ⌜ IsWritten (now (bytes .entry)) (now (text .entry)) at (now (text .exit)) r ⌝ }
-{
-    let mut next = at;
-    let mut done: usize = 0;
-    while done < bytes.len() {
-        next = put_byte(text, next, bytes[done]);
-        done += 1;
-    }
-    next
 }

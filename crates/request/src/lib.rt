@@ -1,5 +1,5 @@
-// The report program's work: its input's bytes to its output's text. What the text is on every input stands in
-// specs/Answering.antt. No public function has a `requires`: each takes every input.
+// The report program's work: from its input's bytes to its output's text. specs/Answering.antt defines the text for every input.
+// No public function has a `requires`: each takes every input.
 mod answering;
 mod bytes;
 mod digits;

@@ -1,78 +1,74 @@
-// The lines of a report, word after word: one space between two words, and LF at the end. Each function answers the offset of
-// the next byte.
+// The lines of the text. Each function returns the offset of the next byte.
 use crate::bytes::put_byte;
-use crate::bytes::put_bytes;
 use crate::digits::put_decimal;
 use findings::WORDS_EACH;
-ghost use Rattle.request.specs.Lines.{firstLine, lastLine, findingLine, findingLines};
-ghost use Rattle.request.specs.Writing.{numbered, named, findingOf, findingsOf, countsOf, IsWritten};
+ghost use Prim.Native.Nat.{_<_};
+ghost use mathlib.Core.Path.{_≡_};
+ghost use lib.ListN.{length, getD};
+ghost use Rattle.request.specs.Lines.{findingLines};
+ghost use Rattle.request.specs.Writing.{filled, findingsOf, IsWritten};
 
-// Between two words.
-pub const SPACE: u8 = 0x20;
+// The byte of a line's form that stands for a number: `#`.
+const HOLE: u8 = 0x23;
 
-// After the last.
-pub const LF: u8 = 0x0a;
-
-// A number, and the byte that comes after it.
-fn put_number(text: &mut [u8], at: usize, number: usize, after: u8) -> usize
-    ensures { λ r. ⌜ IsWritten (numbered number after) (now (text .entry)) at (now (text .exit)) r ⌝ }
+// The number that the next `#` stands for. (No form here has more of them than there are numbers; one more would be 0.)
+fn next_number(numbers: &[usize], at: usize) -> usize
+    ensures { λ r. ⌜ r ≡ getD (now (numbers .entry)) at 0 ⌝ }
 {
-    let next = put_decimal(text, at, number);
-    put_byte(text, next, after)
+    if at < numbers.len() {
+        return numbers[at];
+    }
+    0
 }
 
-// A name, one space, a number, and the byte that comes after it.
-pub fn put_named(text: &mut [u8], at: usize, name: &[u8], number: usize, after: u8) -> usize
-    ensures { λ r. ⌜ IsWritten (named (now (name .entry)) number after) (now (text .entry)) at (now (text .exit)) r ⌝ }
+// A line by its form, as `refused # place #` and LF: each `#` is the next of the numbers, in decimal digits, and every other byte
+// is put as it is.
+pub fn put_line(text: &mut [u8], at: usize, form: &[u8], numbers: &[usize]) -> usize
+    ensures { λ r. ⌜ IsWritten (filled (now (form .entry)) (now (numbers .entry))) (now (text .entry)) at (now (text .exit)) r ⌝ }
 {
-    let space_at = put_bytes(text, at, name);
-    let number_at = put_byte(text, space_at, SPACE);
-    put_number(text, number_at, number, after)
+    let mut next = at;
+    let mut used: usize = 0;
+    let mut done: usize = 0;
+    while done < form.len() {
+        if form[done] == HOLE {
+            next = put_decimal(text, next, next_number(numbers, used));
+            used += 1;
+        } else {
+            next = put_byte(text, next, form[done]);
+        }
+        done += 1;
+    }
+    next
 }
 
-// "The first line gives cell, ring number, m and k".
-pub fn put_first_line(
-    text: &mut [u8],
-    at: usize,
-    cell: usize,
-    ring_number: usize,
-    m: usize,
-    k: usize,
-) -> usize
-    ensures { λ r. ⌜ IsWritten (firstLine cell «ring_number» m k) (now (text .entry)) at (now (text .exit)) r ⌝ }
+// A word as a number.
+fn number_of_word(word: u32) -> usize
+    ensures { λ r. ⌜ r ≡ word ⌝ }
 {
-    let ring_at = put_named(text, at, b"cell", cell, SPACE);
-    let edges_at = put_named(text, ring_at, b"ring", ring_number, SPACE);
-    let allow_at = put_named(text, edges_at, b"edges", m, SPACE);
-    put_named(text, allow_at, b"allow", k, LF)
+    word as usize
 }
 
-// "the last gives the three counts"
-pub fn put_last_line(text: &mut [u8], at: usize, found: usize, hidden: usize, looks: usize) -> usize
-    ensures { λ r. ⌜ IsWritten (lastLine (countsOf found hidden looks)) (now (text .entry)) at (now (text .exit)) r ⌝ }
+// The word at a place, as a number.
+fn word_at(words: &[u32], at: usize) -> usize
+    requires { ⌜ at < length (now words) ⌝ }
+    ensures { λ r. ⌜ r ≡ getD (now (words .entry)) at 0 ⌝ }
 {
-    let hidden_at = put_named(text, at, b"found", found, SPACE);
-    let looks_at = put_named(text, hidden_at, b"hidden", hidden, SPACE);
-    put_named(text, looks_at, b"looks", looks, LF)
+    number_of_word(words[at])
 }
 
-// The line of a finding: "(start, rotation, distance)".
-fn put_finding_line(text: &mut [u8], at: usize, start: u32, rotation: u32, distance: u32) -> usize
-    ensures { λ r. ⌜ IsWritten (findingLine (findingOf start rotation distance)) (now (text .entry)) at (now (text .exit)) r ⌝ }
-{
-    let rotation_at = put_number(text, at, start as usize, SPACE);
-    let distance_at = put_number(text, rotation_at, rotation as usize, SPACE);
-    put_number(text, distance_at, distance as usize, LF)
-}
-
-// "one line per shown finding": a line for each three words.
+// "one line per shown finding (start, rotation, distance)"
 pub fn put_finding_lines(text: &mut [u8], at: usize, words: &[u32]) -> usize
     ensures { λ r. ⌜ IsWritten (findingLines (findingsOf (now (words .entry)))) (now (text .entry)) at (now (text .exit)) r ⌝ }
 {
     let mut next = at;
     let mut done: usize = 0;
     while WORDS_EACH <= words.len() - done {
-        next = put_finding_line(text, next, words[done], words[done + 1], words[done + 2]);
+        let finding = [
+            word_at(words, done),
+            word_at(words, done + 1),
+            word_at(words, done + 2),
+        ];
+        next = put_line(text, next, b"# # #\n", &finding);
         done += WORDS_EACH;
     }
     next

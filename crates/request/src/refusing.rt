@@ -1,7 +1,5 @@
-// A refusal's line: document 01's number and place of it.
-use crate::lines::LF;
-use crate::lines::SPACE;
-use crate::lines::put_named;
+// A refusal's line: its number and place in document 01.
+use crate::lines::put_line;
 use answers::Refusal;
 use answers::number_of;
 use answers::place_of;
@@ -15,8 +13,6 @@ pub fn put_refusal(text: &mut [u8], refusal: Refusal) -> usize
     requires { ⌜ mostText ≤ length (now text) ⌝ }
     ensures { λ r. ⌜ IsText (refusalLine refusal) (now (text .entry)) r (now (text .exit)) ⌝ }
 {
-    let number = number_of(refusal);
-    let place = place_of(refusal);
-    let place_at = put_named(text, 0, b"refused", number, SPACE);
-    put_named(text, place_at, b"place", place, LF)
+    let numbers = [number_of(refusal), place_of(refusal)];
+    put_line(text, 0, b"refused # place #\n", &numbers)
 }

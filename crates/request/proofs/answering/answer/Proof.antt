@@ -1,5 +1,4 @@
 -- `request::answering::answer` meets its contract: the line of refusal 11, or the text of the request, whose parts lie in the input.
--- Assumes nothing.
 use native.Mathlib.Omega.{arith}
 use lib.ListN.{length-take, length-drop}
 use Rattle.input.specs.Asking.{Within}

@@ -1,10 +1,11 @@
 -- `request::answering::answer_request` meets its contract: a refusal of the report is one line; its counts are three pieces of text put one after the other
 -- (`Answered`), for which there is room.
--- Assumes nothing.
 use mathlib.Core.Path.{sym}
 use native.Mathlib.Omega.{arith}
 use lib.Seq.{length-take-le}
-use Rattle.request.specs.Writing.{request}
+use Rattle.lists.specs.Texts.{ascii}
+use Rattle.request.specs.Lines.{firstLine, lastLine}
+use Rattle.request.specs.Writing.{filled, request}
 use Rattle.request.proofs.TextWritten.{written-then, written-same, text-stands, text-same}
 use Rattle.request.proofs.RequestAnswered.{Answered, refused-text, counted-text}
 use borrow.Author.Needs.{needs}
@@ -33,7 +34,7 @@ at-report c = c .before .before .before .before
 abbrev at-entry : tie.After-known-told2 → tie.Start
 at-entry c = at-report c .before .before .before .before .before .before
 
--- what the counts come to
+-- the text that the counts give
 counted : (c : tie.After-known-told2)
     → Answered (request (at-entry c .args .cell) (at-entry c .args .ring-number) (at-entry c .args .allowance) (at-entry c .args .ring .now)
     (at-entry c .args .line .now) (at-entry c .args .book .now)) (c .before .found .given .0 .0) (c .before .found .given .0 .1 .0)
@@ -47,21 +48,33 @@ sub-to c = counted c .hidden-le
 mul-to : tie.Need-mul-to
 mul-to c = omega (arith, counted c .words-le)
 
-put-first-line-requires : tie.Need-put-first-line-requires
-put-first-line-requires c κs = tt
+slice-aggregate-put-line : tie.Need-slice-aggregate-put-line
+slice-aggregate-put-line c = search needs
+
+slice-aggregate-put-line-2 : tie.Need-slice-aggregate-put-line-2
+slice-aggregate-put-line-2 c = search needs
+
+put-line-requires : tie.Need-put-line-requires
+put-line-requires c κs = tt
 
 array-share-prefix-words : tie.Need-array-share-prefix-words
-array-share-prefix-words c = counted (c .before .before .before .before .before) .words-le
+array-share-prefix-words c = counted (c .before .before .before .before .before .before .before) .words-le
 
 slice-aggregate-put-finding-lines : tie.Need-slice-aggregate-put-finding-lines
 slice-aggregate-put-finding-lines c =
-    sym (length-take-le _ _ (counted (c .before .before .before .before .before .before) .words-le))
+    sym (length-take-le _ _ (counted (c .before .before .before .before .before .before .before .before) .words-le))
 
 put-finding-lines-requires : tie.Need-put-finding-lines-requires
 put-finding-lines-requires c κs = tt
 
-put-last-line-requires : tie.Need-put-last-line-requires
-put-last-line-requires c κs = tt
+slice-aggregate-put-line-3 : tie.Need-slice-aggregate-put-line-3
+slice-aggregate-put-line-3 c = search needs
+
+slice-aggregate-put-line-4 : tie.Need-slice-aggregate-put-line-4
+slice-aggregate-put-line-4 c = search needs
+
+put-line-requires-2 : tie.Need-put-line-requires-2
+put-line-requires-2 c κs = tt
 
 same-length : tie.Need-same-length
 same-length c = search needs
@@ -80,15 +93,16 @@ same-length-2 c = search needs
 
 -- its counts
 returns-2 : tie.Need-returns-2
+unfolding ascii filled firstLine lastLine
 returns-2 c =
     let at-last = c .before .before in
-    let at-lines = at-last .before .before .before .before in
+    let at-lines = at-last .before .before .before .before .before .before in
     let at-first = at-lines .before .before .before .before .before in
-    let at-counts = at-first .before .before in
+    let at-counts = at-first .before .before .before .before in
     let answered = counted at-counts in
     text-stands (omega (arith, answered .length-le, at-entry at-counts .pre .room-for))
     (written-same (answered .pieces)
-    (written-then (at-first .put-first-line .ensures) (written-then (at-lines .put-finding-lines .ensures) (at-last .put-last-line .ensures))))
+    (written-then (at-first .put-line .ensures) (written-then (at-lines .put-finding-lines .ensures) (at-last .put-line2 .ensures))))
 
 pub answer-request-spec : {M : Type 1} → statement M
 answer-request-spec =
@@ -101,11 +115,15 @@ answer-request-spec =
     enum-known-found
     sub-to
     mul-to
-    put-first-line-requires
+    slice-aggregate-put-line
+    slice-aggregate-put-line-2
+    put-line-requires
     array-share-prefix-words
     slice-aggregate-put-finding-lines
     put-finding-lines-requires
-    put-last-line-requires
+    slice-aggregate-put-line-3
+    slice-aggregate-put-line-4
+    put-line-requires-2
     same-length
     returns
     same-length-2

@@ -1,5 +1,4 @@
 -- `request::bytes::put_byte` meets its contract: the byte is stored, or there is no room for it.
--- Assumes nothing.
 use native.Mathlib.Omega.{arith}
 use borrow.Author.Needs.{needs}
 use Rattle.request.proofs.TextWritten.{byte-stored, byte-left-out}
