@@ -1,5 +1,5 @@
 //! The library of closed outlines, compared with a second program that was written from document 01 alone (`second`, `cases`,
-//! `check`), and timed beside the same rules in C and Rust and what a user would pick instead (`peers`, `bench`).
+//! `check`, `rows`), and timed beside the same rules in C and Rust and what a user would pick instead (`peers`, `bench`).
 
 pub mod bench;
 pub mod cases;
@@ -7,4 +7,5 @@ pub mod check;
 pub mod memory;
 pub mod outlines;
 pub mod peers;
+pub mod rows;
 pub mod second;

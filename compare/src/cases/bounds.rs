@@ -55,7 +55,7 @@ const LINES: usize = 6;
 pub const LIMITS: u64 = (RINGS.len() * 2 * LINES * 3 * 3) as u64;
 
 /// m 256 and 257, k = m − 1 and m, n about m and about 65,536, the room exact and one word to either side.
-/// One edge code throughout: with k = m − 1 every window is a candidate, and others take the second program too long.
+/// One edge code throughout: every window is a candidate and a finding.
 pub fn limits(index: u64, draw: &mut Draw) -> Call {
     let mut number = (index / 3) as usize;
     let mut digit = |base: usize| {

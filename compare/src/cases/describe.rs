@@ -41,6 +41,7 @@ impl Display for Case {
     fn fmt(&self, f: &mut Formatter) -> Result {
         match self {
             Case::Call(call, placement) => write!(f, "{call} placed {placement:?}"),
+            Case::Three(calls, placement) => write!(f, "survey, scan, {} placed {placement:?}", calls[2]),
             Case::RoundTrip(given) => write!(f, "round trip {}", words(given)),
             Case::Input(input) => write!(f, "input {} {:?}", hex(&input.bytes), input.manner),
             Case::Sample(index) => write!(f, "sample {index} of document 01"),

@@ -1,13 +1,13 @@
-//! Numbers drawn from a seed, a kind and an index alone, so that every case can be made again.
+//! Numbers drawn from a seed, a kind's name and an index alone, so that every case can be made again.
 
 pub struct Draw {
     state: u64,
 }
 
 impl Draw {
-    pub fn new(seed: u64, kind: u64, index: u64) -> Draw {
+    pub fn new(seed: u64, kind: &str, index: u64) -> Draw {
         let mut draw = Draw { state: seed };
-        for part in [kind, index] {
+        for part in kind.bytes().map(u64::from).chain([index]) {
             draw.state = draw.number() ^ part.wrapping_mul(0xD6E8_FEB8_6659_FD93);
         }
         draw

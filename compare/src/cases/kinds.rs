@@ -2,7 +2,7 @@
 
 use super::call::{in_turn, Call, Search};
 use super::draw::Draw;
-use super::{books, bounds, faults, input_faults, inputs, nulls, packing, searches, Kind, Make};
+use super::{books, bounds, faults, input_faults, inputs, long, nulls, packing, searches, Kind, Make};
 use crate::second::samples::{self, Sample, SAMPLES, SILENCED, THE_SILENCE};
 
 pub static CALLS: &[Kind] = &[
@@ -29,7 +29,10 @@ pub static CALLS: &[Kind] = &[
     kind("words to pack", 6_000, Make::Call(packing::packing)),
     kind("null pointers for empty slices", 30 * nulls::CHOICES, Make::NullCall(nulls::each_choice)),
     kind("round trips of pack and unpack", 2_000, Make::RoundTrip(packing::round_trip)),
+    kind("long rings and lines", 200, Make::Three(long::long)),
 ];
+
+pub static LONG: &[Kind] = &[kind("long rings and lines", 20_000, Make::Three(long::long))];
 
 pub static INPUTS: &[Kind] = &[
     kind("inputs: right ones", 4_000, Make::Input(inputs::right)),

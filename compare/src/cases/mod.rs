@@ -10,6 +10,7 @@ pub mod input;
 mod input_faults;
 mod inputs;
 mod kinds;
+mod long;
 mod nulls;
 mod packing;
 mod searches;
@@ -21,6 +22,8 @@ pub use input::Input;
 
 pub enum Case {
     Call(Call, Placement),
+    /// Survey, scan and report of one search.
+    Three([Call; 3], Placement),
     /// Words packed by the library and unpacked by it again.
     RoundTrip(Vec<u32>),
     Input(Input),
@@ -28,9 +31,23 @@ pub enum Case {
     Sample(usize),
 }
 
+impl Case {
+    /// The library's calls and the program's runs that the case takes.
+    pub fn calls_and_runs(&self) -> (u64, u64) {
+        match self {
+            Case::Call(..) => (1, 0),
+            Case::Three(..) => (3, 0),
+            Case::RoundTrip(_) => (2, 0),
+            Case::Input(_) => (0, 1),
+            Case::Sample(_) => (0, 0),
+        }
+    }
+}
+
 enum Make {
     Call(fn(u64, &mut Draw) -> Call),
     NullCall(fn(u64, &mut Draw) -> Call),
+    Three(fn(u64, &mut Draw) -> [Call; 3]),
     RoundTrip(fn(u64, &mut Draw) -> Vec<u32>),
     Input(fn(u64, &mut Draw) -> Input),
     Sample,
@@ -42,10 +59,23 @@ pub struct Kind {
     make: Make,
 }
 
-/// The program's inputs come last, so that a case keeps its number in a run without them.
-pub fn kinds(with_program: bool) -> Vec<&'static Kind> {
-    let inputs = if with_program { kinds::INPUTS } else { &[] };
-    kinds::CALLS.iter().chain(inputs).collect()
+/// Which cases a run has.
+#[derive(Clone, Copy, PartialEq, Eq)]
+pub enum Choice {
+    /// Every kind.
+    All,
+    /// Every kind but the program's inputs. These come last, so that a case keeps its number in a run without them.
+    Calls,
+    /// Long rings and lines alone, a hundred times as many. The first of them are those of the other runs.
+    Long,
+}
+
+pub fn kinds(choice: Choice) -> Vec<&'static Kind> {
+    match choice {
+        Choice::All => kinds::CALLS.iter().chain(kinds::INPUTS).collect(),
+        Choice::Calls => kinds::CALLS.iter().collect(),
+        Choice::Long => kinds::LONG.iter().collect(),
+    }
 }
 
 /// A case's kind, by its place among the kinds, and the case's index within it.
@@ -70,12 +100,16 @@ fn placement(draw: &mut Draw) -> Placement {
 }
 
 impl Kind {
-    pub fn case(&self, seed: u64, place: usize, index: u64) -> Case {
-        let mut draw = Draw::new(seed, place as u64, index);
+    pub fn case(&self, seed: u64, index: u64) -> Case {
+        let mut draw = Draw::new(seed, self.name, index);
         match self.make {
             Make::Call(make) => {
                 let placement = placement(&mut draw);
                 Case::Call(make(index, &mut draw), placement)
+            }
+            Make::Three(make) => {
+                let placement = placement(&mut draw);
+                Case::Three(make(index, &mut draw), placement)
             }
             Make::NullCall(make) => Case::Call(make(index, &mut draw), Placement::Null),
             Make::RoundTrip(make) => Case::RoundTrip(make(index, &mut draw)),

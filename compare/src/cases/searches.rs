@@ -6,7 +6,7 @@ use super::draw::Draw;
 const ALPHABETS: [usize; 5] = [1, 2, 4, 26, 256];
 
 /// Ring lengths about the bounds of machine words, and the least and greatest.
-const ABOUT_WORDS: [usize; 13] = [1, 2, 63, 64, 65, 127, 128, 129, 191, 192, 193, 255, 256];
+pub const ABOUT_WORDS: [usize; 13] = [1, 2, 63, 64, 65, 127, 128, 129, 191, 192, 193, 255, 256];
 
 const SMALL_RING: usize = 5;
 const SMALL_LINE: usize = 8;
@@ -138,8 +138,8 @@ pub fn short_lines(index: u64, draw: &mut Draw) -> Call {
     in_turn(index, draw, Search::new(ring, line, allowance))
 }
 
-/// Lines about the longest that is accepted. Candidates at every start are kept to rings of at most 64 edges, as the
-/// second program would take too long otherwise.
+/// Lines about the longest that is accepted. Candidates at every start are kept to rings of at most 64 edges, for the
+/// second program's time; the long kind has them for every ring.
 pub fn longest_lines(index: u64, draw: &mut Draw) -> Call {
     let number = (index / 3) as usize;
     let n = [65_535, 65_536, 65_537][number % 3];

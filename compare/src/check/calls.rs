@@ -125,34 +125,45 @@ fn of_words(outcome: Outcome<u32>) -> (Answer, Vec<u8>) {
     (answer_of(&outcome), outcome.map(|answered| bytes_of(&answered.written)).unwrap_or_default())
 }
 
-fn search(given: &Search) -> calls::Search<'_> {
-    let Search { ring, line, allowance, room } = given;
-    calls::Search { ring, line, allowance: *allowance, room: *room }
+fn search(call: &Call) -> Option<calls::Search<'_>> {
+    let (Call::Survey(given) | Call::Scan(given) | Call::Report { search: given, .. }) = call else { return None };
+    Some(calls::Search::new(&given.ring, &given.line, given.allowance, given.room))
 }
 
 /// The second program's answer and the bytes it writes at the lent area's beginning.
-fn ask_second(call: &Call) -> (Answer, Vec<u8>) {
-    match call {
-        Call::Survey(given) => of_words(search(given).survey()),
-        Call::Scan(given) => of_words(search(given).scan()),
-        Call::Report { cell, ring_number, search: given, book } => {
-            of_words(search(given).report(*cell, *ring_number, book))
+fn ask_second(call: &Call, search: Option<&calls::Search>) -> (Answer, Vec<u8>) {
+    match (call, search) {
+        (Call::Survey(_), Some(search)) => of_words(search.survey()),
+        (Call::Scan(_), Some(search)) => of_words(search.scan()),
+        (Call::Report { cell, ring_number, book, .. }, Some(search)) => {
+            of_words(search.report(*cell, *ring_number, book))
         }
-        Call::Pack { words, room } => {
+        (Call::Pack { words, room }, _) => {
             let outcome = calls::pack(words, *room);
             (answer_of(&outcome), outcome.map(|answered| answered.written).unwrap_or_default())
         }
-        Call::Unpack { book, room } => of_words(calls::unpack(book, *room)),
+        (Call::Unpack { book, room }, _) => of_words(calls::unpack(book, *room)),
+        (_, None) => unreachable!("survey, scan and report have a search"),
     }
 }
 
-pub fn compare(call: &Call, placement: Placement, areas: &mut Areas) -> Compared {
+fn compare_with(search: Option<&calls::Search>, call: &Call, placement: Placement, areas: &mut Areas) -> Compared {
     let (given, before) = ask_library(call, placement, areas);
     let front = areas.lent.front();
-    let (answer, written) = ask_second(call);
+    let (answer, written) = ask_second(call, search);
     let mut lent = before.clone();
     lent[front..front + written.len()].copy_from_slice(&written);
     Compared { expected: Left { answer, lent, inputs_kept: true }, given, before, front }
+}
+
+pub fn compare(call: &Call, placement: Placement, areas: &mut Areas) -> Compared {
+    compare_with(search(call).as_ref(), call, placement, areas)
+}
+
+/// Survey, scan and report of one search, which the second program works out once.
+pub fn compare_three(calls: &[Call; 3], placement: Placement, areas: &mut Areas) -> [Compared; 3] {
+    let search = search(&calls[0]);
+    calls.each_ref().map(|call| compare_with(search.as_ref(), call, placement, areas))
 }
 
 /// Document 01's own formulas for looks, held against what the library counted.

@@ -1,9 +1,10 @@
 //! What was compared: counts for each kind, and the first differences in words.
 
 use crate::cases::call::Call;
-use crate::cases::Kind;
+use crate::cases::{Case, Kind};
 use crate::memory::Placement;
 use crate::outlines::{Answer, Refusal};
+use crate::second::refusals::{LONGEST_LINE, LONGEST_RING};
 use crate::second::samples::bound;
 use std::collections::BTreeMap;
 
@@ -16,22 +17,46 @@ type Answers = BTreeMap<u32, u64>;
 /// Sums over the library's answers, which show that the cases have something to compare.
 #[derive(Clone, Copy)]
 enum Sum {
-    Calls,
-    Inputs,
     Behind,
     Before,
     Null,
     Found,
     Hidden,
     AtBound,
+    Longest,
 }
 
-const SUMS: usize = 8;
+const SUMS: usize = 7;
+
+/// What was compared of a kind: cases, the library's calls and the program's runs in them, and the cases that differ.
+#[derive(Clone, Copy, Default)]
+struct Counts {
+    cases: u64,
+    calls: u64,
+    runs: u64,
+    differing: u64,
+}
+
+impl Counts {
+    fn and(self, other: Counts) -> Counts {
+        Counts {
+            cases: self.cases + other.cases,
+            calls: self.calls + other.calls,
+            runs: self.runs + other.runs,
+            differing: self.differing + other.differing,
+        }
+    }
+
+    fn print(&self, name: &str) {
+        let Counts { cases, calls, runs, differing } = self;
+        println!("{name:<52} {cases:>8} {calls:>8} {runs:>8} {differing:>8}");
+    }
+}
 
 #[derive(Default)]
 pub struct Ledger {
-    /// For each kind, by its place: compared, and of those differing.
-    kinds: BTreeMap<usize, (u64, u64)>,
+    /// For each kind, by its place.
+    kinds: BTreeMap<usize, Counts>,
     sums: [u64; SUMS],
     answers: Answers,
     outputs: Answers,
@@ -44,6 +69,12 @@ fn at_bound(call: &Call, answer: &Answer) -> bool {
     answer.refusal == 0 && n >= m && answer.looks == bound(m, n)
 }
 
+/// The longest ring in the longest line.
+fn longest(call: &Call) -> bool {
+    let (Call::Survey(search) | Call::Scan(search) | Call::Report { search, .. }) = call else { return false };
+    search.ring.len() == LONGEST_RING && search.line.len() == LONGEST_LINE
+}
+
 impl Ledger {
     fn add(&mut self, sum: Sum, more: u64) {
         self.sums[sum as usize] += more;
@@ -51,40 +82,37 @@ impl Ledger {
 
     pub fn add_call(&mut self, call: &Call, placement: Placement, answer: &Answer) {
         *self.answers.entry(answer.refusal).or_default() += 1;
-        self.add(Sum::Calls, 1);
         self.add(Sum::Behind, u64::from(placement == Placement::Behind));
         self.add(Sum::Before, u64::from(placement == Placement::Before));
         self.add(Sum::Null, u64::from(placement == Placement::Null));
         self.add(Sum::AtBound, u64::from(at_bound(call, answer)));
+        self.add(Sum::Longest, u64::from(longest(call) && answer.refusal == 0));
         if !matches!(call, Call::Pack { .. } | Call::Unpack { .. }) {
             self.add(Sum::Found, answer.found);
             self.add(Sum::Hidden, answer.hidden);
         }
     }
 
-    pub fn add_round_trip(&mut self) {
-        self.add(Sum::Calls, 2);
-    }
-
     pub fn add_output(&mut self, text: &[u8]) {
-        self.add(Sum::Inputs, 1);
         let text = String::from_utf8_lossy(text);
         let number = text.strip_prefix("refused ").and_then(|rest| rest.split(' ').next()?.parse().ok());
         *self.outputs.entry(number.unwrap_or(0)).or_default() += 1;
     }
 
-    pub fn judge(&mut self, kind: usize, difference: Option<String>) {
-        let counts = self.kinds.entry(kind).or_default();
-        counts.0 += 1;
-        counts.1 += u64::from(difference.is_some());
+    pub fn judge(&mut self, kind: usize, case: &Case, difference: Option<String>) {
+        let (calls, runs) = case.calls_and_runs();
+        let judged = Counts { cases: 1, calls, runs, differing: u64::from(difference.is_some()) };
+        self.join_kind(kind, judged);
         self.told.extend(difference.filter(|_| self.told.len() < TOLD));
     }
 
+    fn join_kind(&mut self, kind: usize, more: Counts) {
+        let counts = self.kinds.entry(kind).or_default();
+        *counts = counts.and(more);
+    }
+
     pub fn join(&mut self, other: Ledger) {
-        for (kind, (compared, differing)) in other.kinds {
-            let counts = self.kinds.entry(kind).or_default();
-            *counts = (counts.0 + compared, counts.1 + differing);
-        }
+        other.kinds.into_iter().for_each(|(kind, counts)| self.join_kind(kind, counts));
         self.sums.iter_mut().zip(other.sums).for_each(|(sum, more)| *sum += more);
         for (mine, others) in [(&mut self.answers, other.answers), (&mut self.outputs, other.outputs)] {
             others.into_iter().for_each(|(number, count)| *mine.entry(number).or_default() += count);
@@ -93,24 +121,29 @@ impl Ledger {
         self.told.truncate(TOLD);
     }
 
+    fn total(&self) -> Counts {
+        self.kinds.values().fold(Counts::default(), |sum, &counts| sum.and(counts))
+    }
+
     pub fn compared(&self) -> u64 {
-        self.kinds.values().map(|counts| counts.0).sum()
+        self.total().cases
     }
 
     pub fn differing(&self) -> u64 {
-        self.kinds.values().map(|counts| counts.1).sum()
+        self.total().differing
     }
 
     pub fn print(&self, kinds: &[&Kind]) {
+        println!("{:<52} {:>8} {:>8} {:>8} {:>8}", "compared", "cases", "calls", "runs", "differ");
         for (place, kind) in kinds.iter().enumerate() {
-            let (compared, differing) = self.kinds.get(&place).copied().unwrap_or_default();
-            println!("{:<52} {compared:>7} compared, {differing} differ", kind.name);
+            self.kinds.get(&place).copied().unwrap_or_default().print(kind.name);
         }
-        let [calls, inputs, behind, before, null, found, hidden, at_bound] = self.sums;
-        println!("library calls: {calls}; program runs: {inputs}");
+        self.total().print("in all");
+        let [behind, before, null, found, hidden, at_bound, longest] = self.sums;
         println!("calls flush against an inaccessible page, inputs read-only: {behind} behind, {before} before");
         println!("calls with null pointers for empty slices: {null}; all other open sides have canaries");
         println!("findings: {found}, of them hidden: {hidden}; scans that reach the look bound: {at_bound}");
+        println!("accepted calls with 256 edges in a line of 65,536: {longest}");
         for (whose, answers) in [("library", &self.answers), ("program", &self.outputs)] {
             let listed: Vec<String> = answers.iter().map(|(number, count)| format!("{number}: {count}")).collect();
             println!("answers of the {whose} by refusal, 0 accepted: {}", listed.join(", "));

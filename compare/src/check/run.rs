@@ -1,10 +1,10 @@
 //! The whole run: two workers over all cases, and a watch that ends a case which does not.
 
-use super::calls::{compare, Areas};
+use super::calls::{compare, compare_three, Areas};
 use super::crash;
 use super::ledger::Ledger;
 use super::program::{self, Program, Slot};
-use crate::cases::{kinds, locate, Case, Kind};
+use crate::cases::{kinds, locate, Case, Choice, Kind};
 use crate::outlines::{self, Counts};
 use std::panic::{catch_unwind, AssertUnwindSafe};
 use std::sync::atomic::{AtomicU64, Ordering::Relaxed};
@@ -18,13 +18,24 @@ const LONGEST_CASE: Duration = Duration::from_secs(60);
 pub struct Plan {
     pub seed: u64,
     pub program: Option<Program>,
+    pub choice: Choice,
     pub kinds: Vec<&'static Kind>,
 }
 
 impl Plan {
-    pub fn new(seed: u64, program: Option<Program>) -> Plan {
-        let kinds = kinds(program.is_some());
-        Plan { seed, program, kinds }
+    pub fn new(seed: u64, program: Option<Program>, long: bool) -> Plan {
+        let choice = match &program {
+            _ if long => Choice::Long,
+            Some(_) => Choice::All,
+            None => Choice::Calls,
+        };
+        Plan { seed, program, choice, kinds: kinds(choice) }
+    }
+
+    /// The words with which a case of this run is made again.
+    fn words(&self, case: u64) -> String {
+        let long = if self.choice == Choice::Long { "--long " } else { "" };
+        format!("{long}--seed {} --case {case}", self.seed)
     }
 
     pub fn intended(&self) -> u64 {
@@ -67,10 +78,14 @@ impl<'a> Worker<'a> {
                 self.ledger.add_call(call, *placement, &compared.given.answer);
                 compared.difference(call)
             }
-            Case::RoundTrip(words) => {
-                self.ledger.add_round_trip();
-                round_trip(words)
+            Case::Three(calls, placement) => {
+                let compared = compare_three(calls, *placement, &mut self.areas);
+                for (call, compared) in calls.iter().zip(&compared) {
+                    self.ledger.add_call(call, *placement, &compared.given.answer);
+                }
+                calls.iter().zip(compared).find_map(|(call, compared)| compared.difference(call))
             }
+            Case::RoundTrip(words) => round_trip(words),
             Case::Input(input) => {
                 let program = self.plan.program.as_ref().expect("inputs are planned with a program only");
                 let given = program::run(program, input, &self.post.child);
@@ -90,12 +105,12 @@ impl<'a> Worker<'a> {
         self.post.case.store(number, Relaxed);
         let (place, index) = locate(&self.plan.kinds, number)?;
         let kind = self.plan.kinds[place];
-        let case = kind.case(self.plan.seed, place, index);
+        let case = kind.case(self.plan.seed, index);
         let found = catch_unwind(AssertUnwindSafe(|| self.difference(&case)))
             .unwrap_or_else(|_| Some("the comparison itself gave up, see above".to_string()));
-        let seed = self.plan.seed;
-        let told = found.map(|what| format!("--seed {seed} --case {number} ({}): {what}\n  {case}", kind.name));
-        self.ledger.judge(place, told.clone());
+        let words = self.plan.words(number);
+        let told = found.map(|what| format!("{words} ({}): {what}\n  {case}", kind.name));
+        self.ledger.judge(place, &case, told.clone());
         told
     }
 }

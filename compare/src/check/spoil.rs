@@ -14,7 +14,8 @@ const fn way(name: &'static str, spoil: fn(&Call, &mut Compared) -> bool) -> Way
     Way { name, spoil }
 }
 
-pub static WAYS: &[Way] = &[
+/// Ways to spoil an accepted search.
+pub static OF_SEARCHES: &[Way] = &[
     way("a finding dropped", finding_dropped),
     way("a rotation one too high", rotation_too_high),
     way("a distance one too low", distance_too_low),
@@ -25,6 +26,11 @@ pub static WAYS: &[Way] = &[
     way("a word written behind the last", word_behind),
     way("a byte written behind the lent area", byte_behind_area),
     way("a byte written before the lent area", byte_before_area),
+    way("an input written to", input_written),
+];
+
+/// Ways to spoil a refusal and the calls of the book.
+pub static OF_REFUSALS_AND_BOOKS: &[Way] = &[
     way("a refusal's number changed", refusal_number),
     way("a refusal's place changed", refusal_place),
     way("a refusal with a count", refusal_count),
@@ -32,7 +38,6 @@ pub static WAYS: &[Way] = &[
     way("a refusal taken for accepted", refusal_accepted),
     way("a byte of a packed book changed", packed_byte),
     way("a word of an unpacked book changed", unpacked_word),
-    way("an input written to", input_written),
 ];
 
 /// Shown findings of an accepted search.

@@ -1,18 +1,21 @@
 //! The comparison on trial: each way of spoiling an answer has to be noticed.
 
-use super::calls::{compare, Areas};
+use super::calls::{compare, compare_three, Areas, Compared};
 use super::crash;
 use super::program::{self, Slot};
 use super::run::Plan;
-use super::spoil::WAYS;
+use super::spoil::{Way, OF_REFUSALS_AND_BOOKS, OF_SEARCHES};
 use crate::cases::{Call, Case};
 use crate::memory::{Area, Placement};
+use crate::rows::Lines;
 use std::process::{Command, Stdio};
 
 /// Cases of each kind that are spoilt.
 const SHARE: u64 = 150;
 /// The same for the program, where each case costs a process.
 const SHARE_OF_INPUTS: u64 = 12;
+/// The same for long rings and lines, whose areas are copied for every way.
+const SHARE_OF_LONG: u64 = 16;
 
 /// What was spoilt and, of that, noticed.
 #[derive(Clone, Copy, Default)]
@@ -28,25 +31,41 @@ impl Noticed {
     }
 }
 
+/// Some ways on trial, with what was noticed of each.
+struct Trial {
+    ways: &'static [Way],
+    noticed: Vec<Noticed>,
+}
+
+impl Trial {
+    fn new(ways: &'static [Way]) -> Trial {
+        Trial { ways, noticed: vec![Noticed::default(); ways.len()] }
+    }
+
+    /// Only an answer that agrees is spoilt: in another one there would be something to notice anyway.
+    fn spoil(&mut self, call: &Call, compared: &Compared) {
+        if compared.difference(call).is_some() {
+            return;
+        }
+        for (way, noticed) in self.ways.iter().zip(&mut self.noticed) {
+            let mut spoilt = compared.clone();
+            if (way.spoil)(call, &mut spoilt) {
+                noticed.add(spoilt.difference(call).is_some());
+            }
+        }
+    }
+
+    fn told(&self, prefix: &str) -> Vec<bool> {
+        let ways = self.ways.iter().zip(&self.noticed);
+        ways.map(|(way, &noticed)| told(&format!("{prefix}{}", way.name), noticed)).collect()
+    }
+}
+
 /// Lines too long to be copied for every way.
 fn long(call: &Call) -> bool {
     match call {
         Call::Survey(search) | Call::Scan(search) | Call::Report { search, .. } => search.line.len() > 5_000,
         Call::Pack { .. } | Call::Unpack { .. } => false,
-    }
-}
-
-/// Only an answer that agrees is spoilt: in another one there would be something to notice anyway.
-fn spoil_call(call: &Call, placement: Placement, areas: &mut Areas, ways: &mut [Noticed]) {
-    let compared = compare(call, placement, areas);
-    if compared.difference(call).is_some() {
-        return;
-    }
-    for (way, noticed) in WAYS.iter().zip(ways) {
-        let mut spoilt = compared.clone();
-        if (way.spoil)(call, &mut spoilt) {
-            noticed.add(spoilt.difference(call).is_some());
-        }
     }
 }
 
@@ -114,24 +133,62 @@ fn told(name: &str, noticed: Noticed) -> bool {
     spoilt > 0 && noticed == spoilt
 }
 
+type LinesWay = (&'static str, fn(&mut Vec<String>));
+
+/// The same for the stored lines of the samples.
+const LINES_WAYS: [LinesWay; 4] = [
+    ("samples: a digit of a line changed", |lines| {
+        let line = lines.len() / 2;
+        lines[line] = lines[line].replacen('0', "1", 1);
+    }),
+    ("samples: a line missing", |lines| drop(lines.remove(0))),
+    ("samples: a line more", |lines| lines.push("\n".to_string())),
+    ("samples: the last line's end missing", |lines| {
+        let last = lines.len() - 1;
+        lines[last].pop();
+    }),
+];
+
+fn spoil_lines(samples: Lines) -> Vec<bool> {
+    let trial = |&(name, spoil): &LinesWay| {
+        let mut spoilt = Lines { made: samples.made.clone(), stored: samples.made.clone() };
+        spoil(&mut spoilt.stored);
+        let mut noticed = Noticed::default();
+        noticed.add(!spoilt.differences().is_empty());
+        told(name, noticed)
+    };
+    LINES_WAYS.iter().map(trial).collect()
+}
+
 /// Prints a line for each way; returns the ways that passed and that failed.
-pub fn run_trial(plan: &Plan) -> (usize, usize) {
-    let (mut ways, mut text_ways) = (vec![Noticed::default(); WAYS.len()], [Noticed::default(); TEXT_WAYS.len()]);
+pub fn run_trial(plan: &Plan, samples: Option<Lines>) -> (usize, usize) {
+    let (mut searches, mut others) = (Trial::new(OF_SEARCHES), Trial::new(OF_REFUSALS_AND_BOOKS));
+    let mut of_long = Trial::new(OF_SEARCHES);
+    let mut text_ways = [Noticed::default(); TEXT_WAYS.len()];
     let mut areas = Areas::new();
-    for (place, kind) in plan.kinds.iter().enumerate() {
+    for kind in &plan.kinds {
         for number in 0..SHARE.min(kind.count) {
-            let case = kind.case(plan.seed, place, number * kind.count / SHARE.min(kind.count));
+            let case = kind.case(plan.seed, number * kind.count / SHARE.min(kind.count));
             match &case {
-                Case::Call(call, placement) if !long(call) => spoil_call(call, *placement, &mut areas, &mut ways),
+                Case::Call(call, placement) if !long(call) => {
+                    let compared = compare(call, *placement, &mut areas);
+                    searches.spoil(call, &compared);
+                    others.spoil(call, &compared);
+                }
+                Case::Three(calls, placement) if number < SHARE_OF_LONG => {
+                    let compared = compare_three(calls, *placement, &mut areas);
+                    calls.iter().zip(&compared).for_each(|(call, compared)| of_long.spoil(call, compared));
+                }
                 Case::Input(_) if number < SHARE_OF_INPUTS => spoil_output(plan, &case, &mut text_ways),
                 _ => {}
             }
         }
     }
-    let mut results: Vec<bool> = WAYS.iter().zip(ways).map(|(way, noticed)| told(way.name, noticed)).collect();
+    let mut results = [searches.told(""), others.told(""), of_long.told("long: ")].concat();
     if plan.program.is_some() {
         results.extend(TEXT_WAYS.iter().zip(text_ways).map(|(way, noticed)| told(way.0, noticed)));
     }
+    results.extend(samples.map(spoil_lines).unwrap_or_default());
     for (which, name) in OVERSTEPS {
         let mut noticed = Noticed::default();
         noticed.add(guard_holds(which));

@@ -4,6 +4,7 @@ use super::book::{self, Silence, FIELD};
 use super::meaning::{findings, Finding};
 use super::refusals::{self, refuse_if, Refused};
 use super::rules::{plain_survey, quick_scan, Searched};
+use std::cell::OnceCell;
 
 #[derive(Clone, Debug, Default, PartialEq, Eq)]
 pub struct Answered<T> {
@@ -16,17 +17,29 @@ pub struct Answered<T> {
 pub type Outcome<T> = Result<Answered<T>, Refused>;
 
 pub struct Search<'a> {
-    pub ring: &'a [u8],
-    pub line: &'a [u8],
-    pub allowance: usize,
-    pub room: usize,
+    ring: &'a [u8],
+    line: &'a [u8],
+    allowance: usize,
+    room: usize,
+    /// The findings by their meaning and the quick scan: worked out once, however many calls are asked of this search.
+    meant: OnceCell<Vec<Finding>>,
+    scanned: OnceCell<Searched>,
 }
 
 fn words(findings: &[Finding]) -> Vec<u32> {
     findings.iter().flat_map(|f| [f.start as u32, f.rotation as u32, f.distance as u32]).collect()
 }
 
-impl Search<'_> {
+fn all_shown(searched: &Searched) -> Answered<u32> {
+    let Searched { findings, looks, .. } = searched;
+    Answered { found: findings.len(), hidden: 0, looks: *looks, written: words(findings) }
+}
+
+impl<'a> Search<'a> {
+    pub fn new(ring: &'a [u8], line: &'a [u8], allowance: usize, room: usize) -> Search<'a> {
+        Search { ring, line, allowance, room, meant: OnceCell::new(), scanned: OnceCell::new() }
+    }
+
     fn refusals(&self) -> Result<(), Refused> {
         refusals::search(self.ring, self.line, self.allowance, self.room)
     }
@@ -34,34 +47,32 @@ impl Search<'_> {
     /// The findings come from their meaning. That the rules lead to the same ones is document 01's own claim, so a
     /// second program in which they differ is wrong itself and must not judge anything.
     fn checked(&self, searched: Searched) -> Searched {
-        let meant = findings(self.ring, self.line, self.allowance);
-        assert_eq!(searched.findings, meant, "the rules and the meaning of a finding differ");
+        let meant = self.meant.get_or_init(|| findings(self.ring, self.line, self.allowance));
+        assert_eq!(searched.findings, *meant, "the rules and the meaning of a finding differ");
         searched
     }
 
-    fn all_findings(&self, search: fn(&[u8], &[u8], usize) -> Searched) -> Outcome<u32> {
-        self.refusals()?;
-        let searched = self.checked(search(self.ring, self.line, self.allowance));
-        let (found, looks) = (searched.findings.len(), searched.looks);
-        Ok(Answered { found, hidden: 0, looks, written: words(&searched.findings) })
+    fn scanned(&self) -> &Searched {
+        self.scanned.get_or_init(|| self.checked(quick_scan(self.ring, self.line, self.allowance)))
     }
 
     pub fn survey(&self) -> Outcome<u32> {
-        self.all_findings(plain_survey)
+        self.refusals()?;
+        Ok(all_shown(&self.checked(plain_survey(self.ring, self.line, self.allowance))))
     }
 
     pub fn scan(&self) -> Outcome<u32> {
-        self.all_findings(quick_scan)
+        self.refusals()?;
+        Ok(all_shown(self.scanned()))
     }
 
     pub fn report(&self, cell: u32, ring_number: u16, book: &[u8]) -> Outcome<u32> {
         self.refusals()?;
         let silences = book::read(book)?;
-        let searched = self.checked(quick_scan(self.ring, self.line, self.allowance));
+        let Searched { findings, looks, .. } = self.scanned();
         let silent = |f: &Finding| silences.contains(&Silence { cell, ring_number, start: f.start as u32 });
-        let (hidden, shown): (Vec<Finding>, Vec<Finding>) = searched.findings.iter().partition(|f| silent(f));
-        let (found, hidden) = (searched.findings.len(), hidden.len());
-        Ok(Answered { found, hidden, looks: searched.looks, written: words(&shown) })
+        let (hidden, shown): (Vec<Finding>, Vec<Finding>) = findings.iter().partition(|f| silent(f));
+        Ok(Answered { found: findings.len(), hidden: hidden.len(), looks: *looks, written: words(&shown) })
     }
 }
 

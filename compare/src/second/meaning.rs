@@ -13,10 +13,12 @@ pub fn rotations(ring: &[u8]) -> Vec<Vec<u8>> {
     (0..m).map(|r| (0..m).map(|q| ring[(r + q) % m]).collect()).collect()
 }
 
-/// Counted in 16 bits, which hold every ring length: the wider sum takes the longest lines too long.
+/// Counted in bytes, a part of the window at a time: a wider sum takes the longest lines too long.
 pub fn distance(window: &[u8], rotation: &[u8]) -> usize {
-    let differing: u16 = window.iter().zip(rotation).map(|(a, b)| u16::from(a != b)).sum();
-    usize::from(differing)
+    const PART: usize = 128;
+    let differing =
+        |(part, other): (&[u8], &[u8])| -> u8 { part.iter().zip(other).map(|(a, b)| u8::from(a != b)).sum() };
+    window.chunks(PART).zip(rotation.chunks(PART)).map(|parts| usize::from(differing(parts))).sum()
 }
 
 /// The least distance and the lowest rotation that reaches it, if that makes the start a finding.
@@ -24,6 +26,11 @@ pub fn judge(start: usize, distances: &[usize], allowance: usize) -> Option<Find
     let least = *distances.iter().min()?;
     let rotation = distances.iter().position(|&distance| distance == least)?;
     (least <= allowance).then_some(Finding { start, rotation, distance: least })
+}
+
+/// The least distance of a window over all rotations.
+pub fn nearest(window: &[u8], ring: &[u8]) -> usize {
+    rotations(ring).iter().map(|rotation| distance(window, rotation)).min().unwrap_or(0)
 }
 
 pub fn findings(ring: &[u8], line: &[u8], allowance: usize) -> Vec<Finding> {

@@ -35,7 +35,7 @@ fn reported(input: &[u8]) -> Result<String, Refused> {
     let (cell, ring_number, allowance) = (number(values[0]), number(values[1]), number(values[2]));
     let (ring, line) = (values[3], values[4]);
     // The program lends itself room enough, so refusal 4 never comes of it.
-    let search = Search { ring, line, allowance, room: 3 * (line.len() + 1) };
+    let search = Search::new(ring, line, allowance, 3 * (line.len() + 1));
     let answered = search.report(cell as u32, ring_number as u16, book)?;
     let mut text = format!("cell {cell} ring {ring_number} edges {} allow {allowance}\n", ring.len());
     for shown in answered.written.chunks(3) {

@@ -10,20 +10,61 @@ pub struct Searched {
     pub looks: u64,
 }
 
+/// "A stretch of at most m edges fits the ring if it is the beginning of some rotation."
 fn fits(stretch: &[u8], rotations: &[Vec<u8>]) -> bool {
     rotations.iter().any(|rotation| rotation.starts_with(stretch))
 }
 
+/// The stretch of rule 2 by the rotations that it begins: to try every rotation anew at each edge takes too long where the
+/// ring is long.
+struct Stretch {
+    /// By rotation; behind the last one rotation 0 comes again.
+    begins: Vec<bool>,
+}
+
+impl Stretch {
+    /// The empty stretch begins every rotation.
+    fn empty(m: usize) -> Stretch {
+        Stretch { begins: vec![true; m + 1] }
+    }
+
+    /// Grows to the left by an edge and returns whether it still fits. It then begins rotation r exactly when that edge is
+    /// rotation r's first one, which is the ring's edge r, and what was held begins rotation r + 1.
+    fn grow(&mut self, ring: &[u8], edge: u8) -> bool {
+        let m = ring.len();
+        let begins = &mut self.begins[..m + 1];
+        let mut fits = false;
+        for r in 0..m {
+            begins[r] = begins[r + 1] & (ring[r] == edge);
+            fits |= begins[r];
+        }
+        begins[m] = begins[0];
+        fits
+    }
+
+    fn clear(&mut self) {
+        self.begins.fill(true);
+    }
+}
+
+/// On rings up to this length each fit is also decided by its definition.
+const SHORT_RING: usize = 16;
+
 /// Rules 1 to 3 on one window: the edges read and the breaks.
 fn read_window(window: &[u8], rotations: &[Vec<u8>], allowance: usize, looks: &mut u64) -> (usize, usize) {
-    let mut stretch: Vec<u8> = Vec::new();
-    let (mut read, mut breaks) = (0, 0);
-    for &edge in window.iter().rev() {
+    let ring = &rotations[0];
+    let mut stretch = Stretch::empty(ring.len());
+    let (mut read, mut breaks, mut held) = (0, 0, 0);
+    for (place, &edge) in window.iter().enumerate().rev() {
         *looks += 1;
         read += 1;
-        stretch.insert(0, edge);
-        if !fits(&stretch, rotations) {
+        held += 1;
+        let fitting = stretch.grow(ring, edge);
+        let checked = ring.len() > SHORT_RING || fitting == fits(&window[place..place + held], rotations);
+        assert!(checked, "the rotations that a stretch begins are not those held");
+        if !fitting {
             breaks += 1;
+            held = 0;
             stretch.clear();
         }
         if breaks == allowance + 1 {
@@ -31,6 +72,11 @@ fn read_window(window: &[u8], rotations: &[Vec<u8>], allowance: usize, looks: &m
         }
     }
     (read, breaks)
+}
+
+/// The breaks of a window that is read to its first edge, however many they are.
+pub fn breaks(window: &[u8], ring: &[u8]) -> usize {
+    read_window(window, &rotations(ring), ring.len(), &mut 0).1
 }
 
 /// Rule 5: only the way since the last verified start decides, whatever windows were left in between.

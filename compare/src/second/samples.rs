@@ -61,7 +61,7 @@ pub fn bound(m: u64, n: u64) -> u64 {
 impl Sample {
     pub fn search(&self) -> Search<'_> {
         let (ring, line) = (self.ring.as_bytes(), self.line.as_bytes());
-        Search { ring, line, allowance: self.allowance, room: 3 * (line.len() + 1) }
+        Search::new(ring, line, self.allowance, 3 * (line.len() + 1))
     }
 
     fn holds(&self) -> bool {

@@ -1,0 +1,45 @@
+//! What a row gives to its call: edges, words and books.
+
+use super::table::{number, Row};
+use crate::second::book::{Silence, FIELD};
+
+/// The records for which `*` stands.
+const ALL_RECORDS: u32 = 1_001;
+
+/// "Letters stand for their codes, `#` begins a list of codes, and `*` begins the first code, the last one and how many
+/// edges there are, of codes that rise by one and after the last one begin again at 0."
+pub fn edges(text: &str) -> Vec<u8> {
+    let numbers = |list: &str| -> Vec<usize> { list.split(' ').map(number).collect() };
+    if let Some(list) = text.strip_prefix('#') {
+        return numbers(list).into_iter().map(|code| code as u8).collect();
+    }
+    let Some(rising) = text.strip_prefix('*') else { return text.bytes().collect() };
+    let [first, last, count] = numbers(rising)[..] else { panic!("{text}: not three numbers") };
+    let next = |&code: &usize| Some(if code < last { code + 1 } else { 0 });
+    std::iter::successors(Some(first), next).map(|code| code as u8).take(count).collect()
+}
+
+/// "`*` in words stands for 1,001 records of cell 7, ring number 2 and every start from 0 on."
+pub fn words(row: &Row) -> Vec<u32> {
+    if row.text("words") == "*" {
+        return (0..ALL_RECORDS).flat_map(|start| [7, 2, start]).collect();
+    }
+    row.numbers("words").into_iter().map(|word| word as u32).collect()
+}
+
+pub fn silence(words: &[u32]) -> Silence {
+    Silence { cell: words[0], ring_number: words[1] as u16, start: words[2] }
+}
+
+/// So many bytes of the layout of the words, with one byte of them changed where the row gives a fault. A book that is left
+/// out is empty.
+pub fn book(row: &Row) -> Vec<u8> {
+    let length = row.number("bytes of their layout").unwrap_or(0);
+    let mut book: Vec<u8> = words(row).chunks(3).flat_map(|record| silence(record).field()).collect();
+    assert!(length <= book.len() && book.len() % FIELD == 0, "a book of {length} bytes has more than its layout");
+    book.truncate(length);
+    if let (Some(offset), Some(byte)) = (row.number("offset of a fault"), row.number("its byte")) {
+        book[offset] = byte as u8;
+    }
+    book
+}

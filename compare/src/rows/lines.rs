@@ -1,0 +1,147 @@
+//! The line of a row: the answer's numbers with their names, then what the call wrote.
+
+use super::given::{book, edges, silence, words};
+use super::table::Row;
+use crate::second::book::{read, Silence, FIELD};
+use crate::second::calls::{pack, unpack, Answered, Outcome, Search};
+use crate::second::program::output;
+
+/// The most bytes or words that are shown one by one; of more there is a checksum.
+const MOST_SHOWN: usize = 26;
+
+/// "A room that is left out is more than any call asks."
+fn room(row: &Row) -> usize {
+    row.number("room").unwrap_or(usize::MAX)
+}
+
+/// The bytes or the words that a call wrote.
+trait Written {
+    fn shown(&self) -> String;
+    /// As the checksum takes them: a byte counts as the word that has it four times.
+    fn as_words(&self) -> Vec<u32>;
+}
+
+impl Written for Vec<u8> {
+    fn shown(&self) -> String {
+        self.iter().map(|byte| format!(" {byte:02x}")).collect()
+    }
+
+    fn as_words(&self) -> Vec<u32> {
+        self.iter().map(|&byte| u32::from_ne_bytes([byte; 4])).collect()
+    }
+}
+
+impl Written for Vec<u32> {
+    fn shown(&self) -> String {
+        let three = |words: &[u32]| format!(" {},{},{}", words[0], words[1], words[2]);
+        self.chunks(3).map(three).collect()
+    }
+
+    fn as_words(&self) -> Vec<u32> {
+        self.clone()
+    }
+}
+
+/// 31 times the number before and the next word, mod 1,000,003.
+fn checksum(words: &[u32]) -> u64 {
+    words.iter().fold(0, |sum, &word| (31 * sum + u64::from(word)) % 1_000_003)
+}
+
+/// What was written; the second program writes nothing behind it.
+fn end(written: &impl Written) -> String {
+    let words = written.as_words();
+    let shown = if words.len() <= MOST_SHOWN { written.shown() } else { format!(" checksum {}", checksum(&words)) };
+    format!(" written {}{shown} behind kept", words.len())
+}
+
+/// The number, the place, the counts that this call returns, and what it wrote.
+fn line<T: Clone + Default>(outcome: Outcome<T>, counts: fn(&Answered<T>) -> String) -> String
+where
+    Vec<T>: Written,
+{
+    let (number, place) = outcome.as_ref().err().map_or((0, 0), |refused| (refused.number, refused.place));
+    let answered = outcome.unwrap_or_default();
+    format!(" number {number} place {place}{}{}", counts(&answered), end(&answered.written))
+}
+
+fn records<T>(answered: &Answered<T>) -> String {
+    format!(" records {}", answered.found)
+}
+
+fn found_and_looks<T>(answered: &Answered<T>) -> String {
+    format!(" found {} looks {}", answered.found, answered.looks)
+}
+
+fn found_hidden_looks<T>(answered: &Answered<T>) -> String {
+    format!(" found {} hidden {} looks {}", answered.found, answered.hidden, answered.looks)
+}
+
+fn packed(row: &Row) -> String {
+    let words = words(row);
+    let count = row.number("how many of them").unwrap_or(words.len());
+    line(pack(&words[..count], room(row)), records)
+}
+
+/// Reading is lent no room, so nothing is written.
+fn has_read(row: &Row) -> String {
+    let records_of = |records: Vec<Silence>| Answered::<u32> { found: records.len(), ..Answered::default() };
+    line(read(&book(row)).map(records_of), records)
+}
+
+/// The first field at or behind the offset that is not below the address, and the offset behind it. Document 01 has no such
+/// call: the report asks it of the book.
+fn sought(book: &[u8], from: usize, address: Silence) -> Option<(Silence, usize)> {
+    let field = book.get(from..)?.get(..FIELD)?;
+    let found = *read(field).ok()?.first()?;
+    if found < address {
+        return sought(book, from + FIELD, address);
+    }
+    Some((found, from + FIELD))
+}
+
+fn seek(row: &Row) -> String {
+    let from = row.number("from").expect("a seek has an offset");
+    let address: Vec<u32> = row.numbers("address").into_iter().map(|word| word as u32).collect();
+    let found = match sought(&book(row), from, silence(&address)) {
+        None => "nothing".to_string(),
+        Some((Silence { cell, ring_number, start }, next)) => {
+            format!("cell {cell} ring number {ring_number} start {start} next {next}")
+        }
+    };
+    format!(" from {from} {found}")
+}
+
+fn searched(call: &str, row: &Row) -> String {
+    let (ring, line_edges) = (edges(row.text("ring")), edges(row.text("line")));
+    let search = Search::new(&ring, &line_edges, row.number("k").expect("a search has an allowance"), room(row));
+    match call {
+        "scan" => line(search.scan(), found_and_looks),
+        "survey" => line(search.survey(), found_and_looks),
+        _ => {
+            let cell = row.number("cell").unwrap_or(0) as u32;
+            let ring_number = row.number("ring number").unwrap_or(0) as u16;
+            line(search.report(cell, ring_number, &book(row)), found_hidden_looks)
+        }
+    }
+}
+
+/// The program's whole text, behind the row's own line. Bytes behind those given are 0.
+fn answered(row: &Row) -> String {
+    let mut input = edges(row.text("the first bytes"));
+    let count = row.number("how many bytes there are").unwrap_or(input.len());
+    input.resize(count, 0);
+    format!("\n{}", output(&input).trim_end_matches('\n'))
+}
+
+/// What stands behind a row's name.
+pub fn answer(call: &str, row: &Row) -> String {
+    match call {
+        "pack" => packed(row),
+        "read" => has_read(row),
+        "unpack" => line(unpack(&book(row), room(row)), records),
+        "seek" => seek(row),
+        "scan" | "survey" | "report" => searched(call, row),
+        "answer" => answered(row),
+        _ => panic!("the table names a call {call}"),
+    }
+}
