@@ -1,6 +1,6 @@
--- The loop that moves the counts along the line: what is still to be moved from start i on comes to the same place as the whole way (`Moving`). The leaving
--- edge is the first of the window at i, the entering edge the last of the window at i + 1, so a turn is `stepOn`; it ends the way where the least
--- count is below `below`. The looks so far are at most 512 for each step, so none are lost.
+-- The loop of `move_along`: before the turn at start i, moving the steps that are left from here gives the same result as the whole move (`Moving`). The leaving edge
+-- is the first of the window at i, the entering edge the last of the window at i + 1, so a turn is `stepOn`; the move stops where the least count is below `below`.
+-- A step takes at most 512 looks, so the sum fits a machine word.
 use Prim.Native.Nat.{ℕ, zero, suc, _+_, _-_, _*_, _≤_, _<_}
 use mathlib.Core.Path.{_≡_, refl, sym, ap, _∙_}
 use mathlib.Core.List.{List}
@@ -25,7 +25,7 @@ module _ (ring line : List ℕ) (below : ℕ) where
   unfolding moveOn
   move-none at = refl
 
-  -- A step whose least count is below the bound ends the way.
+  -- A step whose least count is below the bound ends the move.
   pub move-stops : (left : ℕ) (at : CountsAt) → stepOn ring line at .least < below → moveOn ring line below (suc left) at ≡ stepOn ring line at
   unfolding moveOn
   move-stops left at near = rw (lt-ltb (stepOn ring line at .least) below near) refl
@@ -95,7 +95,7 @@ module _ (ring line : List ℕ) (from steps below : ℕ) (old : List ℕ) (can :
       least-of-step : stepOn ring line here-at .least ≡ z .least
       least-of-step = ap (λ (p : CountsAt). p .least) step-is
 
-      -- It ends the way.
+      -- It ends the move.
       pub moving-stops : z .least < below → IsMovedOn ring line from steps below old new (record { start = record { 0 = i + 1 }; least = z .least; looks = looks + z .looks })
       moving-stops near = record {
         is = sym step-is ∙ sym (move-stops ring line below (from + steps - (i + 1)) here-at (omega (arith, least-of-step)))

@@ -1,6 +1,5 @@
--- The tally moved along the line: by induction on the steps that are left, each place on the way has its start's tally, its least count is that start's least
--- distance, and every start passed has one that is not below the bound.
--- Assumes nothing.
+-- The tally moved along the line. By induction on the steps that are left: at each start on the way the counts are its tally and the least count is its least
+-- distance; and no start passed has a least distance below the bound.
 use Prim.Native.Nat.{ℕ, zero, suc, _+_, _-_, _*_, _≤_, _<_}
 use mathlib.Core.Path.{_≡_, refl, _∙_}
 use mathlib.Core.Bool.{true}
@@ -26,7 +25,7 @@ module _ (ring line : List ℕ) (below : ℕ) (some : 0 < length ring) (most : l
   abbrev m : ℕ
   m = length ring
 
-  -- From one place the tally came to another, in at most so many steps.
+  -- The tally is moved from one point to another, in at most `left` steps.
   record CameTo (at : CountsAt) (left : ℕ) (to : CountsAt) : Type 0 where
     pub start-le : to .start ≤ at .start + left
     pub at-le : at .start ≤ to .start
@@ -108,7 +107,7 @@ module _ (ring line : List ℕ) (below : ℕ) (some : 0 < length ring) (most : l
           some-step = λ _. omega (arith, next-start, on .at-le);
         }
 
-  -- So many steps, or fewer.
+  -- `left` steps, or fewer.
   came : (left : ℕ) (at : CountsAt) → Tallied ring line (at .start) (at .counts) → CameTo at left (moveOn ring line below left at)
   came zero at tallied = rw (move-none ring line below at) (came-none at tallied)
   came (suc left) at tallied = dite (decLt (stepOn ring line at .least) below)
@@ -126,7 +125,7 @@ module _ (ring line : List ℕ) (below : ℕ) (some : 0 < length ring) (most : l
         can-move-iff m (length old) (length line) from steps .1
         (record { fits = record { some-edge = some; most = most; room = omega (arith, tallied .size) }; most-line = most-line; in-line = in-line })
 
-    -- The tally moved from a start is the tally of the start that it came to.
+    -- The tally moved from a start is the tally of the start reached.
     pub moved-tallied : (new : List ℕ) (r : Reached) → IsMoved ring line from steps below old new r → IsReached ring line from steps below new r
     moved-tallied new r moved =
         let is : reachedWith r new ≡ moveOn ring line below steps (unmoved from old) = rw can-be at (moved .is) in

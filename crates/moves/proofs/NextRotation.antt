@@ -1,6 +1,4 @@
--- The next rotation's number, (r + 1) mod m, and the one before: every number below m is the next of one below m, of m − 1 where it is 0 and else of the one
--- before it.
--- Assumes nothing.
+-- The next rotation is (r + 1) mod m. Every number below m is the next of one below m: 0 of m − 1, any other of the number before it (`earlier`).
 use Prim.Native.Nat.{ℕ, _+_, _-_, _%_, _<_}
 use mathlib.Core.Path.{_≡_, refl, sym, subst, _∙_, ap}
 use mathlib.Core.Logic.{dite}

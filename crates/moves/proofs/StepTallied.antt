@@ -1,6 +1,6 @@
--- A step of the counts is a step of the tally: from the tally of start i, with the first edge of its window leaving and the last edge of the next
--- window entering, the counts become the tally of start i + 1. No count wraps: it has the leaving edge's comparison to lose, since that is one of those
--- counted, and is at most 256.
+-- A step of the counts is a step of the tally: from the tally of start i, with the first edge of its window leaving and the last edge of the next window entering,
+-- the counts become the tally of start i + 1. No count wraps: the leaving edge's comparison is one of those counted, so a count that loses 1 is at least 1; and no
+-- count is above 256.
 use Prim.Native.Nat.{ℕ, suc, _+_, _-_, _%_, _≤_, _<_}
 use mathlib.Core.Path.{_≡_, ap, _∙_}
 use mathlib.Core.List.{List}

@@ -1,6 +1,6 @@
--- What the two walks of this crate share: `move_along` and `move_tally`, which they call, both take a reference, the ring, the line and three numbers; and so do they, but
--- that `moved_tally` has the tally by value. A walk carries what the reference, the ring and the line own; what a number owns is made anew wherever it is asked for.
--- Assumes nothing.
+-- What the two walks of this crate share. Their callees, `move_along` and `move_tally`, take a reference, the ring, the line, a line place and two numbers; so do they
+-- themselves, but `moved_tally` takes the tally by value. A walk carries what the reference, the ring and the line own; what a place or a number owns is made anew
+-- where it is needed.
 use Prim.Native.Nat.{ℕ, _<_, _^_}
 use mathlib.Core.Path.{refl}
 use mathlib.Core.List.{[], _∷_, List}

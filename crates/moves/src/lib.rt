@@ -1,7 +1,7 @@
 // The tally moved along the line, a step at a time: rule 5's steps.
 //
-// What `move_counts` answers on every input, whatever the counts hold, stands in specs/Moves.antt; that from a start's
-// tally it comes to the tally of the start reached is `moved-tallied` in proofs/MovedTallied.antt. It has no `requires`.
+// The contract of `move_counts`, for every input and whatever the counts hold, is in specs/Moves.antt. If they are the tally of
+// a start, they are moved to the tally of the start reached: `moved-tallied` in proofs/MovedTallied.antt. It has no `requires`.
 mod moving;
 mod steps;
 

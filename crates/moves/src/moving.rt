@@ -15,13 +15,13 @@ pub struct Tally {
     pub counts: [u16; MOST_COUNTS],
 }
 
-// The tally after it was moved, and where it came to.
+// The tally after a move, and what the move returned.
 pub struct Moved {
     pub tally: Tally,
     pub reached: Reached,
 }
 
-// The tally, lent, is moved along the line: its counts are lent on.
+// Moves a lent tally along the line: it lends the counts on to `move_along`.
 fn move_tally(
     tally: &mut Tally,
     ring: &[u8],
@@ -36,7 +36,7 @@ fn move_tally(
     move_along(&mut tally.counts, ring, line, from, steps, below)
 }
 
-// The tally by value is lent from here, so that callers hold no reference to it.
+// Takes the tally by value and lends it to `move_tally`, so that callers hold no reference to it.
 fn moved_tally(
     tally: Tally,
     ring: &[u8],
@@ -56,9 +56,9 @@ fn moved_tally(
     }
 }
 
-// Whether the tally of a ring of m edges can be moved so many steps: a count for each rotation, and a window in the line
-// after each step. The places are compared before anything is added to them, so nothing overflows. The counts are always
-// 256; their length is asked since a contract does not know it of an array that is lent.
+// Whether the tally of a ring of m edges can be moved `steps` steps: a count for each rotation, and a window in the line after
+// each step. The places are compared before anything is added to them, so nothing overflows. There are always 256 counts;
+// their number is a parameter because a contract does not know the length of a lent array.
 fn can_move(m: usize, room: usize, n: usize, from: LinePlace, steps: usize) -> bool
     ensures { λ r. ⌜ r ≡ canMove m room n (from .0) steps ⌝ }
 {
@@ -84,8 +84,8 @@ fn can_move(m: usize, room: usize, n: usize, from: LinePlace, steps: usize) -> b
     steps <= n - m - start
 }
 
-// The counts of a search moved along, or left alone where they cannot be. They go into a tally and come back once, however
-// many steps it moves: each way is a copy of 512 bytes.
+// Moves the counts of a search along the line, or leaves them as they are where they cannot be moved. They are copied into a
+// tally and back once, 512 bytes each way, whatever the number of steps.
 pub fn move_counts(
     counts: &mut [u16; MOST_COUNTS],
     ring: &[u8],

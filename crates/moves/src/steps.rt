@@ -69,7 +69,7 @@ fn renumber(counts: &mut [u16; MOST_COUNTS], m: usize)
     counts[0] = last;
 }
 
-// One step. That the least was found before the renumbering does not matter: it moves no count's value.
+// One step. The least is found before the renumbering, which leaves it: it only moves the counts.
 fn step(counts: &mut [u16; MOST_COUNTS], ring: &[u8], leaving: u8, entering: u8) -> Least
     requires { ⌜ RingFits (length (now ring)) (length (now counts)) ⌝ }
     ensures { λ z. ⌜ IsStepped (now (ring .entry)) leaving entering (now (counts .entry)) (now (counts .exit)) z ⌝ }
@@ -79,14 +79,14 @@ fn step(counts: &mut [u16; MOST_COUNTS], ring: &[u8], leaving: u8, entering: u8)
     least
 }
 
-// Where moved counts came to: the start, the least of its counts, and the looks of the steps.
+// The start reached by a move, the least of its counts, and the looks of the steps.
 pub struct Reached {
     pub start: LinePlace,
     pub least: usize,
     pub looks: usize,
 }
 
-// The counts moved along the line: so many steps, or to the first start on the way whose least count is below `below`. The
+// Moves the counts along the line: `steps` steps, or to the first start on the way whose least count is below `below`. The
 // leaving edge is the first of the window that is left, the entering edge the last of the next one.
 pub fn move_along(
     counts: &mut [u16; MOST_COUNTS],

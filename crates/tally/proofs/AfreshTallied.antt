@@ -1,7 +1,5 @@
--- A window counted afresh over the doubled ring has its tally: the doubled ring's edge at q + r is the ring's at (r + q) mod m, rotation r's at q. So each count
--- is the distance of the window, read as a line of its own, under its rotation. A window that is handed out alone has at 0 the distances that it has in the
--- line at its start.
--- Assumes nothing.
+-- A window counted afresh over the doubled ring gives its tally: the doubled ring's edge at q + r is the ring's at (r + q) mod m, rotation r's at q. So each count
+-- is the distance of the window, read as a line of its own from place 0 on, under its rotation; and that is its distance at its start in the line.
 use Prim.Native.Nat.{ℕ, _+_, _≤_, _<_}
 use mathlib.Core.Path.{_≡_, sym, ap, _∙_}
 use mathlib.Core.Bool.{true}

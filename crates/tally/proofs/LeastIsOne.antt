@@ -1,6 +1,4 @@
--- The least of the counts is computed: it is the count at the lowest place with as little. None is below it and one is as low, and of two such numbers
--- neither is lower.
--- Assumes nothing.
+-- `leastOf` computes the least count, and there is only one least: no count is below it and one equals it, so of two such numbers neither is lower.
 use Prim.Native.Nat.{ℕ, _<_}
 use mathlib.Core.Path.{_≡_, refl}
 use mathlib.Core.List.{List}

@@ -1,5 +1,6 @@
--- The least of the first r counts, kept in a loop's own pass. It begins with some number `top`: a turn takes the count at r where that is less, and else keeps
--- what it has. At the end it is the least count if `top` is no count's least, or is the first count. A loop may store the count at r in the same turn (`-stored-`).
+-- The least of the first r counts, found in a loop's own pass. It begins with a number `top`; a turn takes the count at r where that is less, and else keeps the
+-- least. At the end it is `top` or one of the counts; where it is `top`, the caller shows that the first count equals it. A loop may store the count at r in the same
+-- turn (the laws with `-stored-`).
 use Prim.Native.Nat.{ℕ, _+_, _≤_, _<_}
 use mathlib.Core.Path.{_≡_, refl, _∙_}
 use mathlib.Core.List.{List}

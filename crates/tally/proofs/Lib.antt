@@ -1,6 +1,6 @@
 -- Laws behind the tally, one module for each idea; the functions' proofs cite them. In the order in which they build on each other.
 pub mod WindowEdges
--- Lists given place by place, and loops over counts.
+-- Loops over counts.
 pub mod LeastSoFar
 pub mod LeastIsOne
 pub mod LowestLoop

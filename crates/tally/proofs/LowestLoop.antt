@@ -1,6 +1,5 @@
--- The loop of `lowest_rotation`: what is still to be sought from r on is the answer. A turn whose count is the one sought ends it, any other goes on. For
--- the least of the counts the answer is the lowest rotation that has it.
--- Assumes nothing.
+-- The loop of `lowest_rotation`: before turn r the answer is still among the rotations from r on. A turn whose count is the one sought returns r, any other goes on.
+-- For the least count the answer is the lowest rotation that has it.
 use Prim.Native.Nat.{ℕ, zero, suc, _+_, _-_, _≤_, _<_, min}
 use mathlib.Core.Path.{_≡_, refl, sym, ap, _∙_}
 use mathlib.Core.List.{List}

@@ -1,5 +1,4 @@
 -- Any two answers that meet a contract of this crate are equal, and the counts at exit too: each contract is an equation for every part of the answer.
--- Assumes nothing.
 use Prim.Native.Nat.{ℕ}
 use mathlib.Core.Path.{_≡_, sym, _∙_}
 use mathlib.Core.List.{List}

@@ -1,6 +1,5 @@
--- A window handed out as a part of the line: at a start the part from i to i + m, at any other place the empty part. At a start it has m edges, and they are the
--- line's from its start on.
--- Assumes nothing.
+-- The window that `window` returns: where m edges fit in the line from i on, the part from i to i + m, else the empty part. In the first case it has m edges, the
+-- line's from i on.
 use Prim.Native.Nat.{ℕ, _+_, _-_, _≤_, _<_}
 use mathlib.Core.Path.{_≡_, refl, sym, ap, _∙_}
 use mathlib.Core.List.{List, []}

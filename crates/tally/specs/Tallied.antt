@@ -1,11 +1,9 @@
--- What the counts hold at a start. `Tallied` is the one place that says under which number a rotation's count is kept: under the rotation's own. So a
--- step renumbers.
+-- The counts that are a start's tally. `Tallied` alone says under which number a rotation's count is kept: under the rotation's own. So a step renumbers.
 --
 --   Tallied       "the tally of one count per rotation", at a start
 --   TallyFits     a ring that a tally has room for
---   Verified      a start's tally, its least count and the looks that it took
+--   Verified      a start's tally, its least count and its looks
 --   IsLowestAt    the lowest rotation whose count is the least
--- Assumes nothing.
 use Prim.Native.Nat.{ℕ, _≤_, _<_}
 use mathlib.Core.Path.{_≡_}
 use mathlib.Core.List.{List}
@@ -24,7 +22,7 @@ pub record TallyFits (ring counts : List ℕ) : Type 0 where
   pub some-edge : 0 < length ring
   pub most : length ring ≤ mostCounts
 
--- A verified start: its tally, the least of its counts, and the looks that it took.
+-- A verified start: its tally, the least of its counts, and the looks of its verification.
 pub record Verified (ring line : List ℕ) (i looks : ℕ) (counts : List ℕ) (least looked : ℕ) : Type 0 where
   pub tallied : Tallied ring line i counts
   pub least-is : IsLeast (length ring) counts least

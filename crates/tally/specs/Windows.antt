@@ -1,5 +1,4 @@
--- The window of a line place, as `window` hands it out.
--- Assumes nothing.
+-- The window at a line place, as `window` returns it.
 use Prim.Native.Nat.{ℕ, _+_}
 use mathlib.Core.Path.{_≡_}
 use mathlib.Core.Bool.{cond}
@@ -8,10 +7,10 @@ use lib.Dec.{leb}
 use lib.ListN.{length}
 use Rattle.meaning.specs.Meanings.{window}
 
--- "Its window is the m edges from i." A place that is no start has none.
+-- "Its window is the m edges from i." At a place from which m edges do not fit in the line it is empty.
 abbrev pub windowAt : ℕ → List ℕ → ℕ → List ℕ
 windowAt m line i = cond (leb (i + m) (length line)) (window m line i) []
 
--- What `window` promises of the edges that it hands out.
+-- The contract of `window`: i is the number of the line place, `edges` the returned part of the line.
 pub record IsWindow (line : List ℕ) (i m : ℕ) (edges : List ℕ) : Type 0 where
   pub is : edges ≡ windowAt m line i

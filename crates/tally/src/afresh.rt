@@ -14,11 +14,11 @@ ghost use lib.ListN.{length, getD};
 ghost use Rattle.lists.specs.ByPlace.{StoredFirst};
 ghost use Rattle.tally.specs.Counts.{mostCounts, canCount, CanCount, IsDoubled, edgeCounted, IsCountedAfresh, IsCounted};
 
-// The edges of the longest ring twice.
+// Room for the longest ring twice.
 const DOUBLED: usize = 2 * MOST_COUNTS;
 
 // The ring twice, end to end, so that every rotation is a part of it. A ring with more edges than there are counts is not
-// doubled.
+// doubled: the answer is all zeros.
 pub fn double(ring: &[u8]) -> [u8; DOUBLED]
     ensures { λ r. ⌜ IsDoubled (now (ring .entry)) r ⌝ }
 {
@@ -60,8 +60,8 @@ fn count_edge(
     looks
 }
 
-// Every rotation counted afresh: m edges, each against m ring edges. The window is a line of its own, from place 0 on; the
-// line place of an edge is turned into the ring place that rotation 0 has over it once, outside the loop over the rotations.
+// Every rotation counted afresh: m edges, each against m ring edges. The window is read as a line of its own, from place 0 on.
+// `to_ring` gives the ring place that rotation 0 has over an edge, once for each edge and outside the loop over the rotations.
 fn count_edges(counts: &mut [u16; MOST_COUNTS], doubled: &[u8], window: &[u8]) -> Least
     requires { ⌜ CanCount (length (now window)) (length (now counts)) (length (now doubled)) ⌝ }
     ensures { λ z. ⌜ IsCountedAfresh (now (doubled .entry)) (now (window .entry)) (now (counts .entry)) (now (counts .exit)) z ⌝ }
@@ -79,8 +79,8 @@ fn count_edges(counts: &mut [u16; MOST_COUNTS], doubled: &[u8], window: &[u8]) -
     Least { least, looks }
 }
 
-// Whether a window of m edges can be counted: one edge at least, no more than there are counts, and the ring twice. The
-// counts are always 256; their length is asked since a contract does not know it of an array that is lent.
+// Whether a window of m edges can be counted: at least one edge, at most as many as there are counts, and the ring twice.
+// There are always 256 counts; their number is a parameter because a contract does not know the length of a lent array.
 fn can_count(m: usize, room: usize, long: usize) -> bool
     ensures { λ r. ⌜ r ≡ canCount m room long ⌝ }
 {
@@ -96,8 +96,8 @@ fn can_count(m: usize, room: usize, long: usize) -> bool
     2 * m <= long
 }
 
-// The tally of a window: its edges against those of every rotation of the doubled ring. Where that cannot be counted, no
-// count changes.
+// The tally of a window: its edges against those of every rotation of the doubled ring. Where the window cannot be counted, no
+// count changes and no look is taken.
 pub fn count_afresh(counts: &mut [u16; MOST_COUNTS], doubled: &[u8], window: &[u8]) -> Least
     ensures { λ z. ⌜ IsCounted (now (doubled .entry)) (now (window .entry)) (now (counts .entry)) (now (counts .exit)) z ⌝ }
 {

@@ -1,8 +1,8 @@
-// The tally of one count per rotation: counted afresh for a window, and asked for the lowest rotation. It is moved along
-// the line by crates/moves.
+// The tally of one count per rotation: counted afresh for a window, and asked for the lowest rotation. crates/moves moves it
+// along the line.
 //
-// What the counts hold at a start stands in specs/Tallied.antt, what each function answers in specs/Windows.antt and
-// specs/Counts.antt. No public function has a `requires`: each takes every input, whatever the counts hold.
+// specs/Windows.antt and specs/Counts.antt have the functions' contracts, specs/Tallied.antt says which counts are the tally
+// of a start. No public function has a `requires`: each takes every input, whatever the counts hold.
 mod afresh;
 mod counts;
 mod windows;

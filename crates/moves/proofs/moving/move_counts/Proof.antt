@@ -1,5 +1,4 @@
--- `moves::moving::move_counts` meets its contract: its two ways are the two cases of the test (`MoveCases`).
--- Assumes nothing.
+-- `moves::moving::move_counts` meets its contract: its two returns are the two cases of the test (`MoveCases`).
 use mathlib.Core.Path.{_∙_, sym}
 use borrow.Author.Needs.{needs}
 use borrow.Author.Tests.{not-true, not-false}

@@ -1,7 +1,6 @@
 -- `moves::moving::move_tally` meets its contract: a walk of its MIR, by hand, since it takes a reference to a struct. The borrow of the tally is
 -- opened and its one field is taken out in memory; the counts are lent to `move_along` for a lifetime that is made for the call, and come back as that left
 -- them; the field is put back, and the borrow is closed at the new tally. All that the proof knows of `move_along` is that it meets its contract.
--- Assumes nothing.
 use mathlib.Core.Path.{refl, sym}
 use Prim.Native.Nat.{ℕ, _<_, _^_, _+_}
 use mathlib.Core.List.{[], _∷_, List, map, map-id}
@@ -53,6 +52,7 @@ use Rattle.answers.proofs.places.LinePlace as Place
 use Rattle.answers.proofs.places.LinePlace.Laws as Place′
 use Rattle.moves.specs.declared.moving.Tally.{Tally}
 use Rattle.moves.specs.declared.steps.Reached.{Reached}
+use Rattle.tally.specs.Counts.{mostCounts}
 use Rattle.moves.specs.Moves.{CanMove, IsMovedOn}
 use Rattle.moves.proofs.WalkArguments.{placeVal, six-owned}
 use Rattle.moves.proofs.moving.Tally as T
@@ -83,10 +83,10 @@ stayed = (
 
 -- The counts' type, and the struct's one field in memory.
 abbrev Counts : RattleType
-Counts = Array u16 256
+Counts = Array u16 mostCounts
 
 abbrev members : List Member
-members = record { row = Counts; ty = tyArray (tyInt w16) 256 } ∷ []
+members = record { row = Counts; ty = tyArray (tyInt w16) mostCounts } ∷ []
 
 -- The contract that the proof cites.
 abbrev Called : {M : Type 1} (𝓤 : URA M) (H : Heap 𝓤) (A : Atoms 𝓤) (mem : Memory → SProp 𝓤) (run : Routine → Fun 𝓤) → Contract 𝓤

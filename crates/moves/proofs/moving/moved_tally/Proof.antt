@@ -1,7 +1,6 @@
 -- `moves::moving::moved_tally` meets its contract: a walk of its MIR, by hand, since it makes a reference to a struct. The tally is copied to a local, which is
 -- lent to `move_tally` for a lifetime that is made for the call, and comes back as that left it; it is copied into the result. All that the proof knows
 -- of `move_tally` is that it meets its contract.
--- Assumes nothing.
 use mathlib.Core.Path.{refl}
 use Prim.Native.Nat.{ℕ, _<_, _^_}
 use mathlib.Core.List.{[], _∷_, List}

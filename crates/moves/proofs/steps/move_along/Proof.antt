@@ -1,6 +1,4 @@
--- `moves::steps::move_along` meets its contract: what is still to be moved comes to the same place as the whole way (`Moving`), and a turn goes on or ends
--- the way. The starts that are left fall.
--- Assumes nothing.
+-- `moves::steps::move_along` meets its contract: its loop is `Moving`, a turn goes on or ends the move, and the steps that are left fall.
 use Prim.Native.Nat.{_+_, _-_}
 use borrow.Author.Needs.{needs}
 use native.Mathlib.Omega.{arith}
@@ -56,7 +54,7 @@ add-looks c =
 add-i : tie.Need-add-i Inv-loop μ-loop
 add-i c = search needs
 
--- The way ends here.
+-- The move ends here.
 returns : tie.Need-returns Inv-loop μ-loop
 returns c =
     let stepped = c .before .before in

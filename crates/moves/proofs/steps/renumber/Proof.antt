@@ -1,5 +1,4 @@
--- `moves::steps::renumber` meets its contract: the counts from r on are moved, those before it as they were (`Renumbering`). r falls.
--- Assumes nothing.
+-- `moves::steps::renumber` meets its contract: its loop is `Renumbering`, and r falls.
 use borrow.Author.Needs.{needs}
 use native.Mathlib.Omega.{arith}
 use mathlib.Core.Path.{refl}

@@ -1,5 +1,4 @@
--- `tally::afresh::count_afresh` meets its contract: its two ways are the two cases of the test (`CountCases`).
--- Assumes nothing.
+-- `tally::afresh::count_afresh` meets its contract: its two returns are the two cases of the test (`CountCases`).
 use mathlib.Core.Path.{_∙_, sym}
 use borrow.Author.Needs.{needs}
 use borrow.Author.Tests.{not-true, not-false}

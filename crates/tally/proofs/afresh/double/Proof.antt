@@ -1,5 +1,4 @@
 -- `tally::afresh::double` meets its contract: its loop is `Doubling`, and m - p falls.
--- Assumes nothing.
 use Prim.Native.Nat.{_-_}
 use borrow.Author.Needs.{needs}
 use Rattle.tally.proofs.DoubledLoop.{Doubling, not-doubled, doubling-start, doubling-turn, doubling-end}

@@ -1,5 +1,4 @@
 -- `tally::counts::differing` meets its contract: its two returns are the two cases of the test.
--- Assumes nothing.
 use borrow.Author.Tests.{eq-eqb, ne-eqb}
 use Rattle.tally.proofs.counts.differing.Statement.{statement}
 use Rattle.tally.proofs.counts.differing.Tie as tie

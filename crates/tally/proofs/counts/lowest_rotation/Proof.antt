@@ -1,5 +1,4 @@
 -- `tally::counts::lowest_rotation` meets its contract: its loop is `SeekingLowest`, and what is left of the rotations falls.
--- Assumes nothing.
 use Prim.Native.Nat.{_-_}
 use mathlib.Core.Path.{_∙_, sym}
 use borrow.Author.Needs.{needs}

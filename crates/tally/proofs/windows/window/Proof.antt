@@ -1,5 +1,4 @@
--- `tally::windows::window` meets its contract: its returns are the two cases of a place (`WindowEdges`), and the two tests say which it is.
--- Assumes nothing.
+-- `tally::windows::window` meets its contract: its returns are the two cases of `WindowEdges`, and the two tests say which case it is.
 use native.Mathlib.Omega.{arith}
 use borrow.Author.Needs.{needs}
 use Rattle.tally.proofs.WindowEdges.{no-window, part-window}
