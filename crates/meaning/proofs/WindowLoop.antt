@@ -1,9 +1,8 @@
 -- A loop that reads one window with a vector of bits, one for each rotation, in place of the stretch: what it keeps, and its turns. Bit r says
 -- that the held stretch is the beginning of rotation r. Rotated by one place and met with the places where the read edge occurs (`GrownBy`,
 -- source 003), the bits say so of the grown stretch; so some bit is left exactly when the grown stretch fits.
--- Assumes nothing.
-use Prim.Native.Nat.{ℕ, zero, suc, _+_, _-_, _%_, _≤_, _<_}
-use mathlib.Core.Path.{_≡_, refl, sym, ap, ap₂, _∙_, subst}
+use Prim.Native.Nat.{ℕ, zero, suc, _+_, _%_, _≤_, _<_}
+use mathlib.Core.Path.{_≡_, refl, sym, ap, ap₂, _∙_}
 use mathlib.Core.Bool.{Bool, true, false, _&&_, and-comm}
 use mathlib.Core.List.{List, [], _∷_}
 use native.Mathlib.Nat.{mod-eq-of-lt, mod-mod, mod-lt}
@@ -106,7 +105,7 @@ module _ (ring line : List ℕ) (k i : ℕ) where
     goes-on-read = rw (le-ltb k (h .so-far .breaks) (omega (arith, h .breaks-is))) at (h .goes-on)
 
     -- A bit is left: the stretch has grown.
-    window-grows : someBelow bits′ m ≡ true → WindowLoop left breaks bits′
+    pub window-grows : someBelow bits′ m ≡ true → WindowLoop left breaks bits′
     unfolding readEdge
     window-grows e = record {
       so-far = record { start = h .so-far .start; read = suc (h .so-far .read); breaks = h .so-far .breaks; held = x ∷ h .so-far .held };
@@ -118,7 +117,7 @@ module _ (ring line : List ℕ) (k i : ℕ) where
     }
 
     -- No bit is left: a break, and every bit is set again.
-    window-breaks : someBelow bits′ m ≡ false → (all : ℕ → Bool) → AllSet ring all → WindowLoop left (suc breaks) all
+    pub window-breaks : someBelow bits′ m ≡ false → (all : ℕ → Bool) → AllSet ring all → WindowLoop left (suc breaks) all
     unfolding readEdge Bits AllSet begins
     window-breaks e all all-set = record {
       so-far = record { start = h .so-far .start; read = suc (h .so-far .read); breaks = suc (h .so-far .breaks); held = [] };
@@ -136,18 +135,3 @@ module _ (ring line : List ℕ) (k i : ℕ) where
   window-left (suc left) breaks bits many h =
       let stop : h .so-far ≡ readWindow ring line k i = rw (lt-ltb k (h .so-far .breaks) (omega (arith, h .breaks-is))) at (h .goes-on) in
       (omega (arith, h .left-is, ap (λ (w : Reading). w .read) stop), omega (arith, h .breaks-is, ap (λ (w : Reading). w .breaks) stop))
-
-  -- The same turns for a loop that counts down: with the code's left − 1 and breaks + 1.
-  module _ (left breaks : ℕ) (bits bits′ : ℕ → Bool) (few : breaks ≤ k) (some-left : 0 < left)
-      (g : GrownBy ring (windowEdge line i (left - 1)) bits bits′) (h : WindowLoop left breaks bits) where
-    -- With some edges left they are one more than left − 1.
-    one-more : WindowLoop (suc (left - 1)) breaks bits
-    one-more = let e : left ≡ suc (left - 1) = omega arith in subst (λ (n : ℕ). WindowLoop n breaks bits) e h
-
-    -- A bit is left.
-    pub turn-grows : someBelow bits′ m ≡ true → WindowLoop (left - 1) breaks bits′
-    turn-grows e = window-grows (left - 1) breaks bits bits′ few g one-more e
-
-    -- No bit is left: a break.
-    pub turn-breaks : someBelow bits′ m ≡ false → (all : ℕ → Bool) → AllSet ring all → WindowLoop (left - 1) (breaks + 1) all
-    turn-breaks e all all-set = rw add-one (window-breaks (left - 1) breaks bits bits′ few g one-more e all all-set)

@@ -1,27 +1,21 @@
--- The survey's starts from i on: "the first afresh and each next by one step". The first is counted afresh; from a later one on the tally of the start before
--- is moved, to a finding or to the last start. The tally of the start reached says whether it is a finding (`TallyFinding` of crates/tally).
--- Assumes nothing.
+-- The survey's starts from i on: "the first afresh and each next by one step". The first is counted afresh. From a later one on the tally of the start before is moved, to
+-- a finding or to the last start.
 use Prim.Native.Nat.{ℕ, _+_, _-_, _*_, _≤_, _<_}
-use mathlib.Core.Path.{_≡_, sym, ap, _∙_}
-use mathlib.Core.List.{List, [], _∷_}
+use mathlib.Core.Path.{_≡_, ap, _∙_}
+use mathlib.Core.List.{List}
 use native.Mathlib.Numerals.{add-one}
 use native.Mathlib.Omega.{arith}
 use lib.ListN.{length}
-use Rattle.meaning.specs.Findings.{Finding}
 use Rattle.meaning.specs.Looks.{stepLooks, surveyLooksBelow}
 use Rattle.meaning.proofs.SurveyLooks.{surveyLooks-first, surveyLooks-below}
-use Rattle.findings.specs.declared.searching.Finding.{Finding as FindingStruct}
 use Rattle.tally.specs.declared.counts.Least.{Least}
 use Rattle.moves.specs.declared.steps.Reached.{Reached}
 use Rattle.tally.proofs.AfreshTallied.{counted-verified}
-use Rattle.tally.proofs.LowestLoop.{lowest-at}
 use Rattle.moves.proofs.MovedTallied.{moved-tallied}
-use Rattle.survey.specs.declared.plain.Surveyed.the-variants.{NoFinding, Found}
 use Rattle.tally.specs.Windows.{IsWindow}
-use Rattle.tally.specs.Counts.{IsCounted, IsLowestWith}
+use Rattle.tally.specs.Counts.{IsCounted}
 use Rattle.moves.specs.Moves.{IsMoved, IsReached}
-use Rattle.survey.specs.Survey.{CanVerifyOn, IsVerifiedOn, IsSurveyedOn}
-use Rattle.tally.proofs.TallyFinding.{least-no, least-yes}
+use Rattle.survey.specs.Survey.{CanVerifyOn, IsVerifiedOn}
 
 module _ {ring doubled line : List ℕ} {k i : ℕ} {old : List ℕ} (can : CanVerifyOn ring doubled line k i old) where
   -- The first start is counted afresh.
@@ -68,22 +62,3 @@ module _ {ring doubled line : List ℕ} {k i : ℕ} {old : List ℕ} (can : CanV
         looks-are = rw (reached .verified .looks-are) (steps-cost (r .start .0) after (omega (arith, reached .after)) in-line);
         passed = λ j lo hi. omega (arith, reached .passed j (omega arith) hi);
       }
-
-  module _ {counts : List ℕ} {r : Reached} (v : IsVerifiedOn ring line k i counts r) where
-    -- Verified, and no finding.
-    pub reached-none : k < r .least → IsSurveyedOn ring line k i (NoFinding r) counts
-    reached-none far = record {
-      verified = v;
-      found-are = sym (least-no ring line k (r .start .0) counts (r .least) (can .fits .some-edge) (v .tallied) (v .least-is) far);
-    }
-
-    -- A finding.
-    pub reached-found : (f : FindingStruct) {rotation : ℕ} → r .least ≤ k → IsLowestWith (length ring) counts (r .least) rotation
-        → f .start .0 ≡ r .start .0 → f .rotation .0 ≡ rotation → f .distance ≡ r .least → IsSurveyedOn ring line k i (Found r f) counts
-    reached-found f {rotation} near low fs fr fd = record {
-      verified = v;
-      found-are =
-          ap {A = Finding} (λ x. x ∷ []) (λ j. record { start = fs j; rotation = fr j; distance = fd j })
-          ∙ sym (least-yes ring line k (r .start .0) counts (r .least) (can .fits .some-edge) (v .tallied) (v .least-is) rotation
-          (lowest-at counts (r .least) (length ring) rotation (can .fits .most) (v .least-is) low) (v .in-line) near);
-    }

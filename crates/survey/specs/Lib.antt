@@ -1,2 +1,2 @@
--- The plain survey: what it promises, and what its private functions ask and promise.
+-- The plain survey: its contract, and the preconditions and contracts of its private functions.
 pub mod Survey

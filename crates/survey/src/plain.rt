@@ -15,13 +15,7 @@ use tally::lowest_rotation;
 use tally::window;
 ghost use lib.ListN.{length};
 ghost use Rattle.findings.specs.Admitting.{Admitted};
-ghost use Rattle.survey.specs.Survey.{CanVerifyOn, IsVerifiedOn, IsSurveyedOn, CanSurvey, LineSurveyed, IsSurveyed};
-
-// The start reached, verified: the last one, which is no finding; or the next finding.
-pub enum Surveyed {
-    NoFinding(Reached),
-    Found(Reached, Finding),
-}
+ghost use Rattle.survey.specs.Survey.{CanVerifyOn, IsVerifiedOn, CanSurvey, LineSurveyed, IsSurveyed};
 
 // "the first afresh and each next by one step, at m = 1 too": rule 5's 2·s > m is not asked here. The tally is moved on
 // to the next finding, or to the last start, so that it is handed over once for a finding and not for each start.
@@ -57,35 +51,6 @@ fn verify_on(
     }
 }
 
-// The starts from this one on, to the next finding or to the last.
-fn survey_on(
-    counts: &mut [u16; MOST_COUNTS],
-    ring: &[u8],
-    doubled: &[u8],
-    line: &[u8],
-    k: usize,
-    start: LinePlace,
-) -> Surveyed
-    requires { ⌜ CanVerifyOn (now ring) (now doubled) (now line) k (start .0) (now counts) ⌝ }
-    ensures { λ r. ⌜ IsSurveyedOn (now (ring .entry)) (now (line .entry)) k (start .0) r (now (counts .exit)) ⌝ }
-{
-    let reached = verify_on(counts, ring, doubled, line, k, start);
-    let distance = reached.least;
-    if k < distance {
-        return Surveyed::NoFinding(reached);
-    }
-    let found = reached.start;
-    let rotation = lowest_rotation(counts, ring.len(), distance);
-    Surveyed::Found(
-        reached,
-        Finding {
-            start: found,
-            rotation,
-            distance,
-        },
-    )
-}
-
 // Finding after finding, while a start is left: its window fits in the line.
 fn survey_starts(
     ring: &[u8],
@@ -103,17 +68,23 @@ fn survey_starts(
     let mut looks: usize = 0;
     let mut i = 0;
     while i + m <= line.len() {
-        match survey_on(counts, ring, doubled, line, k, LinePlace(i)) {
-            Surveyed::NoFinding(reached) => {
-                looks += reached.looks;
-                i = reached.start.0 + 1;
-            }
-            Surveyed::Found(reached, finding) => {
-                put_finding(words, found, finding);
-                found += 1;
-                looks += reached.looks;
-                i = reached.start.0 + 1;
-            }
+        let reached = verify_on(counts, ring, doubled, line, k, LinePlace(i));
+        looks += reached.looks;
+        let start = reached.start;
+        i = start.0 + 1;
+        let distance = reached.least;
+        if distance <= k {
+            let rotation = lowest_rotation(counts, m, distance);
+            put_finding(
+                words,
+                found,
+                Finding {
+                    start,
+                    rotation,
+                    distance,
+                },
+            );
+            found += 1;
         }
     }
     Counted { found, looks }

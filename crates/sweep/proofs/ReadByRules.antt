@@ -1,32 +1,27 @@
 -- A window read with the ring's own vectors is read by rules 1 to 3. By induction on the edges left: the held vector's bits stand for the stretch (`WindowLoop` of
 -- crates/meaning), and grown by an edge it has the bits that the grown stretch asks for (`grown-by-edge` of crates/vectors). So it has no bit left exactly at a
 -- break, and nothing here looks at a word.
--- Assumes nothing.
-use Prim.Native.Nat.{ℕ, zero, suc, _+_, _-_, _*_, _%_, _≤_, _<_}
-use mathlib.Core.Path.{_≡_, refl, sym, ap, subst, _∙_}
-use mathlib.Core.Bool.{Bool, true, false, _&&_, true≢false}
+use Prim.Native.Nat.{ℕ, zero, suc, _+_, _*_, _≤_, _<_}
+use mathlib.Core.Path.{_≡_, refl, sym, subst, _∙_}
+use mathlib.Core.Bool.{true, false, true≢false}
 use mathlib.Core.List.{List}
-use mathlib.Core.Logic.{dite}
-use native.Mathlib.Decide.{decLt}
+use native.Mathlib.Nat.{zero-add}
+use native.Mathlib.Numerals.{add-one}
 use native.Mathlib.Omega.{arith}
-use lib.Dec.{eqb}
+use lib.Dec.{ltb}
 use lib.ListN.{length, getD}
+use borrow.Author.Tests.{ltb-true, ltb-false}
 use Rattle.meaning.specs.Numbers.{someBelow}
 use Rattle.meaning.specs.Meanings.{windowEdge}
 use Rattle.lists.proofs.Cases.{by-test, not-passed}
 use Rattle.meaning.proofs.Some.{some-yes, some-by}
-use Rattle.meaning.proofs.WindowLoop.{AllSet, GrownBy, WindowLoop, window-start, window-end, window-left, turn-grows, turn-breaks}
+use Rattle.meaning.proofs.WindowLoop.{AllSet, GrownBy, WindowLoop, window-start, window-end, window-left, window-grows, window-breaks}
 use Rattle.vectors.specs.Bits.{wordCount, isSet, firstBits, noBit}
 use Rattle.vectors.specs.Holding.{vectorAt}
 use Rattle.vectors.specs.ByValue.{vectorWords, vectorBits, HeldVector}
 use Rattle.vectors.proofs.HeldVectors.{first-held, first-set, no-bit-iff, no-bit-no, GrownByEdge, grown-by-edge}
 use Rattle.sweep.specs.Reads.{heldWith, readOn, readBy}
 use Rattle.sweep.specs.ReadingRules.{OwnVectors, IsWindowRead}
-use Rattle.sweep.proofs.ReadTurns.{read-all, read-stops, read-empties, read-grows}
-
--- By the two cases of a test.
-either-way : {P : Type 0} (t : Bool) → (t ≡ true → P) → (t ≡ false → P) → P
-either-way {P = P} t yes-way no-way = by-test (λ (_ : ℕ). P) t {x = 0} {y = 0} yes-way no-way
 
 -- What holds with `left` edges unread: the breaks are not yet too many, each edge read was a look, and the vector stands for the stretch.
 record StandsFor (ring window : List ℕ) (k : ℕ) (held : List ℕ) (left breaks looks : ℕ) : Type 0 where
@@ -64,21 +59,13 @@ module _ (ring window table : List ℕ) (k : ℕ) (own : OwnVectors ring table) 
     abbrev edge : ℕ
     edge = getD window left 0
 
-    -- The laws of crates/meaning count down, and so name this place.
-    back : suc left - 1 ≡ left
-    back = omega arith
-
     grew : GrownByEdge m ring edge held new
     grew =
         grown-by-edge m words edge ring table (vectorAt table (edge * vectorWords) vectorWords) held new long some-edge most refl (own .occurs) (h .vector) refl refl
 
-    grown-by : GrownBy ring (windowEdge window 0 (suc left - 1)) (isSet held) (isSet new)
+    grown-by : GrownBy ring (windowEdge window 0 left) (isSet held) (isSet new)
     unfolding GrownBy
-    grown-by r l =
-        let here : left ≡ 0 + (suc left - 1) = omega arith in
-        grew .each r (omega arith)
-        ∙ ap (λ (n : ℕ). isSet held ((r + 1) % n) && eqb (getD ring r 0) edge) long
-        ∙ ap (λ (p : ℕ). isSet held ((r + 1) % length ring) && eqb (getD ring r 0) (getD window p 0)) here
+    grown-by r l = rw (← long, zero-add left) (grew .each r (omega arith))
 
     -- Some bit is left: the stretch has grown.
     grows : noBit new words ≡ false → StandsFor ring window k new left breaks (looks + 1)
@@ -88,9 +75,9 @@ module _ (ring window table : List ℕ) (k : ℕ) (own : OwnVectors ring table) 
           few = h .few;
           looks-are = omega (arith, h .looks-are);
           vector = grew .vector;
-          reading = rw back at
-              (turn-grows ring window k 0 (suc left) breaks (isSet held) (isSet new) (h .few) (omega arith) grown-by (h .reading)
-              (some-by (isSet new) (length ring) (one .0) (omega (arith, one .1)) (one .2)));
+          reading =
+              window-grows ring window k 0 left breaks (isSet held) (isSet new) (h .few) grown-by (h .reading)
+              (some-by (isSet new) (length ring) (one .0) (omega (arith, one .1)) (one .2));
         }
 
     none-set : noBit new words ≡ true → someBelow (isSet new) (length ring) ≡ false
@@ -104,8 +91,7 @@ module _ (ring window table : List ℕ) (k : ℕ) (own : OwnVectors ring table) 
     -- No bit is left: a break.
     broken : noBit new words ≡ true → WindowLoop ring window k 0 left (breaks + 1) (isSet full)
     broken e =
-        rw back at
-        (turn-breaks ring window k 0 (suc left) breaks (isSet held) (isSet new) (h .few) (omega arith) grown-by (h .reading) (none-set e) (isSet full) full-set)
+        rw add-one (window-breaks ring window k 0 left breaks (isSet held) (isSet new) (h .few) grown-by (h .reading) (none-set e) (isSet full) full-set)
 
     -- One that is not yet too many: every bit is set again.
     empties : noBit new words ≡ true → breaks + 1 ≤ k → StandsFor ring window k full left (breaks + 1) (looks + 1)
@@ -120,20 +106,16 @@ module _ (ring window table : List ℕ) (k : ℕ) (own : OwnVectors ring table) 
   -- The edges before place `left`, read from a vector that stands for the stretch.
   read-on : (left : ℕ) (held : List ℕ) (breaks looks : ℕ) → StandsFor ring window k held left breaks looks
       → IsWindowRead ring window k (readOn table window k words left held breaks looks)
+  unfolding readOn
   read-on zero held breaks looks h =
       let to = window-end ring window k 0 breaks (isSet held) (h .reading) in
-      rw (read-all table window k words held breaks looks)
-      (record { read-is = omega (arith, to .0, h .looks-are); left-is = h .looks-are; breaks-is = sym (to .1) })
+      record { read-is = omega (arith, to .0, h .looks-are); left-is = h .looks-are; breaks-is = sym (to .1) }
   read-on (suc left) held breaks looks h =
-      either-way (noBit (new left held breaks looks h) words)
-      (λ none. dite (decLt k (breaks + 1))
-      (λ many. rw (read-stops table window k words left held breaks looks none many) (stops left held breaks looks h none many))
-      (λ few.
-      rw (read-empties table window k words left held breaks looks none (omega (arith, few)))
-      (read-on left full (breaks + 1) (looks + 1) (empties left held breaks looks h none (omega (arith, few))))))
-      (λ some.
-      rw (read-grows table window k words left held breaks looks some)
-      (read-on left (new left held breaks looks h) breaks (looks + 1) (grows left held breaks looks h some)))
+      by-test (IsWindowRead ring window k) (noBit (new left held breaks looks h) words)
+      (λ none. by-test (IsWindowRead ring window k) (ltb k (breaks + 1))
+      (λ many. stops left held breaks looks h none (ltb-true k (breaks + 1) many))
+      (λ few. read-on left full (breaks + 1) (looks + 1) (empties left held breaks looks h none (ltb-false k (breaks + 1) few))))
+      (λ some. read-on left (new left held breaks looks h) breaks (looks + 1) (grows left held breaks looks h some))
 
   -- Before the first edge every bit is set: the empty stretch is the beginning of every rotation.
   pub read-by-rules : IsWindowRead ring window k (readBy table window k)

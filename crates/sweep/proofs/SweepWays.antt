@@ -1,6 +1,5 @@
 -- The sweep to the next candidate, by its three ways: no candidate, no finding, a finding. Each is a case of `sweepBy`. The looks fit: those so far are within the
 -- limit, a window costs at most 256, and so few windows and one verification are far below what a word holds.
--- Assumes nothing.
 use Prim.Native.Nat.{ℕ, _+_, _-_, _*_, _≤_, _<_}
 use mathlib.Core.Path.{_≡_, refl, ap}
 use mathlib.Core.Bool.{true, false}
@@ -20,10 +19,10 @@ use Rattle.sweep.specs.Sweeps.{sweepBy, mostLooks, CanSweep, IsTallied, 
 use Rattle.sweep.proofs.WindowTurns.{WindowsGo, windows-within}
 use Rattle.sweep.proofs.TallyWays.{mostTally, tally-looks}
 
-module _ (m : ℕ) (table line : List ℕ) (k : ℕ) (at : Sweep) (can : CanSweep m (length line) (at .start .0) (at .looks)) (read : WindowsRead)
-    (read-is : read ≡ windowsBy m table line k (at .start .0)) where
+module _ (ring table line : List ℕ) (k : ℕ) (at : Sweep) (can : CanSweep (length ring) (length line) (at .start .0) (at .looks)) (read : WindowsRead)
+    (read-is : read ≡ windowsBy ring table line k (at .start .0)) where
   within : WindowsGo (length line) 0 (length line + 1 - at .start .0) read
-  within = rw read-is (windows-within m table line k (at .start .0) (can .windows))
+  within = rw read-is (windows-within ring table line k (at .start .0) (can .windows))
 
   -- The looks with those of the windows read.
   pub sweep-looks-le : at .looks + read .looks ≤ mostLooks + mostCounts * mostPlaces
@@ -37,7 +36,7 @@ module _ (ring doubled table line : List ℕ) (k : ℕ) (at : Sweep) (old : List
   abbrev m : ℕ
   m = length ring
 
-  module _ (read : WindowsRead) (read-is : read ≡ windowsBy m table line k (at .start .0)) where
+  module _ (read : WindowsRead) (read-is : read ≡ windowsBy ring table line k (at .start .0)) where
     -- No candidate.
     pub way-ended : read .candidate ≡ false
         → IsSweptTo ring doubled table line k at old old (Ended (record { start = read .start; last = at .last; looks = at .looks + read .looks }))
@@ -51,7 +50,7 @@ module _ (ring doubled table line : List ℕ) (k : ℕ) (at : Sweep) (old : List
       sweep-all-looks-le can =
           omega (
             arith,
-            sweep-looks-le m table line k at can read read-is,
+            sweep-looks-le ring table line k at can read read-is,
             ap (λ (t : TallyTo). t .looks) (tallied .is),
             tally-looks ring doubled line (read .start .0) old (at .last) (can .windows .most),
           )

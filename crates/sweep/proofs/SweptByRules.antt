@@ -1,7 +1,6 @@
 -- With the ring's own vectors, its double and the last verified start's tally, what `sweep_on` answers is what rules 1 to 5 give. The windows up to the candidate are
 -- left (`windows-by-rules`), and the candidate is verified by rule 5 (`tally-by-rules`); whether it is a finding, and which, its tally says (`TallyFinding` of
 -- crates/tally). So each of the three ways of `sweepBy` is a sweep by the rules.
--- Assumes nothing.
 use Prim.Native.Nat.{ℕ, _+_, _≤_, _<_}
 use mathlib.Core.Path.{_≡_, refl, sym, ap, subst, _∙_}
 use mathlib.Core.Bool.{true, false, true≢false}
@@ -42,7 +41,7 @@ module _ (ring doubled table line : List ℕ) (k : ℕ) (old : List ℕ) (at : S
 
   -- The windows up to the candidate.
   abbrev read : WindowsRead
-  read = windowsBy m table line k (at .start .0)
+  read = windowsBy ring table line k (at .start .0)
 
   abbrev i : ℕ
   i = read .start .0

@@ -1,16 +1,16 @@
 -- Windows read with the ring's own vectors are read by the rules, to the next candidate. By induction on the windows that may still come: every window so far was left
 -- (`LeftTo`). The window at i is read as a line of its own (`read-by-rules`, `alone-reading` of crates/meaning); it is left at break k + 1, and the next one
 -- starts later, or it is the candidate, or none is in the line any more.
--- Assumes nothing.
 use Prim.Native.Nat.{ℕ, zero, suc, _+_, _-_, _≤_, _<_}
 use mathlib.Core.Path.{_≡_, refl, sym, ap, _∙_}
 use mathlib.Core.Bool.{true, true≢false}
 use mathlib.Core.List.{List}
-use mathlib.Core.Logic.{dite}
-use native.Mathlib.Decide.{decLe}
 use native.Mathlib.Omega.{arith}
+use lib.Dec.{leb}
 use lib.ListN.{length}
-use Rattle.meaning.specs.Meanings.{window}
+use borrow.Author.Tests.{leb-true, leb-false}
+use Rattle.lists.proofs.Cases.{by-test}
+use Rattle.meaning.specs.Meanings.{window, fitsInLine}
 use Rattle.meaning.specs.Rules.{readWindow}
 use Rattle.meaning.proofs.WindowAlone.{alone-reading}
 use Rattle.tally.specs.Windows.{windowAt}
@@ -19,7 +19,6 @@ use Rattle.sweep.specs.declared.reading.WindowRead.{WindowRead}
 use Rattle.sweep.specs.Reads.{readBy, noneLeft, windowsOn, windowsBy}
 use Rattle.sweep.specs.ReadingRules.{OwnVectors, IsWindowRead}
 use Rattle.sweep.specs.SweepRules.{sweptStart, LeftTo, none-left, one-left, IsWindowsRead}
-use Rattle.sweep.proofs.WindowTurns.{windows-none, windows-found, windows-later}
 use Rattle.sweep.proofs.ReadByRules.{read-by-rules}
 
 module _ (ring table line : List ℕ) (k from : ℕ) (own : OwnVectors ring table) where
@@ -71,21 +70,20 @@ module _ (ring table line : List ℕ) (k from : ℕ) (own : OwnVectors ring tabl
 
   -- The windows from a start up to which every window was left.
   windows-on : (left i looks : ℕ) → n + 1 ≤ i + left → LeftTo ring line k from i looks
-      → IsWindowsRead ring line k from (windowsOn m table line k left i looks)
-  windows-on zero i looks enough h =
-      let past : n < i + m = omega (arith, own .some-edge) in
-      rw (windows-none m table line k 0 i looks past) (ended i looks h past)
-  windows-on (suc left) i looks enough h = dite (decLe (i + m) n)
-      (λ in-line. dite (decLe (read i .breaks) k)
-      (λ few. rw (windows-found m table line k left i looks in-line few) (stops-here i looks h in-line few))
-      (λ more.
-      let many : k < read i .breaks = omega (arith, more) in
-      rw (windows-later m table line k left i looks in-line many)
-      (windows-on left (i + read i .left + 1) (looks + read i .looks) (omega arith) (left-here i looks h in-line many))))
-      (λ out.
-      let past : n < i + m = omega (arith, out) in
-      rw (windows-none m table line k (suc left) i looks past) (ended i looks h past))
+      → IsWindowsRead ring line k from (windowsOn ring table line k left i looks)
+  unfolding windowsOn
+  windows-on zero i looks enough h = ended i looks h (omega (arith, own .some-edge))
+  windows-on (suc left) i looks enough h =
+      by-test (IsWindowsRead ring line k from) (fitsInLine ring line i)
+      (λ fits.
+      let in-line : i + m ≤ n = leb-true (i + m) n fits in
+      by-test (IsWindowsRead ring line k from) (leb (read i .breaks) k)
+      (λ few. stops-here i looks h in-line (leb-true (read i .breaks) k few))
+      (λ many.
+      windows-on left (i + read i .left + 1) (looks + read i .looks) (omega arith)
+      (left-here i looks h in-line (leb-false (read i .breaks) k many))))
+      (λ out. ended i looks h (leb-false (i + m) n out))
 
   -- Windows read with the ring's vectors are read by the rules, to the next candidate.
-  pub windows-by-rules : from ≤ n + 1 → IsWindowsRead ring line k from (windowsBy m table line k from)
+  pub windows-by-rules : from ≤ n + 1 → IsWindowsRead ring line k from (windowsBy ring table line k from)
   windows-by-rules start-le = windows-on (n + 1 - from) from 0 (omega arith) none-left

@@ -4,12 +4,12 @@
 --   readOn, readWith, readBy    one window
 --   windowsOn, windowsBy        window after window, to the next candidate
 --   CanReadWindows              what reading windows asks
--- Assumes nothing.
 use Prim.Native.Nat.{ℕ, zero, suc, _+_, _-_, _*_, _≤_, _<_}
 use mathlib.Core.Bool.{true, false, cond}
 use mathlib.Core.List.{List}
 use lib.Dec.{ltb, leb}
 use lib.ListN.{length, getD}
+use Rattle.meaning.specs.Meanings.{fitsInLine}
 use Rattle.vectors.specs.Bits.{wordCount, firstBits, noBit}
 use Rattle.vectors.specs.Holding.{vectorAt}
 use Rattle.vectors.specs.ByValue.{vectorWords, grownWords}
@@ -50,19 +50,19 @@ noneLeft i looks = record { start = record { 0 = i }; next = record { 0 = i }; l
 
 -- The windows from start i on. Rule 1: "While a window fits in the line". Rule 3: "With j edges read, the next window starts m − j + 1 further on." Rule 4: "A
 -- window with all m edges read and at most k breaks is a candidate." Each window starts past the one before, so there are at most as many as `left`.
-unfoldable pub windowsOn : ℕ → List ℕ → List ℕ → ℕ → ℕ → ℕ → ℕ → WindowsRead
-windowsOn m table line k zero i looks = noneLeft i looks
-windowsOn m table line k (suc left) i looks =
-    let read : WindowRead = readBy table (windowAt m line i) k in
+unfoldable pub windowsOn : List ℕ → List ℕ → List ℕ → ℕ → ℕ → ℕ → ℕ → WindowsRead
+windowsOn ring table line k zero i looks = noneLeft i looks
+windowsOn ring table line k (suc left) i looks =
+    let read : WindowRead = readBy table (windowAt (length ring) line i) k in
     let found : WindowsRead = record { start = record { 0 = i }; next = record { 0 = i + read .left + 1 }; looks = looks + read .looks; candidate = true } in
-    let later : WindowsRead = windowsOn m table line k left (i + read .left + 1) (looks + read .looks) in
+    let later : WindowsRead = windowsOn ring table line k left (i + read .left + 1) (looks + read .looks) in
     let tried : WindowsRead = cond (leb (read .breaks) k) found later in
     let none : WindowsRead = noneLeft i looks in
-    cond (leb (i + m) (length line)) tried none
+    cond (fitsInLine ring line i) tried none
 
 -- The windows from a start on, to the next candidate.
-abbrev pub windowsBy : ℕ → List ℕ → List ℕ → ℕ → ℕ → WindowsRead
-windowsBy m table line k from = windowsOn m table line k (length line + 1 - from) from 0
+abbrev pub windowsBy : List ℕ → List ℕ → List ℕ → ℕ → ℕ → WindowsRead
+windowsBy ring table line k from = windowsOn ring table line k (length line + 1 - from) from 0
 
 -- From here on: what private functions ask.
 

@@ -7,7 +7,6 @@
 --   CanSweep               what `canSweep` tests, as facts
 --   IsSweptBy              what `sweep_on` promises
 --   IsTallied, IsSweptTo   what private functions promise
--- Assumes nothing.
 use Prim.Native.Nat.{ℕ, _+_, _-_, _*_, _≤_}
 use mathlib.Core.Path.{_≡_}
 use mathlib.Core.Bool.{Bool, cond, _&&_}
@@ -51,7 +50,7 @@ pub record SweptTo : Type 0 where
 -- The sweep to the next candidate. Rule 4: "Each candidate is verified, and reported if it is a finding."
 unfoldable pub sweepBy : List ℕ → List ℕ → List ℕ → List ℕ → ℕ → Sweep → List ℕ → SweptTo
 sweepBy ring doubled table line k at old =
-    let read : WindowsRead = windowsBy (length ring) table line k (at .start .0) in
+    let read : WindowsRead = windowsBy ring table line k (at .start .0) in
     let looks : ℕ = at .looks + read .looks in
     let tally : TallyTo = tallyBy ring doubled line (read .start .0) (at .last) old in
     let next : Sweep = record { start = read .next; last = At (read .start); looks = looks + tally .looks } in

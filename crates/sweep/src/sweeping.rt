@@ -46,15 +46,16 @@ pub struct WindowsRead {
 // left, since every start up to there differs in over k places. Most windows are left after a few reads, so nothing
 // else is done between them.
 fn read_windows(
-    m: usize,
+    ring: &[u8],
     table: &[u64; TABLE_WORDS],
     line: &[u8],
     k: usize,
     from: LinePlace,
 ) -> WindowsRead
-    requires { ⌜ CanReadWindows m (length (now line)) (from .0) ⌝ }
-    ensures { λ z. ⌜ z ≡ windowsBy m (now (table .entry)) (now (line .entry)) k (from .0) ⌝ }
+    requires { ⌜ CanReadWindows (length (now ring)) (length (now line)) (from .0) ⌝ }
+    ensures { λ z. ⌜ z ≡ windowsBy (now (ring .entry)) (now (table .entry)) (now (line .entry)) k (from .0) ⌝ }
 {
+    let m = ring.len();
     let mut i = from.0;
     let mut looks: usize = 0;
     while i + m <= line.len() {
@@ -93,7 +94,7 @@ fn to_candidate(
     ensures { λ r. ⌜ IsSweptTo (now (ring .entry)) (now (doubled .entry)) (now (table .entry)) (now (line .entry)) k at (now (counts .entry)) (now (counts .exit)) r ⌝ }
 {
     let last = at.last;
-    let read = read_windows(ring.len(), table, line, k, at.start);
+    let read = read_windows(ring, table, line, k, at.start);
     let start = read.start;
     let looks = at.looks + read.looks;
     if !read.candidate {

@@ -1,6 +1,5 @@
 -- `survey::plain::survey` meets its contract: a row is given and the call refused, or none is and the line is surveyed: a search's two answers
 -- (`SearchAnswers` of the findings).
--- Assumes nothing.
 use mathlib.Core.Path.{sym, ap, _∙_}
 use borrow.Author.Needs.{needs}
 use Rattle.findings.specs.Admitting.{verdictOf}

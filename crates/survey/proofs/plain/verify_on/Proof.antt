@@ -1,6 +1,5 @@
 -- `survey::plain::verify_on` meets its contract: the first start is counted afresh, and from a later one on the tally of the start before is moved
 -- (`SurveyCases`).
--- Assumes nothing.
 use native.Mathlib.Omega.{arith}
 use borrow.Author.Needs.{needs}
 use Rattle.survey.proofs.SurveyCases.{first-verified, moved-verified}

@@ -1,6 +1,5 @@
 -- `sweep::sweeping::read_windows` meets its contract: what is still to be read gives the answer (`StillWindows`). A turn leaves a window, or stops at the candidate, and
 -- the places up to the line's end fall.
--- Assumes nothing.
 use Prim.Native.Nat.{_+_, _-_}
 use native.Mathlib.Omega.{arith}
 use borrow.Author.Needs.{needs}
@@ -11,16 +10,16 @@ use Rattle.sweep.proofs.sweeping.read_windows.Statement.{statement}
 use Rattle.sweep.proofs.sweeping.read_windows.Tie as tie
 
 abbrev Inv-loop : tie.InvT-loop
-Inv-loop m table line k from looks₀ i looks = StillWindows m table line k from i looks
+Inv-loop ring table line k m from looks₀ i looks = StillWindows ring table line k from i looks
 
 abbrev μ-loop : tie.MeasureT-loop
-μ-loop m table line k from looks₀ i looks = length line + 1 - i
+μ-loop ring table line k m from looks₀ i looks = length line + 1 - i
 
 loop-holds : tie.Need-loop-holds Inv-loop μ-loop
-loop-holds c = windows-start _ _ _ _ _ (c .before .pre)
+loop-holds c = windows-start (c .before .before .pre)
 
 add-loop : tie.Need-add-loop Inv-loop μ-loop
-add-loop c = let pre = c .before .before .pre in omega (arith, c .loop .inv .start-le, pre .most, pre .most-line)
+add-loop c = let known = c .loop .inv in omega (arith, known .start-le, known .can .most, known .can .most-line)
 
 window-requires : tie.Need-window-requires Inv-loop μ-loop
 window-requires c κs = search needs
@@ -28,58 +27,59 @@ window-requires c κs = search needs
 read-window-requires : tie.Need-read-window-requires Inv-loop μ-loop
 read-window-requires c κs =
     let turn = c .before in
-    let pre = turn .before .before .before .pre in
+    let can = turn .before .loop .inv .can in
     let size = start-length _ _ _ _ (c .window .ensures) (turn .loop-test .taken) in (
-      omega (arith, size, pre .some-edge),
-      omega (arith, size, pre .most),
+      omega (arith, size, can .some-edge),
+      omega (arith, size, can .most),
     )
+
+-- the window read, from where its turn began
+abbrev at-turn : tie.After-read-window Inv-loop μ-loop → tie.In-loop Inv-loop μ-loop
+at-turn c = c .before .before
 
 add-looks : tie.Need-add-looks Inv-loop μ-loop
 add-looks c =
     let read = c .before in
-    let turn = read .before .before in
-    let pre = turn .before .before .before .pre in
+    let turn = at-turn read in
     let known = turn .before .loop .inv in
-    let next-le = windows-next-le _ _ _ _ _ pre _ _ known (turn .loop-test .taken) _ (read .before .window .ensures) _ (read .read-window .ensures) in
-    let looks-le = windows-looks-le _ _ _ _ _ pre _ _ known (turn .loop-test .taken) _ (read .before .window .ensures) _ (read .read-window .ensures) in
-    omega (arith, looks-le, next-le, pre .most-line)
+    let next-le = windows-next-le known (turn .loop-test .taken) (read .before .window .ensures) (read .read-window .ensures) in
+    let looks-le = windows-looks-le known (turn .loop-test .taken) (read .before .window .ensures) (read .read-window .ensures) in
+    omega (arith, looks-le, next-le, known .can .most-line)
 
 add-next : tie.Need-add-next Inv-loop μ-loop
 add-next c =
     let read = c .before .before in
-    let turn = read .before .before in
-    let pre = turn .before .before .before .pre in
-    omega (arith, pre .most-line, windows-next-le _ _ _ _ _ pre _ _ (turn .before .loop .inv) (turn .loop-test .taken) _ (read .before .window .ensures) _ (read .read-window .ensures))
+    let turn = at-turn read in
+    let known = turn .before .loop .inv in
+    omega (arith, known .can .most-line, windows-next-le known (turn .loop-test .taken) (read .before .window .ensures) (read .read-window .ensures))
 
 add-next-2 : tie.Need-add-next-2 Inv-loop μ-loop
 add-next-2 c =
     let read = c .before .before in
-    let turn = read .before .before in
-    let pre = turn .before .before .before .pre in
-    omega (arith, pre .most-line, windows-next-le _ _ _ _ _ pre _ _ (turn .before .loop .inv) (turn .loop-test .taken) _ (read .before .window .ensures) _ (read .read-window .ensures))
+    let turn = at-turn read in
+    let known = turn .before .loop .inv in
+    omega (arith, known .can .most-line, windows-next-le known (turn .loop-test .taken) (read .before .window .ensures) (read .read-window .ensures))
 
 -- The candidate.
 returns : tie.Need-returns Inv-loop μ-loop
 returns c =
     let read = c .before .before .before .before in
-    let turn = read .before .before in
-    windows-stop _ _ _ _ _ (turn .before .before .before .pre) _ _ (turn .before .loop .inv) (turn .loop-test .taken) _ (read .before .window .ensures) _
-    (read .read-window .ensures) (omega (arith, c .if1 .taken))
+    let turn = at-turn read in
+    windows-stop (turn .before .loop .inv) (turn .loop-test .taken) (read .before .window .ensures) (read .read-window .ensures) (omega (arith, c .if1 .taken))
 
 loop-less : tie.Need-loop-less Inv-loop μ-loop
-loop-less c = omega (arith, c .before .before .before .before .before .before .loop-test .taken)
+loop-less c = omega (arith, at-turn (c .before .before .before .before) .loop-test .taken)
 
 -- A window that is left.
 loop-again : tie.Need-loop-again Inv-loop μ-loop
 loop-again c =
     let read = c .before .before .before .before in
-    let turn = read .before .before in
-    windows-turn _ _ _ _ _ (turn .before .before .before .pre) _ _ (turn .before .loop .inv) (turn .loop-test .taken) _ (read .before .window .ensures) _
-    (read .read-window .ensures) (omega (arith, c .if1 .left))
+    let turn = at-turn read in
+    windows-turn (turn .before .loop .inv) (turn .loop-test .taken) (read .before .window .ensures) (read .read-window .ensures) (omega (arith, c .if1 .left))
 
 -- No window is in the line any more.
 returns-2 : tie.Need-returns-2 Inv-loop μ-loop
-returns-2 c = windows-end _ _ _ _ _ (c .before .before .before .pre) _ _ (c .before .loop .inv) (omega (arith, c .loop-test .left))
+returns-2 c = windows-end (c .before .loop .inv) (omega (arith, c .loop-test .left))
 
 pub read-windows-spec : {M : Type 1} → statement M
 read-windows-spec =
