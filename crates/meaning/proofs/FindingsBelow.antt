@@ -1,6 +1,5 @@
 -- The findings below a place. Each place adds at most one, and one that has no finding adds none; so those of all places below one from which on none is a start are all of
 -- them. There are at most n − m + 1, one for each start, and none in a line shorter than the ring.
--- Assumes nothing.
 use Prim.Native.Nat.{ℕ, zero, suc, _+_, _-_, _≤_, _<_}
 use mathlib.Core.Path.{_≡_, sym, ap, ap₂, _∙_}
 use mathlib.Core.Bool.{_&&_}
@@ -9,9 +8,10 @@ use native.Mathlib.Nat.{add-zero, add-suc}
 use native.Mathlib.Omega.{arith}
 use lib.Dec.{leb}
 use lib.ListN.{length, length-append}
-use Rattle.meaning.specs.Meanings.{isStart, leastDistance}
+use Rattle.meaning.specs.Meanings.{IsPastLine, isStart, leastDistance}
 use Rattle.meaning.specs.Findings.{Finding, foundAt, findingsBelow, findings}
 use Rattle.lists.proofs.Cases.{by-test}
+use Rattle.meaning.proofs.Starts.{past-no-start}
 use Rattle.meaning.proofs.Places.{found-no-start}
 
 -- A place has at most one finding.
@@ -43,11 +43,11 @@ module _ (ring line : List ℕ) (k : ℕ) where
       ∙ append-nil _
 
   -- The findings are those below any place from which on none is a start.
-  pub findings-below : (s : ℕ) → s ≤ length line → length line < s + length ring → findings ring line k ≡ findingsBelow ring line k s
+  pub findings-below : (s : ℕ) → s ≤ length line → IsPastLine ring line s → findings ring line k ≡ findingsBelow ring line k s
   findings-below s in-line past =
       let all : s + (length line - s) ≡ length line = omega arith in
       sym (ap (findingsBelow ring line k) all)
-      ∙ below-same s (length line - s) (λ j lo hi. found-no-start ring line k j (omega arith))
+      ∙ below-same s (length line - s) (λ j lo hi. found-no-start ring line k j (past-no-start ring line j (omega arith)))
 
   -- There are at most n − m + 1 findings. (So 3·(n − m + 1) words are room for all, by `words-length`.)
   pub findings-length-le : 0 < length ring → length ring ≤ length line → length (findings ring line k) ≤ length line - length ring + 1

@@ -1,8 +1,7 @@
 -- The list of findings has them all and nothing else: a finding is in it exactly when `IsFinding` says so, and a start has one exactly when some rotation
 -- differs in at most k places. The list is a run of `foundAt` over the places, so membership comes from one of them; the lowest rotation is
 -- unique, so what `IsFinding` describes is what `findingAt` computes.
--- Assumes nothing.
-use Prim.Native.Nat.{ℕ, zero, suc, _+_, _≤_, _<_}
+use Prim.Native.Nat.{ℕ, zero, suc, _≤_, _<_}
 use mathlib.Core.Path.{_≡_, refl, sym, ap, _∙_, subst}
 use mathlib.Core.Logic.{_↔_, ⊎-elim}
 use mathlib.Core.List.{List, List·Memᴰ, List·Memᴰ·head, List·Memᴰ·not-nil, List·Memᴰ·append-cases, Memᴰ·append-left, Memᴰ·append-right, Memᴰ·cast}
@@ -30,7 +29,7 @@ module _ (ring line : List ℕ) (k : ℕ) where
       (List·Memᴰ·append-cases (findingsBelow ring line k n) h)
 
   -- A place below n that is a start and near enough has its finding in the list.
-  mem-below : (n i : ℕ) → i < n → i + length ring ≤ length line → leastDistance ring line i ≤ k
+  mem-below : (n i : ℕ) → i < n → IsStart ring line i → leastDistance ring line i ≤ k
       → List·Memᴰ (findingAt ring line i) (findingsBelow ring line k n)
   unfolding findingsBelow
   mem-below zero i l s h = absurd (omega arith)
@@ -81,7 +80,7 @@ module _ (ring line : List ℕ) (k : ℕ) where
         let far : f .distance ≡ leastDistance ring line i = h .distance-is ∙ ap (distance ring line i) rotation in
         let whole : f ≡ findingAt ring line i = λ j. record { start = i; rotation = rotation j; distance = far j } in
         Memᴰ·cast whole
-        (mem-below (length line) i (omega (arith, h .is-start .in-line)) (h .is-start .in-line) (omega (arith, h .at-most-k)))
+        (mem-below (length line) i (omega (arith, h .is-start .fits)) (h .is-start) (omega (arith, h .at-most-k)))
 
     -- A finding is in the list exactly when it is a start, its distance is the one under its rotation and at most k, no rotation has less,
     -- and no lower rotation reaches it.
@@ -104,6 +103,6 @@ module _ (ring line : List ℕ) (k : ℕ) where
           let low = lowestRotation-is ring line pos i in (
             findingAt ring line i,
             refl,
-            mem-below (length line) i (omega (arith, w .0 .in-line)) (w .0 .in-line) (omega (arith, low .least (w .1 .0) (w .1 .1), w .1 .2)),
+            mem-below (length line) i (omega (arith, w .0 .fits)) (w .0) (omega (arith, low .least (w .1 .0) (w .1 .1), w .1 .2)),
           ),
     )

@@ -7,6 +7,7 @@ pub mod Lowest
 pub mod Some
 pub mod SizesTested
 -- the meanings: place by place, the findings as a list and how many they are, the stretch that fits, and a start under a rotation as an alignment
+pub mod Starts
 pub mod Places
 pub mod FindingsBelow
 pub mod FoundExactly

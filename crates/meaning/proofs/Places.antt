@@ -1,9 +1,7 @@
--- The meanings place by place: the test of a start, the edges of a window, and what `foundAt` gives in each case.
--- Assumes nothing.
-use Prim.Native.Nat.{ℕ, _+_, _≤_, _<_}
+-- The meanings place by place: the edges of a window, and what `foundAt` gives in each case.
+use Prim.Native.Nat.{ℕ, _≤_, _<_}
 use mathlib.Core.Path.{_≡_, refl, ap, _∙_}
 use mathlib.Core.Bool.{Bool, true, false, cond, _&&_}
-use mathlib.Core.Logic.{_↔_}
 use mathlib.Core.List.{List, [], _∷_, List·Memᴰ, List·Memᴰ·head, List·Memᴰ·not-nil, List·Memᴰ·eq-of-singleton}
 use native.Mathlib.Omega.{arith}
 use lib.Dec.{leb}
@@ -14,13 +12,7 @@ use Rattle.meaning.specs.Meanings.{IsStart, isStart, window, windowEdge,
 use Rattle.meaning.specs.Findings.{Finding, findingAt, foundAt}
 use Rattle.lists.proofs.Cases.{by-test, and-true}
 use Rattle.meaning.proofs.Lowest.{IsLowest, lowest-is}
-
--- The test decides the start.
-pub start-iff : (ring line : List ℕ) (i : ℕ) → (isStart ring line i ≡ true) ↔ IsStart ring line i
-start-iff ring line i = (
-  λ e. record { in-line = leb-true (i + length ring) (length line) e },
-  λ h. le-leb (i + length ring) (length line) (h .in-line),
-)
+use Rattle.meaning.proofs.Starts.{start-iff}
 
 -- The window, as a list, has the window's edges.
 pub window-edge-is : (m : ℕ) (line : List ℕ) (i q : ℕ) → q < m → getD (window m line i) q 0 ≡ windowEdge line i q
@@ -35,14 +27,14 @@ lowestRotation-is ring line pos i = lowest-is (distance ring line i) (length rin
 
 module _ (ring line : List ℕ) (k i : ℕ) where
   -- A start whose least distance is at most k: its finding.
-  pub found-yes : i + length ring ≤ length line → leastDistance ring line i ≤ k → foundAt ring line k i ≡ findingAt ring line i ∷ []
+  pub found-yes : IsStart ring line i → leastDistance ring line i ≤ k → foundAt ring line k i ≡ findingAt ring line i ∷ []
   unfolding foundAt
-  found-yes s h = rw (le-leb (i + length ring) (length line) s, le-leb (leastDistance ring line i) k h)
+  found-yes s h = rw (start-iff ring line i .1 s, le-leb (leastDistance ring line i) k h)
 
   -- A place that is no start: nothing.
-  pub found-no-start : length line < i + length ring → foundAt ring line k i ≡ []
+  pub found-no-start : isStart ring line i ≡ false → foundAt ring line k i ≡ []
   unfolding foundAt
-  found-no-start s = rw (lt-leb (i + length ring) (length line) s)
+  found-no-start no-start = rw no-start
 
   -- A place whose least distance is above k: nothing.
   pub found-no : k < leastDistance ring line i → foundAt ring line k i ≡ []

@@ -2,13 +2,13 @@
 -- in crates/moves, from `distance-step` of TallyStep.) Over the windows from place i on: the findings below i, followed by what these windows
 -- report, are all of them. A candidate reports its own place; a window left at break k + 1 jumps over places that have none
 -- (`nothing-lost`); past the last window no place is a start (`findings-below`).
--- Assumes nothing.
 use Prim.Native.Nat.{ℕ, suc, _+_, _-_, _≤_, _<_, min}
 use mathlib.Core.Path.{_≡_, sym, _∙_}
 use mathlib.Core.Logic.{⊎-elim}
 use mathlib.Core.List.{List, [], _∷_, _++_, append-nil, append-assoc}
 use native.Mathlib.Omega.{arith}
 use lib.ListN.{length}
+use Rattle.meaning.specs.Meanings.{FitsInLine, IsPastLine}
 use Rattle.meaning.specs.Findings.{findingsBelow, findings}
 use Rattle.meaning.specs.Rules.{Reading, readWindow, nextStart, candidatesOf, reported, quickFindings}
 use Rattle.meaning.proofs.FindingsBelow.{below-same, findings-below}
@@ -23,12 +23,12 @@ module _ (ring line : List ℕ) (k : ℕ) where
 
   module _ (pos : 0 < length ring) where
     -- Past the last window no place is a start.
-    rest-end : (i : ℕ) → length line < i + length ring → Rest i []
+    rest-end : (i : ℕ) → IsPastLine ring line i → Rest i []
     unfolding candidatesOf reported
     rest-end i h = append-nil _ ∙ sym (findings-below ring line k (min i (length line)) (omega arith) (omega arith))
 
     -- A candidate reports its own place; a window that was left jumps over places that have no finding.
-    rest-step : (i : ℕ) (ws : List Reading) → i + length ring ≤ length line → Rest (nextStart ring (readWindow ring line k i)) ws
+    rest-step : (i : ℕ) (ws : List Reading) → FitsInLine ring line i → Rest (nextStart ring (readWindow ring line k i)) ws
         → Rest i (readWindow ring line k i ∷ ws)
     unfolding candidatesOf reported findingsBelow
     rest-step i ws in-line h =

@@ -1,6 +1,5 @@
 -- A loop over the windows of a line: what it keeps before the window at i, and its turns. What is found so far, followed by what the windows
 -- from i on report, are the findings; the looks so far, with what these windows still cost, are all looks.
--- Assumes nothing.
 use Prim.Native.Nat.{ℕ, _+_, _-_, _≤_, _<_}
 use mathlib.Core.Path.{_≡_, sym, ap, _∙_}
 use mathlib.Core.Logic.{⊎-elim}
@@ -8,6 +7,7 @@ use mathlib.Core.List.{List, [], _++_, append-nil, append-assoc}
 use mathlib.Core.Option.{Option, none, some}
 use native.Mathlib.Omega.{arith}
 use lib.ListN.{length, length-append}
+use Rattle.meaning.specs.Meanings.{FitsInLine, IsPastLine}
 use Rattle.meaning.specs.Findings.{Finding, foundAt, findings}
 use Rattle.meaning.specs.Rules.{Reading, readWindow, candidatesOf, reported}
 use Rattle.meaning.specs.Looks.{readLooks, tallyLooks, verifyLooks, quickLooks}
@@ -40,14 +40,14 @@ module _ (ring line : List ℕ) (k : ℕ) where
         omega (arith, ap (λ (l : List Finding). length l) (h .found-are), length-append found (reported ring line k (candidatesOf ring k (windowsAt ring line k i))))
 
     -- Past the last window all is found, and all is looked at.
-    pub scan-end : length line < i + m → (found ≡ findings ring line k) × (looks ≡ quickLooks ring line k)
+    pub scan-end : IsPastLine ring line i → (found ≡ findings ring line k) × (looks ≡ quickLooks ring line k)
     unfolding candidatesOf reported readLooks verifyLooks
     scan-end over = (
       sym (append-nil found) ∙ rw (windows-end ring line k i over) at (h .found-are),
       omega (arith, rw (windows-end ring line k i over) at (h .looks-are)),
     )
 
-    module _ (in-line : i + m ≤ length line) where
+    module _ (in-line : FitsInLine ring line i) where
       abbrev w : Reading
       w = readWindow ring line k i
 

@@ -1,6 +1,5 @@
--- The plain survey's looks: 2·m·n − m·m for n ≥ m, else none. After the starts below s + 1 they are m·m + s·2·m; the places past the last
--- start add none.
--- Assumes nothing.
+-- The plain survey's looks: 2·m·n − m·m for n ≥ m, else none. After the windows below place s + 1 they are m·m + s·2·m; the places past the last
+-- window add none.
 use Prim.Native.Nat.{ℕ, zero, suc, _+_, _-_, _*_, _≤_, _<_}
 use mathlib.Core.Path.{_≡_, refl, sym, ap, _∙_}
 use mathlib.Core.Bool.{cond}
@@ -9,43 +8,44 @@ use native.Mathlib.Nat.{add-zero, add-suc}
 use native.Mathlib.Omega.{arith}
 use lib.Dec.{eqb}
 use lib.ListN.{length}
-use borrow.Author.Tests.{le-leb, lt-leb, ne-eqb}
-use Rattle.meaning.specs.Meanings.{isStart}
+use borrow.Author.Tests.{ne-eqb}
+use Rattle.meaning.specs.Meanings.{FitsInLine, IsPastLine, fitsInLine}
 use Rattle.meaning.specs.Looks.{afreshLooks, stepLooks, surveyLooksBelow, surveyLooks}
+use Rattle.meaning.proofs.Starts.{fits-line-iff, past-line-iff}
 
 module _ (ring line : List ℕ) where
   abbrev m : ℕ
   m = length ring
 
-  -- One place more: what verifying it costs, where it is a start.
+  -- One place more: what it costs, where a window fits.
   one-place : (i : ℕ) → surveyLooksBelow ring line (suc i)
-      ≡ surveyLooksBelow ring line i + cond (isStart ring line i) (cond (eqb i 0) (afreshLooks m) (stepLooks m)) 0
+      ≡ surveyLooksBelow ring line i + cond (fitsInLine ring line i) (cond (eqb i 0) (afreshLooks m) (stepLooks m)) 0
   unfolding surveyLooksBelow
   one-place i = refl
 
-  -- The first start is counted afresh.
-  pub surveyLooks-first : m ≤ length line → surveyLooksBelow ring line 1 ≡ afreshLooks m
+  -- The first window is counted afresh.
+  pub surveyLooks-first : FitsInLine ring line 0 → surveyLooksBelow ring line 1 ≡ afreshLooks m
   unfolding surveyLooksBelow
-  surveyLooks-first h = rw (le-leb (0 + m) (length line) (omega arith)) (omega arith)
+  surveyLooks-first h = rw (fits-line-iff ring line 0 .1 h) (omega arith)
 
-  -- Each next start is one step more.
-  surveyLooks-step : (i : ℕ) → suc i + m ≤ length line → surveyLooksBelow ring line (suc (suc i)) ≡ surveyLooksBelow ring line (suc i) + stepLooks m
-  surveyLooks-step i h = one-place (suc i) ∙ rw (le-leb (suc i + m) (length line) h, ne-eqb (suc i) 0 (λ z. omega arith))
+  -- Each next window is one step more.
+  surveyLooks-step : (i : ℕ) → FitsInLine ring line (suc i) → surveyLooksBelow ring line (suc (suc i)) ≡ surveyLooksBelow ring line (suc i) + stepLooks m
+  surveyLooks-step i h = one-place (suc i) ∙ rw (fits-line-iff ring line (suc i) .1 h, ne-eqb (suc i) 0 (λ z. omega arith))
 
-  -- Places past the last start add nothing.
-  below-past : (i d : ℕ) → length line < i + m → surveyLooksBelow ring line (i + d) ≡ surveyLooksBelow ring line i
+  -- Places past the last window add nothing.
+  below-past : (i d : ℕ) → IsPastLine ring line i → surveyLooksBelow ring line (i + d) ≡ surveyLooksBelow ring line i
   below-past i zero h = rw add-zero
   below-past i (suc d) h =
       ap (surveyLooksBelow ring line) (add-suc i d) ∙ one-place (i + d)
-      ∙ rw (lt-leb (i + d + m) (length line) (omega arith)) (add-zero _) ∙ below-past i d h
+      ∙ rw (past-line-iff ring line (i + d) .1 (omega arith)) (add-zero _) ∙ below-past i d h
 
-  -- What the starts below s + 1 cost.
-  pub surveyLooks-below : (s : ℕ) → s + m ≤ length line → surveyLooksBelow ring line (suc s) ≡ afreshLooks m + s * stepLooks m
+  -- What the windows below place s + 1 cost.
+  pub surveyLooks-below : (s : ℕ) → FitsInLine ring line s → surveyLooksBelow ring line (suc s) ≡ afreshLooks m + s * stepLooks m
   surveyLooks-below zero h = surveyLooks-first (omega arith) ∙ omega arith
   surveyLooks-below (suc s) h = surveyLooks-step s h ∙ omega (arith, surveyLooks-below s (omega arith))
 
-  -- All looks are those of the places below any from which on none is a start.
-  pub surveyLooks-end : (i : ℕ) → i ≤ length line → length line < i + m → surveyLooks ring line ≡ surveyLooksBelow ring line i
+  -- All looks are those of the places below any from which on no window fits.
+  pub surveyLooks-end : (i : ℕ) → i ≤ length line → IsPastLine ring line i → surveyLooks ring line ≡ surveyLooksBelow ring line i
   surveyLooks-end i in-line past =
       let all : i + (length line - i) ≡ length line = omega arith in
       sym (ap (surveyLooksBelow ring line) all) ∙ below-past i (length line - i) past

@@ -1,7 +1,6 @@
 -- The windows from place i on, without the number that bounds the recursion of `windowsFrom`: any number above n − i gives the same list
 -- (`windowsFrom-enough`), so a window in the line is read and followed by those from the next one on, and past the line there is none.
--- Assumes nothing.
-use Prim.Native.Nat.{ℕ, zero, suc, _+_, _≤_, _<_}
+use Prim.Native.Nat.{ℕ, zero, suc, _+_, _<_}
 use mathlib.Core.Path.{_≡_, refl, sym, ap, _∙_, subst}
 use mathlib.Core.Bool.{cond}
 use mathlib.Core.Logic.{⊎-elim}
@@ -9,10 +8,9 @@ use mathlib.Core.List.{List, [], _∷_}
 use native.Mathlib.Numerals.{add-one}
 use native.Mathlib.Omega.{arith}
 use lib.ListN.{length}
-use borrow.Author.Tests.{le-leb, lt-leb}
-use Rattle.meaning.specs.Meanings.{fitsInLine}
+use Rattle.meaning.specs.Meanings.{FitsInLine, IsPastLine, fitsInLine}
 use Rattle.meaning.specs.Rules.{Reading, readWindow, nextStart, windowsFrom, windows}
-use Rattle.lists.proofs.Cases.{le-or-lt}
+use Rattle.meaning.proofs.Starts.{fits-line-iff, past-line-iff, fits-or-past}
 use Rattle.meaning.proofs.WindowRead.{window-read}
 
 module _ (ring line : List ℕ) (k : ℕ) where
@@ -28,8 +26,8 @@ module _ (ring line : List ℕ) (k : ℕ) where
   windowsFrom-enough : (f g i : ℕ) → length line < i + f → length line < i + g → windowsFrom ring line k f i ≡ windowsFrom ring line k g i
   unfolding windowsFrom
   windowsFrom-enough zero zero i hf hg = refl
-  windowsFrom-enough zero (suc g) i hf hg = rw (lt-leb (i + length ring) (length line) (omega arith))
-  windowsFrom-enough (suc f) zero i hf hg = rw (lt-leb (i + length ring) (length line) (omega arith))
+  windowsFrom-enough zero (suc g) i hf hg = rw (past-line-iff ring line i .1 (omega arith))
+  windowsFrom-enough (suc f) zero i hf hg = rw (past-line-iff ring line i .1 (omega arith))
   windowsFrom-enough (suc f) (suc g) i hf hg =
       ap (λ (ws : List Reading). cond (fitsInLine ring line i) (readWindow ring line k i ∷ ws) [])
       (windowsFrom-enough f g (nextAfter i) (omega (arith, next-above i)) (omega (arith, next-above i)))
@@ -44,28 +42,28 @@ module _ (ring line : List ℕ) (k : ℕ) where
   windows-start = refl
 
   -- A window in the line is read, and followed by those from the next one on.
-  pub windows-step : (i : ℕ) → i + length ring ≤ length line → windowsAt i ≡ readWindow ring line k i ∷ windowsAt (nextAfter i)
+  pub windows-step : (i : ℕ) → FitsInLine ring line i → windowsAt i ≡ readWindow ring line k i ∷ windowsAt (nextAfter i)
   unfolding windowsAt windowsFrom
   windows-step i h =
       ap (λ (f : ℕ). windowsFrom ring line k f i) (add-one (length line))
-      ∙ rw (le-leb (i + length ring) (length line) h)
+      ∙ rw (fits-line-iff ring line i .1 h)
       (ap (λ (ws : List Reading). readWindow ring line k i ∷ ws)
       (windowsFrom-enough (length line) (length line + 1) _ (omega (arith, next-above i)) (omega (arith, next-above i))))
 
   -- Where no window fits in the line, none is read.
-  pub windows-end : (i : ℕ) → length line < i + length ring → windowsAt i ≡ []
+  pub windows-end : (i : ℕ) → IsPastLine ring line i → windowsAt i ≡ []
   unfolding windowsAt windowsFrom
-  windows-end i h = ap (λ (f : ℕ). windowsFrom ring line k f i) (add-one (length line)) ∙ rw (lt-leb (i + length ring) (length line) h)
+  windows-end i h = ap (λ (f : ℕ). windowsFrom ring line k f i) (add-one (length line)) ∙ rw (past-line-iff ring line i .1 h)
 
   -- Induction over the windows. What holds where none fits in the line, and holds of a window in the line once it holds from the next one on,
   -- holds of the windows from every place on.
   pub windows-induct : (P : ℕ → List Reading → Type 0)
-      → ((i : ℕ) → length line < i + length ring → P i [])
-      → ((i : ℕ) → i + length ring ≤ length line → P (nextAfter i) (windowsAt (nextAfter i)) → P i (readWindow ring line k i ∷ windowsAt (nextAfter i)))
+      → ((i : ℕ) → IsPastLine ring line i → P i [])
+      → ((i : ℕ) → FitsInLine ring line i → P (nextAfter i) (windowsAt (nextAfter i)) → P i (readWindow ring line k i ∷ windowsAt (nextAfter i)))
       → (i : ℕ) → P i (windowsAt i)
   windows-induct P over step i = go (suc (length line)) i (omega arith)
     where
-      past : (i : ℕ) → length line < i + length ring → P i (windowsAt i)
+      past : (i : ℕ) → IsPastLine ring line i → P i (windowsAt i)
       past i o = subst (P i) (sym (windows-end i o)) (over i o)
 
       go : (f i : ℕ) → length line < i + f → P i (windowsAt i)
@@ -74,4 +72,4 @@ module _ (ring line : List ℕ) (k : ℕ) where
           ⊎-elim
           (λ in-line. subst (P i) (sym (windows-step i in-line)) (step i in-line (go f _ (omega (arith, next-above i)))))
           (past i)
-          (le-or-lt (i + length ring) (length line))
+          (fits-or-past ring line i)

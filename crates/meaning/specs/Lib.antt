@@ -7,6 +7,7 @@
 -- |---------------------------|-----------------------------------------|----------|
 -- | m, n, k                   | `length ring`, `length line`, `k`       |          |
 -- | rotation r at place q     | `rotationEdge ring r q`                 | Meanings |
+-- | window in the line        | `FitsInLine`; the test `fitsInLine`     | Meanings |
 -- | start                     | `IsStart`; the test `isStart`           | Meanings |
 -- | window                    | `window`; its edges `windowEdge`        | Meanings |
 -- | distance                  | `distance ring line i r`                | Meanings |

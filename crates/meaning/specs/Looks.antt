@@ -1,13 +1,12 @@
 -- Document 01: looks. "Looks are the sum over rules 1 and 5"; and the looks of the plain survey. Rule 5, "Verifying works on a tally: the tally of
 -- one count per rotation is kept and moved along the line", is stated here by what it costs; what the counts hold is `Tallied` of crates/tally.
--- Assumes nothing.
 use Prim.Native.Nat.{ℕ, zero, suc, _+_, _-_, _*_}
 use mathlib.Core.Bool.{cond}
 use mathlib.Core.List.{List, [], _∷_}
 use mathlib.Core.Option.{Option, none, some}
 use lib.Dec.{ltb, eqb}
 use lib.ListN.{length}
-use Rattle.meaning.specs.Meanings.{isStart}
+use Rattle.meaning.specs.Meanings.{fitsInLine}
 use Rattle.meaning.specs.Rules.{Reading, windows, candidates}
 
 -- Rule 1. "Each edge read is one look."
@@ -38,14 +37,14 @@ verifyLooks m last (i ∷ starts) = tallyLooks m last i + verifyLooks m (some i)
 abbrev pub quickLooks : List ℕ → List ℕ → ℕ → ℕ
 quickLooks ring line k = readLooks (windows ring line k) + verifyLooks (length ring) none (candidates ring line k)
 
--- "The plain survey verifies every start, the first afresh and each next by one step, at m = 1 too": its looks once the starts below i are
--- verified. Place 0 is the first start where there is one.
+-- "The plain survey verifies every start, the first afresh and each next by one step, at m = 1 too": its looks once the tally is
+-- counted at the places below i where a window fits. Place 0 is the first of these where there is one.
 unfoldable pub surveyLooksBelow : List ℕ → List ℕ → ℕ → ℕ
 surveyLooksBelow ring line zero = 0
 surveyLooksBelow ring line (suc i) =
     let verifying : ℕ = cond (eqb i 0) (afreshLooks (length ring)) (stepLooks (length ring)) in
-    surveyLooksBelow ring line i + cond (isStart ring line i) verifying 0
+    surveyLooksBelow ring line i + cond (fitsInLine ring line i) verifying 0
 
--- The plain survey's looks: all starts are among the line's places.
+-- The plain survey's looks: a window fits at the line's places only.
 abbrev pub surveyLooks : List ℕ → List ℕ → ℕ
 surveyLooks ring line = surveyLooksBelow ring line (length line)

@@ -2,8 +2,7 @@
 -- The document's limits (m 1 to 256, n at most 65,536, k below m) are refusals of the calls and stand with them. Here every list has a value;
 -- of an empty ring it means nothing, and the laws ask 0 < m. `getD` gives 0 past a list's end: at a start no definition looks there, neither in
 -- the line, by i + m ≤ n, nor in the ring, by mod m.
--- Assumes nothing.
-use Prim.Native.Nat.{ℕ, _+_, _%_, _≤_}
+use Prim.Native.Nat.{ℕ, _+_, _%_, _≤_, _<_}
 use mathlib.Core.Bool.{Bool, not}
 use mathlib.Core.List.{List}
 use lib.Dec.{leb, eqb}
@@ -14,15 +13,23 @@ use Rattle.meaning.specs.Numbers.{count, lowest}
 abbrev pub rotationEdge : List ℕ → ℕ → ℕ → ℕ
 rotationEdge ring r q = getD ring ((r + q) % length ring) 0
 
--- A window of m edges fits in the line at place i: i + m ≤ n.
+-- "i + m ≤ n": a window of m edges fits in the line at place i.
+pub record FitsInLine (ring line : List ℕ) (i : ℕ) : Type 0 where
+  pub in-line : i + length ring ≤ length line
+
+-- A window at place i would reach past the line's end.
+pub record IsPastLine (ring line : List ℕ) (i : ℕ) : Type 0 where
+  pub past : length line < i + length ring
+
+-- Whether a window fits in the line at place i. Rule 1's windows and the survey's tally go by this test.
 abbrev pub fitsInLine : List ℕ → List ℕ → ℕ → Bool
 fitsInLine ring line i = leb (i + length ring) (length line)
 
 -- "A start i is a line place with i + m ≤ n."
 pub record IsStart (ring line : List ℕ) (i : ℕ) : Type 0 where
-  pub in-line : i + length ring ≤ length line
+  pub fits : FitsInLine ring line i
 
--- The same as a test, which the findings ask. (Rule 1's windows ask `fitsInLine`.)
+-- Whether place i is a start. The findings go by this test.
 abbrev pub isStart : List ℕ → List ℕ → ℕ → Bool
 isStart ring line i = fitsInLine ring line i
 

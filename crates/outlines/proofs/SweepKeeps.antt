@@ -117,7 +117,7 @@ module _ {ring doubled table line : List ℕ} {k : ℕ} {book counts₀ area : L
             keeps = record {
               scanning =
                   rw (c .swept .start-is, c .swept .last-is, c .swept .looks-are, le-leb _ _ (c .few), found-are)
-                  (scan-verified ring line k (on .stop) (lastOf (at .last)) so-far _ left (c .in-line) (c .few));
+                  (scan-verified ring line k (on .stop) (lastOf (at .last)) so-far _ left (omega (arith, c .in-line)) (c .few));
               before = c .swept .before;
               size = c .swept .size;
               start-le = omega (arith, c .swept .start-is, c .in-line);

@@ -85,7 +85,7 @@ module _ {cell ringNumber : ℕ} {ring doubled table line : List ℕ} {k : ℕ} 
     pub window-end : length line < at .start .0 + length ring
         → LineScanned cell ringNumber ring line k book area (asked .shown + asked .hidden) (asked .hidden) (at .looks) words
     window-end past =
-        let e = scan-end ring line k _ _ _ _ (h .sweep .scanning) past in
+        let e = scan-end ring line k _ _ _ _ (h .sweep .scanning) (omega arith) in
         record {
           silences = ss;
           book-is = h .can .book-read .is;

@@ -42,7 +42,7 @@ module _ {ring doubled line : List ℕ} {k i : ℕ} {old : List ℕ} (can : CanV
       omega (
         arith,
         ap (surveyLooksBelow ring line) (here ∙ add-one (i - 1)) ∙ surveyLooks-below ring line (i - 1) (omega (arith, can .in-line)),
-        ap (surveyLooksBelow ring line) (add-one j) ∙ surveyLooks-below ring line j in-line,
+        ap (surveyLooksBelow ring line) (add-one j) ∙ surveyLooks-below ring line j (omega arith),
         ap (λ (x : ℕ). x * stepLooks (length ring)) all,
       )
 

@@ -54,10 +54,10 @@ module _ {ring doubled line : List ℕ} {k : ℕ} {area : List ℕ} {i found loo
   -- Past the last start all is found.
   pub survey-end : length line < i + length ring → LineSurveyed ring line k area found looks words
   survey-end past =
-      let all : findingsBelow ring line k i ≡ findings ring line k = sym (findings-below ring line k i (keeps .start-le) past) in
+      let all : findingsBelow ring line k i ≡ findings ring line k = sym (findings-below ring line k i (keeps .start-le) (omega arith)) in
       record {
         found-is = keeps .put .count-is ∙ ap (λ (l : List Finding). length l) all;
-        looks-are = keeps .looks-are ∙ sym (surveyLooks-end ring line i (keeps .start-le) past);
+        looks-are = keeps .looks-are ∙ sym (surveyLooks-end ring line i (keeps .start-le) (omega arith));
         written = keeps .put .words-are ∙ ap (λ (l : List Finding). written (wordsOf l) area) all;
       }
 
@@ -95,7 +95,7 @@ module _ {ring doubled line : List ℕ} {k : ℕ} {area : List ℕ} {i found loo
             arith,
             keeps .looks-are,
             verified .looks-are,
-            ap (surveyLooksBelow ring line) (add-one start) ∙ surveyLooks-below ring line start (verified .in-line),
+            ap (surveyLooksBelow ring line) (add-one start) ∙ surveyLooks-below ring line start (omega (arith, verified .in-line)),
             mul-le-mul (admitted .most-ring) (admitted .most-ring),
             mul-le-mul starts steps,
           )

@@ -29,4 +29,4 @@ module _ (ring line : List ℕ) (k from : ℕ) where
   left-scanned last found looks₀ none-left h = rw add-zero h
   left-scanned last found looks₀ (one-left {i = i} {looks = looks} before in-line many) h =
       rw (← add-assoc looks₀ looks (readWindow ring line k i .read))
-      (scan-left ring line k i last found (looks₀ + looks) (left-scanned last found looks₀ before h) in-line many)
+      (scan-left ring line k i last found (looks₀ + looks) (left-scanned last found looks₀ before h) (omega arith) many)

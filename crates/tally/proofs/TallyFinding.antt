@@ -49,5 +49,5 @@ module _ (ring line : List ℕ) (k i : ℕ) (counts : List ℕ) (least : ℕ) (p
     -- A start whose least count is at most k: its finding.
     pub least-yes : i + length ring ≤ length line → least ≤ k → foundAt ring line k i ≡ record { start = i; rotation = r; distance = least } ∷ []
     least-yes in-line h =
-        found-yes ring line k i in-line (omega (arith, least-is))
+        found-yes ring line k i (omega arith) (omega (arith, least-is))
         ∙ ap (λ (f : Finding). f ∷ []) (λ j. record { start = i; rotation = sym rotation-is j; distance = sym least-is j })
