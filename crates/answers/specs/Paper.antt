@@ -1,6 +1,6 @@
 -- Document 01, "What each call returns": the shape that every call's answer has, and its number, place and counts.
 --
---   Answer         what a call was asked for, or a refusal
+--   Answer         a call's result, or a refusal
 --   Paper          number, place and counts, as the document's table and sentences give them
 --   answerPaper    the paper of an answer
 --
@@ -9,12 +9,12 @@ use Prim.Native.Nat.{ℕ}
 use Rattle.answers.specs.declared.refusals.Refusal.{Refusal}
 use Rattle.answers.specs.Refusals.{numberOf, placeOf}
 
--- A call either is accepted, and gives what it was asked for, or is refused.
+-- A call is accepted and returns its result, or it is refused.
 pub data Answer (A : Type 0) : Type 0 where
   accepted : A → Answer A
   refused : Refusal → Answer A
 
--- What the document says of an answer. Its rows are numbered from 1: an accepted answer, which has no row, has number 0 and place 0.
+-- Number, place and counts of an answer. The table's rows are numbered from 1: an accepted answer, which has no row, has number 0 and place 0.
 pub record Paper (C : Type 0) : Type 0 where
   pub number : ℕ
   pub place : ℕ

@@ -4,7 +4,7 @@
 --
 --   ringPlaceOf                ring place = (rotation + (line place − start)) mod m
 --   linePlaceOf                line place = start + (ring place − rotation) mod m
---   IsRingPlace, IsLinePlace   what `to_ring` and `to_line` promise
+--   IsRingPlace, IsLinePlace   the contracts of `to_ring` and `to_line`
 --
 -- The document speaks of a ring with m > 0, a rotation below m and a place within the window or the ring. Here every input has a
 -- value: with m = 0 a place mod m is 0; a line place before the start counts as the start; a rotation or a ring place of m or more
@@ -33,10 +33,10 @@ ringPlaceOf place start rotation m = record { 0 = around m (rotation .0 + (place
 unfoldable pub linePlaceOf : RingPlace → LinePlace → RingPlace → ℕ → LinePlace
 linePlaceOf place start rotation m = record { 0 = min (start .0 + around m (place .0 + (m - rotation .0 % m))) lastPlace }
 
--- What `to_ring` promises of its answer.
+-- The contract of `to_ring`, which returns r.
 pub record IsRingPlace (place start : LinePlace) (rotation : RingPlace) (m : ℕ) (r : RingPlace) : Type 0 where
   pub is : r ≡ ringPlaceOf place start rotation m
 
--- What `to_line` promises of its answer.
+-- The contract of `to_line`, which returns r.
 pub record IsLinePlace (place : RingPlace) (start : LinePlace) (rotation : RingPlace) (m : ℕ) (r : LinePlace) : Type 0 where
   pub is : r ≡ linePlaceOf place start rotation m

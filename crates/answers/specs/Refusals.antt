@@ -1,9 +1,9 @@
 -- Document 01, "What each call returns": the table of refusals, rows 1 to 11. Here stand the number and the place of each
--- refusal; when a row is given is said where its call is defined.
+-- refusal; each call defines when its rows are given.
 --
 --   numberOf    the column "No."
 --   placeOf     the column "Place"
---   IsNumber, IsPlace    what `number_of` and `place_of` promise
+--   IsNumber, IsPlace    the contracts of `number_of` and `place_of`
 --
 -- A refusal whose place is always 0 holds none. Leaves nothing out and adds no row.
 use Prim.Native.Nat.{ℕ}
@@ -61,10 +61,10 @@ placeOf OutputRoom = 0
 -- 11: "the offset where the first such field begins or should begin", or 0
 placeOf (Input place) = place
 
--- What `number_of` promises of its answer.
+-- The contract of `number_of`, which returns r.
 pub record IsNumber (refusal : Refusal) (r : ℕ) : Type 0 where
   pub is : r ≡ numberOf refusal
 
--- What `place_of` promises of its answer.
+-- The contract of `place_of`, which returns r.
 pub record IsPlace (refusal : Refusal) (r : ℕ) : Type 0 where
   pub is : r ≡ placeOf refusal

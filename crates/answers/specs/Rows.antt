@@ -1,15 +1,14 @@
--- Document 01, "What each call returns": the order of refusals. A call has one list of rows, in the order of "Order: ..", and its refusal is that of the
--- first row that is given. Each call defines its list; that the first decides, and what a refusal leaves, is stated here for all of them.
+-- Document 01, "What each call returns": the order of refusals. A call has one list of rows, in the order of "Order: ..", and the first
+-- row that is given decides. Each call defines its list; what the first row decides is defined here for all calls.
 --
 --   row          a row of the table: its refusal if its test holds
 --   firstGiven   the refusal of the first row that is given, if one is
 --   NoneGiven    no row of a list is given
 --   IsFirst      the same as `firstGiven`, as facts: this row is given, and no row before it
---   answerBy     the answer, by the first row that is given
---   areaBy       a lent area at exit, by the first row that is given
+--   answerBy     the answer: accepted, or refused by that row
+--   areaBy       a lent area at exit: written, or untouched
 --
--- A row that several refusals can come from (6 and 7 within a book, 9 and 7 among the records to pack) is one element of the list, too: its first fault,
--- if there is one.
+-- Rows 6 and 7 within a book, and 9 and 7 among the records to pack, are one element of the list: the first fault, if there is one.
 use Prim.Native.Nat.{ℕ}
 use mathlib.Core.Path.{_≡_}
 use mathlib.Core.Bool.{Bool, cond}
@@ -40,12 +39,12 @@ pub record IsFirst (rows : List (Option Refusal)) (refusal : Refusal) : Type 0 w
   pub rows-are : rows ≡ earlier ++ some refusal ∷ later
   pub none-before : NoneGiven earlier
 
--- A call is accepted, with what it gives, where no row is given; else it is refused by the first.
+-- A call is accepted with its result `a` where no row is given; else it is refused by the first.
 abbrev pub answerBy : {A : Type 0} → Option Refusal → A → Answer A
 answerBy none a = accepted a
 answerBy (some refusal) a = refused refusal
 
--- A lent area at exit: as the call writes it; a refusal "writes nothing to any lent area".
+-- A lent area at exit: `new` if the call is accepted; a refusal "writes nothing to any lent area", so it is as before, `old`.
 abbrev pub areaBy : Option Refusal → List ℕ → List ℕ → List ℕ
 areaBy none new old = new
 areaBy (some refusal) new old = old

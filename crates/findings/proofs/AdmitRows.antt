@@ -5,7 +5,7 @@ use mathlib.Core.Path.{_≡_, refl}
 use mathlib.Core.Logic.{_↔_, _⊎_, inl, inr, ⊎-elim, Iff·trans}
 use mathlib.Core.Option.{none, some}
 use native.Mathlib.Omega.{arith}
-use Rattle.meaning.proofs.SizesTested.{lt-iff, le-iff, eq-iff, and-iff, or-iff}
+use Rattle.lists.proofs.SizesTested.{lt-iff, le-iff, eq-iff, and-iff, or-iff}
 use Rattle.answers.specs.declared.refusals.Refusal.{Refusal}
 use Rattle.answers.specs.declared.refusals.Refusal.the-variants.{Ring, Allowance, Line, FindingsRoom}
 use Rattle.answers.specs.Refusals.{numberOf, placeOf}

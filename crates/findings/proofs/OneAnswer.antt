@@ -1,6 +1,5 @@
 -- Any two answers that meet a contract of this crate are equal, and the words at exit too: each contract is an equation for the whole answer. And the paper of a
 -- search determines its answer: the answer by `answer-unique` of the answers, and then its case.
--- Assumes nothing.
 use Prim.Native.Nat.{ℕ}
 use mathlib.Core.Path.{_≡_, refl, sym, ap, _∙_}
 use mathlib.Core.List.{List}

@@ -1,6 +1,5 @@
 -- What follows of any answer that meets a search's contract, of survey or scan, beside the table's rows (RowsOfSearching): where it is accepted, which its number 0
 -- says, it has found all findings and its looks are the search's; and a refusal has no looks, so that what holds of 0 and of the search's looks holds of its.
--- Assumes nothing.
 use Prim.Native.Nat.{ℕ, _<_}
 use mathlib.Core.Path.{_≡_}
 use mathlib.Core.Logic.{⊎-elim}

@@ -1,5 +1,4 @@
 -- The words of one finding put behind those of the findings before it: what the area then holds is what `written` says of one finding more.
--- Assumes nothing.
 use Prim.Native.Nat.{ℕ, _+_, _*_, _≤_}
 use mathlib.Core.Path.{_≡_, refl, sym, ap, _∙_}
 use mathlib.Core.List.{List, [], _∷_, _++_}

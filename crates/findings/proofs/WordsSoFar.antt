@@ -1,26 +1,25 @@
 -- The words of the findings so far, as the loop of a search keeps them: how many findings, and the area with their words at its front. `put_finding` puts one more
--- behind them, where there is room and its three numbers are 32-bit words. What the findings are is the loop's own.
--- Assumes nothing.
+-- behind them, where there is room and its words are 32-bit words. What the findings are is the loop's own.
 use Prim.Native.Nat.{ℕ, _+_, _*_, _≤_, _<_}
 use mathlib.Core.Path.{_≡_, refl, ap, _∙_}
 use mathlib.Core.List.{List, [], _∷_, _++_}
 use native.Mathlib.Omega.{arith}
 use lib.ListN.{length, length-append}
-use Rattle.meaning.specs.Findings.{Finding, wordsEach, wordsOf}
+use Rattle.lists.specs.Bounds.{IsWords}
+use Rattle.meaning.specs.Meanings.{IsStart}
+use Rattle.meaning.specs.Findings.{Finding, findingWords, wordsEach, wordsOf}
 use Rattle.lists.specs.Areas.{written}
 use Rattle.findings.specs.Admitting.{Admitted}
-use Rattle.findings.specs.Putting.{wordsPut, IsThreeWords, CanPut, IsPut}
+use Rattle.findings.specs.Putting.{wordsPut, CanPut, IsPut}
 use Rattle.findings.proofs.WordsPut.{put-more, put-none, put-length}
-use Rattle.findings.proofs.PutCases.{words-are-put}
+use Rattle.findings.proofs.PutCases.{finding-words, words-are-put}
 
--- A finding's three numbers are 32-bit words where the call is accepted.
-pub admitted-three-words : {m k n room : ℕ} {f : Finding} → Admitted m k n room → f .start + m ≤ n → f .rotation < m → f .distance ≤ k → IsThreeWords f
-admitted-three-words admitted in-line is-rotation near =
-    record {
-      start-lt = omega (arith, admitted .most-line);
-      rotation-lt = omega (arith, admitted .most-ring);
-      distance-lt = omega (arith, admitted .allowed, admitted .most-ring);
-    }
+-- A finding's words are 32-bit words where the call is accepted.
+pub admitted-words : {ring line : List ℕ} {k room : ℕ} {f : Finding} → Admitted (length ring) k (length line) room → IsStart ring line (f .start)
+    → f .rotation < length ring → f .distance ≤ k → IsWords (findingWords f)
+admitted-words admitted is-start is-rotation near =
+    finding-words (omega (arith, admitted .most-line, is-start .fits)) (omega (arith, admitted .most-ring))
+    (omega (arith, admitted .allowed, admitted .most-ring))
 
 -- So many findings, and their words at the front of the area as it was lent.
 pub record WordsSoFar (area : List ℕ) (fs : List Finding) (count : ℕ) (words : List ℕ) : Type 0 where
@@ -44,8 +43,8 @@ module _ {area : List ℕ} {fs : List Finding} {count : ℕ} {words : List ℕ} 
   }
 
   -- One finding more, that `put_finding` put.
-  pub so-far-more : {f : Finding} {out : List ℕ} → wordsEach * count + wordsEach ≤ length area → IsThreeWords f → IsPut words count f out
+  pub so-far-more : {f : Finding} {out : List ℕ} → wordsEach * count + wordsEach ≤ length area → IsWords (findingWords f) → IsPut words count f out
       → WordsSoFar area (fs ++ f ∷ []) (count + 1) out
   so-far-more {f} {out} room fit put =
-      let can : CanPut (length words) count f = record { room = omega (arith, so-far-length (omega arith)); three-words = fit } in
+      let can : CanPut (length words) count f = record { room = omega (arith, so-far-length (omega arith)); words = fit } in
       rw (words-are-put words count f out can put) (so-far-put f room)

@@ -1,14 +1,14 @@
 -- Document 01, "What each call returns", rows 1 to 4: when survey, scan and report are refused before they look at anything.
 --
 --   mostRing, mostLine    the document's limits
---   roomAsked             the words asked for findings
+--   roomAsked             the words that row 4 requires
 --   isRow1 to isRow4      when each row is given
 --   admitRows             "Order: survey and scan 1 to 4"
 --   refusalOf             the first of these rows that is given, if one is
 --   IsRing                row 1 is not given
---   Admitted              no row is given: what is known of an accepted call
---   verdictOf             the refusal that a verdict stands for, if one is given
---   IsVerdict             what `admit` promises
+--   Admitted              none of these rows is given
+--   verdictOf             the refusal of a verdict, if it is one
+--   IsVerdict             the contract of `admit`
 use Prim.Native.Nat.{ℕ, _+_, _-_, _*_, _≤_, _<_}
 use mathlib.Core.Path.{_≡_}
 use mathlib.Core.Bool.{Bool, _&&_, _||_}
@@ -64,7 +64,7 @@ pub record IsRing (m : ℕ) : Type 0 where
   pub some-edge : 0 < m
   pub most : m ≤ mostRing
 
--- What is known of an accepted call: the document's limits, and room for the findings.
+-- None of rows 1 to 4 is given: the document's limits hold, and there is room for the findings.
 pub record Admitted (m k n room : ℕ) : Type 0 where
   pub some-edge : 0 < m
   pub most-ring : m ≤ mostRing
@@ -72,11 +72,11 @@ pub record Admitted (m k n room : ℕ) : Type 0 where
   pub most-line : n ≤ mostLine
   pub room-for : m ≤ n → roomAsked m n ≤ room
 
--- The refusal that a verdict stands for.
+-- The refusal of a verdict, if it is one.
 abbrev pub verdictOf : Verdict → Option Refusal
 verdictOf Accepted = none
 verdictOf (Refused refusal) = some refusal
 
--- What `admit` promises: of m, k, n, the words lent for findings, and the verdict. It stands for the first row that is given, if one is.
+-- The contract of `admit`, which returns r: the first row that is given, if one is. `room` is how many words are lent for findings.
 pub record IsVerdict (m k n room : ℕ) (r : Verdict) : Type 0 where
   pub is : verdictOf r ≡ refusalOf m k n room

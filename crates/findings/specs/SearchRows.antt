@@ -1,8 +1,8 @@
 -- Document 01, "What each call returns", the table's rows 1 to 4 as they read for survey and scan: "Given exactly when", number and place written out, in
 -- their order. The contracts go by `refusalOf` of specs/Admitting.antt; this is the same table once more in plain comparisons, and
--- proofs/RowsOfSearching.antt shows it of any answer that is a search's.
+-- proofs/RowsOfSearching.antt proves it for every answer that meets the contract. The number is one of 0 to 4, so exactly one of the five conditions holds.
 --
---   SearchRows    what the table says of an answer's paper and of the words at exit
+--   SearchRows    the table, for an answer's paper and the words at exit
 use Prim.Native.Nat.{ℕ, _+_, _-_, _*_, _≤_, _<_}
 use mathlib.Core.Path.{_≡_}
 use mathlib.Core.Logic.{_↔_, _⊎_}

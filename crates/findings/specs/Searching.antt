@@ -2,12 +2,12 @@
 -- words. They differ in their looks alone, so both are stated over the looks.
 --
 --   Counts               found and looks
---   searched             what a search gives: the refusal, or its counts
+--   searched             the result of a search: its counts, or a refusal
 --   searchedWords        the lent words at exit
---   LineSearched         a line searched, once a call is accepted
+--   LineSearched         the contract of searching a line, once the call is accepted
 --   paperOf              document 01's number, place and counts of an answer
---   searchPaper          the same of what a search gives
---   IsSearched           what a search promises: survey and scan, each with its own looks
+--   searchPaper          the same of the result of a search
+--   IsSearched           the contract of survey and scan, each with its own looks
 use Prim.Native.Nat.{ℕ}
 use mathlib.Core.Path.{_≡_}
 use mathlib.Core.List.{List}
@@ -31,7 +31,7 @@ pub record Counts : Type 0 where
 abbrev pub noCounts : Counts
 noCounts = record { found = 0; looks = 0 }
 
--- What a search with so many looks gives, with room for so many words: refusals 1 to 4, or how many findings there are and the looks.
+-- The result of a search that takes `looks` looks and is lent `room` words: refusals 1 to 4, or the number of findings and the looks.
 unfoldable pub searched : List ℕ → List ℕ → ℕ → ℕ → ℕ → Answer Counts
 searched ring line k room looks =
     answerBy (refusalOf (length ring) k (length line) room) (record { found = length (findings ring line k); looks = looks })
@@ -41,13 +41,13 @@ unfoldable pub searchedWords : List ℕ → List ℕ → ℕ → List ℕ → Li
 searchedWords ring line k words =
     areaBy (refusalOf (length ring) k (length line) (length words)) (written (wordsOf (findings ring line k)) words) words
 
--- A line is searched, with so many looks: found, looks and the words at exit.
+-- The contract of searching a line with `asked` looks, where the call is accepted: found, looks and the words at exit.
 pub record LineSearched (ring line : List ℕ) (k asked : ℕ) (words : List ℕ) (found looks : ℕ) (out : List ℕ) : Type 0 where
   pub found-is : found ≡ length (findings ring line k)
   pub looks-are : looks ≡ asked
   pub written : out ≡ written (wordsOf (findings ring line k)) words
 
--- The answer that an enum's case stands for.
+-- The answer of the returned enum.
 abbrev pub answerOf : Searched → Answer Counts
 answerOf (CountsCase found looks) = accepted (record { found = found; looks = looks })
 answerOf (Refused refusal) = refused refusal
@@ -56,12 +56,12 @@ answerOf (Refused refusal) = refused refusal
 abbrev pub paperOf : Searched → Paper Counts
 paperOf r = answerPaper noCounts (answerOf r)
 
--- Document 01's number, place and counts of what a search gives.
+-- Document 01's number, place and counts of the result of a search.
 abbrev pub searchPaper : List ℕ → List ℕ → ℕ → ℕ → ℕ → Paper Counts
 searchPaper ring line k room looks = answerPaper noCounts (searched ring line k room looks)
 
--- What a search promises that takes so many looks of its own: of the ring, the line, the allowance, these looks, the lent words, the answer and the words at
--- exit. Its number, place and counts, and the words, on every input, accepted or refused.
+-- The contract of survey and scan; `asked`, the looks, is the only difference. It fixes number, place and counts of the answer r and the words at exit `out`,
+-- on every input, accepted or refused.
 pub record IsSearched (ring line : List ℕ) (k asked : ℕ) (words : List ℕ) (r : Searched) (out : List ℕ) : Type 0 where
   pub paper : paperOf r ≡ searchPaper ring line k (length words) asked
   pub written : out ≡ searchedWords ring line k words

@@ -1,4 +1,4 @@
-// What a search gives.
+// The result of a search.
 use answers::LinePlace;
 use answers::Refusal;
 use answers::RingPlace;
@@ -11,7 +11,7 @@ pub struct Finding {
     pub distance: usize,
 }
 
-// What survey and scan answer: "found and looks", or a refusal.
+// What survey and scan return: "found and looks", or a refusal.
 pub enum Searched {
     Counts { found: usize, looks: usize },
     Refused(Refusal),

@@ -1,13 +1,14 @@
--- Records laid out as numbers, one after the other: how many numbers they are, and that two lists of records are laid out one after the other. Whatever a record
--- is and however many numbers it has; findings, silences and fields cite these.
-use Prim.Native.Nat.{ℕ, suc, _+_, _*_, _≤_}
+-- Records laid out as numbers, one after the other, and read back: how many numbers they are, that two lists of records are laid out one after the other, and that
+-- laying out and reading back undo each other. Whatever a record is and however many numbers it has; findings, silences and fields cite these.
+use Prim.Native.Nat.{ℕ, zero, suc, _+_, _-_, _*_, _/_, _%_, _≤_, _<_}
 use mathlib.Core.Path.{_≡_, refl, sym, ap, ap₂, _∙_}
 use mathlib.Core.List.{List, [], _∷_, _++_, append-assoc}
-use native.Mathlib.Nat.{mul-zero, mul-suc}
+use native.Mathlib.Nat.{mul-zero, mul-suc, div-eq-of-lt, div-eq-sub-div, mod-add-div}
+use native.Mathlib.Numerals.{add-one}
 use native.Mathlib.Omega.{arith}
-use lib.ListN.{length, getD, drop, length-append}
-use lib.Seq.{drop-cons}
-use Rattle.lists.specs.Records.{wordsOfEach}
+use lib.ListN.{length, getD, take, drop, length-append, length-drop, take-append-drop}
+use lib.Seq.{drop-cons, drop-drop, take-at, drop-at, length-take-le}
+use Rattle.lists.specs.Records.{wordsOfEach, firstRecords, recordsOf}
 
 module _ {A : Type 0} (numbers : A → List ℕ) where
   -- As many numbers as records, each of `width` numbers.
@@ -25,6 +26,64 @@ module _ {A : Type 0} (numbers : A → List ℕ) where
   each-append [] b = refl
   each-append (x ∷ a) b =
       ap (λ (l : List ℕ). numbers x ++ l) (each-append a b) ∙ sym (append-assoc (numbers x) (wordsOfEach numbers a) (wordsOfEach numbers b))
+
+module _ {A : Type 0} (width : ℕ) (of : List ℕ → A) (some-number : 0 < width) where
+  -- A whole record at the front of the list, and those of the rest.
+  records-cons : (numbers : List ℕ) → width ≤ length numbers → recordsOf width of numbers ≡ of (take width numbers) ∷ recordsOf width of (drop width numbers)
+  unfolding recordsOf firstRecords
+  records-cons numbers h =
+      let rest : length numbers - width ≡ length (drop width numbers) = simp length-drop in
+      let one-more : length numbers / width ≡ suc (length (drop width numbers) / width) =
+      div-eq-sub-div some-number h ∙ ap (λ (n : ℕ). n / width + 1) rest ∙ add-one (length (drop width numbers) / width) in
+      ap (λ (count : ℕ). firstRecords count width of numbers) one-more
+
+  -- A whole record from place `at` on: it is the next, and the others come from place `at` + `width` on.
+  pub records-step : (numbers : List ℕ) (at : ℕ) → at + width ≤ length numbers
+      → recordsOf width of (drop at numbers) ≡ of (take width (drop at numbers)) ∷ recordsOf width of (drop (at + width) numbers)
+  records-step numbers at h =
+      records-cons (drop at numbers) (simp length-drop (omega arith))
+      ∙ ap (λ (l : List ℕ). of (take width (drop at numbers)) ∷ recordsOf width of l) (drop-drop width at numbers)
+
+  -- Fewer than `width` numbers from place `at` on: no record.
+  pub records-end : (numbers : List ℕ) (at : ℕ) → length numbers < at + width → recordsOf width of (drop at numbers) ≡ []
+  unfolding recordsOf firstRecords
+  records-end numbers at h =
+      let few : length (drop at numbers) < width = simp length-drop (omega arith) in
+      ap (λ (count : ℕ). firstRecords count width of (drop at numbers)) (div-eq-of-lt few)
+
+  -- As many records as whole ones.
+  pub records-length : (numbers : List ℕ) → length (recordsOf width of numbers) ≡ length numbers / width
+  unfolding recordsOf firstRecords
+  records-length numbers = first-length (length numbers / width) numbers
+    where
+      first-length : (count : ℕ) (numbers : List ℕ) → length (firstRecords count width of numbers) ≡ count
+      first-length zero numbers = refl
+      first-length (suc count) numbers = ap suc (first-length count (drop width numbers))
+
+  module _ (numbers : A → List ℕ) where
+    -- Records that are laid out are read back.
+    pub records-of-words : ((x : A) → length (numbers x) ≡ width) → ((x : A) → of (numbers x) ≡ x) → (xs : List A) → recordsOf width of (wordsOfEach numbers xs) ≡ xs
+    unfolding wordsOfEach
+    records-of-words each back [] = records-end [] 0 (omega arith)
+    records-of-words each back (x ∷ xs) =
+        let rest : List ℕ = wordsOfEach numbers xs in
+        records-cons (numbers x ++ rest) (omega (arith, each x, length-append (numbers x) rest))
+        ∙ ap₂ (λ (y : A) (ys : List A). y ∷ ys) (ap of (take-at (numbers x) rest width (each x)) ∙ back x)
+        (ap (recordsOf width of) (drop-at (numbers x) rest width (each x)) ∙ records-of-words each back xs)
+
+    -- Numbers that are whole records, read and laid out again.
+    pub words-of-records : ((l : List ℕ) → length l ≡ width → numbers (of l) ≡ l) → (l : List ℕ) → length l % width ≡ 0 → wordsOfEach numbers (recordsOf width of l) ≡ l
+    unfolding recordsOf firstRecords wordsOfEach
+    words-of-records back l whole = first-words (length l / width) l (omega (arith, mod-add-div (length l) width))
+      where
+        first-words : (count : ℕ) (l : List ℕ) → length l ≡ width * count → wordsOfEach numbers (firstRecords count width of l) ≡ l
+        first-words zero [] e = refl
+        first-words zero (x ∷ l) e = absurd (omega (arith, mul-zero width))
+        first-words (suc count) l e =
+            let long : width ≤ length l = omega (arith, mul-suc width count) in
+            ap₂ (λ (a b : List ℕ). a ++ b) (back (take width l) (length-take-le width l long))
+            (first-words count (drop width l) (simp length-drop (omega (arith, mul-suc width count))))
+            ∙ take-append-drop width l
 
 -- Where three numbers are left from place `at` on, they are the next, and the others come from place `at` + 3 on.
 pub drop-three : (xs : List ℕ) (at : ℕ) → at + 3 ≤ length xs

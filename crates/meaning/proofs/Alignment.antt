@@ -1,7 +1,6 @@
 -- The line's place p is compared with the ring's place (c + p) mod m, for an alignment c. Start i under rotation r is the alignment
 -- r + i·(m − 1), which has ring place r over line place i; so what holds in every alignment holds at every start under every rotation, and no
 -- place is ever subtracted from another.
--- Assumes nothing.
 use Prim.Native.Nat.{ℕ, suc, pred, _+_, _*_, _%_, _≤_, _<_}
 use mathlib.Core.Path.{_≡_, sym, ap, _∙_}
 use mathlib.Core.Bool.{Bool, true, false, not, _&&_, true≢false}

@@ -1,5 +1,4 @@
 -- "P6, P9 and P11 reach the look bound": antt computes both sides.
--- Assumes nothing.
 use Prim.Native.Nat.{ℕ, _+_, _-_, _*_}
 use mathlib.Core.Path.{_≡_, refl}
 use mathlib.Core.List.{List}

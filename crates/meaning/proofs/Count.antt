@@ -1,5 +1,4 @@
 -- Laws of `count`: a range is split, moved along, and bounded by its length. Induction on the length.
--- Assumes nothing.
 use Prim.Native.Nat.{ℕ, zero, suc, _+_, _≤_, _<_}
 use mathlib.Core.Path.{_≡_, refl, sym, ap, _∙_}
 use mathlib.Core.Bool.{Bool, true, false}

@@ -1,6 +1,5 @@
 -- The test decides the fit: `fits ring s` is true exactly where `Fits ring s` holds. The test `begins` is peeled off edge by edge; a rotation
 -- that the test finds is the rotation of the meaning.
--- Assumes nothing.
 use Prim.Native.Nat.{ℕ, zero, suc, _%_, _≤_, _<_}
 use mathlib.Core.Path.{_≡_, refl, sym, ap, ap₂, _∙_}
 use mathlib.Core.Bool.{Bool, true, false, _&&_}

@@ -1,11 +1,10 @@
 -- What follows from the meanings. Other crates cite these laws as Rattle.meaning.proofs.NAME. Read FoundExactly, Rising, FitDecided, NothingLost, QuickFindsAll, LookBound and
 -- SurveyLooks first: they are the theorems, and their heads name what they rest on. Below each group stands on those before it.
 
--- cases of a test, counts, the lowest of the least, "some", lists by threes, and tests of sizes: they know no ring
+-- counts, the lowest of the least, and "some": they know no ring
 pub mod Count
 pub mod Lowest
 pub mod Some
-pub mod SizesTested
 -- the meanings: place by place, the findings as a list and how many they are, the stretch that fits, and a start under a rotation as an alignment
 pub mod Starts
 pub mod Places

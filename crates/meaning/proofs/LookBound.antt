@@ -1,7 +1,6 @@
 -- The quick scan's looks are at most 3·m·n − 2·m·m + m for n ≥ m, and so at most 3·m·n; for n < m there is none. Over the windows from
 -- place i on, with g places left to start at: reading costs at most m for each, verifying at most 2·m for each place beyond the last
 -- verified start (`tallyLooks-le`: a fresh count is never dearer than the steps it spares), and one fresh count at first.
--- Assumes nothing.
 use Prim.Native.Nat.{ℕ, suc, _+_, _-_, _*_, _≤_, _<_}
 use mathlib.Core.Path.{_≡_, sym, ap, subst}
 use mathlib.Core.Logic.{⊎-elim}

@@ -1,5 +1,4 @@
 -- `lowest f n` is what it is called: the lowest number below n at which f is least. Induction on n; of two such numbers neither is lower.
--- Assumes nothing.
 use Prim.Native.Nat.{ℕ, zero, suc, _≤_, _<_}
 use mathlib.Core.Path.{_≡_, refl}
 use mathlib.Core.Bool.{Bool, true, false, cond}

@@ -1,7 +1,6 @@
 -- Nothing is lost at a jump: where a window is left at break k + 1 with j edges read, no start from its own to the last one jumped over is
 -- a finding. Each break stands for a stretch that is the beginning of no rotation, so in every alignment one of its edges is unlike
 -- (`unlike-in-stretch`). The stretches of the breaks lie apart, within the edges read; and all starts up to the break's place hold those.
--- Assumes nothing.
 use Prim.Native.Nat.{ℕ, zero, suc, pred, _+_, _-_, _*_, _≤_, _<_}
 use mathlib.Core.Path.{_≡_, refl, ap, subst}
 use mathlib.Core.List.{List, [], _∷_}

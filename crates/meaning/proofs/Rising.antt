@@ -1,6 +1,5 @@
 -- The findings stand by strictly rising start, so each start has at most one. A list that rises from lo to mid and one from mid to hi
 -- rise together; each place adds at most its own start.
--- Assumes nothing.
 use Prim.Native.Nat.{ℕ, zero, suc, _≤_}
 use mathlib.Core.Path.{_≡_, ap, _∙_, sym}
 use mathlib.Core.Bool.{_&&_}

@@ -1,5 +1,4 @@
 -- `someBelow` says what it is called: some number below n passes the test. Induction on n.
--- Assumes nothing.
 use Prim.Native.Nat.{ℕ, zero, suc, _<_}
 use mathlib.Core.Path.{_≡_, refl, sym, ap, ap₂, _∙_}
 use mathlib.Core.Bool.{Bool, true, false, _||_, false≢true, true≢false, or-true}

@@ -1,6 +1,5 @@
 -- One step of the tally, in the layout by rotation: rotation r at start i stands over the ring as rotation r + 1 does at start i + 1. So the
 -- leaving and the entering edge are compared with one and the same ring edge, the ring's at r, and the count moves on by one rotation.
--- Assumes nothing.
 use Prim.Native.Nat.{ℕ, suc, _+_, _-_, _%_, _<_}
 use mathlib.Core.Path.{_≡_, ap, ap₂, _∙_}
 use mathlib.Core.List.{List}

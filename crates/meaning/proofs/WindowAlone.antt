@@ -1,6 +1,5 @@
 -- A window read by itself: handed out as a list, it has at start 0 the distances and the reading that it has in the line at its start. Both
 -- look at its m edges only.
--- Assumes nothing.
 use Prim.Native.Nat.{ℕ, zero, suc, _≤_, _<_}
 use mathlib.Core.Path.{_≡_, refl, ap}
 use mathlib.Core.Bool.{Bool, true, false, not, cond, true≢false, false≢true}

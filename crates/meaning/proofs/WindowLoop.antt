@@ -55,7 +55,7 @@ module _ (ring line : List ℕ) (k i : ℕ) where
   abbrev m : ℕ
   m = length ring
 
-  -- What holds with `left` edges unread and so many breaks: the reading so far, whose stretch the bits stand for.
+  -- What holds with `left` edges unread and `breaks` breaks: the reading so far, whose stretch the bits stand for.
   pub record WindowLoop (left breaks : ℕ) (bits : ℕ → Bool) : Type 0 where
     pub so-far : Reading
     pub left-is : so-far .read + left ≡ m

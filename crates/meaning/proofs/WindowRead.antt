@@ -1,6 +1,5 @@
 -- What is known of every window that is read: it kept its start, it read at most m edges, and it ended with all of them read and at most k
 -- breaks, or at break k + 1. Induction on the edges left.
--- Assumes nothing.
 use Prim.Native.Nat.{ℕ, zero, suc, _+_, _≤_, _<_}
 use mathlib.Core.Path.{_≡_, refl, _∙_}
 use mathlib.Core.Bool.{true, false, and-false}

@@ -1,4 +1,4 @@
--- The words of findings. How many findings there are is said in FindingsBelow; so the room that refusal 4 requires is room for all (`words-length`,
+-- The words of findings. How many findings there are is in FindingsBelow; so the room that refusal 4 requires is room for all (`words-length`,
 -- `findings-length-le`).
 use Prim.Native.Nat.{ℕ, _*_}
 use mathlib.Core.Path.{_≡_, refl}

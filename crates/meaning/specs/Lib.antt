@@ -1,6 +1,6 @@
 -- The meanings and rules of document 01, in its order and its words. Nothing here is code: a ring, a line and a stretch are lists of edge
 -- codes, and places, starts, rotations, distances and looks are numbers. "Here every byte value 0 to 255 is an edge code like any other, and
--- a cell is one unbroken line of them": no definition asks what an edge code is, only whether two are equal. Ring places and line places,
+-- a cell is one unbroken line of them": definitions only compare two edge codes. Ring places and line places,
 -- which "are never added or compared directly", and the refusals are of crates/answers, the silence book of crates/silences.
 --
 -- | the document's word       | here                                    | module   |

@@ -1,6 +1,6 @@
 -- Document 01, "Meanings", up to the distance: rotation, start, window, distance, the least distance and the lowest rotation that reaches it.
 -- The document's limits (m 1 to 256, n at most 65,536, k below m) are refusals of the calls and stand with them. Here every list has a value;
--- of an empty ring it means nothing, and the laws ask 0 < m. `getD` gives 0 past a list's end: at a start no definition looks there, neither in
+-- for an empty ring it has no meaning, and the laws require 0 < m. `getD` gives 0 past a list's end: at a start no definition looks there, neither in
 -- the line, by i + m ≤ n, nor in the ring, by mod m.
 use Prim.Native.Nat.{ℕ, _+_, _%_, _≤_, _<_}
 use mathlib.Core.Bool.{Bool, not}

@@ -1,6 +1,5 @@
 -- Document 01, "Readings that look right", those that speak of the search: each is written down as it would be read, and refuted by a
 -- sample, which antt computes. (Cell 0 as all cells speaks of the silence book and is refuted there.)
--- Assumes nothing.
 use Prim.Native.Nat.{ℕ, zero, suc, _+_, _-_, _*_, _/_, min}
 use mathlib.Core.Path.{_≡_, refl}
 use mathlib.Core.Bool.{Bool, true, false, cond, _&&_, _||_}

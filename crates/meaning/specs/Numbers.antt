@@ -1,5 +1,4 @@
 -- Counting, the lowest of the least, and "some": the helpers of the meanings that know no ring and no line.
--- Assumes nothing.
 use Prim.Native.Nat.{ℕ, zero, suc, _+_}
 use mathlib.Core.Bool.{Bool, true, false, cond, _||_}
 use lib.Dec.{ltb}

@@ -3,7 +3,6 @@
 -- The recursion `windowsFrom` carries a number that only bounds how many windows there can be. Read in its place the two equations of
 -- proofs/WindowSteps over `windowsAt`, the windows from a place on (`windows-start`): `windows-step`, that a window in the line is read and
 -- followed by those from the next one on, and `windows-end`.
--- Assumes nothing.
 use Prim.Native.Nat.{ℕ, zero, suc, _+_, _-_}
 use mathlib.Core.Bool.{Bool, cond, _&&_}
 use mathlib.Core.List.{List, [], _∷_, _++_}

@@ -1,7 +1,6 @@
 -- Document 01, "Sample rings": P1 to P12 as one table under one claim, which antt computes. Beside it a second table of the same form
 -- that pins what no row of the first does: rule 5's choice between a fresh count and steps, the plain survey's looks, and the codes 0 and
 -- 255. A number that the document leaves out of a row is left out here.
--- Assumes nothing.
 use Prim.Native.Nat.{ℕ}
 use Prim.Native.String.{String}
 use mathlib.Core.Path.{_≡_, refl}

@@ -1,6 +1,5 @@
 -- Document 01, "Meanings": the stretch that fits. `Fits` is the sentence to believe, `fits` the same as a test, and `fits-iff` of proofs/
 -- joins them.
--- Assumes nothing.
 use Prim.Native.Nat.{ℕ, suc, _%_, _≤_, _<_}
 use mathlib.Core.Path.{_≡_}
 use mathlib.Core.Bool.{Bool, true, _&&_}

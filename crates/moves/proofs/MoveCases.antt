@@ -10,7 +10,7 @@ use native.Mathlib.Omega.{arith}
 use lib.Dec.{leb}
 use lib.ListN.{length}
 use Rattle.tally.specs.Counts.{mostCounts, RingFits}
-use Rattle.meaning.proofs.SizesTested.{lt-iff, le-iff, and-iff, test-same}
+use Rattle.lists.proofs.SizesTested.{lt-iff, le-iff, and-iff, test-same}
 use Rattle.moves.specs.declared.steps.Reached.{Reached}
 use Rattle.moves.specs.Moves.{mostPlaces, canMove, CanMove, IsMovedOn, IsMoved}
 

@@ -10,13 +10,13 @@ use native.Mathlib.Nat.{mul-le-mul}
 use native.Mathlib.Omega.{arith}
 use lib.ListN.{length}
 use borrow.Author.Tests.{le-leb}
-use Rattle.meaning.specs.Findings.{Finding, foundAt}
+use Rattle.meaning.specs.Findings.{Finding, findingWords, foundAt}
 use Rattle.meaning.proofs.LookBound.{quickLooks-most}
 use Rattle.meaning.proofs.Places.{found-small}
 use Rattle.meaning.proofs.ScanLoop.{ScanLoop, scan-start, scan-so-far-le, scan-verified}
 use Rattle.tally.specs.Counts.{mostCounts}
-use Rattle.findings.specs.Putting.{IsThreeWords}
-use Rattle.findings.proofs.WordsSoFar.{admitted-three-words}
+use Rattle.lists.specs.Bounds.{IsWords}
+use Rattle.findings.proofs.WordsSoFar.{admitted-words}
 use Rattle.sweep.specs.declared.sweeping.Sweep.{Sweep}
 use Rattle.sweep.specs.declared.sweeping.Swept.{Swept}
 use Rattle.sweep.specs.declared.sweeping.Swept.the-variants.{Ended, NoFinding, Found}
@@ -38,7 +38,7 @@ pub record SweepKeeps (ring line : List ℕ) (k : ℕ) (so-far : List Finding) (
 pub record FoundBetween (from to : ℕ) (f : Finding) : Type 0 where
   pub from-le : from ≤ f .start
   pub to-le : f .start ≤ to
-  pub three-words : IsThreeWords f
+  pub are-words : IsWords (findingWords f)
 
 -- One turn, by the sweep's answer: what is found comes behind what was found before, and the next window is a later one.
 pub record SweepTurn (ring line : List ℕ) (k : ℕ) (so-far : List Finding) (at : Sweep) (r : Swept) (counts : List ℕ) : Type 0 where
@@ -129,7 +129,7 @@ module _ {ring doubled table line : List ℕ} {k : ℕ} {book counts₀ area : L
                 record {
                   from-le = omega (arith, small .0);
                   to-le = omega (arith, small .0, c .swept .start-is);
-                  three-words = admitted-three-words (can .admitted) (omega (arith, small .0, c .in-line)) (small .1) (small .2);
+                  are-words = admitted-words (can .admitted) (omega (arith, small .0, c .in-line)) (small .1) (small .2);
                 };
           }
 

@@ -120,7 +120,7 @@ module _ {cell ringNumber : ℕ} {ring doubled table line : List ℕ} {k : ℕ} 
         pub window-can-ask : CanAsk asked f
         window-can-ask =
             let found-le = window-found-le in
-            record { start-lt = turn .found f e .three-words .start-lt; shown-le = omega arith; hidden-le = omega arith }
+            record { start-lt = turn .found f e .are-words .each-lt 0; shown-le = omega arith; hidden-le = omega arith }
 
         module _ {asked′ : Asked} (asks : IsHiddenOrShown cell ringNumber book asked f asked′) {out : List ℕ} (put : IsShownPut words (asked .shown) (asked′ .shown) f out) where
           sweep-next : SweepKeeps ring line k (h .so-far ++ f ∷ []) next counts′
@@ -165,6 +165,6 @@ module _ {cell ringNumber : ℕ} {ring doubled table line : List ℕ} {k : ℕ} 
                   let shown-is : asked′ .shown ≡ asked .shown + 1 = rw same at (asks .shown-is) in
                   next-loop
                   (rw (taken-more-yes (isShown ss cell ringNumber) (h .so-far) f (ap not named), shown-is)
-                  (so-far-more (h .in-words) room-behind (turn .found f e .three-words) (put .shown-put (omega arith))))
+                  (so-far-more (h .in-words) room-behind (turn .found f e .are-words) (put .shown-put (omega arith))))
                   (rw same at (asks .hidden-is) ∙ h .hidden-is
                   ∙ ap (λ (l : List Finding). length l) (sym (taken-more-no (isHidden ss cell ringNumber) (h .so-far) f named)))

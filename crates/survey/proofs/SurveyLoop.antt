@@ -7,7 +7,8 @@ use native.Mathlib.Nat.{mul-le-mul}
 use native.Mathlib.Numerals.{add-one}
 use native.Mathlib.Omega.{arith}
 use lib.ListN.{length}
-use Rattle.meaning.specs.Findings.{Finding, foundAt, findingsBelow, findings, wordsEach, wordsOf}
+use Rattle.lists.specs.Bounds.{IsWords}
+use Rattle.meaning.specs.Findings.{Finding, foundAt, findingsBelow, findings, findingWords, wordsEach, wordsOf}
 use Rattle.lists.specs.Areas.{written}
 use Rattle.meaning.specs.Looks.{afreshLooks, stepLooks, surveyLooksBelow}
 use Rattle.meaning.proofs.Places.{found-no, found-small}
@@ -19,9 +20,9 @@ use Rattle.tally.specs.Counts.{mostCounts, IsLowestWith}
 use Rattle.tally.specs.Tallied.{Tallied}
 use Rattle.tally.proofs.LowestLoop.{lowest-at}
 use Rattle.tally.proofs.TallyFinding.{least-no, least-yes}
-use Rattle.findings.specs.Putting.{IsThreeWords, IsPut}
+use Rattle.findings.specs.Putting.{IsPut}
 use Rattle.survey.specs.Survey.{CanVerifyOn, IsVerifiedOn, CanSurvey, LineSurveyed}
-use Rattle.findings.proofs.WordsSoFar.{admitted-three-words, WordsSoFar, so-far-none, so-far-length, so-far-more}
+use Rattle.findings.proofs.WordsSoFar.{admitted-words, WordsSoFar, so-far-none, so-far-length, so-far-more}
 
 -- What the loop keeps before start i.
 pub record SurveyKeeps (ring doubled line : List ℕ) (k : ℕ) (area : List ℕ) (i found looks : ℕ) (counts words : List ℕ) : Type 0 where
@@ -149,6 +150,6 @@ module _ {ring doubled line : List ℕ} {k : ℕ} {area : List ℕ} {i found loo
           least-yes ring line k start counts′ (reached .least) (admitted .some-edge) (verified .tallied) (verified .least-is) rotation
           (lowest-at counts′ (reached .least) (length ring) rotation (admitted .most-ring) (verified .least-is) low) (verified .in-line) near in
           let small = found-small ring line k start f (admitted .some-edge) here in
-          let three-words : IsThreeWords f = admitted-three-words admitted (verified .in-line) (small .1) (small .2) in
-          let more = so-far-more (keeps .put) room-behind three-words put in
+          let are-words : IsWords (findingWords f) = admitted-words admitted (omega (arith, verified .in-line)) (small .1) (small .2) in
+          let more = so-far-more (keeps .put) room-behind are-words put in
           survey-turn here more (so-far-length more (omega (arith, room-behind)))

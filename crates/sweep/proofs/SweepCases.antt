@@ -9,7 +9,7 @@ use mathlib.Core.Logic.{_↔_}
 use lib.Dec.{leb}
 use lib.ListN.{length}
 use Rattle.tally.specs.Counts.{mostCounts}
-use Rattle.meaning.proofs.SizesTested.{lt-iff, le-iff, and-iff, test-same}
+use Rattle.lists.proofs.SizesTested.{lt-iff, le-iff, and-iff, test-same}
 use Rattle.moves.specs.Moves.{mostPlaces}
 use Rattle.sweep.specs.declared.sweeping.Sweep.{Sweep}
 use Rattle.sweep.specs.declared.sweeping.Swept.{Swept}

@@ -10,7 +10,7 @@ use lib.Dec.{leb}
 use lib.ListN.{length}
 use Rattle.tally.specs.declared.counts.Least.{Least}
 use Rattle.tally.specs.Counts.{mostCounts, canCount, countedTo, RingFits, CanCount, IsCountedAfresh, IsCounted}
-use Rattle.meaning.proofs.SizesTested.{lt-iff, le-iff, and-iff, test-same}
+use Rattle.lists.proofs.SizesTested.{lt-iff, le-iff, and-iff, test-same}
 
 -- The test passes exactly where the window can be counted.
 pub can-count-iff : (m room long : ℕ) → (canCount m room long ≡ true) ↔ CanCount m room long

@@ -1,7 +1,6 @@
--- `findings::putting::can_put` meets its contract: it answers false where one of the test's comparisons fails, and else the last of them (`SizesTested` of crates/meaning).
--- Assumes nothing.
+-- `findings::putting::can_put` meets its contract: it answers false where one of the test's comparisons fails, and else the last of them (`SizesTested` of crates/lists).
 use native.Mathlib.Omega.{arith}
-use Rattle.meaning.proofs.SizesTested.{test-fails}
+use Rattle.lists.proofs.SizesTested.{test-fails}
 use Rattle.findings.proofs.PutCases.{can-put-iff, can-put-last}
 use Rattle.findings.proofs.putting.can_put.Statement.{statement}
 use Rattle.findings.proofs.putting.can_put.Tie as tie
@@ -12,11 +11,11 @@ returns c = test-fails (can-put-iff _ _ _) (λ can. omega (arith, can .room, c .
 
 -- A start that is no 32-bit word.
 returns-2 : tie.Need-returns-2
-returns-2 c = test-fails (can-put-iff _ _ _) (λ can. omega (arith, can .three-words .start-lt, c .if2 .taken))
+returns-2 c = test-fails (can-put-iff _ _ _) (λ can. omega (arith, can .words .each-lt 0, c .if2 .taken))
 
 -- A rotation that is none.
 returns-3 : tie.Need-returns-3
-returns-3 c = test-fails (can-put-iff _ _ _) (λ can. omega (arith, can .three-words .rotation-lt, c .if3 .taken))
+returns-3 c = test-fails (can-put-iff _ _ _) (λ can. omega (arith, can .words .each-lt 1, c .if3 .taken))
 
 -- All that is left is the distance.
 returns-4 : tie.Need-returns-4

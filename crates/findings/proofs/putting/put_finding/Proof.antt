@@ -1,5 +1,4 @@
 -- `findings::putting::put_finding` meets its contract: its two ways are the two cases of the test (`PutCases`).
--- Assumes nothing.
 use mathlib.Core.Path.{_∙_, sym}
 use borrow.Author.Needs.{needs}
 use Rattle.findings.proofs.PutCases.{can-put-iff, put-yes, put-no}

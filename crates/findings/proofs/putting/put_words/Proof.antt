@@ -1,6 +1,5 @@
--- `findings::putting::put_words` meets its contract: three stores, one after the other, are `sets` of the finding's words.
--- Assumes nothing.
-use native.Mathlib.Numerals.{add-one, add-two}
+-- `findings::putting::put_words` meets its contract: its stores, one after the other, are `sets` of the finding's words.
+use native.Mathlib.Numerals.{towards-suc}
 use native.Mathlib.Omega.{arith}
 use borrow.Author.Needs.{needs}
 use lib.ListN.{length-set}
@@ -11,7 +10,7 @@ mul-at : tie.Need-mul-at
 mul-at c = search needs
 
 cast-words : tie.Need-cast-words
-cast-words c = search needs
+cast-words c = let fits = c .before .before .before .pre .words .each-lt in omega (arith, fits 0, fits 1, fits 2)
 
 mul-words : tie.Need-mul-words
 mul-words c = search needs
@@ -20,7 +19,7 @@ slice-write-words : tie.Need-slice-write-words
 slice-write-words c = search needs
 
 cast-words-2 : tie.Need-cast-words-2
-cast-words-2 c = search needs
+cast-words-2 c = let fits = c .before .before .before .before .pre .words .each-lt in omega (arith, fits 0, fits 1, fits 2)
 
 add-words : tie.Need-add-words
 add-words c = search needs
@@ -32,7 +31,7 @@ slice-write-words-2 : tie.Need-slice-write-words-2
 slice-write-words-2 c = simp length-set (omega arith)
 
 cast-words-3 : tie.Need-cast-words-3
-cast-words-3 c = search needs
+cast-words-3 c = let fits = c .before .before .before .before .before .pre .words .each-lt in omega (arith, fits 0, fits 1, fits 2)
 
 add-words-2 : tie.Need-add-words-2
 add-words-2 c = search needs
@@ -47,7 +46,7 @@ same-length : tie.Need-same-length
 same-length c = search needs
 
 returns : tie.Need-returns
-returns c = simp (add-one, add-two)
+returns c = simp towards-suc
 
 pub put-words-spec : {M : Type 1} → statement M
 put-words-spec =

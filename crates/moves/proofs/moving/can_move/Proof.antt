@@ -1,8 +1,8 @@
--- `moves::moving::can_move` meets its contract: it answers false where one of the test's comparisons fails, and else the last of them (`SizesTested` of crates/meaning).
+-- `moves::moving::can_move` meets its contract: it answers false where one of the test's comparisons fails, and else the last of them (`SizesTested` of crates/lists).
 -- Assumes nothing.
 use native.Mathlib.Omega.{arith}
 use borrow.Author.Needs.{needs}
-use Rattle.meaning.proofs.SizesTested.{test-fails}
+use Rattle.lists.proofs.SizesTested.{test-fails}
 use Rattle.moves.proofs.MoveCases.{can-move-iff, can-move-last}
 use Rattle.moves.proofs.moving.can_move.Statement.{statement}
 use Rattle.moves.proofs.moving.can_move.Tie as tie

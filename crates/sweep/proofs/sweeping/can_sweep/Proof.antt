@@ -1,8 +1,8 @@
--- `sweep::sweeping::can_sweep` meets its contract: it answers false where one of the test's comparisons fails, and else the last of them (`SizesTested` of crates/meaning).
+-- `sweep::sweeping::can_sweep` meets its contract: it answers false where one of the test's comparisons fails, and else the last of them (`SizesTested` of crates/lists).
 -- Assumes nothing.
 use native.Mathlib.Omega.{arith}
 use borrow.Author.Needs.{needs}
-use Rattle.meaning.proofs.SizesTested.{test-fails}
+use Rattle.lists.proofs.SizesTested.{test-fails}
 use Rattle.sweep.proofs.SweepCases.{can-sweep-iff, can-sweep-last}
 use Rattle.sweep.proofs.sweeping.can_sweep.Statement.{statement}
 use Rattle.sweep.proofs.sweeping.can_sweep.Tie as tie

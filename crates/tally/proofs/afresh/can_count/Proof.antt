@@ -1,8 +1,8 @@
--- `tally::afresh::can_count` meets its contract: it answers false where one of the test's comparisons fails, and else the last of them (`SizesTested` of crates/meaning).
+-- `tally::afresh::can_count` meets its contract: it answers false where one of the test's comparisons fails, and else the last of them (`SizesTested` of crates/lists).
 -- Assumes nothing.
 use native.Mathlib.Omega.{arith}
 use borrow.Author.Needs.{needs}
-use Rattle.meaning.proofs.SizesTested.{test-fails}
+use Rattle.lists.proofs.SizesTested.{test-fails}
 use Rattle.tally.proofs.CountCases.{can-count-iff, can-count-last}
 use Rattle.tally.proofs.afresh.can_count.Statement.{statement}
 use Rattle.tally.proofs.afresh.can_count.Tie as tie

@@ -1,13 +1,13 @@
--- Tests of sizes. A function that tests sizes answers a conjunction of comparisons, and a record says the same as facts; that the two agree is put together from the
--- comparisons (`lt-iff`, `le-iff`, `eq-iff`, `and-iff`, `or-iff`). Code answers false at the first comparison that fails (`test-fails`), and else its last comparison, which then decides
--- alone (`test-same`). They know no ring.
+-- Tests of sizes. A function that tests sizes returns a conjunction of comparisons, and a record states the same as facts. That the two agree follows from the
+-- comparisons (`lt-iff`, `le-iff`, `eq-iff`, `and-iff`, `or-iff`). Code returns false at the first comparison that fails (`test-fails`), and else its last
+-- comparison, which then decides alone (`test-same`).
 use Prim.Native.Nat.{ℕ, _≤_, _<_}
 use mathlib.Core.Path.{_≡_, refl, sym, _∙_}
 use mathlib.Core.Bool.{Bool, true, false, _&&_, _||_, false≢true}
 use mathlib.Core.Logic.{_↔_, _⊎_, inl, inr, ⊎-elim}
 use lib.Dec.{ltb, leb, eqb}
 use borrow.Author.Tests.{ltb-true, leb-true, eqb-true, lt-ltb, le-leb, eq-eqb}
 use Rattle.lists.proofs.Cases.{and-true, and-yes, not-passed}
 
 -- One comparison: below.
 pub lt-iff : (a b : ℕ) → (ltb a b ≡ true) ↔ (a < b)
@@ -33,11 +33,11 @@ and-iff {s = s} {t = t} first second = (
   λ h. and-yes s t (first .1 (h .0)) ∙ second .1 (h .1),
 )
 
--- Where what a test asks does not hold, it fails.
+-- Where the condition of a test does not hold, the test fails.
 pub test-fails : {t : Bool} {P : Type 0} → ((t ≡ true) ↔ P) → (P → ⊥) → false ≡ t
-test-fails {t = t} asks lacks = not-passed t (λ e. lacks (asks .0 e))
+test-fails {t = t} passes lacks = not-passed t (λ e. lacks (passes .0 e))
 
--- Two tests that ask for the same are equal.
+-- Two tests with equivalent conditions are equal.
 pub test-same : {s t : Bool} {P Q : Type 0} → ((s ≡ true) ↔ P) → ((t ≡ true) ↔ Q) → (P ↔ Q) → s ≡ t
 test-same {s = true} one other same = sym (other .1 (same .0 (one .0 refl)))
 test-same {s = false} {t = t} one other same = not-passed t (λ e. absurd (false≢true (one .1 (same .1 (other .0 e)))))

@@ -1,0 +1,32 @@
+-- Lists whose numbers are all below a bound: number by number, and that the test decides it.
+use Prim.Native.Nat.{ℕ, zero, suc, _<_}
+use mathlib.Core.Path.{_≡_, refl}
+use mathlib.Core.Bool.{true}
+use mathlib.Core.Logic.{_↔_, Iff·trans}
+use mathlib.Core.List.{List, [], _∷_}
+use native.Mathlib.Omega.{arith}
+use lib.ListN.{getD}
+use Rattle.lists.specs.Bounds.{AllBelow, allBelow}
+use Rattle.lists.proofs.SizesTested.{lt-iff, and-iff}
+
+module _ {bound : ℕ} where
+  -- No number.
+  pub below-none : 0 < bound → AllBelow bound []
+  below-none some = record { each-lt = λ i. some }
+
+  -- One number more, at the front.
+  pub below-more : {number : ℕ} {numbers : List ℕ} → number < bound → AllBelow bound numbers → AllBelow bound (number ∷ numbers)
+  below-more {number} {numbers} first others = record { each-lt = each }
+    where
+      each : (i : ℕ) → getD (number ∷ numbers) i 0 < bound
+      each zero = first
+      each (suc i) = others .each-lt i
+
+-- The test passes exactly where each is below the bound.
+pub all-below-iff : (bound : ℕ) → 0 < bound → (numbers : List ℕ) → (allBelow bound numbers ≡ true) ↔ AllBelow bound numbers
+all-below-iff bound some [] = (λ e. below-none some, λ h. refl)
+all-below-iff bound some (number ∷ numbers) =
+    Iff·trans (and-iff (lt-iff number bound) (all-below-iff bound some numbers)) (
+      λ h. below-more (h .0) (h .1),
+      λ h. (h .each-lt 0, record { each-lt = λ i. h .each-lt (suc i) }),
+    )
