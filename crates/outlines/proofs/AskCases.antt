@@ -1,4 +1,4 @@
--- The book asked for one finding, by its two cases: what `seek_on` and `is_for` promise of the finding's address is what `hides` says.
+-- The book asked for one finding, in its two cases. What `seek_on` and `is_for` return for the finding's address is what `hides` says.
 use Prim.Native.Nat.{ℕ, _+_}
 use mathlib.Core.Path.{_≡_, refl, ap, _∙_}
 use mathlib.Core.Bool.{Bool, true, false, cond}
@@ -6,32 +6,31 @@ use mathlib.Core.List.{List}
 use Rattle.meaning.specs.Findings.{Finding}
 use Rattle.silences.specs.declared.addresses.Address.{Address}
 use Rattle.silences.specs.declared.addresses.Sought.{Sought}
-use Rattle.book.specs.Seeking.{isFor}
 use Rattle.silences.specs.Addresses.{silenceOf, soughtOf}
+use Rattle.book.specs.Seeking.{isFor}
 use Rattle.book.specs.Calls.{IsSoughtOn, IsAskedFor}
 use Rattle.outlines.specs.declared.asking.Asked.{Asked}
 use Rattle.outlines.specs.Asking.{addressOf, heldFor, hides, IsHiddenOrShown}
 
-module _ (book : List ℕ) (asked : Asked) (f : Finding) (cell ringNumber : ℕ) (address : Address) (address-is : silenceOf address ≡ addressOf cell ringNumber f)
-    (held : Sought) (sought : IsSoughtOn book (asked .held) address held) (t : Bool) (asked-for : IsAskedFor held address t) where
+module _ {book : List ℕ} (asked : Asked) (cell ringNumber : ℕ) (f : Finding) {address : Address} {held : Sought} (sought : IsSoughtOn book (asked .held) address held)
+    {t : Bool} (asked-for : IsAskedFor held address t) (address-is : silenceOf address ≡ addressOf cell ringNumber f) where
   held-is : soughtOf held ≡ heldFor cell ringNumber book f (soughtOf (asked .held))
   held-is = rw address-is at (sought .is)
 
-  hides-is : t ≡ hides cell ringNumber book f (soughtOf (asked .held))
-  hides-is = rw address-is at (asked-for .is) ∙ ap (isFor (addressOf cell ringNumber f)) held-is
-
-  is-asked : (now-shown now-hidden : ℕ) → now-shown ≡ cond t (asked .shown) (asked .shown + 1) → now-hidden ≡ cond t (asked .hidden + 1) (asked .hidden)
+  is-asked : {now-shown now-hidden : ℕ} → now-shown ≡ cond t (asked .shown) (asked .shown + 1) → now-hidden ≡ cond t (asked .hidden + 1) (asked .hidden)
       → IsHiddenOrShown cell ringNumber book asked f (record { shown = now-shown; hidden = now-hidden; held = held })
-  is-asked now-shown now-hidden s h = record {
-    held-is = held-is;
-    shown-is = s ∙ ap (λ (b : Bool). cond b (asked .shown) (asked .shown + 1)) hides-is;
-    hidden-is = h ∙ ap (λ (b : Bool). cond b (asked .hidden + 1) (asked .hidden)) hides-is;
-  }
+  is-asked s h =
+      let hides-is : t ≡ hides cell ringNumber book f (soughtOf (asked .held)) = rw address-is at (asked-for .is) ∙ ap (isFor (addressOf cell ringNumber f)) held-is in
+      record {
+        held-is = held-is;
+        shown-is = s ∙ ap (λ (b : Bool). cond b (asked .shown) (asked .shown + 1)) hides-is;
+        hidden-is = h ∙ ap (λ (b : Bool). cond b (asked .hidden + 1) (asked .hidden)) hides-is;
+      }
 
   -- The field is for the finding: it is hidden.
   pub ask-hidden : t ≡ true → IsHiddenOrShown cell ringNumber book asked f (record { shown = asked .shown; hidden = asked .hidden + 1; held = held })
-  ask-hidden e = is-asked (asked .shown) (asked .hidden + 1) (rw e refl) (rw e refl)
+  ask-hidden e = is-asked (rw e refl) (rw e refl)
 
   -- It is not: the finding is shown.
   pub ask-shown : t ≡ false → IsHiddenOrShown cell ringNumber book asked f (record { shown = asked .shown + 1; hidden = asked .hidden; held = held })
-  ask-shown e = is-asked (asked .shown + 1) (asked .hidden) (rw e refl) (rw e refl)
+  ask-shown e = is-asked (rw e refl) (rw e refl)

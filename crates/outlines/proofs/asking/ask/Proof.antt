@@ -1,5 +1,6 @@
 -- `outlines::asking::ask` meets its contract: the finding is hidden or shown, as the field that is held for its address is for it or not.
 use borrow.Author.Needs.{needs}
+use Rattle.findings.specs.Putting.{findingOf}
 use Rattle.outlines.proofs.AskCases.{ask-hidden, ask-shown}
 use Rattle.outlines.proofs.asking.ask.Statement.{statement}
 use Rattle.outlines.proofs.asking.ask.Tie as tie
@@ -19,10 +20,10 @@ add-hidden c = search needs
 -- Hidden.
 returns : tie.Need-returns
 returns c =
-    let named = c .before in
-    let asked-for = named .before in
-    ask-hidden _ _ _ _ _ _ (asked-for .before .before .address-of .ensures) _ (asked-for .before .seek-on .ensures) _ (asked-for .is-for .ensures)
-    (named .if1 .taken)
+    let sought = c .before .before .before in
+    let args = sought .before .before .before .before .args in
+    ask-hidden (args .asked) (args .cell) (args .ring-number) (findingOf (args .finding)) (sought .seek-on .ensures) (c .before .before .is-for .ensures)
+    (cc (sought .before .address-of .ensures)) (c .before .if1 .taken)
 
 add-shown : tie.Need-add-shown
 add-shown c = search needs
@@ -30,10 +31,10 @@ add-shown c = search needs
 -- Shown.
 returns-2 : tie.Need-returns-2
 returns-2 c =
-    let not-named = c .before in
-    let asked-for = not-named .before in
-    ask-shown _ _ _ _ _ _ (asked-for .before .before .address-of .ensures) _ (asked-for .before .seek-on .ensures) _ (asked-for .is-for .ensures)
-    (not-named .if1 .left)
+    let sought = c .before .before .before in
+    let args = sought .before .before .before .before .args in
+    ask-shown (args .asked) (args .cell) (args .ring-number) (findingOf (args .finding)) (sought .seek-on .ensures) (c .before .before .is-for .ensures)
+    (cc (sought .before .address-of .ensures)) (c .before .if1 .left)
 
 pub ask-spec : {M : Type 1} → statement M
 ask-spec = tie.close (tie.spec address-of-requires seek-on-requires is-for-requires add-hidden returns add-shown returns-2)

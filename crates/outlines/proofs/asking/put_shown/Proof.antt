@@ -13,7 +13,7 @@ same-length c = search needs
 
 -- Shown.
 returns : tie.Need-returns
-returns c = record { shown-put = λ _. c .before .before .put-finding .ensures; hidden-same = λ l. absurd (omega arith) }
+returns c = record { shown-put = search needs; hidden-same = λ l. absurd (omega arith) }
 
 -- Hidden.
 returns-2 : tie.Need-returns-2
