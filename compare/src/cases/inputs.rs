@@ -86,7 +86,7 @@ pub fn pieces(index: u64, draw: &mut Draw) -> Input {
     Input { bytes, manner: Manner::Pieces(cuts) }
 }
 
-/// Nothing to read, in four manners. Document 01 does not speak of a reading that fails; it counts as an empty input.
+/// Nothing to read, in four manners. Document 01 does not speak of a reading that fails: it is refused as an empty input is.
 pub fn none(index: u64, _: &mut Draw) -> Input {
     let manner = [Manner::Whole, Manner::Nothing, Manner::Closed, Manner::Folder][(index % 4) as usize].clone();
     Input { bytes: Vec::new(), manner }

@@ -1,7 +1,7 @@
 //! What a row gives to its call: edges, words and books.
 
 use super::table::{number, Row};
-use crate::second::book::{Silence, FIELD};
+use crate::second::book::Silence;
 
 /// The records for which `*` stands.
 const ALL_RECORDS: u32 = 1_001;
@@ -36,7 +36,7 @@ pub fn silence(words: &[u32]) -> Silence {
 pub fn book(row: &Row) -> Vec<u8> {
     let length = row.number("bytes of their layout").unwrap_or(0);
     let mut book: Vec<u8> = words(row).chunks(3).flat_map(|record| silence(record).field()).collect();
-    assert!(length <= book.len() && book.len() % FIELD == 0, "a book of {length} bytes has more than its layout");
+    assert!(length <= book.len(), "a book of {length} bytes has more than its layout");
     book.truncate(length);
     if let (Some(offset), Some(byte)) = (row.number("offset of a fault"), row.number("its byte")) {
         book[offset] = byte as u8;
