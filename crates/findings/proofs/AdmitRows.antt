@@ -15,7 +15,7 @@ use Rattle.findings.specs.Admitting.{mostRing, mostLine, roomAsked, isRo
 
 module _ (m k n room : ℕ) where
   -- "m = 0 or m > 256"
-  is-row-1 : IsRow (row (isRow1 m) Ring) Ring ((m ≡ 0) ⊎ (mostRing < m)) (IsRing m)
+  pub is-row-1 : IsRow (row (isRow1 m) Ring) Ring ((m ≡ 0) ⊎ (mostRing < m)) (IsRing m)
   is-row-1 =
       is-row (or-iff (eq-iff m 0) (lt-iff mostRing m))
       (λ ring. ⊎-elim (λ empty. omega (arith, ring .some-edge)) (λ long. omega (arith, ring .most)))
@@ -25,15 +25,15 @@ module _ (m k n room : ℕ) where
       record { some-edge = omega arith; most = omega arith })
 
   -- "k ≥ m"
-  is-row-2 : IsRow (row (isRow2 m k) Allowance) Allowance (m ≤ k) (k < m)
+  pub is-row-2 : IsRow (row (isRow2 m k) Allowance) Allowance (m ≤ k) (k < m)
   is-row-2 = is-row (le-iff m k) (λ allowed h. omega arith) (λ not. omega arith)
 
   -- "n > 65,536"
-  is-row-3 : IsRow (row (isRow3 n) Line) Line (mostLine < n) (n ≤ mostLine)
+  pub is-row-3 : IsRow (row (isRow3 n) Line) Line (mostLine < n) (n ≤ mostLine)
   is-row-3 = is-row (lt-iff mostLine n) (λ in-limit h. omega arith) (λ not. omega arith)
 
   -- "n ≥ m and fewer than 3·(n − m + 1) words are lent for findings"
-  is-row-4 : IsRow (row (isRow4 m n room) FindingsRoom) FindingsRoom ((m ≤ n) × (room < roomAsked m n)) (m ≤ n → roomAsked m n ≤ room)
+  pub is-row-4 : IsRow (row (isRow4 m n room) FindingsRoom) FindingsRoom ((m ≤ n) × (room < roomAsked m n)) (m ≤ n → roomAsked m n ≤ room)
   is-row-4 =
       is-row (and-iff (le-iff m n) (lt-iff room (roomAsked m n))) (λ enough h. omega (arith, enough (h .0)))
       (λ not starts.

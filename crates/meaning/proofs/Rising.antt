@@ -9,13 +9,8 @@ use native.Mathlib.Omega.{arith}
 use lib.Dec.{leb}
 use lib.ListN.{length}
 use Rattle.meaning.specs.Meanings.{isStart, leastDistance}
-use Rattle.meaning.specs.Findings.{Finding, foundAt, findingsBelow, findings}
+use Rattle.meaning.specs.Findings.{Rising, Finding, foundAt, findingsBelow, findings}
 use Rattle.lists.proofs.Cases.{by-test}
-
--- The starts rise strictly, the first at least lo, all below hi.
-abbrev pub Rising : ℕ → ℕ → List Finding → Type 0
-Rising lo hi [] = lo ≤ hi
-Rising lo hi (f ∷ fs) = (lo ≤ f .start) × Rising (suc (f .start)) hi fs
 
 -- What rises from a place on rises from any lower one on.
 rising-lower : (lo lo′ hi : ℕ) (l : List Finding) → lo ≤ lo′ → Rising lo′ hi l → Rising lo hi l

@@ -44,6 +44,11 @@ findingsBelow ring line k (suc i) = findingsBelow ring line k i ++ foundAt ring 
 abbrev pub findings : List ℕ → List ℕ → ℕ → List Finding
 findings ring line k = findingsBelow ring line k (length line)
 
+-- "by rising start": the starts of a list rise strictly, the first at least lo, all below hi.
+abbrev pub Rising : ℕ → ℕ → List Finding → Type 0
+Rising lo hi [] = lo ≤ hi
+Rising lo hi (f ∷ fs) = (lo ≤ f .start) × Rising (suc (f .start)) hi fs
+
 -- "Findings go as three 32-bit words each (start, rotation, distance) into the lent words, by rising start". (That each is below 2^32 follows
 -- from the limits of ring and line.)
 abbrev pub wordsEach : ℕ

@@ -8,7 +8,8 @@ use mathlib.Core.List.{List, [], _∷_, _++_}
 use native.Mathlib.Omega.{arith}
 use lib.ListN.{length}
 use Rattle.meaning.specs.Findings.{Finding, IsFinding, findings}
-use Rattle.meaning.proofs.Rising.{Rising, rising-from, findings-rising}
+use Rattle.meaning.specs.Findings.{Rising}
+use Rattle.meaning.proofs.Rising.{rising-from, findings-rising}
 use Rattle.answers.specs.Paper.{accepted}
 use Rattle.silences.specs.Silences.{Silence, silence, isSame, names}
 use Rattle.silences.specs.Reading.{readBook}

@@ -7,7 +7,8 @@ use native.Mathlib.Omega.{arith}
 use lib.ListN.{length, getD}
 use Rattle.meaning.specs.Findings.{findings, wordsEach, wordsOf}
 use Rattle.lists.specs.Areas.{written}
-use Rattle.meaning.proofs.Rising.{Rising, findings-rising}
+use Rattle.meaning.specs.Findings.{Rising}
+use Rattle.meaning.proofs.Rising.{findings-rising}
 use Rattle.meaning.proofs.Words.{words-length}
 use Rattle.lists.proofs.Areas.{written-rest}
 use Rattle.silences.specs.Silences.{Silence}

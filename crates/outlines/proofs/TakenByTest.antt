@@ -10,7 +10,7 @@ use native.Mathlib.Omega.{arith}
 use lib.ListN.{length}
 use Rattle.meaning.specs.Findings.{Finding}
 use Rattle.lists.proofs.Cases.{by-test}
-use Rattle.meaning.proofs.Rising.{Rising}
+use Rattle.meaning.specs.Findings.{Rising}
 use Rattle.outlines.specs.Report.{those}
 
 module _ (takes : Finding → Bool) where

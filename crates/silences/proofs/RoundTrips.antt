@@ -18,8 +18,8 @@ use Rattle.silences.proofs.WordsOfSilences.{words-length, silences-of-w
 use Rattle.silences.proofs.UnpackRows.{unpacked-accepted-iff}
 use Rattle.silences.proofs.PackRows.{packed-accepted-iff}
 
--- words that can be packed are the words of the book that is laid out
-packable-book : (words : List ℕ) → IsWords words → IsPackable words → IsBook (silencesOf words) (layout (silencesOf words))
+-- Words that can be packed are the words of the book that is laid out.
+pub packable-book : (words : List ℕ) → IsWords words → IsPackable words → IsBook (silencesOf words) (layout (silencesOf words))
 packable-book words w p =
     record {
       laid-out = refl;
@@ -28,8 +28,8 @@ packable-book words w p =
       length-le = omega (arith, silences-length words (p .word-count .multiple), p .word-count .words-le);
     }
 
--- the words of a book's silences can be packed
-book-packable : (ss : List Silence) (book : List ℕ) → IsBook ss book → IsPackable (wordsOfSilences ss)
+-- The words of a book's silences can be packed.
+pub book-packable : (ss : List Silence) (book : List ℕ) → IsBook ss book → IsPackable (wordsOfSilences ss)
 book-packable ss book b =
     let same : ss ≡ silencesOf (wordsOfSilences ss) = sym (silences-of-words ss) in
     record {

@@ -1,0 +1,57 @@
+-- `outlines_report` meets the demands. It goes by rows 1 to 7, so demand 1 is that of every call (RowsAgree). Accepted, its book is the layout of the silences that were
+-- read (`accepted-iff` of the silences), so a finding is shown exactly when the book's bytes do not name it. Its looks are the scan's.
+use Prim.Native.Nat.{ℕ, _+_, _<_}
+use mathlib.Core.Path.{_≡_, refl, sym, ap, subst, _∙_}
+use mathlib.Core.Logic.{_↔_, Iff·trans, Iff·and, Iff·rfl}
+use mathlib.Core.List.{List, List·Memᴰ}
+use native.Mathlib.Omega.{arith}
+use lib.ListN.{length}
+use Rattle.lists.specs.Areas.{written}
+use Rattle.meaning.specs.Findings.{Finding, IsFinding, findings, wordsOf}
+use Rattle.answers.specs.Paper.{accepted}
+use Rattle.answers.proofs.AnswerCases.{accepted-unique}
+use Rattle.lists.specs.Bounds.{IsBytes}
+use Rattle.silences.specs.Silences.{Silence, Names}
+use Rattle.silences.specs.Reading.{readBook}
+use Rattle.silences.proofs.AcceptedIsLayout.{book-accepted, accepted-iff}
+use Rattle.outlines.specs.Report.{shown, hidden}
+use Rattle.outlines.proofs.ShownExactly.{shown-iff, hidden-iff}
+use Rattle.outlines.proofs.ShownAndHidden.{shown-hidden-length}
+use Rattle.outlines.proofs.ShownRising.{shown-rising, hidden-rising}
+use Rattle.exports.specs.declared.answering.Answer.{Answer}
+use Rattle.exports.specs.Demands.{BookNames, Demand2}
+use Rattle.exports.proofs.SearchDemands.{start-shown-iff}
+
+-- The book's bytes name a start exactly when the silences read from them do.
+named-iff : {book : List ℕ} {ss : List Silence} → IsBytes book → readBook book ≡ accepted ss
+    → (cell ringNumber start : ℕ) → Names ss cell ringNumber start ↔ BookNames book cell ringNumber start
+named-iff {book} {ss} bytes is cell ringNumber start = (
+  λ n. record { silences = ss; is-book = accepted-iff book ss bytes .0 is; named = n },
+  λ b. subst (λ (l : List Silence). Names l cell ringNumber start) (accepted-unique (book-accepted book (b .silences) (b .is-book)) is) (b .named),
+)
+
+module _ (cell ringNumber : ℕ) (ring line : List ℕ) (k : ℕ) where
+  abbrev fs : List Finding
+  fs = findings ring line k
+
+  -- Demand 2, of a report that goes by these silences.
+  report-demand-2 : {book words : List ℕ} {ss : List Silence} {r : Answer} {out : List ℕ} → IsBytes book → readBook book ≡ accepted ss → 0 < length ring → r .found ≡ length fs → r .hidden ≡ length (hidden ss cell ringNumber fs) → out ≡ written (wordsOf (shown ss cell ringNumber fs)) words
+      → Demand2 (BookNames book cell ringNumber) ring line k words r out
+  report-demand-2 {book} {words} {ss} bytes is pos found-is hidden-is words-are =
+      let named : (i : ℕ) → Names ss cell ringNumber i ↔ BookNames book cell ringNumber i = named-iff bytes is cell ringNumber in
+      let shows : (f : Finding) → List·Memᴰ f (shown ss cell ringNumber fs) ↔ (IsFinding ring line k f × (BookNames book cell ringNumber (f .start) → ⊥)) =
+      λ f. Iff·trans (shown-iff ss cell ringNumber ring line k pos f)
+      (Iff·and Iff·rfl (λ never b. never (named (f .start) .1 b), λ never n. never (named (f .start) .0 n)))
+      in
+      record {
+        shown = shown ss cell ringNumber fs;
+        hidden = hidden ss cell ringNumber fs;
+        start-iff = start-shown-iff (BookNames book cell ringNumber) pos shows;
+        shown-iff = shows;
+        hidden-iff = λ f. Iff·trans (hidden-iff ss cell ringNumber ring line k pos f) (Iff·and Iff·rfl (named (f .start)));
+        shown-rising = shown-rising ss cell ringNumber ring line k;
+        hidden-rising = hidden-rising ss cell ringNumber ring line k;
+        found-is = omega (arith, found-is, shown-hidden-length ss cell ringNumber fs);
+        hidden-is = hidden-is;
+        words-are = words-are;
+      }

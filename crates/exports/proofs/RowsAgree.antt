@@ -1,0 +1,159 @@
+-- Demand 1, once for every call. A call's list of rows (specs/Rows of the answers) and the rows of the page of demands agree one by one (`AllAgree`): so the first row
+-- that is given has the same number and place in both, and a call that goes by the first one meets demand 1. Induction on the rows.
+use Prim.Native.Nat.{ℕ, _<_}
+use mathlib.Core.Path.{_≡_, refl, sym, ap, _∙_}
+use mathlib.Core.Logic.{_↔_, _⊎_, inl, inr, ⊎-elim}
+use mathlib.Core.List.{List, [], _∷_, _++_}
+use mathlib.Core.Option.{Option, none, some}
+use native.Mathlib.Omega.{arith}
+use Rattle.answers.specs.declared.refusals.Refusal.{Refusal}
+use Rattle.answers.specs.Refusals.{numberOf, placeOf}
+use Rattle.answers.specs.Paper.{Paper, answerPaper}
+use Rattle.answers.specs.Rows.{firstGiven, answerBy, areaBy}
+use Rattle.answers.proofs.OneAnswer.{number-in}
+use Rattle.answers.proofs.FirstRow.{none-some}
+use Rattle.answers.proofs.RowsExactly.{IsRow}
+use Rattle.answers.proofs.AnswerByRows.{accepted-number-iff, accepted-counts}
+use Rattle.outlines.specs.Report.{ReportCounts, noReportCounts}
+use Rattle.exports.specs.declared.answering.Answer.{Answer}
+use Rattle.exports.specs.Exported.{paperOf}
+use Rattle.exports.specs.Demands.{Row, rowOf, FirstRow, NoRow, Demand1}
+
+-- A refusal is given, and has this number and place.
+pub record IsGivenAt (o : Option Refusal) (number place : ℕ) : Type 0 where
+  pub refusal : Refusal
+  pub given : o ≡ some refusal
+  pub number-is : number ≡ numberOf refusal
+  pub place-is : place ≡ placeOf refusal
+
+-- where nothing is given, no number is
+not-given : {o : Option Refusal} {number place : ℕ} → o ≡ none → IsGivenAt o number place → ⊥
+not-given none-is g = none-some (sym none-is ∙ g .given)
+
+-- The page's row holds of exactly the number and place of the refusal that the call's row gives.
+abbrev pub Agrees : Option Refusal → Row → Type 0
+Agrees o r = (number place : ℕ) → r number place ↔ IsGivenAt o number place
+
+-- Two lists of rows agree one by one.
+abbrev pub AllAgree : List (Option Refusal) → List Row → Type 0
+AllAgree [] [] = Unit {0}
+AllAgree [] (r ∷ rs) = ⊥
+AllAgree (o ∷ os) [] = ⊥
+AllAgree (o ∷ os) (r ∷ rs) = Agrees o r × AllAgree os rs
+
+-- So do two lists after them.
+pub agree-append : (os : List (Option Refusal)) (rs : List Row) (os′ : List (Option Refusal)) (rs′ : List Row)
+    → AllAgree os rs → AllAgree os′ rs′ → AllAgree (os ++ os′) (rs ++ rs′)
+agree-append [] [] os′ rs′ a b = b
+agree-append [] (r ∷ rs) os′ rs′ a b = absurd a
+agree-append (o ∷ os) [] os′ rs′ a b = absurd a
+agree-append (o ∷ os) (r ∷ rs) os′ rs′ a b = (a .0, agree-append os rs os′ rs′ (a .1) b)
+
+-- A row of the table with place 0 agrees with the page's: it gives its refusal exactly when the page's condition holds.
+pub row-agrees : {o : Option Refusal} {q : Refusal} {Yes No : Type 0} → IsRow o q Yes No → placeOf q ≡ 0 → Agrees o (rowOf (numberOf q) Yes)
+row-agrees {q = q} is no-place number place = (
+  λ h. record { refusal = q; given = is .yes .1 (h .2); number-is = h .0; place-is = h .1 ∙ sym no-place },
+  λ g. let same : g .refusal ≡ q = is .only (g .refusal) (g .given) in
+      (g .number-is ∙ ap numberOf same, g .place-is ∙ ap placeOf same ∙ no-place, is .yes .0 (g .given ∙ ap some same)),
+)
+
+-- The first row that is given is the same in both lists.
+pub first-agrees : (os : List (Option Refusal)) (rs : List Row) → AllAgree os rs
+    → (number place : ℕ) → FirstRow rs number place ↔ IsGivenAt (firstGiven os) number place
+unfolding FirstRow firstGiven
+first-agrees [] [] a number place = (λ f. absurd f, λ g. absurd (not-given refl g))
+first-agrees [] (r ∷ rs) a number place = absurd a
+first-agrees (o ∷ os) [] a number place = absurd a
+first-agrees (none ∷ os) (r ∷ rs) a number place = (
+  ⊎-elim (λ here. absurd (not-given refl (a .0 number place .0 here))) (λ rest. first-agrees os rs (a .1) number place .0 (rest .1)),
+  λ g. inr (λ n p h. not-given refl (a .0 n p .0 h), first-agrees os rs (a .1) number place .1 g),
+)
+first-agrees (some q ∷ os) (r ∷ rs) a number place = (
+  ⊎-elim (λ here. a .0 number place .0 here)
+      (λ rest. absurd (rest .0 (numberOf q) (placeOf q) (a .0 (numberOf q) (placeOf q) .1 (record { refusal = q; given = refl; number-is = refl; place-is = refl })))),
+  λ g. inl (a .0 number place .1 g),
+)
+
+-- No row is given in one list exactly when none is in the other.
+pub none-agrees : (os : List (Option Refusal)) (rs : List Row) → AllAgree os rs → NoRow rs ↔ (firstGiven os ≡ none)
+unfolding NoRow firstGiven
+none-agrees [] [] a = (λ _. refl, λ _. tt)
+none-agrees [] (r ∷ rs) a = absurd a
+none-agrees (o ∷ os) [] a = absurd a
+none-agrees (none ∷ os) (r ∷ rs) a = (
+  λ none-given. none-agrees os rs (a .1) .0 (none-given .1),
+  λ e. (λ n p h. not-given refl (a .0 n p .0 h), none-agrees os rs (a .1) .1 e),
+)
+none-agrees (some q ∷ os) (r ∷ rs) a = (
+  λ none-given. absurd (none-given .0 (numberOf q) (placeOf q) (a .0 (numberOf q) (placeOf q) .1 (record { refusal = q; given = refl; number-is = refl; place-is = refl }))),
+  λ e. absurd (none-some (sym e)),
+)
+
+-- An answer and an area that go by the first row that is given.
+pub record GoesByRows (os : List (Option Refusal)) (counts : ReportCounts) (new area : List ℕ) (r : Answer) (out : List ℕ) : Type 0 where
+  pub paper : paperOf r ≡ answerPaper noReportCounts (answerBy (firstGiven os) counts)
+  pub written : out ≡ areaBy (firstGiven os) new area
+
+-- They meet demand 1.
+pub demand-1-met : {os : List (Option Refusal)} {rs : List Row} {counts : ReportCounts} {new area out : List ℕ} {r : Answer}
+    → AllAgree os rs → GoesByRows os counts new area r out → Demand1 rs r area out
+demand-1-met {os} {rs} {counts} {new} {area} {out} {r} agree by = go (firstGiven os) refl (by .paper) (by .written)
+  where
+    go : (o : Option Refusal) → firstGiven os ≡ o → paperOf r ≡ answerPaper noReportCounts (answerBy o counts) → out ≡ areaBy o new area → Demand1 rs r area out
+    go none e paper written =
+        let accepted : r .refusal ≡ 0 = ap (λ (p : Paper ReportCounts). p .number) paper in
+        record {
+          accepted-iff = (λ _. none-agrees os rs agree .1 e, λ _. accepted);
+          accepted-place = λ _. ap (λ (p : Paper ReportCounts). p .place) paper;
+          refused-iff = λ number place. (
+            λ f. absurd (not-given e (first-agrees os rs agree number place .0 f)),
+            λ h. absurd (omega (arith, h .0, h .1)),
+          );
+          no-found = λ l. absurd (omega arith);
+          no-hidden = λ l. absurd (omega arith);
+          no-looks = λ l. absurd (omega arith);
+          untouched = λ l. absurd (omega arith);
+        }
+    go (some q) e paper written =
+        let number : r .refusal ≡ numberOf q = ap (λ (p : Paper ReportCounts). p .number) paper in
+        let place : r .place ≡ placeOf q = ap (λ (p : Paper ReportCounts). p .place) paper in
+        let some-number : 0 < numberOf q = number-in q .0 in
+        record {
+          accepted-iff = (
+            λ zero. absurd (omega arith),
+            λ none-given. absurd (none-some (sym (none-agrees os rs agree .0 none-given) ∙ e)),
+          );
+          accepted-place = λ zero. absurd (omega arith);
+          refused-iff = λ n p. (
+            λ f. let g = first-agrees os rs agree n p .0 f in
+                let same : q ≡ g .refusal = some-same (sym e ∙ g .given) in (
+                  omega (arith, g .number-is, number-in (g .refusal) .0),
+                  number ∙ ap numberOf same ∙ sym (g .number-is),
+                  place ∙ ap placeOf same ∙ sym (g .place-is),
+                ),
+            λ h. first-agrees os rs agree n p .1 (record { refusal = q; given = e; number-is = sym (h .1) ∙ number; place-is = sym (h .2) ∙ place }),
+          );
+          no-found = λ _. ap (λ (p : Paper ReportCounts). p .counts .found) paper;
+          no-hidden = λ _. ap (λ (p : Paper ReportCounts). p .counts .hidden) paper;
+          no-looks = λ _. ap (λ (p : Paper ReportCounts). p .counts .looks) paper;
+          untouched = λ _. written;
+        }
+      where
+        some-same : {q′ : Refusal} → _≡_ {A = Option Refusal} (some q) (some q′) → q ≡ q′
+        some-same h = cc
+
+-- Where they are accepted, the counts and the area are the call's own, and no row is given.
+pub record Accepts (os : List (Option Refusal)) (counts : ReportCounts) (new : List ℕ) (r : Answer) (out : List ℕ) : Type 0 where
+  pub none-given : firstGiven os ≡ none
+  pub counts-are : paperOf r .counts ≡ counts
+  pub written : out ≡ new
+
+pub accepts : {os : List (Option Refusal)} {counts : ReportCounts} {new area out : List ℕ} {r : Answer}
+    → GoesByRows os counts new area r out → r .refusal ≡ 0 → Accepts os counts new r out
+accepts {os} {counts} {new} {area} {out} {r} by zero-is =
+    let none-given = accepted-number-iff noReportCounts counts (firstGiven os) (by .paper) .0 zero-is in
+    record {
+      none-given = none-given;
+      counts-are = accepted-counts noReportCounts counts (firstGiven os) (by .paper) none-given;
+      written = by .written ∙ ap (λ (o : Option Refusal). areaBy o new area) none-given;
+    }

@@ -1,0 +1,157 @@
+-- `outlines_survey` and `outlines_scan` meet the demands. Both go by rows 1 to 4 (`searched-by-rows`), so demand 1 is that of every call (RowsAgree). Accepted, they
+-- write the findings, which are exactly what `IsFinding` says (`findings-iff` of the meanings); their looks are the definitions', which the meanings bound.
+use Prim.Native.Nat.{ℕ, _+_, _-_, _*_, _≤_, _<_}
+use mathlib.Core.Path.{_≡_, refl, sym, ap, subst, _∙_}
+use mathlib.Core.Logic.{_↔_}
+use mathlib.Core.List.{List, [], _∷_, List·Memᴰ, List·Memᴰ·not-nil}
+use mathlib.Core.Option.{Option, none, some}
+use native.Mathlib.Omega.{arith}
+use lib.ListN.{length}
+use Rattle.lists.specs.Areas.{written}
+use Rattle.meaning.specs.Meanings.{IsStart, distance}
+use Rattle.meaning.specs.Findings.{Finding, IsFinding, findings, wordsOf}
+use Rattle.meaning.specs.Looks.{quickLooks, surveyLooks}
+use Rattle.meaning.proofs.FoundExactly.{findings-iff, found-iff}
+use Rattle.meaning.proofs.Rising.{findings-rising}
+use Rattle.meaning.proofs.LookBound.{quickLooks-le, quickLooks-most, quickLooks-short}
+use Rattle.meaning.proofs.SurveyLooks.{surveyLooks-is, surveyLooks-short}
+use Rattle.answers.specs.declared.refusals.Refusal.{Refusal}
+use Rattle.answers.specs.Paper.{Paper, answerPaper}
+use Rattle.answers.specs.Rows.{answerBy}
+use Rattle.findings.specs.Admitting.{admitRows, refusalOf, Admitted}
+use Rattle.findings.specs.Searching.{Counts, noCounts, searched, searchPaper, searchedWords}
+use Rattle.findings.proofs.AdmitRows.{is-row-1, is-row-2, is-row-3, is-row-4, no-row-iff}
+use Rattle.outlines.specs.Report.{ReportCounts, noReportCounts}
+use Rattle.exports.specs.declared.answering.Answer.{Answer}
+use Rattle.exports.specs.Exported.{paperOf, counted, searchCounts, IsExported, IsSurveyExported, IsScanExported}
+use Rattle.exports.specs.Demands.{searchRows, NeverNamed, Demand1, Demand2, Demand3, SurveyMeets, ScanMeets, SameWords}
+use Rattle.exports.proofs.RowsAgree.{AllAgree, row-agrees, GoesByRows, Accepts, demand-1-met, accepts}
+
+-- The rows of a search, one by one.
+pub search-agrees : (m k n room : ℕ) → AllAgree (admitRows m k n room) (searchRows m k n room)
+unfolding admitRows
+search-agrees m k n room = (
+  row-agrees (is-row-1 m k n room) refl,
+  (row-agrees (is-row-2 m k n room) refl, (row-agrees (is-row-3 m k n room) refl, (row-agrees (is-row-4 m k n room) refl, tt))),
+)
+
+-- A start is among the shown findings exactly when some rotation differs in at most k places and it is not named, if the shown are the findings not named.
+pub start-shown-iff : (Named : ℕ → Type 0) {ring line : List ℕ} {k : ℕ} {shown : List Finding} → 0 < length ring
+    → ((f : Finding) → List·Memᴰ f shown ↔ (IsFinding ring line k f × (Named (f .start) → ⊥)))
+    → (i : ℕ) → ((f : Finding) × (f .start ≡ i) × List·Memᴰ f shown)
+    ↔ ((IsStart ring line i × ((q : ℕ) × (q < length ring) × (distance ring line i q ≤ k))) × (Named i → ⊥))
+start-shown-iff Named {ring} {line} {k} pos shown-iff i = (
+  λ w. let is = shown-iff (w .0) .0 (w .2) in
+      (found-iff ring line k pos i .0 (w .0, w .1, findings-iff ring line k pos (w .0) .1 (is .0)), subst (λ (j : ℕ). Named j → ⊥) (w .1) (is .1)),
+  λ h. let w = found-iff ring line k pos i .1 (h .0) in
+      (w .0, w .1, shown-iff (w .0) .1 (findings-iff ring line k pos (w .0) .0 (w .2), subst (λ (j : ℕ). Named j → ⊥) (sym (w .1)) (h .1))),
+)
+
+-- the counts of a search as the struct holds them
+abbrev held : List ℕ → List ℕ → ℕ → ℕ → ReportCounts
+held ring line k looks = record { found = length (findings ring line k); hidden = 0; looks = looks }
+
+-- a search's paper in the struct, by the first row that is given
+counted-by : (o : Option Refusal) (c : Counts)
+    → counted searchCounts (answerPaper noCounts (answerBy o c)) ≡ answerPaper noReportCounts (answerBy o (searchCounts c))
+counted-by none c = refl
+counted-by (some q) c = refl
+
+module _ (ring line : List ℕ) (k looks : ℕ) (words : List ℕ) {r : Answer} {out : List ℕ}
+    (exported : IsExported (counted searchCounts (searchPaper ring line k (length words) looks)) (searchedWords ring line k words) r out) where
+  -- A search goes by rows 1 to 4.
+  searched-by-rows : GoesByRows (admitRows (length ring) k (length line) (length words)) (held ring line k looks) (written (wordsOf (findings ring line k)) words) words r out
+  unfolding searched searchedWords
+  searched-by-rows = record {
+    paper = exported .paper
+        ∙ counted-by (refusalOf (length ring) k (length line) (length words)) (record { found = length (findings ring line k); looks = looks });
+    written = exported .written;
+  }
+
+  -- It meets demand 1.
+  search-demand-1 : Demand1 (searchRows (length ring) k (length line) (length words)) r words out
+  search-demand-1 = demand-1-met (search-agrees (length ring) k (length line) (length words)) searched-by-rows
+
+  module _ (zero-is : r .refusal ≡ 0) where
+    taken : Accepts (admitRows (length ring) k (length line) (length words)) (held ring line k looks) (written (wordsOf (findings ring line k)) words) r out
+    taken = accepts searched-by-rows zero-is
+
+    admitted : Admitted (length ring) k (length line) (length words)
+    admitted = no-row-iff (length ring) k (length line) (length words) .0 (taken .none-given)
+
+    looks-are : r .looks ≡ looks
+    looks-are = ap (λ (c : ReportCounts). c .looks) (taken .counts-are)
+
+    -- It meets demand 2: the findings are shown, and none is hidden.
+    search-demand-2 : Demand2 NeverNamed ring line k words r out
+    search-demand-2 =
+        let shown-iff : (f : Finding) → List·Memᴰ f (findings ring line k) ↔ (IsFinding ring line k f × (⊥ → ⊥)) =
+        λ f. (λ m. (findings-iff ring line k (admitted .some-edge) f .0 m, λ never. never), λ h. findings-iff ring line k (admitted .some-edge) f .1 (h .0)) in
+        record {
+          shown = findings ring line k;
+          hidden = [];
+          start-iff = start-shown-iff NeverNamed (admitted .some-edge) shown-iff;
+          shown-iff = shown-iff;
+          hidden-iff = λ f. (λ m. absurd (List·Memᴰ·not-nil m), λ h. absurd (h .1));
+          shown-rising = findings-rising ring line k;
+          hidden-rising = omega arith;
+          found-is = omega (arith, ap (λ (c : ReportCounts). c .found) (taken .counts-are));
+          hidden-is = ap (λ (c : ReportCounts). c .hidden) (taken .counts-are);
+          words-are = taken .written;
+        }
+
+-- Looks of an accepted call that are the quick scan's meet demand 3.
+pub looks-demand-3 : {ring line : List ℕ} {k : ℕ} {r : Answer} → 0 < length ring → r .looks ≡ quickLooks ring line k → Demand3 ring line k r
+looks-demand-3 {ring} {line} {k} pos are = record {
+  looks-are = are;
+  looks-le = λ fits. omega (arith, quickLooks-le ring line k fits);
+  looks-most = omega (arith, quickLooks-most ring line k pos);
+  no-looks = λ short. are ∙ quickLooks-short ring line k short;
+}
+
+module _ (ring line : List ℕ) (k : ℕ) (words : List ℕ) where
+  -- `outlines_survey` meets the demands.
+  pub survey-meets : {r : Answer} {out : List ℕ} → IsSurveyExported ring line k words r out → SurveyMeets ring line k words r out
+  survey-meets e =
+      let looks : ℕ = surveyLooks ring line in
+      record {
+        demand-1 = search-demand-1 ring line k looks words e;
+        demand-2 = search-demand-2 ring line k looks words e;
+        looks-are = λ zero-is fits. looks-are ring line k looks words e zero-is ∙ surveyLooks-is ring line (admitted ring line k looks words e zero-is .some-edge) fits;
+        no-looks = λ zero-is short. looks-are ring line k looks words e zero-is ∙ surveyLooks-short ring line short;
+      }
+
+  -- `outlines_scan` meets them.
+  pub scan-meets : {r : Answer} {out : List ℕ} → IsScanExported ring line k words r out → ScanMeets ring line k words r out
+  scan-meets e =
+      let looks : ℕ = quickLooks ring line k in
+      record {
+        demand-1 = search-demand-1 ring line k looks words e;
+        demand-2 = search-demand-2 ring line k looks words e;
+        demand-3 = λ zero-is. looks-demand-3 (admitted ring line k looks words e zero-is .some-edge) (looks-are ring line k looks words e zero-is);
+      }
+
+-- two answers by the same row that count alike but for their looks
+same-but-looks : (o : Option Refusal) (found looks looks′ : ℕ) {r r′ : Answer} {out out′ : List ℕ}
+    → paperOf r ≡ answerPaper noReportCounts (answerBy o (record { found = found; hidden = 0; looks = looks }))
+    → paperOf r′ ≡ answerPaper noReportCounts (answerBy o (record { found = found; hidden = 0; looks = looks′ }))
+    → out′ ≡ out → SameWords r r′ out out′
+same-but-looks none found looks looks′ p p′ same = record {
+  refusal-is = ap (λ (x : Paper ReportCounts). x .number) p′ ∙ sym (ap (λ (x : Paper ReportCounts). x .number) p);
+  place-is = ap (λ (x : Paper ReportCounts). x .place) p′ ∙ sym (ap (λ (x : Paper ReportCounts). x .place) p);
+  found-is = ap (λ (x : Paper ReportCounts). x .counts .found) p′ ∙ sym (ap (λ (x : Paper ReportCounts). x .counts .found) p);
+  words-are = same;
+}
+same-but-looks (some q) found looks looks′ p p′ same = record {
+  refusal-is = ap (λ (x : Paper ReportCounts). x .number) p′ ∙ sym (ap (λ (x : Paper ReportCounts). x .number) p);
+  place-is = ap (λ (x : Paper ReportCounts). x .place) p′ ∙ sym (ap (λ (x : Paper ReportCounts). x .place) p);
+  found-is = ap (λ (x : Paper ReportCounts). x .counts .found) p′ ∙ sym (ap (λ (x : Paper ReportCounts). x .counts .found) p);
+  words-are = same;
+}
+
+-- Surveyed and scanned, a line has the same refusal or the same findings, and the same words.
+pub survey-scan-same : (ring line : List ℕ) (k : ℕ) (words : List ℕ) {r r′ : Answer} {out out′ : List ℕ}
+    → IsSurveyExported ring line k words r out → IsScanExported ring line k words r′ out′ → SameWords r r′ out out′
+survey-scan-same ring line k words e e′ =
+    same-but-looks (refusalOf (length ring) k (length line) (length words)) (length (findings ring line k)) (surveyLooks ring line) (quickLooks ring line k)
+    (searched-by-rows ring line k (surveyLooks ring line) words e .paper) (searched-by-rows ring line k (quickLooks ring line k) words e′ .paper) (e′ .written ∙ sym (e .written))

@@ -1,0 +1,203 @@
+-- The three demands, of what a C caller gets: the struct `Answer` and the lent area at exit. Hold this page beside document 01. The theorems that every call
+-- meets it are in proofs/DemandsMet.antt; nothing here speaks of how a call works.
+--
+--   Row, rowOf, FirstRow, NoRow                     a call's rows of the table of refusals, in the call's order
+--   searchRows, bookRows, reportRows, unpackRows,   the rows of each call, "Given exactly when"
+--   packRows
+--   Demand1                  accepted, or refused by the first row that is given; a refusal counts 0 and writes nothing
+--   BookNames, NeverNamed    what hides a finding
+--   Demand2                  the findings written, and those hidden
+--   UnpackDemand2, PackDemand2, GivesBack           books
+--   Demand3                  the quick scan's looks
+--   SurveyMeets, ScanMeets, ReportMeets, UnpackMeets, PackMeets, SameWords   the demands on each call
+use Prim.Native.Nat.{ℕ, _+_, _-_, _*_, _%_, _≤_, _<_}
+use mathlib.Core.Path.{_≡_}
+use mathlib.Core.Logic.{_↔_, _⊎_}
+use mathlib.Core.List.{List, [], _∷_, _++_, List·Memᴰ}
+use lib.ListN.{length, take}
+use Rattle.lists.specs.Areas.{written}
+use Rattle.meaning.specs.Meanings.{IsStart, distance}
+use Rattle.meaning.specs.Findings.{Finding, IsFinding, Rising, wordsOf}
+use Rattle.meaning.specs.Looks.{quickLooks}
+use Rattle.silences.specs.Silences.{Silence, Names}
+use Rattle.silences.specs.Layout.{layout}
+use Rattle.silences.specs.Books.{IsBook}
+use Rattle.silences.specs.Packing.{silencesOf, wordsOfSilences}
+use Rattle.silences.specs.Rows.{IsFieldFault, IsOrderFault, IsRingFault, IsRecordFault, IsPackable}
+use Rattle.exports.specs.declared.answering.Answer.{Answer}
+
+-- A row of a call: with which number and at which place it is given, and when.
+abbrev pub Row : Type 1
+Row = ℕ → ℕ → Type 0
+
+-- A row whose place is 0.
+abbrev pub rowOf : ℕ → Type 0 → Row
+rowOf its-number condition number place = (number ≡ its-number) × (place ≡ 0) × condition
+
+-- This number and place are those of the first row that is given: its condition holds, and that of no row before it.
+unfoldable pub FirstRow : List Row → ℕ → ℕ → Type 0
+FirstRow [] number place = ⊥
+FirstRow (r ∷ rows) number place = r number place ⊎ (((n p : ℕ) → r n p → ⊥) × FirstRow rows number place)
+
+-- No row is given.
+unfoldable pub NoRow : List Row → Type 0
+NoRow [] = Unit {0}
+NoRow (r ∷ rows) = ((n p : ℕ) → r n p → ⊥) × NoRow rows
+
+-- "Order: survey and scan 1 to 4". m edges of the ring, n of the line, allowance k, `room` words lent for findings.
+abbrev pub searchRows : ℕ → ℕ → ℕ → ℕ → List Row
+searchRows m k n room =
+    -- "m = 0 or m > 256"
+    rowOf 1 ((m ≡ 0) ⊎ (256 < m))
+    -- "k ≥ m"
+    ∷ rowOf 2 (m ≤ k)
+    -- "n > 65,536"
+    ∷ rowOf 3 (65536 < n)
+    -- "n ≥ m and fewer than 3·(n − m + 1) words are lent for findings"
+    ∷ rowOf 4 ((m ≤ n) × (room < 3 * (n - m + 1)))
+    ∷ []
+
+-- Rows 5, 6 and 7 of a book that is read. "Within a book the first faulty field decides, 6 before 7": a fault says that all fields before it are right.
+abbrev pub bookRows : List ℕ → List Row
+bookRows book =
+    -- "book longer than 13,000 bytes"
+    rowOf 5 (13000 < length book)
+    -- "a field isn't 13 bytes beginning 21 00 0A hex, or is cut off", or "a record isn't above the one before it"; "its byte offset"
+    ∷ (λ number place. ((number ≡ 6) × IsFieldFault book place) ⊎ ((number ≡ 7) × IsOrderFault book place))
+    ∷ []
+
+-- "report 1 to 7"
+abbrev pub reportRows : ℕ → ℕ → ℕ → ℕ → List ℕ → List Row
+reportRows m k n room book = searchRows m k n room ++ bookRows book
+
+-- "unpacker 5, 6, 7, 10": with room for `room` words.
+abbrev pub unpackRows : List ℕ → ℕ → List Row
+unpackRows book room =
+    bookRows book
+    -- "packing or unpacking lacks room for its whole output"
+    ++ rowOf 10 ((ss : List Silence) × IsBook ss book × (room < length (wordsOfSilences ss)))
+    ∷ []
+
+-- "packer 8, then each record 9 before 7, then 10": with room for `room` bytes.
+abbrev pub packRows : List ℕ → ℕ → List Row
+packRows words room =
+    -- "words to pack aren't a multiple of 3, or exceed 3,000"
+    rowOf 8 ((length words % 3 ≡ 0 → ⊥) ⊎ (3000 < length words))
+    -- "a ring number to pack is above 65,535", or "a record isn't above the one before it"; "record number"
+    ∷ (λ number place. ((number ≡ 9) × IsRingFault words place) ⊎ ((number ≡ 7) × IsRecordFault words place))
+    -- "packing or unpacking lacks room for its whole output"
+    ∷ rowOf 10 (room < length (layout (silencesOf words)))
+    ∷ []
+
+-- Demand 1, of a call with these rows, its answer, and its lent area before and after. "It answers, or refuses by a number of document 01 under exactly the
+-- condition given there. A refusal reports zero counts and writes nothing into a lent area."
+pub record Demand1 (rows : List Row) (r : Answer) (area out : List ℕ) : Type 0 where
+  -- The answer has number 0 exactly when no row is given, and then place 0.
+  pub accepted-iff : (r .refusal ≡ 0) ↔ NoRow rows
+  pub accepted-place : r .refusal ≡ 0 → r .place ≡ 0
+  -- A refusal has the number and place of the first row that is given, and of no other.
+  pub refused-iff : (number place : ℕ) → FirstRow rows number place ↔ ((0 < number) × (r .refusal ≡ number) × (r .place ≡ place))
+  -- "zero in every count"
+  pub no-found : 0 < r .refusal → r .found ≡ 0
+  pub no-hidden : 0 < r .refusal → r .hidden ≡ 0
+  pub no-looks : 0 < r .refusal → r .looks ≡ 0
+  -- "writes nothing to any lent area"
+  pub untouched : 0 < r .refusal → out ≡ area
+
+-- The book's bytes name this cell, ring number and start: they are the layout of silences, one of which is for them.
+pub record BookNames (book : List ℕ) (cell ringNumber start : ℕ) : Type 0 where
+  pub silences : List Silence
+  pub is-book : IsBook silences book
+  pub named : Names silences cell ringNumber start
+
+-- Survey and scan have no book: no start is named.
+abbrev pub NeverNamed : ℕ → Type 0
+NeverNamed start = ⊥
+
+-- Demand 2, of an accepted survey, scan or report. `Named` says which starts the book names.
+pub record Demand2 (Named : ℕ → Type 0) (ring line : List ℕ) (k : ℕ) (words : List ℕ) (r : Answer) (out : List ℕ) : Type 0 where
+  pub shown : List Finding
+  pub hidden : List Finding
+  -- A start is among the shown exactly when some rotation differs in at most k places and the book does not name it.
+  pub start-iff : (i : ℕ)
+      → ((f : Finding) × (f .start ≡ i) × List·Memᴰ f shown)
+      ↔ ((IsStart ring line i × ((q : ℕ) × (q < length ring) × (distance ring line i q ≤ k))) × (Named i → ⊥))
+  -- "It carries start, rotation, distance: the least distance, and the lowest r that reaches it."
+  pub shown-iff : (f : Finding) → List·Memᴰ f shown ↔ (IsFinding ring line k f × (Named (f .start) → ⊥))
+  -- A finding is hidden exactly when the book names its start.
+  pub hidden-iff : (f : Finding) → List·Memᴰ f hidden ↔ (IsFinding ring line k f × Named (f .start))
+  -- "by rising start": so none is listed twice.
+  pub shown-rising : Rising 0 (length line) shown
+  pub hidden-rising : Rising 0 (length line) hidden
+  -- "found (hidden ones included), hidden"
+  pub found-is : r .found ≡ length shown + length hidden
+  pub hidden-is : r .hidden ≡ length hidden
+  -- "Words after the last one written keep their values."
+  pub words-are : out ≡ written (wordsOf shown) words
+
+-- Demand 2, of unpacking: a book is accepted exactly when it is the layout of ascending silences in range, at most 1,000 of them, with room for their words.
+pub record UnpackDemand2 (book area : List ℕ) (r : Answer) (out : List ℕ) : Type 0 where
+  pub accepted-iff : (r .refusal ≡ 0) ↔ ((ss : List Silence) × IsBook ss book × (length (wordsOfSilences ss) ≤ length area))
+  -- "return the number of records and leave room beyond their output unwritten"
+  pub found-is : (ss : List Silence) → IsBook ss book → r .refusal ≡ 0 → r .found ≡ length ss
+  pub words-are : (ss : List Silence) → IsBook ss book → r .refusal ≡ 0 → out ≡ written (wordsOfSilences ss) area
+
+-- Demand 2, of packing: words are accepted exactly when they are silences that can be packed, with room for their layout, and it is the layout that is written.
+pub record PackDemand2 (words area : List ℕ) (r : Answer) (out : List ℕ) : Type 0 where
+  pub accepted-iff : (r .refusal ≡ 0) ↔ (IsPackable words × (length (layout (silencesOf words)) ≤ length area))
+  pub found-is : r .refusal ≡ 0 → r .found ≡ length (silencesOf words)
+  pub book-is : r .refusal ≡ 0 → IsBook (silencesOf words) (layout (silencesOf words))
+  pub bytes-are : r .refusal ≡ 0 → out ≡ written (layout (silencesOf words)) area
+
+-- Demand 3, of an accepted scan or report: "Its looks equal the steps of the written rules".
+pub record Demand3 (ring line : List ℕ) (k : ℕ) (r : Answer) : Type 0 where
+  -- "Looks are the sum over rules 1 and 5."
+  pub looks-are : r .looks ≡ quickLooks ring line k
+  -- "For n ≥ m they are never above 3·m·n − 2·m·m + m, which is at most 3·m·n."
+  pub looks-le : length ring ≤ length line → r .looks ≤ 3 * length ring * length line - 2 * length ring * length ring + length ring
+  pub looks-most : r .looks ≤ 3 * length ring * length line
+  -- "A line shorter than the ring is accepted: no start, no look, zero findings."
+  pub no-looks : length line < length ring → r .looks ≡ 0
+
+-- "Reading gives back what was written": of what the first of two calls was given, the answers of both, and the area of the second. The second accepts what the first
+-- wrote, counts as many records, and its area begins with what the first was given.
+pub record GivesBack (given : List ℕ) (first second : Answer) (out : List ℕ) : Type 0 where
+  pub accepted : second .refusal ≡ 0
+  pub found-is : second .found ≡ first .found
+  pub front-is : take (length given) out ≡ given
+
+-- The demands on `outlines_survey`. "2·m·n − m·m looks for n ≥ m, else 0"
+pub record SurveyMeets (ring line : List ℕ) (k : ℕ) (words : List ℕ) (r : Answer) (out : List ℕ) : Type 0 where
+  pub demand-1 : Demand1 (searchRows (length ring) k (length line) (length words)) r words out
+  pub demand-2 : r .refusal ≡ 0 → Demand2 NeverNamed ring line k words r out
+  pub looks-are : r .refusal ≡ 0 → length ring ≤ length line → r .looks ≡ 2 * length ring * length line - length ring * length ring
+  pub no-looks : r .refusal ≡ 0 → length line < length ring → r .looks ≡ 0
+
+-- The demands on `outlines_scan`.
+pub record ScanMeets (ring line : List ℕ) (k : ℕ) (words : List ℕ) (r : Answer) (out : List ℕ) : Type 0 where
+  pub demand-1 : Demand1 (searchRows (length ring) k (length line) (length words)) r words out
+  pub demand-2 : r .refusal ≡ 0 → Demand2 NeverNamed ring line k words r out
+  pub demand-3 : r .refusal ≡ 0 → Demand3 ring line k r
+
+-- Demand 3: "The quick scan lists precisely those findings." The same ring, line, allowance and words, surveyed and scanned, differ in their looks alone.
+pub record SameWords (survey scan : Answer) (survey-out scan-out : List ℕ) : Type 0 where
+  pub refusal-is : scan .refusal ≡ survey .refusal
+  pub place-is : scan .place ≡ survey .place
+  pub found-is : scan .found ≡ survey .found
+  pub words-are : scan-out ≡ survey-out
+
+-- The demands on `outlines_report`.
+pub record ReportMeets (cell ringNumber : ℕ) (ring line : List ℕ) (k : ℕ) (book words : List ℕ) (r : Answer) (out : List ℕ) : Type 0 where
+  pub demand-1 : Demand1 (reportRows (length ring) k (length line) (length words) book) r words out
+  pub demand-2 : r .refusal ≡ 0 → Demand2 (BookNames book cell ringNumber) ring line k words r out
+  pub demand-3 : r .refusal ≡ 0 → Demand3 ring line k r
+
+-- The demands on `outlines_unpack`.
+pub record UnpackMeets (book area : List ℕ) (r : Answer) (out : List ℕ) : Type 0 where
+  pub demand-1 : Demand1 (unpackRows book (length area)) r area out
+  pub demand-2 : UnpackDemand2 book area r out
+
+-- The demands on `outlines_pack`.
+pub record PackMeets (words area : List ℕ) (r : Answer) (out : List ℕ) : Type 0 where
+  pub demand-1 : Demand1 (packRows words (length area)) r area out
+  pub demand-2 : PackDemand2 words area r out
