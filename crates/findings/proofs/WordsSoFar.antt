@@ -15,9 +15,9 @@ use Rattle.findings.proofs.WordsPut.{put-more, put-none, put-length}
 use Rattle.findings.proofs.PutCases.{finding-words, words-are-put}
 
 -- A finding's words are 32-bit words where the call is accepted.
-pub admitted-words : {ring line : List ℕ} {k room : ℕ} {f : Finding} → Admitted (length ring) k (length line) room → IsStart ring line (f .start)
+pub admitted-words : (ring line : List ℕ) {k room : ℕ} {f : Finding} → Admitted (length ring) k (length line) room → IsStart ring line (f .start)
     → f .rotation < length ring → f .distance ≤ k → IsWords (findingWords f)
-admitted-words admitted is-start is-rotation near =
+admitted-words ring line admitted is-start is-rotation near =
     finding-words (omega (arith, admitted .most-line, is-start .fits)) (omega (arith, admitted .most-ring))
     (omega (arith, admitted .allowed, admitted .most-ring))
 

@@ -1,23 +1,23 @@
 -- The meanings place by place: the edges of a window, and what `foundAt` gives in each case.
 use Prim.Native.Nat.{ℕ, _≤_, _<_}
-use mathlib.Core.Path.{_≡_, refl, ap, _∙_}
+use mathlib.Core.Path.{_≡_, refl, ap}
 use mathlib.Core.Bool.{Bool, true, false, cond, _&&_}
 use mathlib.Core.List.{List, [], _∷_, List·Memᴰ, List·Memᴰ·head, List·Memᴰ·not-nil, List·Memᴰ·eq-of-singleton}
 use native.Mathlib.Omega.{arith}
 use lib.Dec.{leb}
-use lib.ListN.{length, getD, drop}
-use lib.Seq.{getD-take, getD-drop}
+use lib.ListN.{length, getD}
 use borrow.Author.Tests.{leb-true, le-leb, lt-leb}
 use Rattle.meaning.specs.Meanings.{IsStart, isStart, window, windowEdge, distance, lowestRotation, leastDistance}
 use Rattle.meaning.specs.Findings.{Finding, findingAt, foundAt}
 use Rattle.lists.proofs.Cases.{by-test, and-true}
+use Rattle.lists.proofs.Records.{part-at}
 use Rattle.meaning.proofs.Lowest.{IsLowest, lowest-is}
 use Rattle.meaning.proofs.Starts.{start-iff}
 
 -- The window, as a list, has the window's edges.
 pub window-edge-is : (m : ℕ) (line : List ℕ) (i q : ℕ) → q < m → getD (window m line i) q 0 ≡ windowEdge line i q
 unfolding window
-window-edge-is m line i q l = getD-take m (drop i line) q 0 l ∙ getD-drop i line q 0
+window-edge-is m line i q = part-at m line i q
 
 -- The lowest rotation is the lowest at which the distance is least.
 pub lowestRotation-is : (ring line : List ℕ) → 0 < length ring → (i : ℕ)

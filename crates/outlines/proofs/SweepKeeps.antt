@@ -129,7 +129,7 @@ module _ {ring doubled table line : List ℕ} {k : ℕ} {book counts₀ area : L
                 record {
                   from-le = omega (arith, small .0);
                   to-le = omega (arith, small .0, c .swept .start-is);
-                  are-words = admitted-words {ring = ring} {line = line} (can .admitted) (omega (arith, small .0, c .in-line)) (small .1) (small .2);
+                  are-words = admitted-words ring line (can .admitted) (omega (arith, small .0, c .in-line)) (small .1) (small .2);
                 };
           }
 
