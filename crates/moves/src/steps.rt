@@ -15,7 +15,7 @@ ghost use Rattle.moves.specs.Moves.{changedCount, changedAt, earlier, Is
 // A count has sixteen bits.
 const SIXTEEN_BITS: u32 = 1 << 16;
 // The largest count. The least starts with it, since no count is above it.
-const LAST_COUNT: u16 = 65535;
+const LAST_COUNT: u16 = (SIXTEEN_BITS - 1) as u16;
 
 // count − lost + won, mod 2^16: `lost` is 1 where the leaving edge differs, `won` where the entering edge does. The sum is taken
 // in 32 bits, where it does not overflow. Counts that are a tally never wrap, others may.
