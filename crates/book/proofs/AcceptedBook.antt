@@ -1,6 +1,5 @@
 -- What is known of a book from what `read` answers. Where it is accepted with so many records, its silences are so many, they are what its fields give,
 -- and they are no more than it has bytes, at most 13,000: so three times their number fits.
--- Assumes nothing.
 use Prim.Native.Nat.{ℕ, _≤_}
 use mathlib.Core.Path.{_≡_, refl, sym, ap, _∙_}
 use mathlib.Core.List.{List}
@@ -11,7 +10,8 @@ use Rattle.answers.specs.Paper.{Answer, accepted, refused}
 use Rattle.answers.proofs.OneAnswer.{answer-unique}
 use Rattle.book.specs.declared.answering.BookAnswer.{BookAnswer}
 use Rattle.silences.specs.Silences.{Silence}
-use Rattle.silences.specs.Reading.{mostBytes, readBook}
+use Rattle.silences.specs.Layout.{mostBytes}
+use Rattle.silences.specs.Reading.{readBook}
 use Rattle.book.specs.Calls.{answerOf, recordsOf, IsRead}
 use Rattle.answers.proofs.AnswerCases.{accepted-not-refused}
 use Rattle.silences.proofs.FieldsRead.{read-length-le}

@@ -1,6 +1,5 @@
 -- Any two answers of a call that meet its contract are equal, and so are the lent areas at exit: a law for each of the calls. The paper determines
 -- the answer (`answer-unique` of the answers) and the answer its case; a field determines what was sought (`sought-unique` of the silences).
--- Assumes nothing.
 use Prim.Native.Nat.{ℕ}
 use mathlib.Core.Path.{_≡_, refl, sym, ap, _∙_}
 use mathlib.Core.Bool.{Bool}

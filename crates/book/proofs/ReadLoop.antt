@@ -1,6 +1,5 @@
 -- Reading field by field. Before the field at `at` the fields before it have been read (`FieldsRead`), and so many are counted; where reading stops, there or at the
 -- book's end, the walk so far is the whole one (`reads-as-is`). Each whole field gets on (`field-ends`), so there are no more records than bytes.
--- Assumes nothing.
 use Prim.Native.Nat.{ℕ, _+_, _≤_, _<_}
 use mathlib.Core.Path.{_≡_, refl, sym, ap, subst, _∙_}
 use mathlib.Core.Bool.{Bool, true, false}
@@ -13,7 +12,7 @@ use Rattle.answers.specs.Paper.{Answer, accepted, refused}
 use Rattle.silences.specs.Silences.{Silence, isAbove}
 use Rattle.silences.specs.Reading.{whole, faulty, fieldAt, readFrom}
 use Rattle.book.specs.Calls.{recordsOf}
-use Rattle.silences.proofs.FieldEnds.{field-ends}
+use Rattle.silences.proofs.FieldTest.{field-ends}
 use Rattle.silences.proofs.AscendingAfter.{lastAfter, lastAfter-end}
 use Rattle.silences.proofs.FieldsRead.{FieldsRead, none-read, ReadsAs, read-all, stopped-faulty, stopped-order, read-more, reads-as-is}
 

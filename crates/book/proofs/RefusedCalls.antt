@@ -1,7 +1,6 @@
 -- A call that is refused "writes nothing to any lent area", for any answer that meets its contract: the answer's number and place say which refusal the
 -- definition gives (`row-iff`), and there the area at exit is the area lent. Said once for both calls with an area, and of unpacking here; of packing in the
 -- crate packing. (That a refusal counts nothing needs no law: a refused answer has no count.)
--- Assumes nothing.
 use Prim.Native.Nat.{ℕ}
 use mathlib.Core.Path.{_≡_, refl, _∙_}
 use mathlib.Core.List.{List}

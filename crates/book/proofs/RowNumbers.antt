@@ -1,7 +1,6 @@
 -- From the numbers and places of a call's answer to what its definition gives, for the calls on a book: the answer has a refusal's number and place exactly when
 -- the definition gives that refusal (`RefusalNumbers` of the answers), and so many records exactly when it is accepted with so many silences. The rows of each call are stated
 -- through these.
--- Assumes nothing.
 use Prim.Native.Nat.{ℕ}
 use mathlib.Core.Logic.{_↔_, Iff·trans}
 use mathlib.Core.Path.{_≡_, refl, sym, ap, _∙_}

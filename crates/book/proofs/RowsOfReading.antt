@@ -1,6 +1,5 @@
 -- The rows of `read`, for any answer that meets its contract: rows 5, 6 and 7 of document 01's table as an iff each, number and place written out, and
 -- that it gives so many records exactly for the book of so many silences. From BookRows, through the numbers of RowNumbers.
--- Assumes nothing.
 use Prim.Native.Nat.{ℕ, _≤_, _<_}
 use mathlib.Core.Logic.{_↔_, Iff·trans}
 use mathlib.Core.Path.{_≡_}
@@ -11,6 +10,7 @@ use Rattle.answers.specs.declared.refusals.Refusal.the-variants.{BookLength, Fi
 use Rattle.book.specs.declared.answering.BookAnswer.{BookAnswer}
 use Rattle.book.specs.declared.answering.BookAnswer.the-variants.{Records}
 use Rattle.silences.specs.Silences.{Silence}
+use Rattle.silences.specs.Layout.{mostBytes}
 use Rattle.silences.specs.Reading.{readBook}
 use Rattle.lists.specs.Bounds.{IsBytes}
 use Rattle.silences.specs.Books.{IsBook}
@@ -22,7 +22,7 @@ use Rattle.silences.proofs.BookRows.{book-row-5-iff, book-row-6-iff, book-row-7
 
 module _ (book : List ℕ) (r : BookAnswer) (meets : IsRead book r) where
   -- Row 5: "book longer than 13,000 bytes".
-  pub read-row-5 : (paperOf r .number ≡ 5) ↔ (13000 < length book)
+  pub read-row-5 : (paperOf r .number ≡ 5) ↔ (mostBytes < length book)
   read-row-5 = Iff·trans (row-number-iff (readBook book) r (meets .paper) BookLength (omega arith)) (book-row-5-iff book)
 
   -- Its place: 0.
@@ -31,11 +31,11 @@ module _ (book : List ℕ) (r : BookAnswer) (meets : IsRead book r) where
 
   module _ (bytes : IsBytes book) where
     -- Row 6: "a field isn't 13 bytes beginning 21 00 0A hex, or is cut off", its byte offset.
-    pub read-row-6 : (at : ℕ) → ((paperOf r .number ≡ 6) × (paperOf r .place ≡ at)) ↔ ((length book ≤ 13000) × IsFieldFault book at)
+    pub read-row-6 : (at : ℕ) → ((paperOf r .number ≡ 6) × (paperOf r .place ≡ at)) ↔ ((length book ≤ mostBytes) × IsFieldFault book at)
     read-row-6 at = Iff·trans (row-iff (readBook book) r (meets .paper) (Field at)) (book-row-6-iff book bytes at)
 
     -- Row 7: "a record isn't above the one before it", its byte offset.
-    pub read-row-7 : (at : ℕ) → ((paperOf r .number ≡ 7) × (paperOf r .place ≡ at)) ↔ ((length book ≤ 13000) × IsOrderFault book at)
+    pub read-row-7 : (at : ℕ) → ((paperOf r .number ≡ 7) × (paperOf r .place ≡ at)) ↔ ((length book ≤ mostBytes) × IsOrderFault book at)
     read-row-7 at = Iff·trans (row-iff (readBook book) r (meets .paper) (NotAbove at)) (book-row-7-iff book bytes at)
 
     -- So many records are given exactly for the book of so many silences.

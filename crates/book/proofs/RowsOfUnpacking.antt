@@ -1,7 +1,6 @@
 -- The rows of `unpack`, for any answer that meets its contract: rows 5, 6, 7 and 10 of document 01's table as an iff each, number and place written out,
 -- and that it gives so many records exactly for the book of so many silences with room for their words. From BookRows and UnpackRows, through the numbers
 -- of RowNumbers.
--- Assumes nothing.
 use Prim.Native.Nat.{ℕ, _*_, _≤_, _<_}
 use mathlib.Core.Logic.{_↔_, Iff·trans}
 use mathlib.Core.Path.{_≡_}
@@ -13,7 +12,8 @@ use Rattle.answers.specs.Paper.{Answer, accepted}
 use Rattle.book.specs.declared.answering.BookAnswer.{BookAnswer}
 use Rattle.book.specs.declared.answering.BookAnswer.the-variants.{Records}
 use Rattle.silences.specs.Silences.{Silence}
-use Rattle.silences.specs.Packing.{unpacked}
+use Rattle.silences.specs.Layout.{mostBytes}
+use Rattle.silences.specs.Packing.{recordWords, unpacked}
 use Rattle.lists.specs.Bounds.{IsBytes}
 use Rattle.silences.specs.Books.{IsBook}
 use Rattle.silences.specs.Rows.{IsFieldFault, IsOrderFault}
@@ -30,7 +30,7 @@ module _ (book area : List ℕ) (r : BookAnswer) (out : List ℕ) (meets : IsUnp
   given = unpacked book (length area)
 
   -- Row 5: "book longer than 13,000 bytes".
-  pub unpack-row-5 : (paperOf r .number ≡ 5) ↔ (13000 < length book)
+  pub unpack-row-5 : (paperOf r .number ≡ 5) ↔ (mostBytes < length book)
   unpack-row-5 =
       Iff·trans (row-number-iff given r (meets .paper) BookLength (omega arith))
       (Iff·trans (unpacked-row-iff book (length area) BookLength (λ q. omega arith)) (book-row-5-iff book))
@@ -45,19 +45,19 @@ module _ (book area : List ℕ) (r : BookAnswer) (out : List ℕ) (meets : IsUnp
 
   module _ (bytes : IsBytes book) where
     -- Row 6: "a field isn't 13 bytes beginning 21 00 0A hex, or is cut off", its byte offset.
-    pub unpack-row-6 : (at : ℕ) → ((paperOf r .number ≡ 6) × (paperOf r .place ≡ at)) ↔ ((length book ≤ 13000) × IsFieldFault book at)
+    pub unpack-row-6 : (at : ℕ) → ((paperOf r .number ≡ 6) × (paperOf r .place ≡ at)) ↔ ((length book ≤ mostBytes) × IsFieldFault book at)
     unpack-row-6 at =
         Iff·trans (row-iff given r (meets .paper) (Field at))
         (Iff·trans (unpacked-row-iff book (length area) (Field at) (λ q. omega arith)) (book-row-6-iff book bytes at))
 
     -- Row 7: "a record isn't above the one before it", its byte offset.
-    pub unpack-row-7 : (at : ℕ) → ((paperOf r .number ≡ 7) × (paperOf r .place ≡ at)) ↔ ((length book ≤ 13000) × IsOrderFault book at)
+    pub unpack-row-7 : (at : ℕ) → ((paperOf r .number ≡ 7) × (paperOf r .place ≡ at)) ↔ ((length book ≤ mostBytes) × IsOrderFault book at)
     unpack-row-7 at =
         Iff·trans (row-iff given r (meets .paper) (NotAbove at))
         (Iff·trans (unpacked-row-iff book (length area) (NotAbove at) (λ q. omega arith)) (book-row-7-iff book bytes at))
 
     -- Row 10: "unpacking lacks room for its whole output", three words for each silence of the book.
-    pub unpack-row-10 : (paperOf r .number ≡ 10) ↔ ((ss : List Silence) × IsBook ss book × (length area < 3 * length ss))
+    pub unpack-row-10 : (paperOf r .number ≡ 10) ↔ ((ss : List Silence) × IsBook ss book × (length area < recordWords * length ss))
     unpack-row-10 =
         Iff·trans (row-number-iff given r (meets .paper) OutputRoom (omega arith))
         (Iff·trans (unpacked-10-iff book (length area)) (
@@ -66,7 +66,7 @@ module _ (book area : List ℕ) (r : BookAnswer) (out : List ℕ) (meets : IsUnp
         ))
 
     -- unpacking is accepted for a book, with room
-    accepted-book-iff : (ss : List Silence) → (given ≡ accepted ss) ↔ (IsBook ss book × (3 * length ss ≤ length area))
+    accepted-book-iff : (ss : List Silence) → (given ≡ accepted ss) ↔ (IsBook ss book × (recordWords * length ss ≤ length area))
     accepted-book-iff ss =
         Iff·trans (unpacked-accepted-iff book (length area) ss) (
           λ h. (accepted-iff book ss bytes .0 (h .0), omega (arith, words-length ss, h .1)),
@@ -74,9 +74,9 @@ module _ (book area : List ℕ) (r : BookAnswer) (out : List ℕ) (meets : IsUnp
         )
 
     -- So many records are given exactly for the book of so many silences, with room for three words each.
-    pub unpack-records : (n : ℕ) → (r ≡ Records n) ↔ ((ss : List Silence) × IsBook ss book × (length ss ≡ n) × (3 * n ≤ length area))
+    pub unpack-records : (n : ℕ) → (r ≡ Records n) ↔ ((ss : List Silence) × IsBook ss book × (length ss ≡ n) × (recordWords * n ≤ length area))
     unpack-records n =
         Iff·trans (records-iff given r (meets .paper) n) (
-          λ h. let a : IsBook (h .0) book × (3 * length (h .0) ≤ length area) = accepted-book-iff (h .0) .0 (h .1) in (h .0, a .0, h .2, omega (arith, a .1, h .2)),
+          λ h. let a : IsBook (h .0) book × (recordWords * length (h .0) ≤ length area) = accepted-book-iff (h .0) .0 (h .1) in (h .0, a .0, h .2, omega (arith, a .1, h .2)),
           λ h. (h .0, accepted-book-iff (h .0) .1 (h .1, omega (arith, h .2, h .3)), h .2),
         )

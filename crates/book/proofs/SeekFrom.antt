@@ -1,6 +1,5 @@
 -- The equation of `seekFrom`: one field, and then from just past it. While a whole field stands the count of bytes left never runs out (`count-step`), so nothing
 -- after this file looks at it. Then the same by what the field is: faulty, below the address, or the one sought.
--- Assumes nothing.
 use Prim.Native.Nat.{ℕ, zero, suc, _≤_, _<_}
 use mathlib.Core.Path.{_≡_, refl, ap, _∙_}
 use mathlib.Core.Bool.{Bool, true, false, cond}
@@ -10,7 +9,7 @@ use lib.ListN.{length}
 use Rattle.silences.specs.Silences.{Silence, isBelow}
 use Rattle.silences.specs.Reading.{FieldAt, whole, faulty, fieldAt}
 use Rattle.book.specs.Seeking.{seekField, seekFields, seekFrom}
-use Rattle.silences.proofs.FieldEnds.{field-ends}
+use Rattle.silences.proofs.FieldTest.{field-ends}
 use Rattle.silences.proofs.FieldInduction.{GoesOnPast, count-step}
 
 -- one step of seeking

@@ -1,6 +1,5 @@
 -- Seeking field by field. Before the field at `at` what is sought from `from` on is what is sought from `at` on: each field passed is below the
 -- address.
--- Assumes nothing.
 use Prim.Native.Nat.{ℕ}
 use mathlib.Core.Path.{_≡_, refl, sym, _∙_}
 use mathlib.Core.Bool.{true, false}

@@ -1,6 +1,5 @@
 -- Seeking an address in an accepted book answers exactly whether the book names it, from any field boundary before which every silence is below the
 -- address. Field by field: one that is below the address is not it; the first that is not below decides, for all after it are above.
--- Assumes nothing.
 use Prim.Native.Nat.{ℕ, _+_, _≤_}
 use mathlib.Core.Logic.{_↔_}
 use mathlib.Core.Path.{_≡_, refl, sym, ap, subst, _∙_}
@@ -10,6 +9,7 @@ use mathlib.Core.Option.{Option, none, some}
 use native.Mathlib.Nat.{zero-add}
 use native.Mathlib.Omega.{arith}
 use lib.ListN.{length, length-append}
+use Rattle.lists.specs.Records.{wordsOfEach}
 use Rattle.answers.specs.Paper.{accepted}
 use Rattle.silences.specs.Silences.{Silence, silence, isBelow, Below, isSame, names, Names}
 use Rattle.silences.specs.Layout.{fieldOf, layout}
@@ -19,7 +19,7 @@ use Rattle.silences.proofs.SilenceOrder.{isBelow-iff}
 use Rattle.silences.proofs.StrictOrder.{below-trans, above-of-not, below-not-same}
 use Rattle.silences.proofs.NamesIff.{names-iff}
 use Rattle.book.proofs.SeekFrom.{seekFrom-step, seekFrom-faulty}
-use Rattle.silences.proofs.FieldTest.{field-cut-off}
+use Rattle.silences.proofs.FieldTest.{field-is-faulty}
 use Rattle.silences.proofs.FieldBytes.{field-next-is}
 use Rattle.silences.proofs.AscendingAfter.{AscendingAfter, lastAfter}
 use Rattle.silences.proofs.FieldsRead.{FieldsRead, none-read, one-read}
@@ -37,7 +37,7 @@ AllPassed address (s ∷ ss) = Below s address × AllPassed address ss
 
 -- past the book's end no field stands
 field-past : (book : List ℕ) (at : ℕ) → length book ≤ at → fieldAt book at ≡ faulty
-field-past book at h = field-cut-off book at (omega arith)
+field-past book at h = field-is-faulty book at (λ t. omega (arith, t .within))
 
 module _ (address : Silence) where
   -- silences that are below an address do not name it
@@ -84,7 +84,7 @@ module _ (address : Silence) where
 -- the fields after some that were read, from where those end
 read-after : {book : List ℕ} {stop : ℕ} (ss ts : List Silence) (last : Option Silence) (at : ℕ) → FieldsRead book last at (ss ++ ts) stop
     → FieldsRead book (lastAfter last ss) (at + length (layout ss)) ts stop
-unfolding layout
+unfolding wordsOfEach
 read-after {book} {stop} [] ts last at f = let stays : at ≡ at + 0 = omega arith in subst (λ (n : ℕ). FieldsRead book last n ts stop) stays f
 read-after {book} {stop} (s ∷ ss) ts last at (one-read {next = next} e above more) =
     let from : next + length (layout ss) ≡ at + length (fieldOf s ++ layout ss) =

@@ -1,7 +1,6 @@
 -- Asking with rising addresses: what is held from the last address asked answers the next one, if it is not below the last, as seeking anew from the
 -- first byte would, on any bytes (`seek-again`). A field that was passed for the last address is below the next one too. So a caller holds one field
 -- (`Seeking`), seeks on from just past it where it is below the next address, and reads no field twice.
--- Assumes nothing.
 use Prim.Native.Nat.{ℕ}
 use mathlib.Core.Path.{_≡_, refl, sym, ap, _∙_}
 use mathlib.Core.Bool.{Bool, true, false}

@@ -1,5 +1,4 @@
 -- What is held, asked for an address, by its cases as code goes by them: a field that is below the address is passed, any other kept.
--- Assumes nothing.
 use Prim.Native.Nat.{ℕ}
 use mathlib.Core.Path.{_≡_}
 use mathlib.Core.Bool.{true, false}

@@ -1,6 +1,5 @@
 -- Asking `seek` and then `seek_on` with rising addresses, as a report does: laws of any answers that meet their contracts, over SeekRising. In an accepted book
 -- what is held then answers whether the book names the address.
--- Assumes nothing.
 use Prim.Native.Nat.{ℕ, _≤_}
 use mathlib.Core.Path.{_≡_, sym, subst}
 use mathlib.Core.List.{List}

@@ -1,6 +1,5 @@
 -- What unpacking answers and writes by its cases, as code goes by them: what reading refuses, no room for the words, or all of them. A refusal leaves
 -- the area as it was.
--- Assumes nothing.
 use Prim.Native.Nat.{ℕ, _*_, _≤_, _<_}
 use mathlib.Core.Path.{_≡_, sym, ap, _∙_}
 use mathlib.Core.List.{List}

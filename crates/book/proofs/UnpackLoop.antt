@@ -1,6 +1,5 @@
 -- Writing the records of an accepted book. Before the field at `at` the words of the records that are done stand in the area, and the others are read
 -- from there on (`FieldsRead`). While one is left the next field is whole, and there is room for its words; with none left all words stand.
--- Assumes nothing.
 use Prim.Native.Nat.{ℕ, _+_, _*_, _≤_, _<_}
 use mathlib.Core.Path.{_≡_, refl, sym, ap, ap₂, _∙_}
 use mathlib.Core.List.{List, [], _∷_, _++_, append-nil, append-assoc}
@@ -9,14 +8,16 @@ use native.Mathlib.Omega.{arith}
 use lib.ListN.{length, length-append}
 use lib.Seq.{sets}
 use Rattle.lists.specs.Areas.{written}
+use Rattle.lists.specs.Records.{wordsOfEach}
 use Rattle.lists.proofs.Areas.{written-length, written-more}
+use Rattle.lists.proofs.Records.{each-more}
 use Rattle.answers.specs.Paper.{Answer, accepted}
 use Rattle.silences.specs.Silences.{Silence}
 use Rattle.silences.specs.Reading.{whole, faulty, fieldAt, readBook}
 use Rattle.silences.specs.Packing.{silenceWords, wordsOfSilences, recordWords, areaAtExit}
 use Rattle.book.specs.Calls.{recordsOf}
-use Rattle.silences.proofs.WordsOfSilences.{words-length, words-more}
-use Rattle.silences.proofs.FieldEnds.{faulty-not-whole, whole-silence-unique, whole-next-unique}
+use Rattle.silences.proofs.WordsOfSilences.{words-length}
+use Rattle.silences.proofs.FieldTest.{faulty-not-whole, whole-silence-unique, whole-next-unique}
 use Rattle.silences.proofs.FieldsRead.{FieldsRead, none-read, one-read}
 use Rattle.silences.proofs.AcceptedIsLayout.{IsReadWhole, accepted-whole-iff}
 use Rattle.book.proofs.AcceptedBook.{HasRecords, has-records}
@@ -58,7 +59,7 @@ pub record PutOn (book area : List ℕ) (records : ℕ) (words : List ℕ) (at d
 module _ {book area : List ℕ} {records : ℕ} where
   -- Before the first field.
   pub put-start : recordsOf (readBook book) ≡ accepted records → recordWords * records ≤ length area → PutOn book area records area 0 0
-  unfolding written wordsOfSilences
+  unfolding written wordsOfEach
   put-start e room =
       let all : HasRecords (readBook book) records = has-records (readBook book) records e in
       let read : IsReadWhole (all .silences) book = accepted-whole-iff book (all .silences) .0 (all .is) in
@@ -126,5 +127,5 @@ module _ {book area : List ℕ} {records : ℕ} where
             words-is =
                 ap₂ (λ (l : List ℕ) (i : ℕ). sets l i (silenceWords s)) (inv .words-is) to-is
                 ∙ written-more (wordsOfSilences (inv .put)) (silenceWords s) area (omega (arith, put-room-le, put-length-is))
-                ∙ ap (λ (l : List ℕ). written l area) (sym (words-more (inv .put) s));
+                ∙ ap (λ (l : List ℕ). written l area) (sym (each-more silenceWords (inv .put) s));
           }

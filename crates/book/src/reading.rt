@@ -1,7 +1,9 @@
 // Reading a book: how many records it has, or what is wrong with it.
 use crate::answering::BookAnswer;
 use answers::Refusal;
+use silences::FIELD_LENGTH;
 use silences::Last;
+use silences::MOST_SILENCES;
 use silences::Sought;
 use silences::field_at;
 use silences::is_above;
@@ -11,7 +13,7 @@ ghost use Rattle.silences.specs.Reading.{readFrom};
 ghost use Rattle.book.specs.Calls.{answerOf, recordsOf, IsRead};
 
 // "book longer than 13,000 bytes": the most bytes that a book has.
-const MOST_BOOK_LENGTH: usize = 13000;
+const MOST_BOOK_LENGTH: usize = FIELD_LENGTH * MOST_SILENCES;
 
 // The fields of a book one after the other. "Within a book the first faulty field decides, 6 before 7."
 fn read_fields(book: &[u8]) -> BookAnswer

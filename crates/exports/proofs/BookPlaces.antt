@@ -19,7 +19,7 @@ use Rattle.silences.specs.Reading.{readBook}
 use Rattle.silences.specs.Packing.{wordsOfSilences, silencesOf, packed, unpacked, inRoom}
 use Rattle.book.specs.Calls.{recordsPaper}
 use Rattle.silences.proofs.ReadFrom.{readBook-long, readBook-fields}
-use Rattle.silences.proofs.FieldEnds.{field-ends}
+use Rattle.silences.proofs.FieldTest.{field-ends}
 use Rattle.silences.proofs.FieldsRead.{ReadsAs, read-all, stopped-faulty, stopped-order, reads-as}
 use Rattle.silences.proofs.WordsOfSilences.{silences-length}
 use Rattle.silences.proofs.RecordsPacked.{RecordStands, PacksAs, packed-all, stopped-ring, stopped-order as stopped-above, packs-as}

@@ -1,6 +1,5 @@
 -- Numbers and their bytes, once over the count of bytes: a number that fits them is read back from its bytes (`number-of-bytes`), and bytes are written
 -- back as they stood (`bytes-of-number`). Byte by byte: the last one is the number mod 256, and what is left of it is the number before.
--- Assumes nothing.
 use Prim.Native.Nat.{ℕ, zero, suc, _+_, _*_, _/_, _%_, _^_, _≤_, _<_}
 use mathlib.Core.Path.{_≡_, refl, sym, ap, ap₂, _∙_}
 use mathlib.Core.List.{List, [], _∷_, _++_, append-assoc}

@@ -2,7 +2,7 @@
 -- laying out and reading back undo each other. Whatever a record is and however many numbers it has; findings, silences and fields cite these.
 use Prim.Native.Nat.{ℕ, zero, suc, _+_, _-_, _*_, _/_, _%_, _≤_, _<_}
 use mathlib.Core.Path.{_≡_, refl, sym, ap, ap₂, _∙_}
-use mathlib.Core.List.{List, [], _∷_, _++_, append-assoc}
+use mathlib.Core.List.{List, [], _∷_, _++_, append-nil, append-assoc}
 use native.Mathlib.Nat.{mul-zero, mul-suc, div-eq-of-lt, div-eq-sub-div, mod-add-div}
 use native.Mathlib.Numerals.{add-one}
 use native.Mathlib.Omega.{arith}
@@ -26,6 +26,11 @@ module _ {A : Type 0} (numbers : A → List ℕ) where
   each-append [] b = refl
   each-append (x ∷ a) b =
       ap (λ (l : List ℕ). numbers x ++ l) (each-append a b) ∙ sym (append-assoc (numbers x) (wordsOfEach numbers a) (wordsOfEach numbers b))
+
+  -- One record more stands behind the others.
+  pub each-more : (xs : List A) (x : A) → wordsOfEach numbers (xs ++ x ∷ []) ≡ wordsOfEach numbers xs ++ numbers x
+  unfolding wordsOfEach
+  each-more xs x = each-append xs (x ∷ []) ∙ ap (λ (l : List ℕ). wordsOfEach numbers xs ++ l) (append-nil (numbers x))
 
 -- The `width` numbers from place `at` on, number by number.
 pub part-at : (width : ℕ) (numbers : List ℕ) (at j : ℕ) → j < width → getD (take width (drop at numbers)) j 0 ≡ getD numbers (at + j) 0

@@ -8,8 +8,9 @@ use lib.ListN.{length, length-append}
 use Rattle.lists.specs.Areas.{writtenAt}
 use Rattle.lists.proofs.Areas.{writtenAt-append}
 use Rattle.fields.specs.Numbers.{bytesOf}
-use Rattle.silences.specs.Silences.{Silence}
-use Rattle.silences.specs.Layout.{silenceTag, valueOf, fieldOf}
+use Rattle.fields.specs.Tagged.{tagBytes, lengthBytes}
+use Rattle.silences.specs.Silences.{Silence, cellBytes, ringNumberBytes, startBytes}
+use Rattle.silences.specs.Layout.{silenceTag, valueLength, valueOf, fieldOf}
 use Rattle.packing.specs.Putting.{IsPut}
 use Rattle.fields.proofs.NumberBytes.{bytesOf-length}
 use Rattle.silences.proofs.FieldBytes.{fieldOf-is}
@@ -31,26 +32,26 @@ number-next {at} count number is-put = is-put .next-is ∙ ap (λ (n : ℕ). at 
 
 module _ (s : Silence) where
   -- a field is its numbers, each in its bytes
-  field-numbers : bytesOf 1 silenceTag ++ bytesOf 2 10 ++ bytesOf 4 (s .cell) ++ bytesOf 2 (s .ringNumber) ++ bytesOf 4 (s .start) ≡ fieldOf s
+  field-numbers : bytesOf tagBytes silenceTag ++ bytesOf lengthBytes valueLength ++ bytesOf cellBytes (s .cell) ++ bytesOf ringNumberBytes (s .ringNumber) ++ bytesOf startBytes (s .start) ≡ fieldOf s
   unfolding bytesOf valueOf
   field-numbers =
-      let head : List ℕ = bytesOf 1 silenceTag ++ bytesOf 2 10 in
-      let address : List ℕ = bytesOf 4 (s .cell) ++ bytesOf 2 (s .ringNumber) in
-      ap (λ (l : List ℕ). l ++ bytesOf 4 (s .start)) (append-assoc head (bytesOf 4 (s .cell)) (bytesOf 2 (s .ringNumber)))
-      ∙ append-assoc head address (bytesOf 4 (s .start))
+      let head : List ℕ = bytesOf tagBytes silenceTag ++ bytesOf lengthBytes valueLength in
+      let address : List ℕ = bytesOf cellBytes (s .cell) ++ bytesOf ringNumberBytes (s .ringNumber) in
+      ap (λ (l : List ℕ). l ++ bytesOf startBytes (s .start)) (append-assoc head (bytesOf cellBytes (s .cell)) (bytesOf ringNumberBytes (s .ringNumber)))
+      ∙ append-assoc head address (bytesOf startBytes (s .start))
       ∙ sym (fieldOf-is s)
 
   -- Its numbers put one after the other, it is put.
   pub field-put : {at length-at value-at ring-at start-at next : ℕ} {area a b c d out : List ℕ} → at + length (fieldOf s) ≤ length area
-      → IsPut at (bytesOf 1 silenceTag) area length-at a → IsPut length-at (bytesOf 2 10) a value-at b → IsPut value-at (bytesOf 4 (s .cell)) b ring-at c
-      → IsPut ring-at (bytesOf 2 (s .ringNumber)) c start-at d → IsPut start-at (bytesOf 4 (s .start)) d next out → IsPut at (fieldOf s) area next out
+      → IsPut at (bytesOf tagBytes silenceTag) area length-at a → IsPut length-at (bytesOf lengthBytes valueLength) a value-at b → IsPut value-at (bytesOf cellBytes (s .cell)) b ring-at c
+      → IsPut ring-at (bytesOf ringNumberBytes (s .ringNumber)) c start-at d → IsPut start-at (bytesOf startBytes (s .start)) d next out → IsPut at (fieldOf s) area next out
   field-put {at} {area = area} {out = out} room tag long cell ring start =
-      let head : List ℕ = bytesOf 1 silenceTag ++ bytesOf 2 10 in
-      let to-cell : List ℕ = head ++ bytesOf 4 (s .cell) in
-      let to-ring : List ℕ = to-cell ++ bytesOf 2 (s .ringNumber) in
-      let all : at + length (to-ring ++ bytesOf 4 (s .start)) ≤ length area = omega (arith, room, ap length field-numbers) in
-      let ring-room : at + length to-ring ≤ length area = omega (arith, length-append to-ring (bytesOf 4 (s .start))) in
-      let cell-room : at + length to-cell ≤ length area = omega (arith, length-append to-cell (bytesOf 2 (s .ringNumber))) in
-      let head-room : at + length head ≤ length area = omega (arith, length-append head (bytesOf 4 (s .cell))) in
-      let tag-room : at + length (bytesOf 1 silenceTag) ≤ length area = omega (arith, length-append (bytesOf 1 silenceTag) (bytesOf 2 10)) in
+      let head : List ℕ = bytesOf tagBytes silenceTag ++ bytesOf lengthBytes valueLength in
+      let to-cell : List ℕ = head ++ bytesOf cellBytes (s .cell) in
+      let to-ring : List ℕ = to-cell ++ bytesOf ringNumberBytes (s .ringNumber) in
+      let all : at + length (to-ring ++ bytesOf startBytes (s .start)) ≤ length area = omega (arith, room, ap length field-numbers) in
+      let ring-room : at + length to-ring ≤ length area = omega (arith, length-append to-ring (bytesOf startBytes (s .start))) in
+      let cell-room : at + length to-cell ≤ length area = omega (arith, length-append to-cell (bytesOf ringNumberBytes (s .ringNumber))) in
+      let head-room : at + length head ≤ length area = omega (arith, length-append head (bytesOf cellBytes (s .cell))) in
+      let tag-room : at + length (bytesOf tagBytes silenceTag) ≤ length area = omega (arith, length-append (bytesOf tagBytes silenceTag) (bytesOf lengthBytes valueLength)) in
       rw field-numbers at (put-append ring-room (put-append cell-room (put-append head-room (put-append tag-room tag long) cell) ring) start)

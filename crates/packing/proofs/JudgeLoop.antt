@@ -1,6 +1,5 @@
 -- The loop that judges the records. Before each turn the records before `at` are passed: they ascend, no ring number is above 65,535, and their number and the bytes of
 -- their fields are counted. Where a record is refused, or none is left, the walk so far is the whole one (`packs-as-is`).
--- Assumes nothing.
 --
 --   words                        the words to pack
 --   last, records, bytes, at     the record before the next one, the records and bytes passed, the word to read next
@@ -12,6 +11,8 @@ use mathlib.Core.Option.{Option, none, some}
 use native.Mathlib.Omega.{arith}
 use lib.ListN.{length, drop, length-append}
 use lib.Seq.{append-snoc}
+use Rattle.lists.specs.Records.{wordsOfEach}
+use Rattle.lists.proofs.Records.{each-more}
 use Rattle.answers.specs.declared.refusals.Refusal.the-variants.{NotAbove, RingNumber}
 use Rattle.answers.specs.Paper.{accepted, refused}
 use Rattle.silences.specs.Silences.{Silence, isAbove}
@@ -22,7 +23,6 @@ use Rattle.packing.specs.Judging.{sized, sizesOf}
 use Rattle.silences.proofs.FieldBytes.{field-length}
 use Rattle.silences.proofs.WordsOfSilences.{silenceOfWords, silencesOf-step, silencesOf-end}
 use Rattle.silences.proofs.AscendingAfter.{AscendingAfter, lastAfter, lastAfter-end, ascends-more}
-use Rattle.silences.proofs.LayoutRead.{layout-append}
 use Rattle.silences.proofs.RecordsPacked.{RecordStands, packed-all, stopped-ring, stopped-order, ring-numbers-more, packs-as-is}
 
 -- What the loop keeps. The two bounds are for the sums to fit: a record has three words, and its field fewer than five bytes for each of them.
@@ -41,7 +41,7 @@ pub record JudgedTo (words : List ℕ) (last : Option Silence) (records bytes at
 module _ {words : List ℕ} where
   -- At the start no record is passed.
   pub judge-start : JudgedTo words none 0 0 0
-  unfolding layout
+  unfolding wordsOfEach
   judge-start =
       record {
         at-le = omega arith;
@@ -86,7 +86,7 @@ module _ {words : List ℕ} where
         -- A turn takes this record.
         pub judge-turn : {field : ℕ} → isAbove last (silenceOfWords words at) ≡ true → length (fieldOf (silenceOfWords words at)) ≡ field
             → JudgedTo words (some (silenceOfWords words at)) (records + 1) (bytes + field) (at + recordWords)
-        unfolding layout
+        unfolding wordsOfEach
         judge-turn {field} e long =
             let here : Silence = silenceOfWords words at in
             let others : List Silence = silencesOf (drop (at + recordWords) words) in
@@ -104,9 +104,8 @@ module _ {words : List ℕ} where
                   omega (
                     arith,
                     now .bytes-is,
-                    ap length (layout-append (now .passed) (here ∷ [])),
-                    length-append (layout (now .passed)) (fieldOf here ++ []),
-                    length-append (fieldOf here) [],
+                    ap length (each-more fieldOf (now .passed) here),
+                    length-append (layout (now .passed)) (fieldOf here),
                   );
             }
 

@@ -1,6 +1,5 @@
 -- Any two answers of `pack` that meet its contract are equal, and so are the lent areas at exit: the paper determines the answer (`paper-unique` of the
 -- book).
--- Assumes nothing.
 use Prim.Native.Nat.{ℕ}
 use mathlib.Core.Path.{_≡_, sym, _∙_}
 use mathlib.Core.List.{List}

@@ -1,6 +1,5 @@
 -- What packing gives by its cases, as code goes by them: row 8, the first refusal among the records, row 10, or all bytes written. Each is a row of PackRows; what
 -- the records were judged to be (`WordsJudged`) is known by its sizes.
--- Assumes nothing.
 use Prim.Native.Nat.{ℕ, _%_, _≤_, _<_}
 use mathlib.Core.Logic.{_⊎_}
 use mathlib.Core.Path.{_≡_, refl, sym, ap, _∙_}
@@ -14,7 +13,7 @@ use Rattle.lists.specs.Areas.{written}
 use Rattle.book.specs.declared.answering.BookAnswer.the-variants.{Records, Refused}
 use Rattle.silences.specs.Silences.{Silence}
 use Rattle.silences.specs.Layout.{layout}
-use Rattle.silences.specs.Packing.{silencesOf, inRoom, areaAtExit, packed}
+use Rattle.silences.specs.Packing.{silencesOf, recordWords, mostWords, inRoom, areaAtExit, packed}
 use Rattle.silences.specs.Rows.{HasWordCount, IsPackable}
 use Rattle.book.specs.Calls.{paperOf, recordsPaper}
 use Rattle.packing.specs.declared.judging.Judged.{Judged}
@@ -60,7 +59,7 @@ module _ (words area : List ℕ) where
   is-refused {r} e = record { paper = sym (ap recordsPaper e); written = sym (area-refused layout area (packed words (length area)) r e) }
 
   -- Row 8: not a multiple of 3, or too many.
-  pub pack-word-count : ((length words % 3 ≡ 0 → ⊥) ⊎ (3000 < length words)) → IsPacked words area (Refused WordCount) area
+  pub pack-word-count : ((length words % recordWords ≡ 0 → ⊥) ⊎ (mostWords < length words)) → IsPacked words area (Refused WordCount) area
   pack-word-count h = is-refused (packed-8-iff words (length area) .1 h)
 
   module _ {r : Judged} (judged : WordsJudged words r) where

@@ -1,5 +1,4 @@
 -- A packing that is refused "writes nothing to any lent area", for any answer that meets the contract: `refused-area` of the book, over the packer's output.
--- Assumes nothing.
 use Prim.Native.Nat.{ℕ}
 use mathlib.Core.Path.{_≡_, _∙_}
 use mathlib.Core.List.{List}

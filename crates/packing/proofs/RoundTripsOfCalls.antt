@@ -2,7 +2,6 @@
 -- its area; the words that `unpack` writes, given to `pack` with room, come back as the book at the front of its area. Both give the same number of
 -- records. What an accepted call gives and writes is said once for the two, over the output and how much of it one silence is (`gives-records`, `gave`); that
 -- the definitions undo each other is RoundTrips of the silences.
--- Assumes nothing.
 use Prim.Native.Nat.{ℕ, _*_, _≤_}
 use mathlib.Core.Path.{_≡_, refl, ap, _∙_}
 use mathlib.Core.List.{List}
@@ -12,8 +11,8 @@ use Rattle.answers.specs.Paper.{Answer, accepted}
 use Rattle.book.specs.declared.answering.BookAnswer.{BookAnswer}
 use Rattle.book.specs.declared.answering.BookAnswer.the-variants.{Records}
 use Rattle.silences.specs.Silences.{Silence}
-use Rattle.silences.specs.Layout.{layout}
-use Rattle.silences.specs.Packing.{wordsOfSilences, areaAtExit, packed, unpacked}
+use Rattle.silences.specs.Layout.{fieldLength, layout}
+use Rattle.silences.specs.Packing.{wordsOfSilences, recordWords, areaAtExit, packed, unpacked}
 use Rattle.lists.specs.Bounds.{IsBytes, IsWords}
 use Rattle.book.specs.Calls.{paperOf, recordsPaper, IsUnpacked}
 use Rattle.packing.specs.Calls.{IsPacked}
@@ -48,32 +47,32 @@ module _ (output : List Silence → List ℕ) (each : ℕ) (length-is : (ss : Li
 
 -- Packed and unpacked, there are as many records, and the words come back, word for word.
 pub pack-unpack : (words area : List ℕ) (n : ℕ) (out : List ℕ) → IsWords words → IsPacked words area (Records n) out
-    → (area′ : List ℕ) (r : BookAnswer) (out′ : List ℕ) → 3 * n ≤ length area′ → IsUnpacked (take (13 * n) out) area′ r out′
-    → (r ≡ Records n) × (take (3 * n) out′ ≡ words)
+    → (area′ : List ℕ) (r : BookAnswer) (out′ : List ℕ) → recordWords * n ≤ length area′ → IsUnpacked (take (fieldLength * n) out) area′ r out′
+    → (r ≡ Records n) × (take (recordWords * n) out′ ≡ words)
 pack-unpack words area n out are-words pack area′ r out′ room unpack =
-    let was : Gave layout 13 (packed words (length area)) n out = gave layout 13 layout-length (packed words (length area)) area n out (pack .written) (pack .paper) in
+    let was : Gave layout fieldLength (packed words (length area)) n out = gave layout fieldLength layout-length (packed words (length area)) area n out (pack .written) (pack .paper) in
     let words-are : wordsOfSilences (was .silences) ≡ words = packed-words-are words (length area) (was .silences) (was .is) in
     let enough : length words ≤ length area′ = omega (arith, ap length words-are, words-length (was .silences), was .records-is) in
-    let accepts : unpacked (take (13 * n) out) (length area′) ≡ accepted (was .silences) =
+    let accepts : unpacked (take (fieldLength * n) out) (length area′) ≡ accepted (was .silences) =
     ap (λ (b : List ℕ). unpacked b (length area′)) (was .front-is)
     ∙ packed-unpacked words (length area) (length area′) (was .silences) are-words (was .is) enough in
     let back =
-    gives-records wordsOfSilences 3 words-length (unpacked (take (13 * n) out) (length area′)) area′ n out′ (unpack .written) (was .silences) accepts
+    gives-records wordsOfSilences recordWords words-length (unpacked (take (fieldLength * n) out) (length area′)) area′ n out′ (unpack .written) (was .silences) accepts
     (was .records-is) r (unpack .paper) in
     (back .0, back .1 ∙ words-are)
 
 -- Unpacked and packed, there are as many records, and the book comes back, byte for byte.
 pub unpack-pack : (book area : List ℕ) (n : ℕ) (out : List ℕ) → IsBytes book → IsUnpacked book area (Records n) out
-    → (area′ : List ℕ) (r : BookAnswer) (out′ : List ℕ) → 13 * n ≤ length area′ → IsPacked (take (3 * n) out) area′ r out′
-    → (r ≡ Records n) × (take (13 * n) out′ ≡ book)
+    → (area′ : List ℕ) (r : BookAnswer) (out′ : List ℕ) → fieldLength * n ≤ length area′ → IsPacked (take (recordWords * n) out) area′ r out′
+    → (r ≡ Records n) × (take (fieldLength * n) out′ ≡ book)
 unpack-pack book area n out are-bytes unpack area′ r out′ room pack =
-    let was : Gave wordsOfSilences 3 (unpacked book (length area)) n out =
-    gave wordsOfSilences 3 words-length (unpacked book (length area)) area n out (unpack .written) (unpack .paper) in
+    let was : Gave wordsOfSilences recordWords (unpacked book (length area)) n out =
+    gave wordsOfSilences recordWords words-length (unpacked book (length area)) area n out (unpack .written) (unpack .paper) in
     let layout-is : layout (was .silences) ≡ book = unpacked-layout-is book are-bytes (length area) (was .silences) (was .is) in
     let enough : length book ≤ length area′ = omega (arith, ap length layout-is, layout-length (was .silences), was .records-is) in
-    let accepts : packed (take (3 * n) out) (length area′) ≡ accepted (was .silences) =
+    let accepts : packed (take (recordWords * n) out) (length area′) ≡ accepted (was .silences) =
     ap (λ (l : List ℕ). packed l (length area′)) (was .front-is)
     ∙ unpacked-packed book are-bytes (length area) (was .silences) (was .is) (length area′) enough in
     let back =
-    gives-records layout 13 layout-length (packed (take (3 * n) out) (length area′)) area′ n out′ (pack .written) (was .silences) accepts (was .records-is) r (pack .paper) in
+    gives-records layout fieldLength layout-length (packed (take (recordWords * n) out) (length area′)) area′ n out′ (pack .written) (was .silences) accepts (was .records-is) r (pack .paper) in
     (back .0, back .1 ∙ layout-is)

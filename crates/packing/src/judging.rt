@@ -1,11 +1,9 @@
 // What packing asks of the words before it writes a byte: rows 9 and 7, record by record, and the sizes of the output.
 use answers::Refusal;
-use fields::LENGTH_BYTES;
-use fields::TAG_BYTES;
 use silences::Address;
+use silences::FIELD_LENGTH;
 use silences::Last;
 use silences::RECORD_WORDS;
-use silences::SILENCE_LENGTH;
 use silences::is_above;
 ghost use mathlib.Core.Path.{_≡_};
 ghost use mathlib.Core.Option.{none};
@@ -16,8 +14,6 @@ ghost use Rattle.packing.specs.Judging.{judgedOf, sizesOf};
 
 // "a ring number to pack is above 65,535": the largest ring number.
 const MOST_RING_NUMBER: u32 = 65535;
-// "one-byte tag, two-byte length, value": the bytes of a silence's whole field.
-const FIELD_LENGTH: usize = TAG_BYTES + LENGTH_BYTES + SILENCE_LENGTH;
 
 // What judging the records found: how many records and bytes the output has, or the first refusal.
 pub enum Judged {

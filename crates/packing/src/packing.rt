@@ -4,11 +4,12 @@ use crate::judging::judge;
 use crate::putting::put_fields;
 use answers::Refusal;
 use book::BookAnswer;
+use silences::MOST_SILENCES;
 use silences::RECORD_WORDS;
 ghost use Rattle.packing.specs.Calls.{IsPacked};
 
 // "words to pack aren't a multiple of 3, or exceed 3,000": the most words that are packed.
-const MOST_WORDS: usize = 3000;
+const MOST_WORDS: usize = RECORD_WORDS * MOST_SILENCES;
 
 // Packs silences, three words each (cell, ring number, start), into a book, and answers the number of records.
 pub fn pack(words: &[u32], out: &mut [u8]) -> BookAnswer

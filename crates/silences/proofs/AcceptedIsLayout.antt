@@ -1,6 +1,5 @@
 -- A book is accepted exactly when it is the layout of a strictly ascending list of at most 1,000 silences in range. Reading stops at the end
 -- (`ReadsAs`), so the whole book is the layout of what was read; and a layout is read to its end. 13,000 bytes are 1,000 fields.
--- Assumes nothing.
 use Prim.Native.Nat.{ℕ, _≤_}
 use mathlib.Core.Logic.{⊎-elim, _↔_}
 use mathlib.Core.Path.{_≡_, refl, sym, ap, _∙_}
@@ -11,8 +10,8 @@ use lib.ListN.{length}
 use lib.Seq.{take-all}
 use Rattle.answers.specs.Paper.{accepted}
 use Rattle.silences.specs.Silences.{Silence}
-use Rattle.silences.specs.Layout.{layout}
-use Rattle.silences.specs.Reading.{mostBytes, readBook}
+use Rattle.silences.specs.Layout.{layout, mostBytes}
+use Rattle.silences.specs.Reading.{readBook}
 use Rattle.lists.specs.Bounds.{IsBytes}
 use Rattle.silences.specs.Books.{IsBook}
 use Rattle.silences.specs.Rows.{IsFineBefore}

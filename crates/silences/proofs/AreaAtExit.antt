@@ -1,6 +1,5 @@
 -- The lent area at exit, of packing and unpacking at once: where the call was accepted its front is the output, and "room beyond their output" is as it was; where
 -- it was refused nothing is written.
--- Assumes nothing.
 use Prim.Native.Nat.{ℕ, _+_}
 use mathlib.Core.Path.{_≡_, refl}
 use mathlib.Core.List.{List}

@@ -1,6 +1,5 @@
 -- Silences that ascend, and the first of them above a last one before them: what reading and packing keep while they go from record to record. With none
 -- before them it is `Ascending`. That the next one isn't above the last is `IsNotAbove`.
--- Assumes nothing.
 use mathlib.Core.Logic.{_↔_}
 use mathlib.Core.Path.{_≡_, refl, sym, ap, _∙_}
 use mathlib.Core.Bool.{true, false, false≢true}

@@ -1,6 +1,5 @@
 -- When reading a book gives row 5, 6 or 7, and where: row 5 exactly for a book longer than 13,000 bytes, else row 6 or 7 exactly at the first faulty
 -- field, as the table has it. Reading stops there (`ReadsAs`), and all fields before it are a layout's. It gives no other row.
--- Assumes nothing.
 use Prim.Native.Nat.{ℕ, _+_, _≤_, _<_}
 use mathlib.Core.Logic.{⊎-elim, _↔_, Iff·rfl, Iff·trans, Iff·and}
 use mathlib.Core.Path.{_≡_, refl, subst, _∙_}
@@ -13,19 +12,20 @@ use Rattle.answers.specs.declared.refusals.Refusal.the-variants.{BookLength, Fi
 use Rattle.answers.specs.Refusals.{numberOf}
 use Rattle.answers.specs.Paper.{refused}
 use Rattle.fields.specs.Tagged.{headLength}
+use Rattle.silences.specs.Layout.{mostBytes}
 use Rattle.silences.specs.Reading.{silenceAt, readBook}
 use Rattle.lists.specs.Bounds.{IsBytes}
 use Rattle.silences.specs.Rows.{IsNotAbove, IsFieldFault, IsOrderFault}
 use Rattle.answers.proofs.AnswerCases.{row-unique}
 use Rattle.silences.proofs.ReadFrom.{readBook-long, readBook-fields}
-use Rattle.silences.proofs.FieldTest.{field-whole-is, field-whole-iff, field-faulty-iff}
+use Rattle.silences.proofs.FieldTest.{field-whole-is, tested-iff, field-whole-iff, field-faulty-iff}
 use Rattle.silences.proofs.AscendingAfter.{not-above-iff}
 use Rattle.silences.proofs.FieldsRead.{ReadsAs, stopped-faulty, stopped-order, reads-as-is, book-reads}
 use Rattle.silences.proofs.LayoutRead.{read-fine, fine-read}
 
 module _ (book : List ℕ) where
   -- another row than 5 is given exactly when the book is no longer than 13,000 bytes and reading it gives that row
-  refused-reads-iff : (r : Refusal) → (numberOf r ≡ 5 → ⊥) → (readBook book ≡ refused r) ↔ ((length book ≤ 13000) × ReadsAs book none 0 (refused r))
+  refused-reads-iff : (r : Refusal) → (numberOf r ≡ 5 → ⊥) → (readBook book ≡ refused r) ↔ ((length book ≤ mostBytes) × ReadsAs book none 0 (refused r))
   refused-reads-iff r other = (
     λ e. ⊎-elim (λ long. absurd (other (row-unique refl (long .1)))) (λ reads. reads) (book-reads book (refused r) e),
     λ h. readBook-fields book (h .0) ∙ reads-as-is book (h .1),
@@ -37,7 +37,7 @@ module _ (book : List ℕ) where
   reads-row _ (stopped-order f n o) = (omega arith, omega arith)
 
   -- Row 5 is given exactly for a "book longer than 13,000 bytes".
-  pub book-row-5-iff : (readBook book ≡ refused BookLength) ↔ (13000 < length book)
+  pub book-row-5-iff : (readBook book ≡ refused BookLength) ↔ (mostBytes < length book)
   book-row-5-iff = (
     λ e. ⊎-elim (λ long. long .0) (λ reads. absurd (omega (arith, reads-row BookLength (reads .1)))) (book-reads book (refused BookLength) e),
     readBook-long book,
@@ -59,12 +59,12 @@ module _ (book : List ℕ) (bytes : IsBytes book) where
       record {
         fine = ss;
         fine-before = read-fine book bytes f;
-        field = field-whole-is book at s next n .0;
+        field = tested-iff book at .0 (field-whole-is book at s next n .0);
         not-above = subst (IsNotAbove ss) (field-whole-is book at s next n .1) (not-above-iff ss s .0 o);
       }
 
   -- Row 6 is given, at a byte offset, exactly when row 5 is not and the first faulty field stands there and is none: "6 before 7".
-  pub book-row-6-iff : (at : ℕ) → (readBook book ≡ refused (Field at)) ↔ ((length book ≤ 13000) × IsFieldFault book at)
+  pub book-row-6-iff : (at : ℕ) → (readBook book ≡ refused (Field at)) ↔ ((length book ≤ mostBytes) × IsFieldFault book at)
   book-row-6-iff at =
       Iff·trans (refused-reads-iff book (Field at) (λ q. omega arith))
       (Iff·and Iff·rfl (
@@ -73,7 +73,7 @@ module _ (book : List ℕ) (bytes : IsBytes book) where
       ))
 
   -- Row 7 is given, at a byte offset, exactly when row 5 is not and the first faulty field stands there, whole, and isn't above the one before it.
-  pub book-row-7-iff : (at : ℕ) → (readBook book ≡ refused (NotAbove at)) ↔ ((length book ≤ 13000) × IsOrderFault book at)
+  pub book-row-7-iff : (at : ℕ) → (readBook book ≡ refused (NotAbove at)) ↔ ((length book ≤ mostBytes) × IsOrderFault book at)
   book-row-7-iff at =
       Iff·trans (refused-reads-iff book (NotAbove at) (λ q. omega arith))
       (Iff·and Iff·rfl (

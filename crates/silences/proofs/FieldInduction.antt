@@ -1,7 +1,6 @@
 -- Along a book's fields: each whole field takes some of the bytes that are left, and past the last byte none stands (`field-ends`). So what holds at a byte
 -- offset whenever it holds just past the whole field there holds at every offset (`field-induction`); and a definition that goes from field to field and counts
 -- down the bytes left never runs out of them, so that it has an equation without the count (`count-step`).
--- Assumes nothing.
 use Prim.Native.Nat.{ℕ, zero, suc, _-_, _≤_, _<_}
 use mathlib.Core.Path.{_≡_, sym, _∙_}
 use mathlib.Core.List.{List}
@@ -9,7 +8,7 @@ use native.Mathlib.Omega.{arith}
 use lib.ListN.{length}
 use Rattle.silences.specs.Silences.{Silence}
 use Rattle.silences.specs.Reading.{FieldAt, whole, fieldAt}
-use Rattle.silences.proofs.FieldEnds.{field-ends}
+use Rattle.silences.proofs.FieldTest.{field-ends}
 
 module _ (book : List ℕ) (P : ℕ → Type 0) (turn : (at : ℕ) → ((s : Silence) (next : ℕ) → fieldAt book at ≡ whole s next → P next) → P at) where
   -- over at most so many bytes

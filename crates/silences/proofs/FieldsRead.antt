@@ -1,7 +1,6 @@
 -- Reading as a walk: from a byte offset whole fields are read, each above the one before it, as far as an offset where reading stops (`FieldsRead`). It
 -- stops at the book's end, at a faulty field, or at a record that isn't above the last (`ReadsAs`), and these three fix what `readFrom` gives. So a whole book
 -- gives row 5, or what the walk from its first byte gives (`book-reads`).
--- Assumes nothing.
 use Prim.Native.Nat.{ℕ, _+_, _≤_, _<_}
 use mathlib.Core.Logic.{_⊎_, inl, inr, ⊎-elim}
 use mathlib.Core.Path.{_≡_, refl, sym, ap, subst, _∙_}
@@ -15,8 +14,9 @@ use Rattle.answers.specs.declared.refusals.Refusal.{Refusal}
 use Rattle.answers.specs.declared.refusals.Refusal.the-variants.{BookLength, Field, NotAbove}
 use Rattle.answers.specs.Paper.{Answer, accepted, refused}
 use Rattle.silences.specs.Silences.{Silence, isAbove}
-use Rattle.silences.specs.Reading.{FieldAt, whole, faulty, fieldAt, before, readFrom, mostBytes, readBook}
-use Rattle.silences.proofs.FieldEnds.{field-ends}
+use Rattle.silences.specs.Layout.{mostBytes}
+use Rattle.silences.specs.Reading.{FieldAt, whole, faulty, fieldAt, before, readFrom, readBook}
+use Rattle.silences.proofs.FieldTest.{field-ends}
 use Rattle.silences.proofs.FieldInduction.{field-induction}
 use Rattle.silences.proofs.ReadFrom.{readFrom-end, readFrom-faulty, readFrom-not-above, readFrom-above, readBook-long, readBook-fields}
 use Rattle.silences.proofs.AscendingAfter.{lastAfter}

@@ -1,33 +1,25 @@
 -- The fields that are read are the layout of their silences, which ascend and are in range (`read-fine`), and such a layout is read (`fine-read`): field by field,
 -- by the two laws of FieldBytes. The first way the book's elements have to be bytes, the second way the silences have to be in range.
--- Assumes nothing.
 use Prim.Native.Nat.{ℕ, _+_, _*_}
 use mathlib.Core.Path.{_≡_, refl, sym, ap, subst, _∙_}
 use mathlib.Core.List.{List, [], _∷_, _++_, append-assoc}
 use mathlib.Core.Option.{Option, none, some}
 use native.Mathlib.Omega.{arith}
 use lib.ListN.{length, take, drop, length-append, take-append-drop}
-use lib.Seq.{take-at}
+use lib.Seq.{take-at, drop-drop, drop-append-seam}
+use Rattle.lists.specs.Records.{wordsOfEach}
+use Rattle.lists.proofs.Records.{each-length}
 use Rattle.silences.specs.Silences.{Silence, AllInRange}
-use Rattle.silences.specs.Layout.{fieldOf, layout}
+use Rattle.silences.specs.Layout.{fieldLength, fieldOf, layout}
 use Rattle.lists.specs.Bounds.{IsBytes}
 use Rattle.silences.specs.Rows.{IsFineBefore}
-use Rattle.silences.specs.Reading.{whole, fieldAt}
 use Rattle.silences.proofs.FieldBytes.{field-length, field-of-silence, field-next-is, silence-of-field}
 use Rattle.silences.proofs.AscendingAfter.{AscendingAfter, ascending-after-iff}
 use Rattle.silences.proofs.FieldsRead.{FieldsRead, none-read, one-read}
 
 -- A layout has 13 bytes for each silence.
-pub layout-length : (ss : List Silence) → length (layout ss) ≡ 13 * length ss
-unfolding layout
-layout-length [] = refl
-layout-length (s ∷ ss) = omega (arith, length-append (fieldOf s) (layout ss), field-length s, layout-length ss)
-
--- The layout of two lists, one after the other.
-pub layout-append : (ss ts : List Silence) → layout (ss ++ ts) ≡ layout ss ++ layout ts
-unfolding layout
-layout-append [] ts = refl
-layout-append (s ∷ ss) ts = ap (λ (l : List ℕ). fieldOf s ++ l) (layout-append ss ts) ∙ sym (append-assoc (fieldOf s) (layout ss) (layout ts))
+pub layout-length : (ss : List Silence) → length (layout ss) ≡ fieldLength * length ss
+layout-length = each-length fieldOf fieldLength field-length
 
 -- The silences that are read ascend.
 pub read-ascends : {book : List ℕ} {last : Option Silence} {at : ℕ} {ss : List Silence} {stop : ℕ} → FieldsRead book last at ss stop → AscendingAfter last ss
@@ -37,7 +29,7 @@ read-ascends (one-read e above more) = (above, read-ascends more)
 -- reading stops where their layout ends
 read-stop-is : {book : List ℕ} {last : Option Silence} {at : ℕ} {ss : List Silence} {stop : ℕ} → FieldsRead book last at ss stop
     → stop ≡ at + length (layout ss)
-unfolding layout
+unfolding wordsOfEach
 read-stop-is none-read = omega arith
 read-stop-is {book} (one-read {at = at} {s = s} {next = next} {ss = ss} e above more) =
     omega (arith, field-next-is book at s next e, read-stop-is more, length-append (fieldOf s) (layout ss))
@@ -51,7 +43,7 @@ module _ (book : List ℕ) (bytes : IsBytes book) where
   -- their bytes are their layout
   read-bytes-are : {last : Option Silence} {at : ℕ} {ss : List Silence} {stop : ℕ} → FieldsRead book last at ss stop
       → drop at book ≡ layout ss ++ drop stop book
-  unfolding layout
+  unfolding wordsOfEach
   read-bytes-are none-read = refl
   read-bytes-are (one-read {at = at} {s = s} {next = next} {ss = ss} {stop = stop} e above more) =
       silence-of-field book bytes at s next e .bytes-are
@@ -70,23 +62,22 @@ module _ (book : List ℕ) (bytes : IsBytes book) where
       }
 
 -- a layout is read, wherever it stands
-layout-read : (ss : List Silence) (last : Option Silence) (front rest book : List ℕ) (at stop : ℕ) → AllInRange ss → AscendingAfter last ss
-    → book ≡ front ++ (layout ss ++ rest) → at ≡ length front → stop ≡ at + length (layout ss) → FieldsRead book last at ss stop
-unfolding layout
-layout-read [] last front rest book at stop in-range ascends e i j =
+layout-read : (ss : List Silence) (last : Option Silence) (book rest : List ℕ) (at stop : ℕ) → AllInRange ss → AscendingAfter last ss
+    → drop at book ≡ layout ss ++ rest → stop ≡ at + length (layout ss) → FieldsRead book last at ss stop
+unfolding wordsOfEach
+layout-read [] last book rest at stop in-range ascends laid is-stop =
     let stays : at ≡ stop = omega arith in
     subst (FieldsRead book last at []) stays none-read
-layout-read (s ∷ ss) last front rest book at stop in-range ascends e i j =
-    let next : ℕ = at + length (fieldOf s) in
-    let laid-out : book ≡ front ++ (fieldOf s ++ (layout ss ++ rest)) = e ∙ simp append-assoc in
-    let here : fieldAt book at ≡ whole s next =
-    rw (laid-out, i) (field-of-silence s (in-range .0) front (layout ss ++ rest)) in
-    one-read here (ascends .0)
-    (layout-read ss (some s) (front ++ fieldOf s) rest book next stop (in-range .1) (ascends .1) (e ∙ simp append-assoc) (omega (arith, length-append front (fieldOf s)))
+layout-read (s ∷ ss) last book rest at stop in-range ascends laid is-stop =
+    let laid-here : drop at book ≡ fieldOf s ++ (layout ss ++ rest) = laid ∙ append-assoc (fieldOf s) (layout ss) rest in
+    let laid-next : drop (at + length (fieldOf s)) book ≡ layout ss ++ rest =
+    sym (drop-drop (length (fieldOf s)) at book) ∙ ap (drop (length (fieldOf s))) laid-here ∙ drop-append-seam (fieldOf s) (layout ss ++ rest) in
+    one-read (field-of-silence s (in-range .0) book at (layout ss ++ rest) laid-here) (ascends .0)
+    (layout-read ss (some s) book rest (at + length (fieldOf s)) stop (in-range .1) (ascends .1) laid-next
     (omega (arith, length-append (fieldOf s) (layout ss))))
 
 -- Fine ones are read, from the book's first byte.
 pub fine-read : (book : List ℕ) (ss : List Silence) (at : ℕ) → IsFineBefore book at ss → FieldsRead book none 0 ss at
 fine-read book ss at f =
-    layout-read ss none [] (drop at book) book 0 at (f .in-range) (ascending-after-iff ss .0 (f .ascending))
-    (sym (take-append-drop at book) ∙ ap (λ (l : List ℕ). l ++ drop at book) (f .laid-out)) refl (omega (arith, f .offset-is))
+    layout-read ss none book (drop at book) 0 at (f .in-range) (ascending-after-iff ss .0 (f .ascending))
+    (sym (take-append-drop at book) ∙ ap (λ (l : List ℕ). l ++ drop at book) (f .laid-out)) (omega (arith, f .offset-is))

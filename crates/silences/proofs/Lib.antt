@@ -8,7 +8,6 @@ pub mod AscendingAfter
 pub mod NamesIff
 pub mod ZeroIsOrdinary
 -- one field: where it ends, what row 6 says of it, its bytes and its silence
-pub mod FieldEnds
 pub mod FieldTest
 pub mod FieldBytes
 pub mod FieldInduction

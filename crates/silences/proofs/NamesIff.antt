@@ -1,6 +1,5 @@
 -- A list of silences names an address, by the test, exactly when one of its silences is that cell, ring number and start. Silence by silence: the
 -- first one is the address, or the rest names it.
--- Assumes nothing.
 use Prim.Native.Nat.{ℕ}
 use mathlib.Core.Logic.{_↔_}
 use mathlib.Core.Path.{_≡_, refl, sym, ap, _∙_}

@@ -1,6 +1,5 @@
 -- Any two answers of a function on silences that meet its contract are equal: a law for each. Where the contract is an equation with the answer itself,
 -- both answers are its other side; what a case of `Sought` stands for is read back by `soughtBack`.
--- Assumes nothing.
 use Prim.Native.Nat.{ℕ}
 use mathlib.Core.Path.{_≡_, refl, sym, ap, _∙_}
 use mathlib.Core.Bool.{Bool}

@@ -1,6 +1,5 @@
 -- When packing words gives row 8, 9, 7 or 10, and when it is accepted: row 8 exactly for a wrong number of words; else what the records give
 -- (RecordRows), and row 10 exactly where they are accepted and there is too little room (RoomRows).
--- Assumes nothing.
 use Prim.Native.Nat.{ℕ, _%_, _≤_, _<_}
 use mathlib.Core.Logic.{_⊎_, inl, inr, ⊎-elim, _↔_, Iff·rfl, Iff·trans, Iff·and}
 use mathlib.Core.Path.{_≡_, refl, sym, ap, _∙_}
@@ -24,7 +23,7 @@ use Rattle.silences.proofs.RecordRows.{packedRecords, records-rows, rec
 
 -- The words to pack "aren't a multiple of 3, or exceed 3,000": row 8.
 abbrev pub HasWrongCount : List ℕ → Type 0
-HasWrongCount words = (length words % 3 ≡ 0 → ⊥) ⊎ (3000 < length words)
+HasWrongCount words = (length words % recordWords ≡ 0 → ⊥) ⊎ (mostWords < length words)
 
 -- The words have a right number, or a wrong one; and so says the test.
 pub word-count-cases : (words : List ℕ)
@@ -72,7 +71,7 @@ module _ (words : List ℕ) (room : ℕ) where
       (word-count-cases words)
 
   -- Row 8, exactly when the words "aren't a multiple of 3, or exceed 3,000".
-  pub packed-8-iff : (packed words room ≡ refused WordCount) ↔ ((length words % 3 ≡ 0 → ⊥) ⊎ (3000 < length words))
+  pub packed-8-iff : (packed words room ≡ refused WordCount) ↔ ((length words % recordWords ≡ 0 → ⊥) ⊎ (mostWords < length words))
   packed-8-iff = (
     λ e. ⊎-elim
         (λ c. let r : packedRecords words ≡ refused WordCount =

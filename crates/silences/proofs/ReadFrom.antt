@@ -1,6 +1,5 @@
 -- The two equations of `readFrom`: at the end nothing is read, before it one field and then the rest. Its count of bytes left never runs out before the end
 -- (`count-step`), so nothing after this file looks at it. Then the same by what the field is, and of a whole book: row 5 comes before all others.
--- Assumes nothing.
 use Prim.Native.Nat.{ℕ, zero, suc, _-_, _≤_, _<_}
 use mathlib.Core.Path.{_≡_, refl, _∙_}
 use mathlib.Core.Bool.{Bool, true, false, cond}
@@ -13,8 +12,9 @@ use borrow.Author.Tests.{lt-ltb, le-ltb, le-leb, lt-leb}
 use Rattle.answers.specs.declared.refusals.Refusal.the-variants.{BookLength, Field, NotAbove}
 use Rattle.answers.specs.Paper.{Answer, accepted, refused}
 use Rattle.silences.specs.Silences.{Silence, isAbove}
-use Rattle.silences.specs.Reading.{FieldAt, whole, faulty, fieldAt, before, readField, fieldsFrom, readFrom, mostBytes, readBook}
-use Rattle.silences.proofs.FieldEnds.{field-ends}
+use Rattle.silences.specs.Layout.{mostBytes}
+use Rattle.silences.specs.Reading.{FieldAt, whole, faulty, fieldAt, before, readField, fieldsFrom, readFrom, readBook}
+use Rattle.silences.proofs.FieldTest.{field-ends}
 use Rattle.silences.proofs.FieldInduction.{GoesOnPast, count-step}
 
 module _ (book : List ℕ) where

@@ -1,6 +1,5 @@
 -- When packing the records of the words gives row 9 or 7, and at which record: exactly at the first faulty one, 9 before 7, as the table has it. Packing
 -- stops there (`PacksAs`), and all records before it are fine. It gives no other row, and is accepted exactly when no record is faulty.
--- Assumes nothing.
 use Prim.Native.Nat.{ℕ, _≤_}
 use mathlib.Core.Logic.{_↔_}
 use mathlib.Core.Path.{_≡_, refl, sym, ap, _∙_}

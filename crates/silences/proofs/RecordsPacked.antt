@@ -1,6 +1,5 @@
 -- Packing as a walk over the records: each is fine, above the one before it and its ring number not above 65,535, as far as one that is not, where
 -- packing stops with row 9, or else with row 7, and that one's number (`PacksAs`). The three ways fix what `packRecords` gives, by its equation for each way.
--- Assumes nothing.
 use Prim.Native.Nat.{ℕ, suc, _+_, _≤_, _<_}
 use mathlib.Core.Path.{_≡_, refl, sym, ap, subst, _∙_}
 use mathlib.Core.Bool.{Bool, true, false}
@@ -31,35 +30,35 @@ pub record RecordStands (last : Option Silence) (i : ℕ) (ss fine : List Silenc
 -- Where packing records from number `i` on stops, and what it then gives.
 pub data PacksAs (last : Option Silence) (i : ℕ) (ss : List Silence) : Answer (List Silence) → Type 0 where
   packed-all : AllRingNumbers ss → AscendingAfter last ss → PacksAs last i ss (accepted ss)
-  stopped-ring : {fine : List Silence} {j : ℕ} {s : Silence} → RecordStands last i ss fine j s → 65535 < s .ringNumber
+  stopped-ring : {fine : List Silence} {j : ℕ} {s : Silence} → RecordStands last i ss fine j s → mostRingNumber < s .ringNumber
       → PacksAs last i ss (refused (RingNumber j))
-  stopped-order : {fine : List Silence} {j : ℕ} {s : Silence} → RecordStands last i ss fine j s → s .ringNumber ≤ 65535
+  stopped-order : {fine : List Silence} {j : ℕ} {s : Silence} → RecordStands last i ss fine j s → s .ringNumber ≤ mostRingNumber
       → isAbove (lastAfter last fine) s ≡ false
       → PacksAs last i ss (refused (NotAbove j))
 
 -- One record more after them, its ring number not above 65,535.
-pub ring-numbers-more : (ss : List Silence) (s : Silence) → AllRingNumbers ss → s .ringNumber ≤ 65535 → AllRingNumbers (ss ++ s ∷ [])
+pub ring-numbers-more : (ss : List Silence) (s : Silence) → AllRingNumbers ss → s .ringNumber ≤ mostRingNumber → AllRingNumbers (ss ++ s ∷ [])
 ring-numbers-more [] s rings h = (h, tt)
 ring-numbers-more (t ∷ ss) s rings h = (rings .0, ring-numbers-more ss s (rings .1) h)
 
 module _ (last : Option Silence) (i : ℕ) (s : Silence) (ss : List Silence) where
   -- row 9: a ring number above 65,535
-  packRecords-ring-number : 65535 < s .ringNumber → packRecords last i (s ∷ ss) ≡ refused (RingNumber i)
+  packRecords-ring-number : mostRingNumber < s .ringNumber → packRecords last i (s ∷ ss) ≡ refused (RingNumber i)
   unfolding packRecords
   packRecords-ring-number h = rw (lt-ltb mostRingNumber (s .ringNumber) h)
 
   -- row 7: a record that is not above the one before it
-  packRecords-not-above : s .ringNumber ≤ 65535 → isAbove last s ≡ false → packRecords last i (s ∷ ss) ≡ refused (NotAbove i)
+  packRecords-not-above : s .ringNumber ≤ mostRingNumber → isAbove last s ≡ false → packRecords last i (s ∷ ss) ≡ refused (NotAbove i)
   unfolding packRecords
   packRecords-not-above h above = rw (le-ltb mostRingNumber (s .ringNumber) h, above)
 
   -- one that is fine is taken, and then the records after it
-  packRecords-step : s .ringNumber ≤ 65535 → isAbove last s ≡ true → packRecords last i (s ∷ ss) ≡ before s (packRecords (some s) (suc i) ss)
+  packRecords-step : s .ringNumber ≤ mostRingNumber → isAbove last s ≡ true → packRecords last i (s ∷ ss) ≡ before s (packRecords (some s) (suc i) ss)
   unfolding packRecords
   packRecords-step h above = rw (le-ltb mostRingNumber (s .ringNumber) h, above)
 
   -- the walk after a record that is fine
-  stands-before : {fine : List Silence} {j : ℕ} {t : Silence} → s .ringNumber ≤ 65535 → isAbove last s ≡ true → RecordStands (some s) (suc i) ss fine j t
+  stands-before : {fine : List Silence} {j : ℕ} {t : Silence} → s .ringNumber ≤ mostRingNumber → isAbove last s ≡ true → RecordStands (some s) (suc i) ss fine j t
       → RecordStands last i (s ∷ ss) (s ∷ fine) j t
   stands-before h above r =
       record {
@@ -71,7 +70,7 @@ module _ (last : Option Silence) (i : ℕ) (s : Silence) (ss : List Silence) whe
       }
 
   -- and what it gives
-  packs-before : {a : Answer (List Silence)} → s .ringNumber ≤ 65535 → isAbove last s ≡ true → PacksAs (some s) (suc i) ss a
+  packs-before : {a : Answer (List Silence)} → s .ringNumber ≤ mostRingNumber → isAbove last s ≡ true → PacksAs (some s) (suc i) ss a
       → PacksAs last i (s ∷ ss) (before s a)
   packs-before h above (packed-all rings ascends) = packed-all (h, rings) (above, ascends)
   packs-before h above (stopped-ring r g) = stopped-ring (stands-before h above r) g
@@ -83,17 +82,17 @@ module _ (last : Option Silence) (i : ℕ) (s : Silence) (ss : List Silence) whe
 
   -- one record, and then the walk on
   walk-record : PacksAs (some s) (suc i) ss (packRecords (some s) (suc i) ss) → PacksAs last i (s ∷ ss) (packRecords last i (s ∷ ss))
-  walk-record more = by-ring (ltb 65535 (s .ringNumber)) refl
+  walk-record more = by-ring (ltb mostRingNumber (s .ringNumber)) refl
     where
-      by-order : s .ringNumber ≤ 65535 → (t : Bool) → isAbove last s ≡ t → PacksAs last i (s ∷ ss) (packRecords last i (s ∷ ss))
+      by-order : s .ringNumber ≤ mostRingNumber → (t : Bool) → isAbove last s ≡ t → PacksAs last i (s ∷ ss) (packRecords last i (s ∷ ss))
       by-order h true above = rw (packRecords-step h above) (packs-before h above more)
       by-order h false above = rw (packRecords-not-above h above) (stopped-order stands-first h above)
 
-      by-ring : (t : Bool) → ltb 65535 (s .ringNumber) ≡ t → PacksAs last i (s ∷ ss) (packRecords last i (s ∷ ss))
+      by-ring : (t : Bool) → ltb mostRingNumber (s .ringNumber) ≡ t → PacksAs last i (s ∷ ss) (packRecords last i (s ∷ ss))
       by-ring true g =
-          let above : 65535 < s .ringNumber = ltb-true 65535 (s .ringNumber) g in
+          let above : mostRingNumber < s .ringNumber = ltb-true mostRingNumber (s .ringNumber) g in
           rw (packRecords-ring-number above) (stopped-ring stands-first above)
-      by-ring false g = by-order (ltb-false 65535 (s .ringNumber) g) (isAbove last s) refl
+      by-ring false g = by-order (ltb-false mostRingNumber (s .ringNumber) g) (isAbove last s) refl
 
 -- the walk over all records
 walk : (last : Option Silence) (i : ℕ) (ss : List Silence) → PacksAs last i ss (packRecords last i ss)

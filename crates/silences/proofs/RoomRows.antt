@@ -1,6 +1,5 @@
 -- Row 10, for packing and unpacking at once: of an answer that comes before it, `inRoom` makes row 10 exactly where the answer is accepted and the room
 -- is less than its output; every other row stays as it was. By the answer's cases and the one test.
--- Assumes nothing.
 use Prim.Native.Nat.{ℕ, _≤_, _<_}
 use mathlib.Core.Logic.{_↔_}
 use mathlib.Core.Path.{_≡_, refl, ap, _∙_}

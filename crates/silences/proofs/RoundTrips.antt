@@ -1,6 +1,5 @@
 -- Round trips, of the definitions: what packing accepts, unpacking accepts and gives back, word for word; what unpacking accepts, packing writes back,
 -- byte for byte. Each way it is the book of one list of silences (AcceptedIsLayout), whose words and whose layout undo each other.
--- Assumes nothing.
 use Prim.Native.Nat.{ℕ, _*_, _≤_}
 use mathlib.Core.Path.{_≡_, refl, sym, ap, subst, _∙_}
 use mathlib.Core.List.{List}
@@ -9,7 +8,7 @@ use lib.ListN.{length}
 use Rattle.answers.specs.Paper.{accepted}
 use Rattle.silences.specs.Silences.{Silence, Ascending}
 use Rattle.silences.specs.Layout.{layout}
-use Rattle.silences.specs.Packing.{wordsOfSilences, silencesOf, packed, unpacked}
+use Rattle.silences.specs.Packing.{wordsOfSilences, silencesOf, recordWords, packed, unpacked}
 use Rattle.lists.specs.Bounds.{IsBytes, IsWords}
 use Rattle.silences.specs.Books.{IsBook}
 use Rattle.silences.specs.Rows.{AllRingNumbers, IsPackable}
@@ -44,7 +43,7 @@ pub packed-unpacked : (words : List ℕ) (room room′ : ℕ) (ss : List Silence
 packed-unpacked words room room′ ss w e fits =
     let a : IsPackable words × (ss ≡ silencesOf words) × (length (layout ss) ≤ room) = packed-accepted-iff words room ss .0 e in
     let b : IsBook ss (layout ss) = subst (λ (l : List Silence). IsBook l (layout l)) (sym (a .1)) (packable-book words w (a .0)) in
-    let words-are : 3 * length (silencesOf words) ≡ length words = silences-length words (a .0 .word-count .multiple) in
+    let words-are : recordWords * length (silencesOf words) ≡ length words = silences-length words (a .0 .word-count .multiple) in
     unpacked-accepted-iff (layout ss) room′ ss .1 (book-accepted (layout ss) ss b, omega (arith, words-length ss, ap (λ (l : List Silence). length l) (a .1)))
 
 -- And they are the words, word for word.

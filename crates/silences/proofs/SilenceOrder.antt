@@ -1,6 +1,5 @@
 -- The tests on silences mean what they say: `isBelow` the order, `isSame` equality. Each goes through its tests in turn, the first number in which
 -- two silences differ deciding. Then the same by each test, as code goes by them.
--- Assumes nothing.
 use mathlib.Core.Logic.{_↔_}
 use mathlib.Core.Path.{_≡_, refl, sym, ap, _∙_}
 use mathlib.Core.Bool.{Bool, true, false, _&&_, _||_, false≢true}

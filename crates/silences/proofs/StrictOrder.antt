@@ -1,6 +1,5 @@
 -- The order of silences is strict and total: nothing is below itself, what is below a lower one is below, and of two silences that differ one is below
 -- the other. Number by number, the first in which they differ deciding; then the same of the test.
--- Assumes nothing.
 use Prim.Native.Nat.{_≤_, _<_}
 use mathlib.Core.Logic.{_↔_}
 use mathlib.Core.Path.{_≡_, refl, sym, subst, _∙_}

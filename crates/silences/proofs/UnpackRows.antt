@@ -1,6 +1,5 @@
 -- What unpacking gives, by what reading gives: row 10 comes last and asks for room, every other row is reading's. From RoomRows; reading never gives row 10
 -- (BookRows).
--- Assumes nothing.
 use Prim.Native.Nat.{ℕ, _≤_, _<_}
 use mathlib.Core.Logic.{_↔_}
 use mathlib.Core.Path.{_≡_}

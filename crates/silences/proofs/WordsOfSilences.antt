@@ -1,13 +1,13 @@
 -- Words and silences undo each other: three words are one silence, and a list of words that is a multiple of 3 is the words of its silences. A walk through the
 -- words meets the silence of the next three (`silencesOf-step`), or none (`silencesOf-end`). Where the words are 32-bit words and no ring number is above
 -- 65,535, the silences are in range.
--- Assumes nothing.
 use Prim.Native.Nat.{ℕ, suc, _+_, _*_, _%_, _≤_, _<_}
 use mathlib.Core.Path.{_≡_, refl, sym, ap, _∙_}
-use mathlib.Core.List.{List, [], _∷_, _++_}
+use mathlib.Core.List.{List, [], _∷_}
 use native.Mathlib.Omega.{arith}
 use lib.ListN.{length, getD, drop, length-drop}
-use Rattle.lists.proofs.Records.{drop-three}
+use Rattle.lists.specs.Records.{wordsOfEach}
+use Rattle.lists.proofs.Records.{each-length, drop-three}
 use Rattle.silences.specs.Silences.{Silence, silence, AllInRange}
 use Rattle.silences.specs.Packing.{silenceWords, wordsOfSilences, silencesOf, recordWords}
 use Rattle.lists.specs.Bounds.{IsWords}
@@ -15,25 +15,17 @@ use Rattle.silences.specs.Rows.{AllRingNumbers}
 
 -- Three words for each silence.
 pub words-length : (ss : List Silence) → length (wordsOfSilences ss) ≡ recordWords * length ss
-unfolding wordsOfSilences
-words-length [] = refl
-words-length (s ∷ ss) = omega (arith, words-length ss)
-
--- The words of one silence more stand behind those of the others.
-pub words-more : (ss : List Silence) (s : Silence) → wordsOfSilences (ss ++ s ∷ []) ≡ wordsOfSilences ss ++ silenceWords s
-unfolding wordsOfSilences
-words-more [] s = refl
-words-more (t ∷ ss) s = ap (λ (l : List ℕ). silenceWords t ++ l) (words-more ss s)
+words-length = each-length silenceWords recordWords (λ s. refl)
 
 -- The silences of the words of silences are those silences.
 pub silences-of-words : (ss : List Silence) → silencesOf (wordsOfSilences ss) ≡ ss
-unfolding wordsOfSilences silencesOf
+unfolding wordsOfEach silencesOf
 silences-of-words [] = refl
 silences-of-words (s ∷ ss) = ap (λ (l : List Silence). s ∷ l) (silences-of-words ss)
 
 -- The words of the silences of words are those words, if they are a multiple of 3.
 pub words-of-silences : (words : List ℕ) → length words % recordWords ≡ 0 → wordsOfSilences (silencesOf words) ≡ words
-unfolding wordsOfSilences silencesOf
+unfolding wordsOfEach silencesOf
 words-of-silences [] h = refl
 words-of-silences (cell ∷ []) h = absurd (omega arith)
 words-of-silences (cell ∷ ringNumber ∷ []) h = absurd (omega arith)

@@ -1,6 +1,5 @@
 -- "Zero is an ordinary cell, ring number and start; no value means 'all'": one silence, whatever its three numbers are, names its own address and no
 -- other. No silence names nothing.
--- Assumes nothing.
 use Prim.Native.Nat.{ℕ}
 use mathlib.Core.Logic.{_↔_}
 use mathlib.Core.Path.{_≡_, refl, sym, ap, _∙_}

@@ -1,30 +1,61 @@
 -- Document 01, "Silence book": the bytes of a book, field after field, apart from any code that reads or writes them.
 --
---   silenceTag     "tag 21 hex"
---   valueOf        "cell (4 bytes), ring number (2), start (4)"
---   fieldOf        a silence's field
---   layout         a book's bytes
+--   silenceTag                "tag 21 hex"
+--   valueLength               "length 10"
+--   fieldLength               "one field of 13 bytes"
+--   valueOf, fieldOf          a silence's value and its field
+--   layout                    a book's bytes
+--   mostSilences, mostBytes   the longest book
 --
--- How long a field is follows from its value; nothing counts fields by a common length.
-use Prim.Native.Nat.{ℕ}
-use mathlib.Core.List.{List, [], _∷_, _++_}
+-- A length that follows from others is computed from them; beside it stands the document's number.
+use Prim.Native.Nat.{ℕ, _+_, _*_}
+use mathlib.Core.Path.{_≡_, refl}
+use mathlib.Core.List.{List, _++_}
+use Rattle.lists.specs.Records.{wordsOfEach}
 use Rattle.fields.specs.Numbers.{bytesOf}
-use Rattle.fields.specs.Tagged.{field}
-use Rattle.silences.specs.Silences.{Silence}
+use Rattle.fields.specs.Tagged.{headLength, field}
+use Rattle.silences.specs.Silences.{Silence, cellBytes, ringNumberBytes, startBytes}
 
 -- "tag 21 hex"
 abbrev pub silenceTag : ℕ
 silenceTag = 0x21
 
+-- "length 10, cell (4 bytes), ring number (2), start (4)": the bytes of a value.
+abbrev pub valueLength : ℕ
+valueLength = cellBytes + ringNumberBytes + startBytes
+
+-- "length 10"
+value-length-is : valueLength ≡ 10
+value-length-is = refl
+
+-- The bytes of a field: its head and its value.
+abbrev pub fieldLength : ℕ
+fieldLength = headLength + valueLength
+
+-- "Each silence is one field of 13 bytes"
+field-length-is : fieldLength ≡ 13
+field-length-is = refl
+
 -- "cell (4 bytes), ring number (2), start (4)"
 unfoldable pub valueOf : Silence → List ℕ
-valueOf s = bytesOf 4 (s .cell) ++ bytesOf 2 (s .ringNumber) ++ bytesOf 4 (s .start)
+valueOf s = bytesOf cellBytes (s .cell) ++ bytesOf ringNumberBytes (s .ringNumber) ++ bytesOf startBytes (s .start)
 
 -- "Each silence is one field of 13 bytes: tag 21 hex, length 10, cell (4 bytes), ring number (2), start (4)."
 unfoldable pub fieldOf : Silence → List ℕ
 fieldOf s = field silenceTag (valueOf s)
 
 -- The book of a list of silences: their fields, one after the other. The empty list has the empty book.
-unfoldable pub layout : List Silence → List ℕ
-layout [] = []
-layout (s ∷ ss) = fieldOf s ++ layout ss
+abbrev pub layout : List Silence → List ℕ
+layout = wordsOfEach fieldOf
+
+-- The most silences of a book: document 01 gives their bytes and their words.
+abbrev pub mostSilences : ℕ
+mostSilences = 1000
+
+-- "book longer than 13,000 bytes": the most bytes of a book.
+abbrev pub mostBytes : ℕ
+mostBytes = fieldLength * mostSilences
+
+-- "13,000 bytes"
+most-bytes-is : mostBytes ≡ 13000
+most-bytes-is = refl

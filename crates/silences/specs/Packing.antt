@@ -8,17 +8,19 @@
 --   areaAtExit                    the lent area at exit
 --
 -- That the words of a record come in this order is a reading: document 01 names the three in it and gives no other.
-use Prim.Native.Nat.{ℕ, suc, _%_}
+use Prim.Native.Nat.{ℕ, suc, _*_, _%_, _^_}
+use mathlib.Core.Path.{_≡_, refl}
 use mathlib.Core.Bool.{Bool, cond, _&&_}
 use mathlib.Core.List.{List, [], _∷_, _++_}
 use mathlib.Core.Option.{Option, none, some}
 use lib.Dec.{ltb, leb, eqb}
 use lib.ListN.{length}
 use Rattle.lists.specs.Areas.{written}
+use Rattle.lists.specs.Records.{wordsOfEach}
 use Rattle.answers.specs.declared.refusals.Refusal.the-variants.{NotAbove, WordCount, RingNumber, OutputRoom}
 use Rattle.answers.specs.Paper.{Answer, accepted, refused}
-use Rattle.silences.specs.Silences.{Silence, silence, isAbove}
-use Rattle.silences.specs.Layout.{layout}
+use Rattle.silences.specs.Silences.{Silence, silence, ringNumberBytes, isAbove}
+use Rattle.silences.specs.Layout.{layout, mostSilences}
 use Rattle.silences.specs.Reading.{before, readBook}
 
 -- The words of a silence: cell, ring number, start.
@@ -26,9 +28,8 @@ abbrev pub silenceWords : Silence → List ℕ
 silenceWords s = s .cell ∷ s .ringNumber ∷ s .start ∷ []
 
 -- The words of a list of silences, one after the other.
-unfoldable pub wordsOfSilences : List Silence → List ℕ
-wordsOfSilences [] = []
-wordsOfSilences (s ∷ ss) = silenceWords s ++ wordsOfSilences ss
+abbrev pub wordsOfSilences : List Silence → List ℕ
+wordsOfSilences = wordsOfEach silenceWords
 
 -- The silences of a list of words, three words each; one or two words at the end are none.
 unfoldable pub silencesOf : List ℕ → List Silence
@@ -37,13 +38,17 @@ silencesOf (cell ∷ []) = []
 silencesOf (cell ∷ ringNumber ∷ []) = []
 silencesOf (cell ∷ ringNumber ∷ start ∷ words) = silence cell ringNumber start ∷ silencesOf words
 
--- "or exceed 3,000": the most words that are packed.
-abbrev pub mostWords : ℕ
-mostWords = 3000
-
 -- "words to pack aren't a multiple of 3": the words of a record.
 abbrev pub recordWords : ℕ
 recordWords = 3
+
+-- "or exceed 3,000": the most words that are packed.
+abbrev pub mostWords : ℕ
+mostWords = recordWords * mostSilences
+
+-- "3,000"
+most-words-is : mostWords ≡ 3000
+most-words-is = refl
 
 -- Row 8 is not given: the words are a multiple of 3 and do not exceed 3,000.
 unfoldable pub isWordCount : List ℕ → Bool
@@ -52,6 +57,10 @@ isWordCount words = eqb (length words % recordWords) 0 && leb (length words) mos
 -- "a ring number to pack is above 65,535": the largest ring number.
 abbrev pub mostRingNumber : ℕ
 mostRingNumber = 65535
+
+-- It is the largest that its bytes hold.
+most-ring-number-is : suc mostRingNumber ≡ 256 ^ ringNumberBytes
+most-ring-number-is = refl
 
 -- Rows 9 and 7, "each record 9 before 7", with the record number: the records from number `i` on, `last` the one before them.
 unfoldable pub packRecords : Option Silence → ℕ → List Silence → Answer (List Silence)

@@ -2,7 +2,6 @@
 --
 --   lengthByTag             "tag 21 hex, length 10"
 --   silenceAt               the silence of a value
---   mostBytes               row 5's limit
 --   FieldAt, fieldAt        what stands at a byte offset: a whole field, or a faulty one (row 6)
 --   readFrom                the fields from a byte offset on; "the first faulty field decides, 6 before 7"
 --   readBook                a whole book, row 5 before all others
@@ -20,16 +19,21 @@ use Rattle.answers.specs.declared.refusals.Refusal.the-variants.{BookLength, Fi
 use Rattle.answers.specs.Paper.{Answer, accepted, refused}
 use Rattle.fields.specs.Numbers.{numberAt}
 use Rattle.fields.specs.Tagged.{headLength, fieldEnd, isWhole}
-use Rattle.silences.specs.Silences.{Silence, isAbove}
-use Rattle.silences.specs.Layout.{silenceTag}
+use Rattle.silences.specs.Silences.{Silence, cellBytes, ringNumberBytes, startBytes, isAbove}
+use Rattle.silences.specs.Layout.{silenceTag, valueLength, mostBytes}
 
 -- "tag 21 hex, length 10": the length of the value that goes with a tag. No other tag is a silence's.
 unfoldable pub lengthByTag : ℕ → Option ℕ
-lengthByTag tag = cond (eqb tag silenceTag) (some 10) none
+lengthByTag tag = cond (eqb tag silenceTag) (some valueLength) none
 
 -- "cell (4 bytes), ring number (2), start (4)": the silence whose value begins at byte offset `at`.
 unfoldable pub silenceAt : List ℕ → ℕ → Silence
-silenceAt book at = record { cell = numberAt 4 book at; ringNumber = numberAt 2 book (at + 4); start = numberAt 4 book (at + 6) }
+silenceAt book at =
+    record {
+      cell = numberAt cellBytes book at;
+      ringNumber = numberAt ringNumberBytes book (at + cellBytes);
+      start = numberAt startBytes book (at + cellBytes + ringNumberBytes);
+    }
 
 -- What stands at a byte offset: a whole field, its silence and the byte offset just past it; or no whole field of a silence.
 pub data FieldAt : Type 0 where
@@ -68,10 +72,6 @@ fieldsFrom (suc left) book last at =
 -- The fields from `at` to the book's end, after the silence `last`. There are no more fields than bytes.
 unfoldable pub readFrom : List ℕ → Option Silence → ℕ → Answer (List Silence)
 readFrom book last at = fieldsFrom (length book - at) book last at
-
--- "book longer than 13,000 bytes": the most bytes that a book has.
-abbrev pub mostBytes : ℕ
-mostBytes = 13000
 
 -- What reading a book gives: its silences, or row 5, 6 or 7. "An empty book is valid."
 unfoldable pub readBook : List ℕ → Answer (List Silence)

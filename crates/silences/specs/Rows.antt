@@ -1,5 +1,4 @@
--- Document 01, the table of refusals, rows 6 to 9: what "Given exactly when" says of them, as propositions that speak of no reading or packing, the numbers
--- written out. "Within a book the first faulty field decides": all fields before it are a book's. Rows 5 and 10 are a comparison each and
+-- Document 01, the table of refusals, rows 6 to 9: what "Given exactly when" says of them, as propositions that speak of no reading or packing. "Within a book the first faulty field decides": all fields before it are a book's. Rows 5 and 10 are a comparison each and
 -- stand in their laws. The laws are in proofs/BookRows.antt, PackRows.antt and UnpackRows.antt, and of each call in RowsOfReading.antt and RowsOfUnpacking.antt of crates/book
 -- and RowsOfPacking.antt of crates/packing.
 --
@@ -21,7 +20,7 @@ use Rattle.silences.specs.Silences.{Silence, AllInRange, Below, Ascendin
 use Rattle.silences.specs.Layout.{layout}
 use Rattle.fields.specs.Tagged.{headLength}
 use Rattle.silences.specs.Reading.{silenceAt}
-use Rattle.silences.specs.Packing.{silencesOf}
+use Rattle.silences.specs.Packing.{silencesOf, recordWords, mostWords, mostRingNumber}
 use Rattle.silences.specs.Books.{IsField}
 
 -- The fields before a byte offset are those of these silences, which are in range and ascend.
@@ -54,13 +53,13 @@ pub record IsOrderFault (book : List ℕ) (at : ℕ) : Type 0 where
 
 -- Row 8 is not given: the words to pack are "a multiple of 3", and they don't "exceed 3,000".
 pub record HasWordCount (words : List ℕ) : Type 0 where
-  pub multiple : length words % 3 ≡ 0
-  pub words-le : length words ≤ 3000
+  pub multiple : length words % recordWords ≡ 0
+  pub words-le : length words ≤ mostWords
 
 -- No ring number of these silences is "above 65,535".
 abbrev pub AllRingNumbers : List Silence → Type 0
 AllRingNumbers [] = Unit {0}
-AllRingNumbers (s ∷ ss) = (s .ringNumber ≤ 65535) × AllRingNumbers ss
+AllRingNumbers (s ∷ ss) = (s .ringNumber ≤ mostRingNumber) × AllRingNumbers ss
 
 -- This is the record of this number, from 0, in the words to pack, and these are the records before it: they ascend, and no ring number is above 65,535.
 pub record IsRecord (words : List ℕ) (i : ℕ) (fine : List Silence) (s : Silence) : Type 0 where
@@ -75,14 +74,14 @@ pub record IsRingFault (words : List ℕ) (i : ℕ) : Type 0 where
   pub fine : List Silence
   pub here : Silence
   pub is-record : IsRecord words i fine here
-  pub ring-number-gt : 65535 < here .ringNumber
+  pub ring-number-gt : mostRingNumber < here .ringNumber
 
 -- Row 7 at a record number: its ring number is not above 65,535, the record isn't above the one before it, and all before it is fine.
 pub record IsRecordFault (words : List ℕ) (i : ℕ) : Type 0 where
   pub fine : List Silence
   pub here : Silence
   pub is-record : IsRecord words i fine here
-  pub ring-number-le : here .ringNumber ≤ 65535
+  pub ring-number-le : here .ringNumber ≤ mostRingNumber
   pub not-above : IsNotAbove fine here
 
 -- The words can be packed: neither row 8 is given, nor row 9 or 7 at any record.

@@ -1,5 +1,6 @@
 -- Document 01, "Silence book": a silence, the order of silences, and what a list of them names. Nothing here speaks of bytes.
 --
+--   cellBytes, ringNumberBytes, startBytes   "cell (4 bytes), ring number (2), start (4)"
 --   Silence, silence       cell, ring number, start
 --   InRange                they fit their 4, 2 and 4 bytes
 --   isBelow, Below         "by cell, then ring number, then start": the test and what it means
@@ -15,6 +16,18 @@ use mathlib.Core.List.{List, [], _∷_, List·Memᴰ}
 use mathlib.Core.Option.{Option, none, some}
 use lib.Dec.{ltb, eqb}
 
+-- "cell (4 bytes)"
+abbrev pub cellBytes : ℕ
+cellBytes = 4
+
+-- "ring number (2)"
+abbrev pub ringNumberBytes : ℕ
+ringNumberBytes = 2
+
+-- "start (4)"
+abbrev pub startBytes : ℕ
+startBytes = 4
+
 -- A silence: the cell, the ring number and the start that it is for.
 pub record Silence : Type 0 where
   pub cell : ℕ
@@ -27,9 +40,9 @@ silence cell ringNumber start = record { cell = cell; ringNumber = ringNumber; s
 
 -- A silence that a field can hold: "cell (4 bytes), ring number (2), start (4)".
 pub record InRange (s : Silence) : Type 0 where
-  pub cell-lt : s .cell < 2 ^ 32
-  pub ring-number-lt : s .ringNumber < 2 ^ 16
-  pub start-lt : s .start < 2 ^ 32
+  pub cell-lt : s .cell < 256 ^ cellBytes
+  pub ring-number-lt : s .ringNumber < 256 ^ ringNumberBytes
+  pub start-lt : s .start < 256 ^ startBytes
 
 -- Each silence of a list is in range.
 abbrev pub AllInRange : List Silence → Type 0

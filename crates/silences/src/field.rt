@@ -2,6 +2,7 @@
 use crate::addresses::Address;
 use crate::addresses::Sought;
 use crate::lengths::CELL_BYTES;
+use crate::lengths::FIELD_LENGTH;
 use crate::lengths::RING_NUMBER_BYTES;
 use crate::lengths::SILENCE_LENGTH;
 use crate::lengths::SILENCE_TAG;
@@ -13,12 +14,13 @@ use fields::number_at;
 ghost use mathlib.Core.Path.{_≡_};
 ghost use Prim.Native.Nat.{_+_, _≤_};
 ghost use lib.ListN.{length};
+ghost use Rattle.silences.specs.Layout.{valueLength};
 ghost use Rattle.silences.specs.Reading.{silenceAt, fieldAt};
 ghost use Rattle.silences.specs.Addresses.{silenceOf, soughtOf};
 
 // "cell (4 bytes), ring number (2), start (4)": the address whose value begins at byte offset `at`.
 fn address_at(book: &[u8], at: usize) -> Address
-    requires { ⌜ at + 10 ≤ length (now book) ⌝ }
+    requires { ⌜ at + valueLength ≤ length (now book) ⌝ }
     ensures { λ r. ⌜ silenceOf r ≡ silenceAt (now (book .entry)) at ⌝ }
 {
     let ring_number_at = at + CELL_BYTES;
@@ -44,7 +46,7 @@ pub fn field_at(book: &[u8], at: usize) -> Sought
     if book[at] != SILENCE_TAG {
         return Sought::Nothing;
     }
-    if book.len() - at < HEAD_LENGTH + SILENCE_LENGTH {
+    if book.len() - at < FIELD_LENGTH {
         return Sought::Nothing;
     }
     let long = number_at(book, at + TAG_BYTES, LENGTH_BYTES) as usize;

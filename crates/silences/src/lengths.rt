@@ -1,4 +1,5 @@
-// The bytes of a silence's value, part by part, and the words of a record.
+// The bytes of a silence's field, part by part, the words of a record, and the most silences of a book.
+use fields::HEAD_LENGTH;
 
 // "tag 21 hex"
 pub const SILENCE_TAG: u8 = 0x21;
@@ -14,6 +15,12 @@ pub const START_BYTES: usize = 4;
 
 // "length 10": the bytes of a silence's value.
 pub const SILENCE_LENGTH: usize = CELL_BYTES + RING_NUMBER_BYTES + START_BYTES;
+
+// "Each silence is one field of 13 bytes": head and value.
+pub const FIELD_LENGTH: usize = HEAD_LENGTH + SILENCE_LENGTH;
+
+// The most silences of a book: as many as 13,000 bytes hold, and 3,000 words.
+pub const MOST_SILENCES: usize = 1000;
 
 // The words of a record: cell, ring number, start.
 pub const RECORD_WORDS: usize = 3;

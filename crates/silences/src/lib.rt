@@ -10,6 +10,8 @@ pub use addresses::Address;
 pub use addresses::Sought;
 pub use field::field_at;
 pub use lengths::CELL_BYTES;
+pub use lengths::FIELD_LENGTH;
+pub use lengths::MOST_SILENCES;
 pub use lengths::RECORD_WORDS;
 pub use lengths::RING_NUMBER_BYTES;
 pub use lengths::SILENCE_LENGTH;

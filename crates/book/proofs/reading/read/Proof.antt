@@ -1,5 +1,4 @@
 -- `book::reading::read` meets its contract: row 5, or what `read_fields` gives.
--- Assumes nothing.
 use mathlib.Core.Path.{sym, ap, _∙_}
 use native.Mathlib.Omega.{arith}
 use Rattle.answers.specs.Paper.{answerPaper}

@@ -1,6 +1,5 @@
 -- `book::reading::read_fields` meets its contract. Before the field at `at` the fields before it have been read and counted (`ReadOn`); each return is one
 -- case of that field, or the book's end. The bytes left fall: a whole field begins before it ends, within the book (`field-ends`).
--- Assumes nothing.
 use Prim.Native.Nat.{_-_}
 use mathlib.Core.Path.{_≡_, sym, _∙_}
 use native.Mathlib.Omega.{arith}
@@ -9,7 +8,7 @@ use borrow.Author.Tests.{not-true, not-false}
 use lib.ListN.{length}
 use Rattle.silences.specs.Reading.{whole, fieldAt}
 use Rattle.silences.specs.Addresses.{silenceOf, lastOf}
-use Rattle.silences.proofs.FieldEnds.{field-ends}
+use Rattle.silences.proofs.FieldTest.{field-ends}
 use Rattle.book.proofs.ReadLoop.{ReadOn, read-start, read-end, read-faulty, read-not-above, read-turn}
 use Rattle.book.proofs.reading.read_fields.Statement.{statement}
 use Rattle.book.proofs.reading.read_fields.Tie as tie

@@ -1,5 +1,4 @@
 -- `book::seeking::is_for` meets its contract: nothing is for no address, and a field is for its own.
--- Assumes nothing.
 use borrow.Author.Needs.{needs}
 use Rattle.book.proofs.seeking.is_for.Statement.{statement}
 use Rattle.book.proofs.seeking.is_for.Tie as tie

@@ -1,6 +1,5 @@
 -- `book::seeking::seek` meets its contract. Before the field at `at` what is sought from `from` on is what is sought from `at` on (`SeekOn`); each
 -- return is one case of that field. The bytes left fall: a whole field begins before it ends, within the book (`field-ends`).
--- Assumes nothing.
 use Prim.Native.Nat.{_-_}
 use mathlib.Core.Path.{_≡_, sym, _∙_}
 use native.Mathlib.Omega.{arith}
@@ -9,7 +8,7 @@ use borrow.Author.Tests.{not-true, not-false}
 use lib.ListN.{length}
 use Rattle.silences.specs.Reading.{whole, fieldAt}
 use Rattle.silences.specs.Addresses.{silenceOf}
-use Rattle.silences.proofs.FieldEnds.{field-ends}
+use Rattle.silences.proofs.FieldTest.{field-ends}
 use Rattle.book.proofs.SeekLoop.{SeekOn, seek-start, seek-nothing, seek-end, seek-turn}
 use Rattle.book.proofs.seeking.seek.Statement.{statement}
 use Rattle.book.proofs.seeking.seek.Tie as tie

@@ -1,5 +1,4 @@
 -- `book::seeking::seek_on` meets its contract: nothing stays nothing, a field that is below the address is passed, any other kept.
--- Assumes nothing.
 use mathlib.Core.Path.{sym, _∙_}
 use borrow.Author.Needs.{needs}
 use Rattle.book.proofs.SoughtCases.{held-passed, held-kept}

@@ -1,5 +1,4 @@
 -- `book::unpacking::put_record` meets its contract: three stores, one after the other.
--- Assumes nothing.
 use native.Mathlib.Numerals.{add-one, add-two}
 use native.Mathlib.Omega.{arith}
 use borrow.Author.Needs.{needs}

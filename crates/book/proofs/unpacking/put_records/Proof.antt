@@ -1,6 +1,5 @@
 -- `book::unpacking::put_records` meets its contract. Before the field at `at` the words of the records that are done stand in the area (`PutOn`); the
 -- return without a field is never reached. The records left fall.
--- Assumes nothing.
 use Prim.Native.Nat.{_-_}
 use native.Mathlib.Omega.{arith}
 use borrow.Author.Needs.{needs}

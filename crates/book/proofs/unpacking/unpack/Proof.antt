@@ -1,5 +1,4 @@
 -- `book::unpacking::unpack` meets its contract: what `read` refuses, no room for the words, or all of them written by `put_records`.
--- Assumes nothing.
 use native.Mathlib.Omega.{arith}
 use borrow.Author.Needs.{needs}
 use Rattle.book.proofs.AcceptedBook.{read-answer-is, records-le}

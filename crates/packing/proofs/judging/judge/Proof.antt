@@ -1,6 +1,5 @@
 -- `packing::judging::judge` meets its contract. Its loop keeps `JudgedTo`: the records before `at` are passed and counted. Each return is one case of the record
 -- there, or that none is left. The words left fall.
--- Assumes nothing.
 use Prim.Native.Nat.{_-_}
 use mathlib.Core.Path.{sym, _∙_}
 use native.Mathlib.Omega.{arith}

@@ -1,6 +1,5 @@
 -- `packing::putting::put_field` meets its contract: each number begins where the one before it ends, and all five are the field (`field-put`). Room for the
 -- field is known at the beginning; what is left of it behind each number follows from what was left behind the one before.
--- Assumes nothing.
 use Prim.Native.Nat.{_+_, _≤_}
 use native.Mathlib.Omega.{arith}
 use borrow.Author.Needs.{needs}

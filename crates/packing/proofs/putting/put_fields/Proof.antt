@@ -1,6 +1,5 @@
 -- `packing::putting::put_fields` meets its contract. Its loop keeps `PutFields`: what is to be written yet, written over the area as it is, gives the whole. The
 -- words left fall.
--- Assumes nothing.
 use Prim.Native.Nat.{_-_}
 use native.Mathlib.Omega.{arith}
 use lib.ListN.{length}

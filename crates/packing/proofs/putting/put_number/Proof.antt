@@ -1,6 +1,5 @@
 -- `packing::putting::put_number` meets its contract. Its loop keeps `PutNumber`: the bytes left, written over the area as it is, give the whole number. The
 -- bytes left fall.
--- Assumes nothing.
 use native.Mathlib.Omega.{arith}
 use Rattle.packing.proofs.NumberPut.{PutNumber, put-number-start, put-number-turn, put-number-end}
 use Rattle.packing.proofs.putting.put_number.Statement.{statement}

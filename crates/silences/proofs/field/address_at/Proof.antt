@@ -1,8 +1,7 @@
 -- `silences::field::address_at` meets its contract: the three numbers are those of the value; the ring number's two bytes fit sixteen bits.
--- Assumes nothing.
 use native.Mathlib.Omega.{arith}
 use Rattle.fields.proofs.NumberWithin.{number-read}
-use Rattle.silences.proofs.FieldTest.{silence-read}
+use Rattle.silences.specs.Reading.{silenceAt}
 use Rattle.silences.proofs.field.address_at.Statement.{statement}
 use Rattle.silences.proofs.field.address_at.Tie as tie
 
@@ -25,10 +24,12 @@ number-at-requires-3 : tie.Need-number-at-requires-3
 number-at-requires-3 c κs = tt
 
 returns : tie.Need-returns
+unfolding silenceAt
 returns c =
-    silence-read _ _ _ _ _ (number-read (c .before .before .number-at .ensures) (omega arith) (omega arith))
-    (number-read (c .before .number-at2 .ensures) (omega arith) (omega arith))
-    (number-read (c .number-at3 .ensures) (omega arith) (omega arith))
+    let cell-is = number-read (c .before .before .number-at .ensures) (omega arith) (omega arith) in
+    let ring-number-is = number-read (c .before .number-at2 .ensures) (omega arith) (omega arith) in
+    let start-is = number-read (c .number-at3 .ensures) (omega arith) (omega arith) in
+    λ i. record { cell = cell-is i; ringNumber = ring-number-is i; start = start-is i }
 
 pub address-at-spec : {M : Type 1} → statement M
 address-at-spec =

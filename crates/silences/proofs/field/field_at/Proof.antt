@@ -1,32 +1,28 @@
 -- `silences::field::field_at` meets its contract: each return is one case of what stands at a byte offset.
--- Assumes nothing.
 use mathlib.Core.Path.{sym, _∙_}
 use native.Mathlib.Omega.{arith}
 use Rattle.fields.proofs.NumberWithin.{number-read}
-use Rattle.silences.proofs.FieldTest.{field-tag-no, field-length-no, field-cut-off, field-is-whole}
+use Rattle.silences.proofs.FieldTest.{field-is-whole, field-is-faulty}
 use Rattle.silences.proofs.field.field_at.Statement.{statement}
 use Rattle.silences.proofs.field.field_at.Tie as tie
 
 -- past the book's end
 returns : tie.Need-returns
-returns c = sym (field-cut-off _ _ (omega arith))
+returns c = sym (field-is-faulty _ _ (λ t. omega (arith, t .within)))
 
 shared-slice-read-if2 : tie.Need-shared-slice-read-if2
 shared-slice-read-if2 c = omega arith
 
 -- another tag
 returns-2 : tie.Need-returns-2
-returns-2 c = sym (field-tag-no _ _ (c .if2 .taken))
+returns-2 c = sym (field-is-faulty _ _ (λ t. c .if2 .taken (t .tag-is)))
 
 sub-if3 : tie.Need-sub-if3
 sub-if3 c = omega arith
 
-add-if3 : tie.Need-add-if3
-add-if3 c = omega arith
-
 -- cut off
 returns-3 : tie.Need-returns-3
-returns-3 c = sym (field-cut-off _ _ (omega arith))
+returns-3 c = sym (field-is-faulty _ _ (λ t. omega (arith, t .within)))
 
 add-number-at : tie.Need-add-number-at
 add-number-at c = omega arith
@@ -39,7 +35,7 @@ cast-long c = omega arith
 
 -- another length
 returns-4 : tie.Need-returns-4
-returns-4 c = sym (field-length-no _ _ (λ e. c .if4 .taken (number-read (c .before .number-at .ensures) (omega arith) (omega arith) ∙ e)))
+returns-4 c = sym (field-is-faulty _ _ (λ t. c .if4 .taken (number-read (c .before .number-at .ensures) (omega arith) (omega arith) ∙ t .long-is)))
 
 add-value : tie.Need-add-value
 add-value c = omega arith
@@ -53,8 +49,11 @@ address-at-requires c κs = omega arith
 -- a whole field
 returns-5 : tie.Need-returns-5
 returns-5 c =
-    sym (field-is-whole _ _ (c .address-at .ensures) (omega arith) (c .before .before .before .before .if2 .left)
-    (sym (number-read (c .before .before .number-at .ensures) (omega arith) (omega arith)) ∙ c .before .if4 .left) (omega arith))
+    sym (field-is-whole _ _ (record {
+      tag-is = c .before .before .before .before .if2 .left;
+      long-is = sym (number-read (c .before .before .number-at .ensures) (omega arith) (omega arith)) ∙ c .before .if4 .left;
+      within = omega arith;
+    }) (c .address-at .ensures) (omega arith))
 
 pub field-at-spec : {M : Type 1} → statement M
 field-at-spec =
@@ -64,7 +63,6 @@ field-at-spec =
     shared-slice-read-if2
     returns-2
     sub-if3
-    add-if3
     returns-3
     add-number-at
     number-at-requires

@@ -1,5 +1,4 @@
 -- `silences::order::is_below` meets its contract: each return is one case of the order.
--- Assumes nothing.
 use mathlib.Core.Path.{sym}
 use native.Mathlib.Omega.{arith}
 use Rattle.silences.specs.Silences.{by-cell, by-ring-number}

@@ -1,5 +1,4 @@
 -- `silences::order::is_same` meets its contract: the first of the three numbers that differs decides.
--- Assumes nothing.
 use native.Mathlib.Omega.{arith}
 use Rattle.silences.proofs.SilenceOrder.{same-cell-no, same-ring-no, same-start}
 use Rattle.silences.proofs.order.is_same.Statement.{statement}
