@@ -9,10 +9,10 @@ use Rattle.silences.specs.declared.addresses.Sought.{Sought}
 use Rattle.silences.specs.Addresses.{silenceOf, soughtOf}
 use Rattle.book.specs.Seeking.{isFor}
 use Rattle.book.specs.Calls.{IsSoughtOn, IsAskedFor}
-use Rattle.outlines.specs.declared.asking.Asked.{Asked}
-use Rattle.outlines.specs.Asking.{addressOf, heldFor, hides, IsHiddenOrShown}
+use Rattle.outlines.specs.declared.asking.BookAsked.{BookAsked}
+use Rattle.outlines.specs.Hiding.{addressOf, heldFor, hides, IsHiddenOrShown}
 
-module _ {book : List ℕ} (asked : Asked) (cell ringNumber : ℕ) (f : Finding) {address : Address} {held : Sought} (sought : IsSoughtOn book (asked .held) address held)
+module _ {book : List ℕ} (asked : BookAsked) (cell ringNumber : ℕ) (f : Finding) {address : Address} {held : Sought} (sought : IsSoughtOn book (asked .held) address held)
     {t : Bool} (asked-for : IsAskedFor held address t) (address-is : silenceOf address ≡ addressOf cell ringNumber f) where
   held-is : soughtOf held ≡ heldFor cell ringNumber book f (soughtOf (asked .held))
   held-is = rw address-is at (sought .is)

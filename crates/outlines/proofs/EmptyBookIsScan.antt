@@ -23,7 +23,7 @@ use Rattle.answers.specs.Rows.{answerBy, areaBy}
 use Rattle.findings.specs.Searching.{Counts, noCounts, searched, searchedWords, LineSearched, answerOf as scanAnswerOf}
 use Rattle.outlines.specs.Scan.{IsScanned}
 use Rattle.outlines.specs.Report.{those, shown, hidden, ReportCounts, noReportCounts, silencesBy, admittedSilences, reportedBy, reportedWordsBy, answerOf, IsReported}
-use Rattle.outlines.specs.Asking.{LineScanned}
+use Rattle.outlines.specs.LineScan.{LineScanned}
 use Rattle.outlines.proofs.ReportOneAnswer.{report-unique}
 
 -- A scan's answer as a report's: nothing hidden.

@@ -14,7 +14,8 @@ use Rattle.silences.proofs.StrictOrder.{start-not-below}
 use Rattle.book.proofs.SeekRising.{Seeking, seeking-turn, seeking-names}
 use Rattle.book.proofs.SoughtRising.{sought-start}
 use Rattle.outlines.specs.Report.{isHidden}
-use Rattle.outlines.specs.Asking.{addressOf, heldFor, hides, IsAccepted}
+use Rattle.outlines.specs.Hiding.{addressOf, heldFor, hides}
+use Rattle.outlines.specs.LineScan.{IsAccepted}
 
 -- A field that was sought for a start at or below i.
 pub record HeldFrom (cell ringNumber : ℕ) (book : List ℕ) (i : ℕ) (held : Sought) : Type 0 where

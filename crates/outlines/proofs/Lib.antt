@@ -9,7 +9,7 @@ pub mod ShownExactly
 pub mod ShownAndHidden
 -- The loop over windows.
 pub mod SweepKeeps
-pub mod WindowLoop
+pub mod QuickLoop
 pub mod AskCases
 pub mod HeldFrom
 -- The report.

@@ -17,7 +17,7 @@ use Rattle.book.proofs.AcceptedBook.{HasRecords, has-records, read-answer-is}
 use Rattle.outlines.specs.declared.reporting.Reported.the-variants.{Counts as CountsCase, Refused}
 use Rattle.findings.specs.Admitting.{refusalOf}
 use Rattle.outlines.specs.Report.{noReportCounts, silencesBy, admittedSilences, reportedBy, reportedWordsBy, IsReported}
-use Rattle.outlines.specs.Asking.{IsAccepted, LineScanned}
+use Rattle.outlines.specs.LineScan.{IsAccepted, LineScanned}
 
 -- What `read` answers with so many records is accepted.
 pub read-accepted : (book : List ℕ) (r : BookAnswer) (records : ℕ) → IsRead book r → r ≡ Records records → IsAccepted book

@@ -20,7 +20,7 @@ use Rattle.outlines.specs.declared.reporting.Reported.{Reported}
 use Rattle.outlines.specs.declared.reporting.Reported.the-variants.{Counts as CountsCase, Refused}
 use Rattle.findings.specs.Admitting.{Admitted}
 use Rattle.outlines.specs.Report.{ReportCounts, noReportCounts, admittedSilences, reportedBy, reportedWordsBy, paperOf, IsReported}
-use Rattle.outlines.specs.Asking.{LineScanned}
+use Rattle.outlines.specs.LineScan.{LineScanned}
 use Rattle.outlines.proofs.GoesBy.{by-book-iff}
 
 module _ (cell ringNumber : ℕ) (ring line : List ℕ) (k : ℕ) (book words : List ℕ) where

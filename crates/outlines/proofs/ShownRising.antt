@@ -13,7 +13,7 @@ use Rattle.meaning.proofs.Words.{words-length}
 use Rattle.lists.proofs.Areas.{written-rest}
 use Rattle.silences.specs.Silences.{Silence}
 use Rattle.outlines.specs.Report.{isHidden, isShown, shown, hidden}
-use Rattle.outlines.specs.Asking.{LineScanned}
+use Rattle.outlines.specs.LineScan.{LineScanned}
 use Rattle.outlines.proofs.TakenByTest.{taken-rising}
 use Rattle.outlines.proofs.ShownAndHidden.{shown-hidden-length}
 

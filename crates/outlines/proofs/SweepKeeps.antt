@@ -25,7 +25,7 @@ use Rattle.sweep.specs.SweepRules.{stateOf, foundOf, hasEnded, CanSweepOn, IsSw
 use Rattle.sweep.specs.VerifyingRules.{TalliedBefore, lastOf}
 use Rattle.sweep.proofs.SweptByRules.{swept-by-rules}
 use Rattle.sweep.proofs.WindowsLeft.{left-from-le, left-start-le, left-scanned}
-use Rattle.outlines.specs.Asking.{CanScan}
+use Rattle.outlines.specs.LineScan.{CanScan}
 
 -- What the sweep keeps.
 pub record SweepKeeps (ring line : List ℕ) (k : ℕ) (so-far : List Finding) (at : Sweep) (counts : List ℕ) : Type 0 where

@@ -11,11 +11,11 @@ ghost use Prim.Native.Nat.{_<_, _^_};
 ghost use Rattle.silences.specs.Silences.{silence};
 ghost use Rattle.silences.specs.Addresses.{silenceOf};
 ghost use Rattle.findings.specs.Putting.{findingOf};
-ghost use Rattle.outlines.specs.Asking.{CanAsk, IsHiddenOrShown, IsShownPut};
+ghost use Rattle.outlines.specs.Hiding.{CanAsk, IsHiddenOrShown, IsShownPut};
 
 // How many findings are shown so far, how many are hidden, and the field that the book gave for the last start. Starts
 // rise, so no field before that one is read again.
-pub struct Asked {
+pub struct BookAsked {
     pub shown: usize,
     pub hidden: usize,
     pub held: Sought,
@@ -34,7 +34,13 @@ pub fn address_of(cell: u32, ring_number: u16, start: LinePlace) -> Address
 }
 
 // One finding more is counted: hidden if the book has a field for its address, else shown. No word is written.
-pub fn ask(cell: u32, ring_number: u16, book: &[u8], asked: Asked, finding: Finding) -> Asked
+pub fn ask(
+    cell: u32,
+    ring_number: u16,
+    book: &[u8],
+    asked: BookAsked,
+    finding: Finding,
+) -> BookAsked
     requires { ⌜ CanAsk asked (findingOf finding) ⌝ }
     ensures { λ r. ⌜ IsHiddenOrShown cell «ring_number» (now (book .entry)) asked (findingOf finding) r ⌝ }
 {
@@ -44,14 +50,14 @@ pub fn ask(cell: u32, ring_number: u16, book: &[u8], asked: Asked, finding: Find
     let held = seek_on(book, before, address);
     if is_for(held, address) {
         let hidden = asked.hidden + 1;
-        return Asked {
+        return BookAsked {
             shown: asked.shown,
             hidden,
             held,
         };
     }
     let shown = asked.shown + 1;
-    Asked {
+    BookAsked {
         shown,
         hidden: asked.hidden,
         held,

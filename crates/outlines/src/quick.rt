@@ -1,6 +1,6 @@
 // The quick scan, rules 1 to 5. A silence book is asked for each finding before its words are written: the report lends
 // its own book, and the scan an empty one, which names no finding.
-use crate::asking::Asked;
+use crate::asking::BookAsked;
 use crate::asking::address_of;
 use crate::asking::ask;
 use crate::asking::put_shown;
@@ -18,7 +18,7 @@ use tally::double;
 use vectors::TABLE_WORDS;
 use vectors::occurrences;
 ghost use Rattle.outlines.specs.Scan.{IsScanned};
-ghost use Rattle.outlines.specs.Asking.{CanScan, CanScanLine, LineScanned};
+ghost use Rattle.outlines.specs.LineScan.{CanScan, CanScanLine, LineScanned};
 
 // "found (hidden ones included), hidden, looks" of one line.
 pub struct LineCounts {
@@ -50,7 +50,7 @@ fn scan_windows(
         looks: 0,
     };
     let held = seek(book, 0, address_of(cell, ring_number, at.start));
-    let mut asked = Asked {
+    let mut asked = BookAsked {
         shown: 0,
         hidden: 0,
         held,

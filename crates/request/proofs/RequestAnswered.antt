@@ -14,7 +14,7 @@ use Rattle.outlines.specs.declared.reporting.Reported.{Reported}
 use Rattle.outlines.specs.declared.reporting.Reported.the-variants.{Counts as CountsCase, Refused}
 use Rattle.outlines.specs.Report.{shown, hidden, ReportCounts, reportCounts, admittedSilences, paperOf, IsReported}
 use Rattle.outlines.proofs.ReportRefusals.{report-refusal-iff}
-use Rattle.outlines.specs.Asking.{LineScanned}
+use Rattle.outlines.specs.LineScan.{LineScanned}
 use Rattle.outlines.proofs.ReportGives.{report-gives}
 use Rattle.outlines.proofs.GoesBy.{by-book-iff}
 use Rattle.outlines.proofs.ShownAndHidden.{shown-hidden-length}

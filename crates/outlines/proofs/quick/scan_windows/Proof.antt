@@ -1,4 +1,4 @@
--- `outlines::quick::scan_windows` meets its contract. The loop keeps `WindowLoop`. A turn goes by the sweep's answer: no finding, or one, which the book is
+-- `outlines::quick::scan_windows` meets its contract. The loop keeps `QuickLoop`. A turn goes by the sweep's answer: no finding, or one, which the book is
 -- asked for. The starts up to the line's end fall.
 use Prim.Native.Nat.{_+_, _-_}
 use mathlib.Core.Path.{_≡_, refl, ap}
@@ -6,13 +6,13 @@ use native.Mathlib.Omega.{arith}
 use borrow.Author.Needs.{needs}
 use lib.ListN.{length}
 use Rattle.sweep.specs.SweepRules.{stateOf, foundOf}
-use Rattle.outlines.proofs.WindowLoop.{WindowLoop, window-start, window-found-le, window-length, window-end, window-less, window-none, window-can-ask, window-found}
+use Rattle.outlines.proofs.QuickLoop.{QuickLoop, quick-start, quick-found-le, quick-length, quick-end, quick-less, quick-none, quick-can-ask, quick-found}
 use Rattle.outlines.proofs.quick.scan_windows.Statement.{statement}
 use Rattle.outlines.proofs.quick.scan_windows.Tie as tie
 
 abbrev Inv-loop : tie.InvT-loop
 Inv-loop cell ring-number ring doubled table line k book counts₀ words₀ m at₀ asked₀ counts words at asked =
-    (m ≡ length ring) × WindowLoop cell ring-number ring doubled table line k book counts₀ words₀ at asked counts words
+    (m ≡ length ring) × QuickLoop cell ring-number ring doubled table line k book counts₀ words₀ at asked counts words
 
 abbrev μ-loop : tie.MeasureT-loop
 μ-loop cell ring-number ring doubled table line k book counts₀ words₀ m at₀ asked₀ counts words at asked = length line + 1 - at .start .0
@@ -26,7 +26,7 @@ seek-requires c κs = tt
 loop-holds : tie.Need-loop-holds Inv-loop μ-loop
 loop-holds c =
     let start = c .before .before .before .before .before .before .before in
-    (refl, window-start (start .pre) refl refl refl refl refl (c .before .address-of .ensures) (c .seek .ensures))
+    (refl, quick-start (start .pre) refl refl refl refl refl (c .before .address-of .ensures) (c .seek .ensures))
 
 add-if1 : tie.Need-add-if1 Inv-loop μ-loop
 add-if1 c = omega (arith, c .before .loop .inv .1 .sweep .start-le)
@@ -48,7 +48,7 @@ ask-requires : tie.Need-ask-requires Inv-loop μ-loop
 ask-requires c κs =
     let swept = c .before .before .before in
     let told = c .before .next3 .given .1 in
-    window-can-ask (swept .before .before .before .before .loop .inv .1) (swept .sweep-on .ensures) (ap stateOf told) (ap foundOf told)
+    quick-can-ask (swept .before .before .before .before .loop .inv .1) (swept .sweep-on .ensures) (ap stateOf told) (ap foundOf told)
 
 put-shown-requires : tie.Need-put-shown-requires Inv-loop μ-loop
 put-shown-requires c κs = tt
@@ -58,7 +58,7 @@ loop-less c =
     let is-told = c .before .before .before .before .before .before in
     let swept = is-told .before .before in
     let told = is-told .next3 .given .1 in
-    window-less (swept .before .before .before .before .loop .inv .1) (swept .sweep-on .ensures) (ap stateOf told) (swept .before .before .if1 .taken)
+    quick-less (swept .before .before .before .before .loop .inv .1) (swept .sweep-on .ensures) (ap stateOf told) (swept .before .before .if1 .taken)
 
 loop-again : tie.Need-loop-again Inv-loop μ-loop
 loop-again c =
@@ -67,43 +67,43 @@ loop-again c =
     let is-told = asked .before .before in
     let swept = is-told .before .before in
     let told = is-told .next3 .given .1 in
-    (refl, window-found (swept .before .before .before .before .loop .inv .1) (swept .sweep-on .ensures) (ap stateOf told) (ap foundOf told) (asked .ask .ensures) (put .put-shown .ensures))
+    (refl, quick-found (swept .before .before .before .before .loop .inv .1) (swept .sweep-on .ensures) (ap stateOf told) (ap foundOf told) (asked .ask .ensures) (put .put-shown .ensures))
 
 -- No window is in the line any more.
 loop-less-2 : tie.Need-loop-less-2 Inv-loop μ-loop
 loop-less-2 c =
     let swept = c .before .before .before in
     let told = c .before .next .given .1 in
-    window-less (swept .before .before .before .before .loop .inv .1) (swept .sweep-on .ensures) (ap stateOf told) (swept .before .before .if1 .taken)
+    quick-less (swept .before .before .before .before .loop .inv .1) (swept .sweep-on .ensures) (ap stateOf told) (swept .before .before .if1 .taken)
 
 loop-again-2 : tie.Need-loop-again-2 Inv-loop μ-loop
 loop-again-2 c =
     let swept = c .before .before .before in
     let told = c .before .next .given .1 in
-    (refl, window-none (swept .before .before .before .before .loop .inv .1) (swept .sweep-on .ensures) (ap stateOf told) (ap foundOf told))
+    (refl, quick-none (swept .before .before .before .before .loop .inv .1) (swept .sweep-on .ensures) (ap stateOf told) (ap foundOf told))
 
 -- A candidate that is no finding.
 loop-less-3 : tie.Need-loop-less-3 Inv-loop μ-loop
 loop-less-3 c =
     let swept = c .before .before .before in
     let told = c .before .next2 .given .1 in
-    window-less (swept .before .before .before .before .loop .inv .1) (swept .sweep-on .ensures) (ap stateOf told) (swept .before .before .if1 .taken)
+    quick-less (swept .before .before .before .before .loop .inv .1) (swept .sweep-on .ensures) (ap stateOf told) (swept .before .before .if1 .taken)
 
 loop-again-3 : tie.Need-loop-again-3 Inv-loop μ-loop
 loop-again-3 c =
     let swept = c .before .before .before in
     let told = c .before .next2 .given .1 in
-    (refl, window-none (swept .before .before .before .before .loop .inv .1) (swept .sweep-on .ensures) (ap stateOf told) (ap foundOf told))
+    (refl, quick-none (swept .before .before .before .before .loop .inv .1) (swept .sweep-on .ensures) (ap stateOf told) (ap foundOf told))
 
 -- Past the last window.
 add-found : tie.Need-add-found Inv-loop μ-loop
-add-found c = omega (arith, window-found-le (c .before .before .before .loop .inv .1))
+add-found c = omega (arith, quick-found-le (c .before .before .before .loop .inv .1))
 
 same-length : tie.Need-same-length Inv-loop μ-loop
-same-length c = window-length (c .before .before .before .loop .inv .1)
+same-length c = quick-length (c .before .before .before .loop .inv .1)
 
 returns : tie.Need-returns Inv-loop μ-loop
-returns c = window-end (c .before .before .before .loop .inv .1) (c .before .if1 .left)
+returns c = quick-end (c .before .before .before .loop .inv .1) (c .before .if1 .left)
 
 pub scan-windows-spec : {M : Type 1} → statement M
 scan-windows-spec =

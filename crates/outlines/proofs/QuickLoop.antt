@@ -24,16 +24,17 @@ use Rattle.sweep.specs.declared.sweeping.Swept.{Swept}
 use Rattle.sweep.specs.Sweeps.{IsSweptBy}
 use Rattle.sweep.specs.SweepRules.{stateOf, foundOf}
 use Rattle.sweep.specs.VerifyingRules.{lastOf}
-use Rattle.outlines.specs.declared.asking.Asked.{Asked}
+use Rattle.outlines.specs.declared.asking.BookAsked.{BookAsked}
 use Rattle.outlines.specs.Report.{isHidden, isShown, those, shown, hidden}
-use Rattle.outlines.specs.Asking.{hides, CanAsk, IsHiddenOrShown, IsShownPut, IsAccepted, CanScan, LineScanned}
+use Rattle.outlines.specs.Hiding.{hides, CanAsk, IsHiddenOrShown, IsShownPut}
+use Rattle.outlines.specs.LineScan.{IsAccepted, CanScan, LineScanned}
 use Rattle.outlines.proofs.TakenByTest.{taken-more-no, taken-more-yes}
 use Rattle.outlines.proofs.ShownAndHidden.{shown-hidden-length}
 use Rattle.outlines.proofs.HeldFrom.{HeldFrom, held-start, held-later, held-turn, held-hides}
 use Rattle.outlines.proofs.SweepKeeps.{SweepKeeps, SweepTurn, sweep-start, sweep-turn}
 
 -- What the loop keeps.
-pub record WindowLoop (cell ringNumber : ℕ) (ring doubled table line : List ℕ) (k : ℕ) (book counts₀ area : List ℕ) (at : Sweep) (asked : Asked) (counts words : List ℕ) : Type 0 where
+pub record QuickLoop (cell ringNumber : ℕ) (ring doubled table line : List ℕ) (k : ℕ) (book counts₀ area : List ℕ) (at : Sweep) (asked : BookAsked) (counts words : List ℕ) : Type 0 where
   pub can : CanScan ring doubled table line k book counts₀ area
   pub so-far : List Finding
   pub sweep : SweepKeeps ring line k so-far at counts
@@ -51,12 +52,12 @@ room-for-all ring line k admitted =
 
 module _ {cell ringNumber : ℕ} {ring doubled table line : List ℕ} {k : ℕ} {book counts₀ area : List ℕ} where
   -- Before the first window the book is asked for start 0.
-  pub window-start : (can : CanScan ring doubled table line k book counts₀ area) {at : Sweep} {asked : Asked} {first : Address}
+  pub quick-start : (can : CanScan ring doubled table line k book counts₀ area) {at : Sweep} {asked : BookAsked} {first : Address}
       → at .start .0 ≡ 0 → lastOf (at .last) ≡ none → at .looks ≡ 0
       → asked .shown ≡ 0 → asked .hidden ≡ 0 → silenceOf first ≡ silence cell ringNumber 0 → IsSought book 0 first (asked .held)
-      → WindowLoop cell ringNumber ring doubled table line k book counts₀ area at asked counts₀ area
+      → QuickLoop cell ringNumber ring doubled table line k book counts₀ area at asked counts₀ area
   unfolding those
-  window-start can {at} s l o no-shown no-hidden zero sought = record {
+  quick-start can {at} s l o no-shown no-hidden zero sought = record {
     can = can;
     so-far = [];
     sweep = sweep-start can s l o;
@@ -65,7 +66,7 @@ module _ {cell ringNumber : ℕ} {ring doubled table line : List ℕ} {k : ℕ} 
     held-from = held-start (at .start .0) zero sought;
   }
 
-  module _ {at : Sweep} {asked : Asked} {counts words : List ℕ} (h : WindowLoop cell ringNumber ring doubled table line k book counts₀ area at asked counts words) where
+  module _ {at : Sweep} {asked : BookAsked} {counts words : List ℕ} (h : QuickLoop cell ringNumber ring doubled table line k book counts₀ area at asked counts words) where
     abbrev ss : List Silence
     ss = h .can .book-read .silences
 
@@ -74,17 +75,17 @@ module _ {cell ringNumber : ℕ} {ring doubled table line : List ℕ} {k : ℕ} 
     counts-add = omega (arith, h .in-words .count-is, h .hidden-is, shown-hidden-length ss cell ringNumber (h .so-far))
 
     -- Shown and hidden together are at most 65,536.
-    pub window-found-le : asked .shown + asked .hidden ≤ mostLine
-    window-found-le = omega (arith, counts-add, scan-found-le ring line k _ _ _ _ (h .sweep .scanning), below-length-le ring line k (length line), h .can .admitted .most-line)
+    pub quick-found-le : asked .shown + asked .hidden ≤ mostLine
+    quick-found-le = omega (arith, counts-add, scan-found-le ring line k _ _ _ _ (h .sweep .scanning), below-length-le ring line k (length line), h .can .admitted .most-line)
 
     -- The words keep their length.
-    pub window-length : length words ≡ length area
-    window-length = so-far-length (h .in-words) (omega (arith, counts-add, scan-found-le ring line k _ _ _ _ (h .sweep .scanning), room-for-all ring line k (h .can .admitted)))
+    pub quick-length : length words ≡ length area
+    quick-length = so-far-length (h .in-words) (omega (arith, counts-add, scan-found-le ring line k _ _ _ _ (h .sweep .scanning), room-for-all ring line k (h .can .admitted)))
 
     -- Past the last window the line is scanned.
-    pub window-end : length line < at .start .0 + length ring
+    pub quick-end : length line < at .start .0 + length ring
         → LineScanned cell ringNumber ring line k book area (asked .shown + asked .hidden) (asked .hidden) (at .looks) words
-    window-end past =
+    quick-end past =
         let e = scan-end ring line k _ _ _ _ (h .sweep .scanning) (omega arith) in
         record {
           silences = ss;
@@ -101,12 +102,12 @@ module _ {cell ringNumber : ℕ} {ring doubled table line : List ℕ} {k : ℕ} 
       turn = sweep-turn (h .can) (h .sweep) swept
 
       -- The next window is a later one: the starts that are left fall.
-      pub window-less : at .start .0 + length ring ≤ length line → length line + 1 - next .start .0 < length line + 1 - at .start .0
-      window-less in-line = rw is-next at (turn .less in-line)
+      pub quick-less : at .start .0 + length ring ≤ length line → length line + 1 - next .start .0 < length line + 1 - at .start .0
+      quick-less in-line = rw is-next at (turn .less in-line)
 
       -- A turn that finds nothing.
-      pub window-none : foundOf r ≡ [] → WindowLoop cell ringNumber ring doubled table line k book counts₀ area next asked counts′ words
-      window-none e = record {
+      pub quick-none : foundOf r ≡ [] → QuickLoop cell ringNumber ring doubled table line k book counts₀ area next asked counts′ words
+      quick-none e = record {
         can = h .can;
         so-far = h .so-far;
         sweep = rw (is-next, e, append-nil) at (turn .keeps);
@@ -117,12 +118,12 @@ module _ {cell ringNumber : ℕ} {ring doubled table line : List ℕ} {k : ℕ} 
 
       module _ {f : Finding} (e : foundOf r ≡ f ∷ []) where
         -- The book can be asked for what it finds.
-        pub window-can-ask : CanAsk asked f
-        window-can-ask =
-            let found-le = window-found-le in
+        pub quick-can-ask : CanAsk asked f
+        quick-can-ask =
+            let found-le = quick-found-le in
             record { start-lt = turn .found f e .are-words .each-lt 0; shown-le = omega arith; hidden-le = omega arith }
 
-        module _ {asked′ : Asked} (asks : IsHiddenOrShown cell ringNumber book asked f asked′) {out : List ℕ} (put : IsShownPut words (asked .shown) (asked′ .shown) f out) where
+        module _ {asked′ : BookAsked} (asks : IsHiddenOrShown cell ringNumber book asked f asked′) {out : List ℕ} (put : IsShownPut words (asked .shown) (asked′ .shown) f out) where
           sweep-next : SweepKeeps ring line k (h .so-far ++ f ∷ []) next counts′
           sweep-next = rw (is-next, e) at (turn .keeps)
 
@@ -132,13 +133,13 @@ module _ {cell ringNumber : ℕ} {ring doubled table line : List ℕ} {k : ℕ} 
               omega (arith, counts-add, scan-found-le ring line k _ _ _ _ (sweep-next .scanning), length-append (h .so-far) (f ∷ []), room-for-all ring line k (h .can .admitted))
 
           -- A turn that finds something, which the book was asked for.
-          pub window-found : WindowLoop cell ringNumber ring doubled table line k book counts₀ area next asked′ counts′ out
-          window-found =
+          pub quick-found : QuickLoop cell ringNumber ring doubled table line k book counts₀ area next asked′ counts′ out
+          quick-found =
               go (isHidden ss cell ringNumber f) refl (held-hides (h .held-from) f (turn .found f e .from-le) (h .can .book-read))
             where
               next-loop : WordsSoFar area (shown ss cell ringNumber (h .so-far ++ f ∷ [])) (asked′ .shown) out
                   → asked′ .hidden ≡ length (hidden ss cell ringNumber (h .so-far ++ f ∷ []))
-                  → WindowLoop cell ringNumber ring doubled table line k book counts₀ area next asked′ counts′ out
+                  → QuickLoop cell ringNumber ring doubled table line k book counts₀ area next asked′ counts′ out
               next-loop in-words hidden-is = record {
                 can = h .can;
                 so-far = h .so-far ++ f ∷ [];
@@ -149,7 +150,7 @@ module _ {cell ringNumber : ℕ} {ring doubled table line : List ℕ} {k : ℕ} 
               }
 
               go : (t : Bool) → isHidden ss cell ringNumber f ≡ t → hides cell ringNumber book f (soughtOf (asked .held)) ≡ t
-                  → WindowLoop cell ringNumber ring doubled table line k book counts₀ area next asked′ counts′ out
+                  → QuickLoop cell ringNumber ring doubled table line k book counts₀ area next asked′ counts′ out
               go true named same =
                   let shown-is : asked′ .shown ≡ asked .shown = rw same at (asks .shown-is) in
                   next-loop
