@@ -1,6 +1,5 @@
--- Whether counts can be moved: the test is a conjunction of comparisons, and `CanMove` says the same (`can-move-iff`). So counts that pass meet what moving asks,
--- and the two ways of `move_counts` are the two cases of its contract.
--- Assumes nothing.
+-- Whether counts can be moved: the test is a conjunction of comparisons, and `CanMove` says the same (`can-move-iff`). So counts that pass meet the precondition
+-- of `move_along`, and the two returns of `move_counts` are the two cases of its contract.
 use Prim.Native.Nat.{ℕ, _+_, _-_, _≤_}
 use mathlib.Core.Path.{_≡_, refl}
 use mathlib.Core.Bool.{Bool, true, false}

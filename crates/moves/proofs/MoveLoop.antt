@@ -17,7 +17,7 @@ use Rattle.tally.specs.Windows.{IsWindow}
 use Rattle.tally.specs.Counts.{mostCounts, leastOf, RingFits}
 use Rattle.moves.specs.Moves.{steppedCounts, CountsAt, unmoved, stepOn, moveOn, CanMove, IsStepped, IsMovedOn}
 use Rattle.lists.proofs.StoreLoop.{storedFirst-length}
-use Rattle.tally.proofs.WindowEdges.{start-edge}
+use Rattle.tally.proofs.WindowEdges.{fitting-edge}
 
 module _ (ring line : List ℕ) (below : ℕ) where
   -- No step is left.
@@ -66,10 +66,10 @@ module _ (ring line : List ℕ) (from steps below : ℕ) (old : List ℕ) (can :
     module _ (goes-on : i < from + steps) (here next new : List ℕ) (z : Least) (here-is : IsWindow line i m here) (next-is : IsWindow line (i + 1) m next)
         (stepped : IsStepped ring (getD here 0 0) (getD next (m - 1) 0) counts new z) where
       leaves : getD here 0 0 ≡ windowEdge line i 0
-      leaves = start-edge line i m here here-is (omega (arith, can .in-line)) 0 (can .fits .some-edge)
+      leaves = fitting-edge {ring = ring} here-is (omega (arith, can .in-line)) 0 (can .fits .some-edge)
 
       enters : getD next (m - 1) 0 ≡ windowEdge line (i + 1) (m - 1)
-      enters = start-edge line (i + 1) m next next-is (omega (arith, can .in-line)) (m - 1) (omega (arith, can .fits .some-edge))
+      enters = fitting-edge {ring = ring} next-is (omega (arith, can .in-line)) (m - 1) (omega (arith, can .fits .some-edge))
 
       new-is : new ≡ steppedCounts ring (windowEdge line i 0) (windowEdge line (i + 1) (m - 1)) counts
       new-is =

@@ -9,7 +9,7 @@ use native.Mathlib.Nat.{add-mul, zero-mul}
 use native.Mathlib.Decide.{decLt, ℕ-discrete}
 use native.Mathlib.Omega.{arith}
 use lib.ListN.{length}
-use Rattle.meaning.specs.Meanings.{leastDistance}
+use Rattle.meaning.specs.Meanings.{FitsInLine, leastDistance}
 use Rattle.meaning.specs.Looks.{stepLooks}
 use Rattle.moves.specs.declared.steps.Reached.{Reached}
 use Rattle.tally.specs.Counts.{mostCounts, IsLeast}
@@ -117,13 +117,13 @@ module _ (ring line : List ℕ) (below : ℕ) (some : 0 < length ring) (most : l
       (came-on at tallied left (moveOn ring line below left (stepOn ring line at)) (omega (arith, far))
       (came left (stepOn ring line at) (next-tallied at tallied))))
 
-  module _ (from steps : ℕ) (old : List ℕ) (tallied : Tallied ring line from old) (some-step : 0 < steps) (in-line : from + steps + m ≤ length line)
+  module _ (from steps : ℕ) (old : List ℕ) (tallied : Tallied ring line from old) (some-step : 0 < steps) (ends : FitsInLine ring line (from + steps))
       (most-line : length line ≤ mostPlaces) where
     -- The tally can be moved.
     can-be : canMove m (length old) (length line) from steps ≡ true
     can-be =
         can-move-iff m (length old) (length line) from steps .1
-        (record { fits = record { some-edge = some; most = most; room = omega (arith, tallied .size) }; most-line = most-line; in-line = in-line })
+        (record { fits = record { some-edge = some; most = most; room = omega (arith, tallied .size) }; most-line = most-line; in-line = ends .in-line })
 
     -- The tally moved from a start is the tally of the start reached.
     pub moved-tallied : (new : List ℕ) (r : Reached) → IsMoved ring line from steps below old new r → IsReached ring line from steps below new r

@@ -148,7 +148,7 @@ module _ {ring doubled line : List ℕ} {k : ℕ} {area : List ℕ} {i found loo
           let f : Finding = record { start = start; rotation = rotation; distance = reached .least } in
           let here : foundAt ring line k start ≡ f ∷ [] =
           least-yes ring line k start counts′ (reached .least) (admitted .some-edge) (verified .tallied) (verified .least-is) rotation
-          (lowest-at counts′ (reached .least) (length ring) rotation (admitted .most-ring) (verified .least-is) low) (verified .in-line) near in
+          (lowest-at counts′ (reached .least) (length ring) rotation (admitted .most-ring) (verified .least-is) low) (omega (arith, verified .in-line)) near in
           let small = found-small ring line k start f (admitted .some-edge) here in
           let are-words : IsWords (findingWords f) = admitted-words ring line admitted (omega (arith, verified .in-line)) (small .1) (small .2) in
           let more = so-far-more (keeps .put) room-behind are-words put in

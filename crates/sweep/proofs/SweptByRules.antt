@@ -125,7 +125,7 @@ module _ (ring doubled table line : List ℕ) (k : ℕ) (old : List ℕ) (at : S
     found near =
         after _ refl refl
         (sym (least-yes ring line k i (tally .counts) (tally .least) (windows .some-edge) (verified .tallied) (verified .least-is) rotation
-        (lowest-at (tally .counts) (tally .least) m rotation (windows .most) (verified .least-is) (record { is = refl })) (read-is .in-line) near))
+        (lowest-at (tally .counts) (tally .least) m rotation (windows .most) (verified .least-is) (record { is = refl })) (omega (arith, read-is .in-line)) near))
 
   -- What a sweep came to.
   abbrev SweptOn : SweptTo → Type 0

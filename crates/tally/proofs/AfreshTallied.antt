@@ -8,7 +8,7 @@ use native.Mathlib.Nat.{zero-add, add-comm}
 use native.Mathlib.Omega.{arith}
 use lib.ListN.{length, getD}
 use Rattle.meaning.specs.Numbers.{count}
-use Rattle.meaning.specs.Meanings.{unequal, differs, distance}
+use Rattle.meaning.specs.Meanings.{FitsInLine, unequal, differs, distance}
 use Rattle.meaning.specs.Looks.{afreshLooks}
 use Rattle.meaning.proofs.Count.{count-same}
 use Rattle.meaning.proofs.WindowAlone.{alone-distance}
@@ -16,7 +16,7 @@ use Rattle.tally.specs.declared.counts.Least.{Least}
 use Rattle.tally.specs.Windows.{IsWindow}
 use Rattle.tally.specs.Counts.{mostCounts, differsThere, afreshCount, afreshCounts, canCount, countedTo, IsDoubled, IsCounted}
 use Rattle.tally.specs.Tallied.{Verified}
-use Rattle.tally.proofs.WindowEdges.{start-window, start-length}
+use Rattle.tally.proofs.WindowEdges.{fitting-window, fitting-length}
 use Rattle.lists.proofs.StoreLoop.{storedFirst-length, storedFirst-at}
 use Rattle.tally.proofs.LeastIsOne.{leastOf-is}
 use Rattle.tally.proofs.DoubledLoop.{doubled-edge, doubled-length}
@@ -66,14 +66,14 @@ module _ (ring doubled window : List ℕ) (some : 0 < length ring) (most : lengt
 
 -- A window counted afresh is verified: alone, as a line of its own, and so in the line.
 pub counted-verified : (ring line : List ℕ) (i : ℕ) (doubled old new edges : List ℕ) (z : Least) → length old ≡ mostCounts → 0 < length ring
-    → length ring ≤ mostCounts → IsDoubled ring doubled → i + length ring ≤ length line → IsWindow line i (length ring) edges
+    → length ring ≤ mostCounts → IsDoubled ring doubled → FitsInLine ring line i → IsWindow line i (length ring) edges
     → IsCounted doubled edges old new z → Verified ring line i (afreshLooks (length ring)) new (z .least) (z .looks)
-counted-verified ring line i doubled old new edges z size some most twice in-line handed counted =
-    let alone = afresh-verified ring doubled edges some most twice (start-length line i (length ring) edges handed in-line) old new z size counted in
+counted-verified ring line i doubled old new edges z size some most twice fits handed counted =
+    let alone = afresh-verified ring doubled edges some most twice (fitting-length handed fits) old new z size counted in
     record {
       tallied = record {
         size = alone .tallied .size;
-        each = λ r l. alone .tallied .each r l ∙ ap (λ (xs : List ℕ). distance ring xs 0 r) (start-window line i (length ring) edges handed in-line)
+        each = λ r l. alone .tallied .each r l ∙ ap (λ (xs : List ℕ). distance ring xs 0 r) (fitting-window handed fits)
             ∙ alone-distance ring line i r;
       };
       least-is = alone .least-is;

@@ -1,6 +1,5 @@
--- Whether a window can be counted: the test is a conjunction of comparisons, and `CanCount` says the same (`can-count-iff`). So a window that passes meets what
--- `count_edges` asks, and the two ways of `count_afresh` are the two cases of its contract.
--- Assumes nothing.
+-- Whether a window can be counted: the test is a conjunction of comparisons, and `CanCount` says the same (`can-count-iff`). So a window that passes meets the
+-- precondition of `count_edges`, and the two returns of `count_afresh` are the two cases of its contract.
 use Prim.Native.Nat.{ℕ, _*_}
 use mathlib.Core.Path.{_≡_, refl}
 use mathlib.Core.Bool.{Bool, true, false}

@@ -1,12 +1,11 @@
--- What a start's tally says of it: the least count is the least distance, and the lowest rotation with that count the lowest that reaches it.
--- So a start is a finding exactly when its least count is at most k, and this is what it carries.
--- Assumes nothing.
-use Prim.Native.Nat.{ℕ, _+_, _≤_, _<_}
+-- What a start's tally tells of it: the least count is the least distance, and the lowest rotation with that count is the lowest that reaches it.
+-- So a start is a finding exactly when its least count is at most k, and it carries that rotation and that count.
+use Prim.Native.Nat.{ℕ, _≤_, _<_}
 use mathlib.Core.Path.{_≡_, sym, ap, _∙_}
 use mathlib.Core.List.{List, [], _∷_}
 use native.Mathlib.Omega.{arith}
 use lib.ListN.{length, getD}
-use Rattle.meaning.specs.Meanings.{distance, lowestRotation, leastDistance}
+use Rattle.meaning.specs.Meanings.{IsStart, distance, lowestRotation, leastDistance}
 use Rattle.meaning.specs.Findings.{Finding, foundAt}
 use Rattle.meaning.proofs.Lowest.{lowest-unique}
 use Rattle.meaning.proofs.Places.{lowestRotation-is, found-yes, found-no}
@@ -47,7 +46,7 @@ module _ (ring line : List ℕ) (k i : ℕ) (counts : List ℕ) (least : ℕ) (p
         (lowestRotation-is ring line pos i)
 
     -- A start whose least count is at most k: its finding.
-    pub least-yes : i + length ring ≤ length line → least ≤ k → foundAt ring line k i ≡ record { start = i; rotation = r; distance = least } ∷ []
-    least-yes in-line h =
-        found-yes ring line k i (omega arith) (omega (arith, least-is))
+    pub least-yes : IsStart ring line i → least ≤ k → foundAt ring line k i ≡ record { start = i; rotation = r; distance = least } ∷ []
+    least-yes start h =
+        found-yes ring line k i start (omega (arith, least-is))
         ∙ ap (λ (f : Finding). f ∷ []) (λ j. record { start = i; rotation = sym rotation-is j; distance = sym least-is j })

@@ -7,32 +7,33 @@ use native.Mathlib.Omega.{arith}
 use lib.ListN.{length, getD, take, drop, length-drop}
 use lib.Seq.{length-take-le}
 use borrow.Author.Tests.{le-leb, lt-leb}
-use Rattle.meaning.specs.Meanings.{window, windowEdge}
+use Rattle.meaning.specs.Meanings.{FitsInLine, window, windowEdge}
+use Rattle.meaning.proofs.Starts.{fits-line-iff}
 use Rattle.meaning.proofs.Places.{window-edge-is}
 use Rattle.tally.specs.Windows.{IsWindow}
 
 module _ (line : List ℕ) (i m : ℕ) where
-  -- Where it would end past the line there is none.
+  -- Where it would end past the line it is empty.
   pub no-window : length line < i + m → IsWindow line i m []
   no-window past = record { is = rw (lt-leb (i + m) (length line) past) refl }
 
-  -- At a start it is the part from i to i + m.
+  -- Where it fits it is the part from i to i + m.
   pub part-window : i + m ≤ length line → IsWindow line i m (take (i + m - i) (drop i line))
   unfolding window
   part-window in-line =
       let size : i + m - i ≡ m = omega arith in
       record { is = ap (λ (n : ℕ). take n (drop i line)) size ∙ sym (rw (le-leb (i + m) (length line) in-line) refl) }
 
-module _ (line : List ℕ) (i m : ℕ) (edges : List ℕ) (answer : IsWindow line i m edges) (in-line : i + m ≤ length line) where
-  -- At a start the window is there.
-  pub start-window : edges ≡ window m line i
-  start-window = answer .is ∙ rw (le-leb (i + m) (length line) in-line) refl
+module _ {ring line : List ℕ} {i : ℕ} {edges : List ℕ} (answer : IsWindow line i (length ring) edges) (fits : FitsInLine ring line i) where
+  -- Where the window fits it is the ring's length of edges from i on.
+  pub fitting-window : edges ≡ window (length ring) line i
+  fitting-window = answer .is ∙ rw (fits-line-iff ring line i .1 fits) refl
 
   -- It has m edges.
-  pub start-length : length edges ≡ m
+  pub fitting-length : length edges ≡ length ring
   unfolding window
-  start-length = ap length start-window ∙ length-take-le m (drop i line) (omega (arith, length-drop i line))
+  fitting-length = ap length fitting-window ∙ length-take-le (length ring) (drop i line) (omega (arith, length-drop i line))
 
   -- Its edges are the line's.
-  pub start-edge : (q : ℕ) → q < m → getD edges q 0 ≡ windowEdge line i q
-  start-edge q l = ap (λ (xs : List ℕ). getD xs q 0) start-window ∙ window-edge-is m line i q l
+  pub fitting-edge : (q : ℕ) → q < length ring → getD edges q 0 ≡ windowEdge line i q
+  fitting-edge q l = ap (λ (xs : List ℕ). getD xs q 0) fitting-window ∙ window-edge-is (length ring) line i q l

@@ -2,7 +2,7 @@
 use Prim.Native.Nat.{_+_, _-_}
 use borrow.Author.Needs.{needs}
 use native.Mathlib.Omega.{arith}
-use Rattle.tally.proofs.WindowEdges.{start-length}
+use Rattle.tally.proofs.WindowEdges.{fitting-length}
 use Rattle.moves.proofs.MoveLoop.{Moving, moving-start, moving-fits, moving-turn, moving-stops, moving-end}
 use Rattle.moves.proofs.steps.move_along.Statement.{statement}
 use Rattle.moves.proofs.steps.move_along.Tie as tie
@@ -31,7 +31,7 @@ window-requires-2 c κs = search needs
 shared-slice-read-step : tie.Need-shared-slice-read-step Inv-loop μ-loop
 shared-slice-read-step c =
     let here = c .before .before .before in
-    omega (arith, start-length _ _ _ _ (here .window .ensures) (omega arith))
+    omega (arith, fitting-length {ring = here .before .before .before .before .before .before .args .ring .now} (here .window .ensures) (omega arith))
 
 sub-step : tie.Need-sub-step Inv-loop μ-loop
 sub-step c = search needs
@@ -39,7 +39,7 @@ sub-step c = search needs
 shared-slice-read-step-2 : tie.Need-shared-slice-read-step-2 Inv-loop μ-loop
 shared-slice-read-step-2 c =
     let next = c .before .before .before in
-    omega (arith, start-length _ _ _ _ (next .window2 .ensures) (omega arith))
+    omega (arith, fitting-length {ring = next .before .before .before .before .before .before .before .args .ring .now} (next .window2 .ensures) (omega arith))
 
 step-requires : tie.Need-step-requires Inv-loop μ-loop
 step-requires c κs =

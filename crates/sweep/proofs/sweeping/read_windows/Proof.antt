@@ -4,7 +4,7 @@ use Prim.Native.Nat.{_+_, _-_}
 use native.Mathlib.Omega.{arith}
 use borrow.Author.Needs.{needs}
 use lib.ListN.{length}
-use Rattle.tally.proofs.WindowEdges.{start-length}
+use Rattle.tally.proofs.WindowEdges.{fitting-length}
 use Rattle.sweep.proofs.WindowTurns.{StillWindows, windows-start, windows-end, windows-next-le, windows-looks-le, windows-stop, windows-turn}
 use Rattle.sweep.proofs.sweeping.read_windows.Statement.{statement}
 use Rattle.sweep.proofs.sweeping.read_windows.Tie as tie
@@ -28,7 +28,7 @@ read-window-requires : tie.Need-read-window-requires Inv-loop μ-loop
 read-window-requires c κs =
     let turn = c .before in
     let can = turn .before .loop .inv .can in
-    let size = start-length _ _ _ _ (c .window .ensures) (turn .loop-test .taken) in (
+    let size = fitting-length {ring = turn .before .before .before .before .args .ring .now} (c .window .ensures) (omega (arith, turn .loop-test .taken)) in (
       omega (arith, size, can .some-edge),
       omega (arith, size, can .most),
     )
