@@ -6,6 +6,7 @@ use mathlib.Core.List.{List}
 use native.Mathlib.Numerals.{add-one}
 use native.Mathlib.Omega.{arith}
 use lib.ListN.{length}
+use Rattle.meaning.specs.Meanings.{FitsInLine}
 use Rattle.meaning.specs.Looks.{stepLooks, surveyLooksBelow}
 use Rattle.meaning.proofs.SurveyLooks.{surveyLooks-first, surveyLooks-below}
 use Rattle.tally.specs.declared.counts.Least.{Least}
@@ -23,7 +24,7 @@ module _ {ring doubled line : List ℕ} {k i : ℕ} {old : List ℕ} (can : CanV
       → IsVerifiedOn ring line k i counts (record { start = record { 0 = i }; least = z .least; looks = z .looks })
   unfolding surveyLooksBelow
   first-verified {edges} {counts} {z} first handed counted =
-      let v = counted-verified ring line i doubled old counts edges z (can .fits .size) (can .fits .some-edge) (can .fits .most) (can .twice) (omega (arith, can .in-line)) handed counted in
+      let v = counted-verified ring line i doubled old counts edges z (can .fits .size) (can .fits .some-edge) (can .fits .most) (can .twice) (can .in-line .in-line) handed counted in
       record {
         start-ge = omega arith;
         in-line = can .in-line;
@@ -34,7 +35,7 @@ module _ {ring doubled line : List ℕ} {k i : ℕ} {old : List ℕ} (can : CanV
       }
 
   -- what the starts below i and those from i to j cost: so many steps more
-  steps-cost : (j : ℕ) → 0 < i → i ≤ j → j + length ring ≤ length line
+  steps-cost : (j : ℕ) → 0 < i → i ≤ j → FitsInLine ring line j
       → surveyLooksBelow ring line i + (j - (i - 1)) * stepLooks (length ring) ≡ surveyLooksBelow ring line (j + 1)
   steps-cost j after l in-line =
       let here : i ≡ i - 1 + 1 = omega arith in
@@ -42,7 +43,7 @@ module _ {ring doubled line : List ℕ} {k i : ℕ} {old : List ℕ} (can : CanV
       omega (
         arith,
         ap (surveyLooksBelow ring line) (here ∙ add-one (i - 1)) ∙ surveyLooks-below ring line (i - 1) (omega (arith, can .in-line)),
-        ap (surveyLooksBelow ring line) (add-one j) ∙ surveyLooks-below ring line j (omega arith),
+        ap (surveyLooksBelow ring line) (add-one j) ∙ surveyLooks-below ring line j in-line,
         ap (λ (x : ℕ). x * stepLooks (length ring)) all,
       )
 
@@ -53,7 +54,7 @@ module _ {ring doubled line : List ℕ} {k i : ℕ} {old : List ℕ} (can : CanV
       let reached : IsReached ring line (i - 1) (length line - length ring - (i - 1)) (k + 1) counts r =
       moved-tallied ring line (k + 1) (can .fits .some-edge) (can .fits .most) (i - 1) (length line - length ring - (i - 1)) old (can .before after)
       (omega (arith, can .in-line)) (omega (arith, can .in-line)) (omega (arith, can .most-line)) counts r moved in
-      let in-line : r .start .0 + length ring ≤ length line = omega (arith, can .in-line, reached .start-le) in
+      let in-line : FitsInLine ring line (r .start .0) = omega (arith, can .in-line, reached .start-le) in
       record {
         start-ge = omega (arith, reached .after);
         in-line = in-line;

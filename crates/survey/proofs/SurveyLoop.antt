@@ -10,17 +10,19 @@ use lib.ListN.{length}
 use Rattle.lists.specs.Bounds.{IsWords}
 use Rattle.meaning.specs.Findings.{Finding, foundAt, findingsBelow, findings, findingWords, wordsEach, wordsOf}
 use Rattle.lists.specs.Areas.{written}
+use Rattle.meaning.specs.Meanings.{FitsInLine, IsPastLine}
 use Rattle.meaning.specs.Looks.{afreshLooks, stepLooks, surveyLooksBelow}
+use Rattle.meaning.proofs.Starts.{fits-is-start}
 use Rattle.meaning.proofs.Places.{found-no, found-small}
 use Rattle.meaning.proofs.FindingsBelow.{below-same, below-length-le, findings-below}
 use Rattle.meaning.proofs.SurveyLooks.{surveyLooks-below, surveyLooks-end}
 use Rattle.moves.specs.declared.steps.Reached.{Reached}
 use Rattle.findings.specs.Admitting.{mostLine, Admitted}
-use Rattle.tally.specs.Counts.{mostCounts, IsLowestWith}
+use Rattle.tally.specs.Counts.{mostCounts, IsFindingAt}
 use Rattle.tally.specs.Tallied.{Tallied}
-use Rattle.tally.proofs.LowestLoop.{lowest-at}
 use Rattle.tally.proofs.TallyFinding.{least-no, least-yes}
-use Rattle.findings.specs.Putting.{IsPut}
+use Rattle.findings.specs.declared.searching.Finding.{Finding as FindingStruct}
+use Rattle.findings.specs.Putting.{findingOf, IsPut}
 use Rattle.survey.specs.Survey.{CanVerifyOn, IsVerifiedOn, CanSurvey, LineSurveyed}
 use Rattle.findings.proofs.WordsSoFar.{admitted-words, WordsSoFar, so-far-none, so-far-length, so-far-more}
 
@@ -53,12 +55,12 @@ module _ {ring doubled line : List ℕ} {k : ℕ} {area : List ℕ} {i found loo
   admitted = keeps .can .admitted
 
   -- Past the last start all is found.
-  pub survey-end : length line < i + length ring → LineSurveyed ring line k area found looks words
+  pub survey-end : IsPastLine ring line i → LineSurveyed ring line k area found looks words
   survey-end past =
-      let all : findingsBelow ring line k i ≡ findings ring line k = sym (findings-below ring line k i (keeps .start-le) (omega arith)) in
+      let all : findingsBelow ring line k i ≡ findings ring line k = sym (findings-below ring line k i (keeps .start-le) past) in
       record {
         found-is = keeps .put .count-is ∙ ap (λ (l : List Finding). length l) all;
-        looks-are = keeps .looks-are ∙ sym (surveyLooks-end ring line i (keeps .start-le) (omega arith));
+        looks-are = keeps .looks-are ∙ sym (surveyLooks-end ring line i (keeps .start-le) past);
         written = keeps .put .words-are ∙ ap (λ (l : List Finding). written (wordsOf l) area) all;
       }
 
@@ -66,7 +68,7 @@ module _ {ring doubled line : List ℕ} {k : ℕ} {area : List ℕ} {i found loo
   pub survey-found-le : found ≤ i
   survey-found-le = omega (arith, keeps .put .count-is, below-length-le ring line k i)
 
-  module _ (in-line : i + length ring ≤ length line) where
+  module _ (in-line : FitsInLine ring line i) where
     -- The next start can be verified.
     pub survey-can-verify : CanVerifyOn ring doubled line k i counts
     survey-can-verify = record {
@@ -96,7 +98,7 @@ module _ {ring doubled line : List ℕ} {k : ℕ} {area : List ℕ} {i found loo
             arith,
             keeps .looks-are,
             verified .looks-are,
-            ap (surveyLooksBelow ring line) (add-one start) ∙ surveyLooks-below ring line start (omega (arith, verified .in-line)),
+            ap (surveyLooksBelow ring line) (add-one start) ∙ surveyLooks-below ring line start (verified .in-line),
             mul-le-mul (admitted .most-ring) (admitted .most-ring),
             mul-le-mul starts steps,
           )
@@ -141,15 +143,13 @@ module _ {ring doubled line : List ℕ} {k : ℕ} {area : List ℕ} {i found loo
           (rw append-nil (keeps .put)) (keeps .length-is)
 
       -- The start reached is a finding, whose words are put behind the others.
-      pub survey-found : {rotation : ℕ} {out : List ℕ} → reached .least ≤ k → IsLowestWith (length ring) counts′ (reached .least) rotation
-          → IsPut words found (record { start = start; rotation = rotation; distance = reached .least }) out
-          → SurveyKeeps ring doubled line k area (start + 1) (found + 1) (looks + reached .looks) counts′ out
-      survey-found {rotation} {out} near low put =
-          let f : Finding = record { start = start; rotation = rotation; distance = reached .least } in
-          let here : foundAt ring line k start ≡ f ∷ [] =
-          least-yes ring line k start counts′ (reached .least) (admitted .some-edge) (verified .tallied) (verified .least-is) rotation
-          (lowest-at counts′ (reached .least) (length ring) rotation (admitted .most-ring) (verified .least-is) low) (omega (arith, verified .in-line)) near in
-          let small = found-small ring line k start f (admitted .some-edge) here in
-          let are-words : IsWords (findingWords f) = admitted-words ring line admitted (omega (arith, verified .in-line)) (small .1) (small .2) in
+      pub survey-found : {f : FindingStruct} {out : List ℕ} → reached .least ≤ k → IsFindingAt (length ring) counts′ (reached .start) (reached .least) f
+          → IsPut words found (findingOf f) out → SurveyKeeps ring doubled line k area (start + 1) (found + 1) (looks + reached .looks) counts′ out
+      survey-found {f} near carried put =
+          let is-start = fits-is-start ring line start (verified .in-line) in
+          let here : foundAt ring line k start ≡ findingOf f ∷ [] =
+          least-yes ring line k start counts′ (reached .least) (admitted .some-edge) (verified .tallied) (verified .least-is) f (admitted .most-ring) carried is-start near in
+          let small = found-small ring line k start (findingOf f) (admitted .some-edge) here in
+          let are-words : IsWords (findingWords (findingOf f)) = admitted-words ring line admitted (rw (small .0) is-start) (small .1) (small .2) in
           let more = so-far-more (keeps .put) room-behind are-words put in
           survey-turn here more (so-far-length more (omega (arith, room-behind)))

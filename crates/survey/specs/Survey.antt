@@ -9,7 +9,7 @@ use Prim.Native.Nat.{ℕ, _+_, _-_, _≤_, _<_}
 use mathlib.Core.Path.{_≡_}
 use mathlib.Core.List.{List}
 use lib.ListN.{length}
-use Rattle.meaning.specs.Meanings.{leastDistance}
+use Rattle.meaning.specs.Meanings.{FitsInLine, leastDistance}
 use Rattle.meaning.specs.Looks.{surveyLooksBelow, surveyLooks}
 use Rattle.moves.specs.declared.steps.Reached.{Reached}
 use Rattle.tally.specs.Counts.{mostCounts, IsDoubled, IsLeast}
@@ -30,7 +30,7 @@ pub record CanVerifyOn (ring doubled line : List ℕ) (k i : ℕ) (counts : List
   pub fits : TallyFits ring counts
   pub allowed : k < length ring
   pub twice : IsDoubled ring doubled
-  pub in-line : i + length ring ≤ length line
+  pub in-line : FitsInLine ring line i
   pub most-line : length line ≤ mostLine
   pub before : 0 < i → Tallied ring line (i - 1) counts
 
@@ -38,7 +38,7 @@ pub record CanVerifyOn (ring doubled line : List ℕ) (k i : ℕ) (counts : List
 -- survey's for these starts, "the first afresh and each next by one step".
 pub record IsVerifiedOn (ring line : List ℕ) (k i : ℕ) (counts : List ℕ) (r : Reached) : Type 0 where
   pub start-ge : i ≤ r .start .0
-  pub in-line : r .start .0 + length ring ≤ length line
+  pub in-line : FitsInLine ring line (r .start .0)
   pub tallied : Tallied ring line (r .start .0) counts
   pub least-is : IsLeast (length ring) counts (r .least)
   pub looks-are : surveyLooksBelow ring line i + r .looks ≡ surveyLooksBelow ring line (r .start .0 + 1)

@@ -1,7 +1,6 @@
 // The plain survey: every start is verified, the first afresh and each next by one step.
 use answers::LinePlace;
 use findings::Counted;
-use findings::Finding;
 use findings::Searched;
 use findings::Verdict;
 use findings::admit;
@@ -11,7 +10,7 @@ use moves::move_counts;
 use tally::MOST_COUNTS;
 use tally::count_afresh;
 use tally::double;
-use tally::lowest_rotation;
+use tally::finding_at;
 use tally::window;
 ghost use lib.ListN.{length};
 ghost use Rattle.findings.specs.Admitting.{Admitted};
@@ -72,18 +71,9 @@ fn survey_starts(
         looks += reached.looks;
         let start = reached.start;
         i = start.0 + 1;
-        let distance = reached.least;
-        if distance <= k {
-            let rotation = lowest_rotation(counts, m, distance);
-            put_finding(
-                words,
-                found,
-                Finding {
-                    start,
-                    rotation,
-                    distance,
-                },
-            );
+        let least = reached.least;
+        if least <= k {
+            put_finding(words, found, finding_at(counts, m, start, least));
             found += 1;
         }
     }

@@ -7,7 +7,8 @@ use mathlib.Core.List.{List}
 use native.Mathlib.Omega.{arith}
 use lib.ListN.{length}
 use borrow.Author.Tests.{lt-ltb, le-ltb}
-use Rattle.tally.specs.Counts.{mostCounts, TallyTo, IsLowestWith}
+use Rattle.findings.specs.declared.searching.Finding.{Finding as FindingStruct}
+use Rattle.tally.specs.Counts.{mostCounts, TallyTo, IsFindingAt}
 use Rattle.moves.specs.Moves.{mostPlaces}
 use Rattle.tally.specs.declared.counts.Least.{Least}
 use Rattle.sweep.specs.declared.verifying.LastVerified.the-variants.{At}
@@ -64,8 +65,6 @@ module _ (ring doubled table line : List ℕ) (k : ℕ) (at : Sweep) (old : List
       way-none far = record { is = rw (← read-is, stopped, ← tallied .is, lt-ltb k (z .least) far) refl }
 
       -- A finding.
-      pub way-found : (rotation : ℕ) → z .least ≤ k → IsLowestWith m new (z .least) rotation
-          → IsSweptTo ring doubled table line k at old new
-          (Found next (record { start = read .start; rotation = record { 0 = rotation }; distance = z .least }))
+      pub way-found : (f : FindingStruct) → z .least ≤ k → IsFindingAt m new (read .start) (z .least) f → IsSweptTo ring doubled table line k at old new (Found next f)
       unfolding sweepBy
-      way-found rotation near low = record { is = rw (← read-is, stopped, ← tallied .is, le-ltb k (z .least) near, ← low .is) refl }
+      way-found f near found = record { is = rw (← read-is, stopped, ← tallied .is, le-ltb k (z .least) near, ← found .is) refl }

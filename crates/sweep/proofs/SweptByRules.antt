@@ -13,9 +13,9 @@ use Rattle.meaning.specs.Findings.{foundAt}
 use Rattle.meaning.specs.Rules.{readWindow}
 use Rattle.meaning.specs.Looks.{tallyLooks}
 use Rattle.lists.proofs.Cases.{by-test}
-use Rattle.tally.specs.Counts.{lowestWith, TallyTo}
+use Rattle.meaning.proofs.Starts.{fits-is-start}
+use Rattle.tally.specs.Counts.{findingWith, TallyTo}
 use Rattle.tally.specs.Tallied.{Verified}
-use Rattle.tally.proofs.LowestLoop.{lowest-at}
 use Rattle.tally.proofs.TallyFinding.{least-no, least-yes}
 use Rattle.sweep.specs.declared.verifying.LastVerified.the-variants.{At}
 use Rattle.sweep.specs.declared.sweeping.Sweep.{Sweep}
@@ -116,16 +116,12 @@ module _ (ring doubled table line : List ℕ) (k : ℕ) (old : List ℕ) (at : S
         after (NoFinding next) refl refl
         (sym (least-no ring line k i (tally .counts) (tally .least) (windows .some-edge) (verified .tallied) (verified .least-is) far))
 
-    abbrev rotation : ℕ
-    rotation = lowestWith m (tally .counts) (tally .least)
-
     -- A finding.
-    found : tally .least ≤ k
-        → IsSweptOn ring line k at (Found next (record { start = read .start; rotation = record { 0 = rotation }; distance = tally .least })) (tally .counts)
+    found : tally .least ≤ k → IsSweptOn ring line k at (Found next (findingWith m (tally .counts) (read .start) (tally .least))) (tally .counts)
     found near =
         after _ refl refl
-        (sym (least-yes ring line k i (tally .counts) (tally .least) (windows .some-edge) (verified .tallied) (verified .least-is) rotation
-        (lowest-at (tally .counts) (tally .least) m rotation (windows .most) (verified .least-is) (record { is = refl })) (omega (arith, read-is .in-line)) near))
+        (sym (least-yes ring line k i (tally .counts) (tally .least) (windows .some-edge) (verified .tallied) (verified .least-is)
+        (findingWith m (tally .counts) (read .start) (tally .least)) (windows .most) (record { is = refl }) (fits-is-start ring line i (read-is .in-line)) near))
 
   -- What a sweep came to.
   abbrev SweptOn : SweptTo → Type 0

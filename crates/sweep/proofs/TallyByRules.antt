@@ -1,7 +1,6 @@
 -- A start verified with the ring's own double and the last verified start's tally is verified by rule 5: it has its own tally then, its least count, and the looks that
 -- the rule says. Counted afresh it has them by `counted-verified` of crates/tally; moved, by `moved-tallied` of crates/moves, and it moves all the steps, since
 -- no least count is below 0.
--- Assumes nothing.
 use Prim.Native.Nat.{ℕ, _+_, _-_, _*_, _≤_, _<_}
 use mathlib.Core.Path.{_≡_, refl}
 use mathlib.Core.List.{List}
@@ -42,7 +41,7 @@ module _ (ring doubled line : List ℕ) (i : ℕ) (old : List ℕ) where
   afresh-by-rules last can =
       let t : TallyTo = countedTo doubled (windowAt m line i) old in
       counted-verified ring line i doubled old (t .counts) (windowAt m line i) (record { least = t .least; looks = t .looks })
-      (can .fits .size) (can .fits .some-edge) (can .fits .most) (can .twice) (omega (arith, can .in-line)) (record { is = refl })
+      (can .fits .size) (can .fits .some-edge) (can .fits .most) (can .twice) (can .in-line .in-line) (record { is = refl })
       (record { written = refl; least-is = refl; looks-are = refl })
 
   -- Moved from the last verified start.

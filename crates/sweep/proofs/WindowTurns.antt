@@ -9,12 +9,12 @@ use lib.Dec.{leb}
 use lib.ListN.{length}
 use borrow.Author.Tests.{le-leb, lt-leb}
 use Rattle.lists.proofs.Cases.{by-test}
-use Rattle.meaning.specs.Meanings.{FitsInLine, fitsInLine, window}
-use Rattle.meaning.proofs.Starts.{fits-line-iff}
+use Rattle.meaning.specs.Meanings.{FitsInLine, IsPastLine, window, fitsInLine}
+use Rattle.meaning.proofs.Starts.{fits-line-iff, past-line-iff}
 use Rattle.vectors.specs.Bits.{wordCount}
 use Rattle.tally.specs.Windows.{windowAt, IsWindow}
 use Rattle.tally.specs.Counts.{mostCounts}
-use Rattle.tally.proofs.WindowEdges.{fitting-window, fitting-length}
+use Rattle.tally.proofs.WindowEdges.{start-window, start-length}
 use Rattle.sweep.specs.declared.reading.WindowRead.{WindowRead}
 use Rattle.sweep.specs.declared.sweeping.WindowsRead.{WindowsRead}
 use Rattle.sweep.specs.Reads.{readBy, noneLeft, windowsOn, windowsBy, CanReadWindows}
@@ -30,10 +30,10 @@ pub record StillWindows (ring table line : List ℕ) (k from i looks : ℕ) : Ty
   pub still : windowsOn ring table line k left i looks ≡ windowsBy ring table line k from
 
 -- A window in the line has m edges; one at least is read, and each read is one look.
-window-reads : (table : List ℕ) (k : ℕ) {ring line edges : List ℕ} {i : ℕ} → 0 < length ring → FitsInLine ring line i → IsWindow line i (length ring) edges
-    → (readBy table edges k .looks + readBy table edges k .left ≡ length ring) × (readBy table edges k .left < length ring)
-window-reads table k {ring} {edges = edges} some-edge fits handed =
-    let size : length edges ≡ length ring = fitting-length handed fits in
+window-reads : (table : List ℕ) (k : ℕ) {line edges : List ℕ} {i m : ℕ} → 0 < m → i + m ≤ length line → IsWindow line i m edges
+    → (readBy table edges k .looks + readBy table edges k .left ≡ m) × (readBy table edges k .left < m)
+window-reads table k {line} {edges} {i} {m} some-edge in-line handed =
+    let size : length edges ≡ m = start-length line i m edges handed in-line in
     let words : ℕ = wordCount (length edges) in
     (read-sum table edges k words ∙ size, omega (arith, read-some table edges k words (omega arith)))
 
@@ -43,10 +43,10 @@ windows-start {line = line} {from = from} can =
     record { can = can; left = length line + 1 - from; enough = omega arith; start-le = can .start-le; looks-le = omega arith; still = refl }
 
 -- No window is in the line any more.
-windows-none : (ring table line : List ℕ) (k left i looks : ℕ) → length line < i + length ring → windowsOn ring table line k left i looks ≡ noneLeft i looks
+windows-none : (ring table line : List ℕ) (k left i looks : ℕ) → IsPastLine ring line i → windowsOn ring table line k left i looks ≡ noneLeft i looks
 unfolding windowsOn
 windows-none ring table line k zero i looks past = refl
-windows-none ring table line k (suc left) i looks past = rw (lt-leb (i + length ring) (length line) past) refl
+windows-none ring table line k (suc left) i looks past = rw (past-line-iff ring line i .1 past) refl
 
 module _ {ring table line : List ℕ} {k from i looks : ℕ} (known : StillWindows ring table line k from i looks) where
   abbrev m : ℕ
@@ -56,12 +56,12 @@ module _ {ring table line : List ℕ} {k from i looks : ℕ} (known : StillWindo
   n = length line
 
   -- After the last.
-  pub windows-end : n < i + m → noneLeft i looks ≡ windowsBy ring table line k from
+  pub windows-end : IsPastLine ring line i → noneLeft i looks ≡ windowsBy ring table line k from
   windows-end past = sym (windows-none ring table line k (known .left) i looks past) ∙ known .still
 
-  module _ (in-line : i + m ≤ n) {edges : List ℕ} (handed : IsWindow line i m edges) {r : WindowRead} (reads : r ≡ readBy table edges k) where
+  module _ (fits : FitsInLine ring line i) {edges : List ℕ} (handed : IsWindow line i m edges) {r : WindowRead} (reads : r ≡ readBy table edges k) where
     is-read : readBy table (window m line i) k ≡ r
-    is-read = sym (reads ∙ ap (λ (w : List ℕ). readBy table w k) (fitting-window {ring = ring} handed (omega arith)))
+    is-read = sym (reads ∙ ap (λ (w : List ℕ). readBy table w k) (start-window line i m edges handed (fits .in-line)))
 
     from-here : windowsOn ring table line k (suc (known .left - 1)) i looks ≡ windowsBy ring table line k from
     from-here =
@@ -69,7 +69,7 @@ module _ {ring table line : List ℕ} {k from i looks : ℕ} (known : StillWindo
         ap (λ (x : ℕ). windowsOn ring table line k x i looks) (sym one-more) ∙ known .still
 
     reads-fit : (r .looks + r .left ≡ m) × (r .left < m)
-    reads-fit = rw reads (window-reads table k {ring = ring} (known .can .some-edge) (omega arith) handed)
+    reads-fit = rw reads (window-reads table k (known .can .some-edge) (fits .in-line) handed)
 
     -- The next start is in the line or just past it.
     pub windows-next-le : i + r .left + 1 ≤ n + 1
@@ -83,7 +83,7 @@ module _ {ring table line : List ℕ} {k from i looks : ℕ} (known : StillWindo
     pub windows-stop : r .breaks ≤ k
         → record { start = record { 0 = i }; next = record { 0 = i + r .left + 1 }; looks = looks + r .looks; candidate = true } ≡ windowsBy ring table line k from
     unfolding windowsOn
-    windows-stop few = rw (le-leb (i + m) n in-line, is-read, le-leb (r .breaks) k few) at from-here
+    windows-stop few = rw (fits-line-iff ring line i .1 fits, is-read, le-leb (r .breaks) k few) at from-here
 
     -- A window that is left.
     pub windows-turn : k < r .breaks → StillWindows ring table line k from (i + r .left + 1) (looks + r .looks)
@@ -94,7 +94,7 @@ module _ {ring table line : List ℕ} {k from i looks : ℕ} (known : StillWindo
       enough = omega (arith, known .enough);
       start-le = windows-next-le;
       looks-le = windows-looks-le;
-      still = rw (le-leb (i + m) n in-line, is-read, lt-leb (r .breaks) k many) at from-here;
+      still = rw (fits-line-iff ring line i .1 fits, is-read, lt-leb (r .breaks) k many) at from-here;
     }
 
 -- How far so many windows go: to a start in the line or just past it, at most 256 looks for each.
@@ -109,9 +109,9 @@ module _ (ring table line : List ℕ) (k from : ℕ) (can : CanReadWindows (leng
   windows-go (suc left) i looks l =
       by-test (WindowsGo (length line) looks (suc left)) (fitsInLine ring line i)
       (λ e.
-      let fits : FitsInLine ring line i = fits-line-iff ring line i .0 e in
+      let fits = fits-line-iff ring line i .0 e in
       let r : WindowRead = readBy table (windowAt (length ring) line i) k in
-      let reads = window-reads table k (can .some-edge) fits (record { is = refl }) in
+      let reads = window-reads table k {line = line} {i = i} (can .some-edge) (fits .in-line) (record { is = refl }) in
       by-test (WindowsGo (length line) looks (suc left)) (leb (r .breaks) k)
       (λ _. record { start-le = l; looks-le = omega (arith, reads .0, can .most) })
       (λ _.

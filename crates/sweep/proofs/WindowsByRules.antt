@@ -10,11 +10,12 @@ use lib.Dec.{leb}
 use lib.ListN.{length}
 use borrow.Author.Tests.{leb-true, leb-false}
 use Rattle.lists.proofs.Cases.{by-test}
-use Rattle.meaning.specs.Meanings.{window, fitsInLine}
+use Rattle.meaning.specs.Meanings.{FitsInLine, IsPastLine, window, fitsInLine}
+use Rattle.meaning.proofs.Starts.{fits-line-iff, past-line-iff}
 use Rattle.meaning.specs.Rules.{readWindow}
 use Rattle.meaning.proofs.WindowAlone.{alone-reading}
 use Rattle.tally.specs.Windows.{windowAt}
-use Rattle.tally.proofs.WindowEdges.{fitting-window, fitting-length}
+use Rattle.tally.proofs.WindowEdges.{start-window, start-length}
 use Rattle.sweep.specs.declared.reading.WindowRead.{WindowRead}
 use Rattle.sweep.specs.Reads.{readBy, noneLeft, windowsOn, windowsBy}
 use Rattle.sweep.specs.ReadingRules.{OwnVectors, IsWindowRead}
@@ -34,15 +35,15 @@ module _ (ring table line : List ℕ) (k from : ℕ) (own : OwnVectors ring tabl
 
   module _ (i looks : ℕ) (h : LeftTo ring line k from i looks) where
     -- No window is in the line any more.
-    ended : n < i + m → IsWindowsRead ring line k from (noneLeft i looks)
+    ended : IsPastLine ring line i → IsWindowsRead ring line k from (noneLeft i looks)
     ended past = record { looks = looks; left-to = h; candidate-is = λ e. absurd (true≢false (sym e)); ended = λ _. (past, refl, refl) }
 
-    module _ (in-line : i + m ≤ n) where
+    module _ (fits : FitsInLine ring line i) where
       alone : windowAt m line i ≡ window m line i
-      alone = fitting-window {ring = ring} (record { is = refl }) (omega arith)
+      alone = start-window line i m (windowAt m line i) (record { is = refl }) (fits .in-line)
 
       by-rules : IsWindowRead ring (windowAt m line i) k (read i)
-      by-rules = read-by-rules ring (windowAt m line i) table k own (fitting-length {ring = ring} {line = line} {i = i} (record { is = refl }) (omega arith))
+      by-rules = read-by-rules ring (windowAt m line i) table k own (start-length line i m (windowAt m line i) (record { is = refl }) (fits .in-line))
 
       -- The window's reading in the line.
       reads-are : read i .looks ≡ readWindow ring line k i .read
@@ -56,7 +57,7 @@ module _ (ring table line : List ℕ) (k from : ℕ) (own : OwnVectors ring tabl
 
       -- The window is left at break k + 1.
       left-here : k < read i .breaks → LeftTo ring line k from (i + read i .left + 1) (looks + read i .looks)
-      left-here many = rw (next-is, reads-are) (one-left h in-line (omega (arith, breaks-are)))
+      left-here many = rw (next-is, reads-are) (one-left h fits (omega (arith, breaks-are)))
 
       -- It is the candidate.
       stops-here : read i .breaks ≤ k
@@ -64,7 +65,7 @@ module _ (ring table line : List ℕ) (k from : ℕ) (own : OwnVectors ring tabl
       stops-here few = record {
         looks = looks;
         left-to = h;
-        candidate-is = λ _. record { in-line = in-line; few = omega (arith, breaks-are); next-is = next-is; looks-are = omega (arith, reads-are) };
+        candidate-is = λ _. record { in-line = fits; few = omega (arith, breaks-are); next-is = next-is; looks-are = omega (arith, reads-are) };
         ended = λ e. absurd (true≢false e);
       }
 
@@ -75,14 +76,14 @@ module _ (ring table line : List ℕ) (k from : ℕ) (own : OwnVectors ring tabl
   windows-on zero i looks enough h = ended i looks h (omega (arith, own .some-edge))
   windows-on (suc left) i looks enough h =
       by-test (IsWindowsRead ring line k from) (fitsInLine ring line i)
-      (λ fits.
-      let in-line : i + m ≤ n = leb-true (i + m) n fits in
+      (λ passed.
+      let fits = fits-line-iff ring line i .0 passed in
       by-test (IsWindowsRead ring line k from) (leb (read i .breaks) k)
-      (λ few. stops-here i looks h in-line (leb-true (read i .breaks) k few))
+      (λ few. stops-here i looks h fits (leb-true (read i .breaks) k few))
       (λ many.
       windows-on left (i + read i .left + 1) (looks + read i .looks) (omega arith)
-      (left-here i looks h in-line (leb-false (read i .breaks) k many))))
-      (λ out. ended i looks h (leb-false (i + m) n out))
+      (left-here i looks h fits (leb-false (read i .breaks) k many))))
+      (λ out. ended i looks h (past-line-iff ring line i .0 out))
 
   -- Windows read with the ring's vectors are read by the rules, to the next candidate.
   pub windows-by-rules : from ≤ n + 1 → IsWindowsRead ring line k from (windowsBy ring table line k from)

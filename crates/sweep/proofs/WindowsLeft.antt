@@ -1,6 +1,5 @@
 -- Windows left at break k + 1, one after the other (`LeftTo`), by induction on them: starts never fall and stay in the line or just past it, and what a loop over windows
 -- keeps (`ScanLoop` of crates/meaning) it keeps over all of them, since none of them finds anything.
--- Assumes nothing.
 use Prim.Native.Nat.{ℕ, _+_, _≤_}
 use mathlib.Core.List.{List}
 use mathlib.Core.Option.{Option}
@@ -29,4 +28,4 @@ module _ (ring line : List ℕ) (k from : ℕ) where
   left-scanned last found looks₀ none-left h = rw add-zero h
   left-scanned last found looks₀ (one-left {i = i} {looks = looks} before in-line many) h =
       rw (← add-assoc looks₀ looks (readWindow ring line k i .read))
-      (scan-left ring line k i last found (looks₀ + looks) (left-scanned last found looks₀ before h) (omega arith) many)
+      (scan-left ring line k i last found (looks₀ + looks) (left-scanned last found looks₀ before h) in-line many)

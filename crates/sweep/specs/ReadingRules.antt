@@ -1,7 +1,6 @@
 -- Rules 1 to 3 for one window, with the ring's own vectors. A window is handed out as a part of the line and read as a line of its own, at start 0; that this is the
 -- same is `alone-reading` of crates/meaning. What reading computes with any table is `readBy` of Reads; that with the ring's own it is this, `read-by-rules` in
 -- proofs/ReadByRules.
--- Assumes nothing.
 use Prim.Native.Nat.{ℕ, _+_, _≤_, _<_}
 use mathlib.Core.Path.{_≡_}
 use mathlib.Core.List.{List}

@@ -11,7 +11,6 @@
 --   CanSweepOn                           what sweeping by the rules asks
 --   IsSwept                              one window swept
 --   IsSweptOn                            the sweep to the next candidate
--- Assumes nothing.
 use Prim.Native.Nat.{ℕ, _+_, _-_, _≤_, _<_}
 use mathlib.Core.Path.{_≡_}
 use mathlib.Core.Bool.{Bool, true, false, cond}
@@ -19,6 +18,7 @@ use mathlib.Core.List.{List, [], _∷_}
 use mathlib.Core.Option.{Option, some}
 use lib.Dec.{leb}
 use lib.ListN.{length}
+use Rattle.meaning.specs.Meanings.{FitsInLine, IsPastLine}
 use Rattle.meaning.specs.Findings.{Finding, foundAt}
 use Rattle.meaning.specs.Rules.{readWindow}
 use Rattle.meaning.specs.Looks.{tallyLooks}
@@ -72,13 +72,13 @@ hasEnded (Found next f) = false
 -- the edges read.
 pub data LeftTo (ring line : List ℕ) (k from : ℕ) : ℕ → ℕ → Type 0 where
   none-left : LeftTo ring line k from from 0
-  one-left : {i looks : ℕ} → LeftTo ring line k from i looks → i + length ring ≤ length line → k < readWindow ring line k i .breaks
+  one-left : {i looks : ℕ} → LeftTo ring line k from i looks → FitsInLine ring line i → k < readWindow ring line k i .breaks
       → LeftTo ring line k from (sweptStart ring line k i) (looks + readWindow ring line k i .read)
 
 -- Rule 4, "A window with all m edges read and at most k breaks is a candidate": the one at which reading stopped, the start after it, and its reads among
 -- the looks.
 pub record IsCandidateRead (ring line : List ℕ) (k looks : ℕ) (r : WindowsRead) : Type 0 where
-  pub in-line : r .start .0 + length ring ≤ length line
+  pub in-line : FitsInLine ring line (r .start .0)
   pub few : readWindow ring line k (r .start .0) .breaks ≤ k
   pub next-is : r .next .0 ≡ sweptStart ring line k (r .start .0)
   pub looks-are : r .looks ≡ looks + readWindow ring line k (r .start .0) .read
@@ -88,7 +88,7 @@ pub record IsWindowsRead (ring line : List ℕ) (k from : ℕ) (r : WindowsRead)
   pub looks : ℕ
   pub left-to : LeftTo ring line k from (r .start .0) looks
   pub candidate-is : r .candidate ≡ true → IsCandidateRead ring line k looks r
-  pub ended : r .candidate ≡ false → (length line < r .start .0 + length ring) × (r .next .0 ≡ r .start .0) × (r .looks ≡ looks)
+  pub ended : r .candidate ≡ false → IsPastLine ring line (r .start .0) × (r .next .0 ≡ r .start .0) × (r .looks ≡ looks)
 
 -- What sweeping by the rules asks: a ring and a line within the limits, the ring's vectors and its double, a start of at most n + 1, the tally of the last verified
 -- start, and room for more looks. The allowance may be any.
@@ -110,13 +110,13 @@ pub record IsSwept (ring line : List ℕ) (k : ℕ) (at : Sweep) (r : Swept) (co
 
 -- A candidate is swept: its window is in the line and has at most k breaks.
 pub record IsCandidateSwept (ring line : List ℕ) (k : ℕ) (at : Sweep) (r : Swept) (counts : List ℕ) : Type 0 where
-  pub in-line : at .start .0 + length ring ≤ length line
+  pub in-line : FitsInLine ring line (at .start .0)
   pub few : readWindow ring line k (at .start .0) .breaks ≤ k
   pub swept : IsSwept ring line k at r counts
 
 -- No window is in the line any more, and the counts still hold the tally of the start that was verified last.
 pub record HasEnded (ring line : List ℕ) (at next : Sweep) (counts : List ℕ) : Type 0 where
-  pub past : length line < at .start .0 + length ring
+  pub past : IsPastLine ring line (at .start .0)
   pub next-is : next ≡ at
   pub before : TalliedBefore ring line (at .start .0) counts (lastOf (at .last))
   pub size : length counts ≡ mostCounts

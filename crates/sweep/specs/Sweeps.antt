@@ -15,7 +15,7 @@ use lib.Dec.{ltb, leb}
 use lib.ListN.{length}
 use Rattle.findings.specs.declared.searching.Finding.{Finding as FindingStruct}
 use Rattle.tally.specs.Windows.{windowAt}
-use Rattle.tally.specs.Counts.{mostCounts, lowestWith, TallyTo, countedTo}
+use Rattle.tally.specs.Counts.{mostCounts, findingWith, TallyTo, countedTo}
 use Rattle.moves.specs.Moves.{CountsAt, movedFrom, mostPlaces}
 use Rattle.tally.specs.declared.counts.Least.{Least}
 use Rattle.sweep.specs.declared.verifying.LastVerified.{LastVerified}
@@ -54,8 +54,7 @@ sweepBy ring doubled table line k at old =
     let looks : ℕ = at .looks + read .looks in
     let tally : TallyTo = tallyBy ring doubled line (read .start .0) (at .last) old in
     let next : Sweep = record { start = read .next; last = At (read .start); looks = looks + tally .looks } in
-    let rotation : ℕ = lowestWith (length ring) (tally .counts) (tally .least) in
-    let finding : FindingStruct = record { start = read .start; rotation = record { 0 = rotation }; distance = tally .least } in
+    let finding : FindingStruct = findingWith (length ring) (tally .counts) (read .start) (tally .least) in
     let ended : SweptTo = record { swept = Ended (record { start = read .start; last = at .last; looks = looks }); counts = old } in
     let none : SweptTo = record { swept = NoFinding next; counts = tally .counts } in
     let found : SweptTo = record { swept = Found next finding; counts = tally .counts } in

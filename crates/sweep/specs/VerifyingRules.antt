@@ -4,11 +4,11 @@
 --   lastOf           the last verified start, if there is one
 --   TalliedBefore    what the counts hold then
 --   CanVerify        what verifying a start asks
--- Assumes nothing.
 use Prim.Native.Nat.{ℕ, _+_, _≤_, _<_}
 use mathlib.Core.List.{List}
 use mathlib.Core.Option.{Option, none, some}
 use lib.ListN.{length}
+use Rattle.meaning.specs.Meanings.{FitsInLine}
 use Rattle.tally.specs.Counts.{IsDoubled}
 use Rattle.tally.specs.Tallied.{Tallied, TallyFits}
 use Rattle.moves.specs.Moves.{mostPlaces}
@@ -29,6 +29,6 @@ TalliedBefore ring line i counts (some last) = (last < i) × Tallied ring line l
 pub record CanVerify (ring doubled line : List ℕ) (i : ℕ) (counts : List ℕ) (last : Option ℕ) : Type 0 where
   pub fits : TallyFits ring counts
   pub twice : IsDoubled ring doubled
-  pub in-line : i + length ring ≤ length line
+  pub in-line : FitsInLine ring line i
   pub most-line : length line < mostPlaces
   pub before : TalliedBefore ring line i counts last

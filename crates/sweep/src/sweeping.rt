@@ -7,7 +7,7 @@ use answers::LinePlace;
 use findings::Finding;
 use moves::MOST_PLACES;
 use tally::MOST_COUNTS;
-use tally::lowest_rotation;
+use tally::finding_at;
 use tally::window;
 use vectors::TABLE_WORDS;
 ghost use mathlib.Core.Path.{_≡_};
@@ -107,19 +107,11 @@ fn to_candidate(
         last: LastVerified::At(start),
         looks: looks + verified.looks,
     };
-    let distance = verified.least;
-    if k < distance {
+    let least = verified.least;
+    if k < least {
         return Swept::NoFinding(next);
     }
-    let rotation = lowest_rotation(counts, ring.len(), distance);
-    Swept::Found(
-        next,
-        Finding {
-            start,
-            rotation,
-            distance,
-        },
-    )
+    Swept::Found(next, finding_at(counts, ring.len(), start, least))
 }
 
 // Whether a sweep can go on from a start with so many looks: a ring within the limit, a line that has places for its

@@ -2,10 +2,11 @@
 use Prim.Native.Nat.{ℕ}
 use mathlib.Core.Path.{_≡_, sym, _∙_}
 use mathlib.Core.List.{List}
-use Rattle.answers.specs.declared.places.RingPlace.{RingPlace}
+use Rattle.answers.specs.declared.places.LinePlace.{LinePlace}
+use Rattle.findings.specs.declared.searching.Finding.{Finding as FindingStruct}
 use Rattle.tally.specs.declared.counts.Least.{Least}
 use Rattle.tally.specs.Windows.{IsWindow}
-use Rattle.tally.specs.Counts.{IsComparison, IsDoubled, IsCounted, IsLowestWith}
+use Rattle.tally.specs.Counts.{IsComparison, IsDoubled, IsCounted, IsFindingAt}
 
 -- Any two answers of `differing` are equal.
 pub one-comparison : (a b r r′ : ℕ) → IsComparison a b r → IsComparison a b r′ → r ≡ r′
@@ -27,6 +28,7 @@ one-count doubled window old new new′ z z′ a b = (
   a .written ∙ sym (b .written),
 )
 
--- Any two answers of `lowest_rotation` are equal.
-pub one-rotation : (m : ℕ) (counts : List ℕ) (least : ℕ) (r r′ : RingPlace) → IsLowestWith m counts least (r .0) → IsLowestWith m counts least (r′ .0) → r ≡ r′
-one-rotation m counts least r r′ a b = λ i. record { 0 = (a .is ∙ sym (b .is)) i }
+-- Any two answers of `finding_at` are equal.
+pub one-finding : (m : ℕ) (counts : List ℕ) (start : LinePlace) (least : ℕ) (f f′ : FindingStruct) → IsFindingAt m counts start least f
+    → IsFindingAt m counts start least f′ → f ≡ f′
+one-finding m counts start least f f′ a b = a .is ∙ sym (b .is)

@@ -8,8 +8,9 @@
 --   afreshCounts         the counts after a window: one for each rotation, the others kept
 --   canCount, CanCount   whether a window can be counted: the test, and the same as facts
 --   countedTo            the result of a fresh count: the counts, their least, the looks
---   IsComparison, IsDoubled, IsCounted, IsLowestWith   the contracts of `differing`, `double`, `count_afresh` and `lowest_rotation`
---   RingFits, edgeCounted, IsLeast, IsCountedAfresh    preconditions and contracts of private functions
+--   findingWith          the finding at a start with a given least count
+--   IsComparison, IsDoubled, IsCounted, IsFindingAt   the contracts of `differing`, `double`, `count_afresh` and `finding_at`
+--   RingFits, edgeCounted, IsLeast, IsLowestWith, IsCountedAfresh    preconditions and contracts of private functions
 use Prim.Native.Nat.{ℕ, zero, suc, _+_, _*_, _%_, _≤_, _<_, min}
 use mathlib.Core.Path.{_≡_}
 use mathlib.Core.Bool.{Bool, cond, _&&_}
@@ -17,6 +18,8 @@ use mathlib.Core.List.{List, [], _∷_}
 use lib.Dec.{ltb, leb, eqb}
 use lib.ListN.{length, getD}
 use Rattle.lists.specs.ByPlace.{listOf, storedFirst}
+use Rattle.answers.specs.declared.places.LinePlace.{LinePlace}
+use Rattle.findings.specs.declared.searching.Finding.{Finding as FindingStruct}
 use Rattle.meaning.specs.Numbers.{oneIf, count, lowest}
 use Rattle.meaning.specs.Meanings.{unequal}
 use Rattle.meaning.specs.Looks.{afreshLooks}
@@ -95,11 +98,19 @@ pub record IsCounted (doubled window old new : List ℕ) (z : Least) : Type 0 wh
   pub least-is : z .least ≡ countedTo doubled window old .least
   pub looks-are : z .looks ≡ countedTo doubled window old .looks
 
+-- "It carries start, rotation, distance: the least distance, and the lowest r that reaches it": the finding at a start with this least count.
+unfoldable pub findingWith : ℕ → List ℕ → LinePlace → ℕ → FindingStruct
+findingWith m counts start least = record { start = start; rotation = record { 0 = lowestWith m counts least }; distance = least }
+
+-- The contract of `finding_at`.
+pub record IsFindingAt (m : ℕ) (counts : List ℕ) (start : LinePlace) (least : ℕ) (f : FindingStruct) : Type 0 where
+  pub is : f ≡ findingWith m counts start least
+
+-- From here on: preconditions and contracts of private functions.
+
 -- The contract of `lowest_rotation`: r is the number of the ring place returned.
 pub record IsLowestWith (m : ℕ) (counts : List ℕ) (least r : ℕ) : Type 0 where
   pub is : r ≡ lowestWith m counts least
-
--- From here on: preconditions and contracts of private functions.
 
 -- A ring of m edges, and room for its rotations in so many counts.
 pub record RingFits (m counts : ℕ) : Type 0 where

@@ -1,11 +1,13 @@
 // Counts of differing edges, one for each rotation. A count is at most 256, which eight bits do not hold.
+use answers::LinePlace;
 use answers::RingPlace;
+use findings::Finding;
 use findings::MOST_RING;
 ghost use mathlib.Core.Path.{_≡_};
 ghost use Prim.Native.Nat.{min};
 ghost use lib.ListN.{length};
 ghost use Rattle.lists.specs.ByPlace.{StoredFirst};
-ghost use Rattle.tally.specs.Counts.{mostCounts, IsComparison, RingFits, IsLeast, IsLowestWith};
+ghost use Rattle.tally.specs.Counts.{mostCounts, IsComparison, IsFindingAt, RingFits, IsLeast, IsLowestWith};
 
 // One count for each rotation of the longest ring.
 pub const MOST_COUNTS: usize = MOST_RING;
@@ -66,9 +68,8 @@ fn rotations(m: usize) -> usize
     if m < MOST_COUNTS { m } else { MOST_COUNTS }
 }
 
-// The lowest of m rotations whose count is the least; m where none has that count; an m above 256 counts as 256. It is called
-// only for a finding.
-pub fn lowest_rotation(counts: &[u16; MOST_COUNTS], m: usize, least: usize) -> RingPlace
+// The lowest of m rotations whose count is the least, and m where none has that count; a larger m counts as 256.
+fn lowest_rotation(counts: &[u16; MOST_COUNTS], m: usize, least: usize) -> RingPlace
     ensures { λ r. ⌜ IsLowestWith m (now (counts .entry)) least (r .0) ⌝ }
 {
     let all = rotations(m);
@@ -80,4 +81,22 @@ pub fn lowest_rotation(counts: &[u16; MOST_COUNTS], m: usize, least: usize) -> R
         rotation += 1;
     }
     RingPlace(rotation)
+}
+
+// "It carries start, rotation, distance: the least distance, and the lowest r that reaches it": the finding at a start with
+// this least count. The rotation is looked for only where a start is a finding.
+pub fn finding_at(
+    counts: &[u16; MOST_COUNTS],
+    m: usize,
+    start: LinePlace,
+    least: usize,
+) -> Finding
+    ensures { λ f. ⌜ IsFindingAt m (now (counts .entry)) start least f ⌝ }
+{
+    let rotation = lowest_rotation(counts, m, least);
+    Finding {
+        start,
+        rotation,
+        distance: least,
+    }
 }

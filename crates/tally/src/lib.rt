@@ -1,4 +1,4 @@
-// The tally of one count per rotation: counted afresh for a window, and asked for the lowest rotation. crates/moves moves it
+// The tally of one count per rotation: counted afresh for a window, and asked for a start's finding. crates/moves moves it
 // along the line.
 //
 // specs/Windows.antt and specs/Counts.antt have the functions' contracts, specs/Tallied.antt says which counts are the tally
@@ -12,5 +12,5 @@ pub use afresh::double;
 pub use counts::Least;
 pub use counts::MOST_COUNTS;
 pub use counts::differing;
-pub use counts::lowest_rotation;
+pub use counts::finding_at;
 pub use windows::window;

@@ -33,17 +33,17 @@ verify-on-requires c κs = survey-can-verify (c .before .before .loop .inv) (ome
 add-looks : tie.Need-add-looks Inv-loop μ-loop
 add-looks c =
     let turn = at-turn (c .before) in
-    omega (arith, survey-looks-le (turn .before .loop .inv) (turn .loop-test .taken) (c .before .verify-on .ensures))
+    omega (arith, survey-looks-le (turn .before .loop .inv) (omega (arith, turn .loop-test .taken)) (c .before .verify-on .ensures))
 
 add-i : tie.Need-add-i Inv-loop μ-loop
 add-i c =
     let verified = at-verified c in
     let turn = at-turn verified in
     let keeps = turn .before .loop .inv in
-    omega (arith, survey-next-le keeps (turn .loop-test .taken) (verified .verify-on .ensures), keeps .can .admitted .most-line)
+    omega (arith, survey-next-le keeps (omega (arith, turn .loop-test .taken)) (verified .verify-on .ensures), keeps .can .admitted .most-line)
 
-lowest-rotation-requires : tie.Need-lowest-rotation-requires Inv-loop μ-loop
-lowest-rotation-requires c κs = search needs
+finding-at-requires : tie.Need-finding-at-requires Inv-loop μ-loop
+finding-at-requires c κs = search needs
 
 put-finding-requires : tie.Need-put-finding-requires Inv-loop μ-loop
 put-finding-requires c κs = search needs
@@ -61,7 +61,7 @@ loop-less : tie.Need-loop-less Inv-loop μ-loop
 loop-less c =
     let verified = at-verified (at-found c .before) in
     let turn = at-turn verified in
-    survey-less (turn .before .loop .inv) (turn .loop-test .taken) (verified .verify-on .ensures)
+    survey-less (turn .before .loop .inv) (omega (arith, turn .loop-test .taken)) (verified .verify-on .ensures)
 
 -- A finding.
 loop-again : tie.Need-loop-again Inv-loop μ-loop
@@ -70,21 +70,21 @@ loop-again c =
     let found = at-found c in
     let verified = at-verified (found .before) in
     let turn = at-turn verified in
-    survey-found (turn .before .loop .inv) (turn .loop-test .taken) (verified .verify-on .ensures) (omega (arith, found .if1 .taken))
-    (put .before .before .lowest-rotation .ensures) (put .put-finding .ensures)
+    survey-found (turn .before .loop .inv) (omega (arith, turn .loop-test .taken)) (verified .verify-on .ensures) (omega (arith, found .if1 .taken))
+    (put .before .finding-at .ensures) (put .put-finding .ensures)
 
 loop-less-2 : tie.Need-loop-less-2 Inv-loop μ-loop
 loop-less-2 c =
     let verified = at-verified (c .before) in
     let turn = at-turn verified in
-    survey-less (turn .before .loop .inv) (turn .loop-test .taken) (verified .verify-on .ensures)
+    survey-less (turn .before .loop .inv) (omega (arith, turn .loop-test .taken)) (verified .verify-on .ensures)
 
 -- No finding.
 loop-again-2 : tie.Need-loop-again-2 Inv-loop μ-loop
 loop-again-2 c =
     let verified = at-verified (c .before) in
     let turn = at-turn verified in
-    survey-none (turn .before .loop .inv) (turn .loop-test .taken) (verified .verify-on .ensures) (omega (arith, c .if1 .left))
+    survey-none (turn .before .loop .inv) (omega (arith, turn .loop-test .taken)) (verified .verify-on .ensures) (omega (arith, c .if1 .left))
 
 same-length : tie.Need-same-length Inv-loop μ-loop
 same-length c = c .before .loop .inv .length-is
@@ -103,7 +103,7 @@ survey-starts-spec =
     verify-on-requires
     add-looks
     add-i
-    lowest-rotation-requires
+    finding-at-requires
     put-finding-requires
     add-found
     loop-less

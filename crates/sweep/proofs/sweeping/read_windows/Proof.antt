@@ -42,8 +42,8 @@ add-looks c =
     let read = c .before in
     let turn = at-turn read in
     let known = turn .before .loop .inv in
-    let next-le = windows-next-le known (turn .loop-test .taken) (read .before .window .ensures) (read .read-window .ensures) in
-    let looks-le = windows-looks-le known (turn .loop-test .taken) (read .before .window .ensures) (read .read-window .ensures) in
+    let next-le = windows-next-le known (omega (arith, turn .loop-test .taken)) (read .before .window .ensures) (read .read-window .ensures) in
+    let looks-le = windows-looks-le known (omega (arith, turn .loop-test .taken)) (read .before .window .ensures) (read .read-window .ensures) in
     omega (arith, looks-le, next-le, known .can .most-line)
 
 add-next : tie.Need-add-next Inv-loop μ-loop
@@ -51,21 +51,21 @@ add-next c =
     let read = c .before .before in
     let turn = at-turn read in
     let known = turn .before .loop .inv in
-    omega (arith, known .can .most-line, windows-next-le known (turn .loop-test .taken) (read .before .window .ensures) (read .read-window .ensures))
+    omega (arith, known .can .most-line, windows-next-le known (omega (arith, turn .loop-test .taken)) (read .before .window .ensures) (read .read-window .ensures))
 
 add-next-2 : tie.Need-add-next-2 Inv-loop μ-loop
 add-next-2 c =
     let read = c .before .before in
     let turn = at-turn read in
     let known = turn .before .loop .inv in
-    omega (arith, known .can .most-line, windows-next-le known (turn .loop-test .taken) (read .before .window .ensures) (read .read-window .ensures))
+    omega (arith, known .can .most-line, windows-next-le known (omega (arith, turn .loop-test .taken)) (read .before .window .ensures) (read .read-window .ensures))
 
 -- The candidate.
 returns : tie.Need-returns Inv-loop μ-loop
 returns c =
     let read = c .before .before .before .before in
     let turn = at-turn read in
-    windows-stop (turn .before .loop .inv) (turn .loop-test .taken) (read .before .window .ensures) (read .read-window .ensures) (omega (arith, c .if1 .taken))
+    windows-stop (turn .before .loop .inv) (omega (arith, turn .loop-test .taken)) (read .before .window .ensures) (read .read-window .ensures) (omega (arith, c .if1 .taken))
 
 loop-less : tie.Need-loop-less Inv-loop μ-loop
 loop-less c = omega (arith, at-turn (c .before .before .before .before) .loop-test .taken)
@@ -75,7 +75,7 @@ loop-again : tie.Need-loop-again Inv-loop μ-loop
 loop-again c =
     let read = c .before .before .before .before in
     let turn = at-turn read in
-    windows-turn (turn .before .loop .inv) (turn .loop-test .taken) (read .before .window .ensures) (read .read-window .ensures) (omega (arith, c .if1 .left))
+    windows-turn (turn .before .loop .inv) (omega (arith, turn .loop-test .taken)) (read .before .window .ensures) (read .read-window .ensures) (omega (arith, c .if1 .left))
 
 -- No window is in the line any more.
 returns-2 : tie.Need-returns-2 Inv-loop μ-loop

@@ -33,8 +33,8 @@ verify-requires c κs =
     let start = at-entry read in
     sweep-start-le _ (start .args .table .now) (start .args .line .now) (start .args .k) (start .args .at) (start .pre) _ (read .read-windows .ensures)
 
-add-lowest-rotation : tie.Need-add-lowest-rotation
-add-lowest-rotation c =
+add-finding-at : tie.Need-add-finding-at
+add-finding-at c =
     let verified = c .before .before in
     let candidate = verified .before .before in
     let read = at-read (candidate .before) in
@@ -51,8 +51,8 @@ returns-2 c =
     way-none _ _ _ _ _ _ _ _ (at-read (candidate .before) .read-windows .ensures) (not-false _ (candidate .if1 .left)) _ _ (verified .verify .ensures)
     (omega (arith, c .if2 .taken))
 
-lowest-rotation-requires : tie.Need-lowest-rotation-requires
-lowest-rotation-requires c κs = search needs
+finding-at-requires : tie.Need-finding-at-requires
+finding-at-requires c κs = search needs
 
 -- A finding.
 returns-3 : tie.Need-returns-3
@@ -62,7 +62,7 @@ returns-3 c =
     let candidate = verified .before .before in
     way-found _ _ _ _ _ _ _ _ (at-read (candidate .before) .read-windows .ensures) (not-false _ (candidate .if1 .left)) _ _ (verified .verify .ensures) _
     (omega (arith, tested .if2 .left))
-    (c .lowest-rotation .ensures)
+    (c .finding-at .ensures)
 
 pub to-candidate-spec : {M : Type 1} → statement M
 to-candidate-spec =
@@ -72,7 +72,7 @@ to-candidate-spec =
     add-looks
     returns
     verify-requires
-    add-lowest-rotation
+    add-finding-at
     returns-2
-    lowest-rotation-requires
+    finding-at-requires
     returns-3)
