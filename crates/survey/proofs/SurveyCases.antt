@@ -24,7 +24,7 @@ module _ {ring doubled line : List ℕ} {k i : ℕ} {old : List ℕ} (can : CanV
       → IsVerifiedOn ring line k i counts (record { start = record { 0 = i }; least = z .least; looks = z .looks })
   unfolding surveyLooksBelow
   first-verified {edges} {counts} {z} first handed counted =
-      let v = counted-verified ring line i doubled old counts edges z (can .fits .size) (can .fits .some-edge) (can .fits .most) (can .twice) (can .in-line .in-line) handed counted in
+      let v = counted-verified ring line i doubled old counts edges z (can .fits .size) (can .fits .some-edge) (can .fits .most) (can .twice) (can .in-line) handed counted in
       record {
         start-ge = omega arith;
         in-line = can .in-line;

@@ -41,7 +41,7 @@ module _ (ring doubled line : List ℕ) (i : ℕ) (old : List ℕ) where
   afresh-by-rules last can =
       let t : TallyTo = countedTo doubled (windowAt m line i) old in
       counted-verified ring line i doubled old (t .counts) (windowAt m line i) (record { least = t .least; looks = t .looks })
-      (can .fits .size) (can .fits .some-edge) (can .fits .most) (can .twice) (can .in-line .in-line) (record { is = refl })
+      (can .fits .size) (can .fits .some-edge) (can .fits .most) (can .twice) (can .in-line) (record { is = refl })
       (record { written = refl; least-is = refl; looks-are = refl })
 
   -- Moved from the last verified start.

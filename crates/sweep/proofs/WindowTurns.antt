@@ -14,7 +14,7 @@ use Rattle.meaning.proofs.Starts.{fits-line-iff, past-line-iff}
 use Rattle.vectors.specs.Bits.{wordCount}
 use Rattle.tally.specs.Windows.{windowAt, IsWindow}
 use Rattle.tally.specs.Counts.{mostCounts}
-use Rattle.tally.proofs.WindowEdges.{start-window, start-length}
+use Rattle.tally.proofs.WindowEdges.{fitting-window, fitting-length}
 use Rattle.sweep.specs.declared.reading.WindowRead.{WindowRead}
 use Rattle.sweep.specs.declared.sweeping.WindowsRead.{WindowsRead}
 use Rattle.sweep.specs.Reads.{readBy, noneLeft, windowsOn, windowsBy, CanReadWindows}
@@ -30,10 +30,10 @@ pub record StillWindows (ring table line : List ℕ) (k from i looks : ℕ) : Ty
   pub still : windowsOn ring table line k left i looks ≡ windowsBy ring table line k from
 
 -- A window in the line has m edges; one at least is read, and each read is one look.
-window-reads : (table : List ℕ) (k : ℕ) {line edges : List ℕ} {i m : ℕ} → 0 < m → i + m ≤ length line → IsWindow line i m edges
-    → (readBy table edges k .looks + readBy table edges k .left ≡ m) × (readBy table edges k .left < m)
-window-reads table k {line} {edges} {i} {m} some-edge in-line handed =
-    let size : length edges ≡ m = start-length line i m edges handed in-line in
+window-reads : (table : List ℕ) (k : ℕ) {ring line edges : List ℕ} {i : ℕ} → 0 < length ring → FitsInLine ring line i → IsWindow line i (length ring) edges
+    → (readBy table edges k .looks + readBy table edges k .left ≡ length ring) × (readBy table edges k .left < length ring)
+window-reads table k {ring} {edges = edges} some-edge fits handed =
+    let size : length edges ≡ length ring = fitting-length handed fits in
     let words : ℕ = wordCount (length edges) in
     (read-sum table edges k words ∙ size, omega (arith, read-some table edges k words (omega arith)))
 
@@ -61,7 +61,7 @@ module _ {ring table line : List ℕ} {k from i looks : ℕ} (known : StillWindo
 
   module _ (fits : FitsInLine ring line i) {edges : List ℕ} (handed : IsWindow line i m edges) {r : WindowRead} (reads : r ≡ readBy table edges k) where
     is-read : readBy table (window m line i) k ≡ r
-    is-read = sym (reads ∙ ap (λ (w : List ℕ). readBy table w k) (start-window line i m edges handed (fits .in-line)))
+    is-read = sym (reads ∙ ap (λ (w : List ℕ). readBy table w k) (fitting-window handed fits))
 
     from-here : windowsOn ring table line k (suc (known .left - 1)) i looks ≡ windowsBy ring table line k from
     from-here =
@@ -69,7 +69,7 @@ module _ {ring table line : List ℕ} {k from i looks : ℕ} (known : StillWindo
         ap (λ (x : ℕ). windowsOn ring table line k x i looks) (sym one-more) ∙ known .still
 
     reads-fit : (r .looks + r .left ≡ m) × (r .left < m)
-    reads-fit = rw reads (window-reads table k (known .can .some-edge) (fits .in-line) handed)
+    reads-fit = rw reads (window-reads table k (known .can .some-edge) fits handed)
 
     -- The next start is in the line or just past it.
     pub windows-next-le : i + r .left + 1 ≤ n + 1
@@ -111,7 +111,7 @@ module _ (ring table line : List ℕ) (k from : ℕ) (can : CanReadWindows (leng
       (λ e.
       let fits = fits-line-iff ring line i .0 e in
       let r : WindowRead = readBy table (windowAt (length ring) line i) k in
-      let reads = window-reads table k {line = line} {i = i} (can .some-edge) (fits .in-line) (record { is = refl }) in
+      let reads = window-reads table k (can .some-edge) fits (record { is = refl }) in
       by-test (WindowsGo (length line) looks (suc left)) (leb (r .breaks) k)
       (λ _. record { start-le = l; looks-le = omega (arith, reads .0, can .most) })
       (λ _.

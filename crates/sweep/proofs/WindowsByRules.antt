@@ -15,7 +15,7 @@ use Rattle.meaning.proofs.Starts.{fits-line-iff, past-line-iff}
 use Rattle.meaning.specs.Rules.{readWindow}
 use Rattle.meaning.proofs.WindowAlone.{alone-reading}
 use Rattle.tally.specs.Windows.{windowAt}
-use Rattle.tally.proofs.WindowEdges.{start-window, start-length}
+use Rattle.tally.proofs.WindowEdges.{fitting-window, fitting-length}
 use Rattle.sweep.specs.declared.reading.WindowRead.{WindowRead}
 use Rattle.sweep.specs.Reads.{readBy, noneLeft, windowsOn, windowsBy}
 use Rattle.sweep.specs.ReadingRules.{OwnVectors, IsWindowRead}
@@ -40,10 +40,10 @@ module _ (ring table line : List ℕ) (k from : ℕ) (own : OwnVectors ring tabl
 
     module _ (fits : FitsInLine ring line i) where
       alone : windowAt m line i ≡ window m line i
-      alone = start-window line i m (windowAt m line i) (record { is = refl }) (fits .in-line)
+      alone = fitting-window (record { is = refl }) fits
 
       by-rules : IsWindowRead ring (windowAt m line i) k (read i)
-      by-rules = read-by-rules ring (windowAt m line i) table k own (start-length line i m (windowAt m line i) (record { is = refl }) (fits .in-line))
+      by-rules = read-by-rules ring (windowAt m line i) table k own (fitting-length (record { is = refl }) fits)
 
       -- The window's reading in the line.
       reads-are : read i .looks ≡ readWindow ring line k i .read

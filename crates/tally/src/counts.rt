@@ -85,12 +85,7 @@ fn lowest_rotation(counts: &[u16; MOST_COUNTS], m: usize, least: usize) -> RingP
 
 // "It carries start, rotation, distance: the least distance, and the lowest r that reaches it": the finding at a start with
 // this least count. The rotation is looked for only where a start is a finding.
-pub fn finding_at(
-    counts: &[u16; MOST_COUNTS],
-    m: usize,
-    start: LinePlace,
-    least: usize,
-) -> Finding
+pub fn finding_at(counts: &[u16; MOST_COUNTS], m: usize, start: LinePlace, least: usize) -> Finding
     ensures { λ f. ⌜ IsFindingAt m (now (counts .entry)) start least f ⌝ }
 {
     let rotation = lowest_rotation(counts, m, least);
