@@ -34,20 +34,22 @@ not-given none-is g = none-some (sym none-is ∙ g .given)
 abbrev pub Agrees : Option Refusal → Row → Type 0
 Agrees o r = (number place : ℕ) → r number place ↔ IsGivenAt o number place
 
--- Two lists of rows agree one by one.
+-- Two lists of rows agree one by one; a row need agree only where none before it is given.
 abbrev pub AllAgree : List (Option Refusal) → List Row → Type 0
 AllAgree [] [] = Unit {0}
 AllAgree [] (r ∷ rs) = ⊥
 AllAgree (o ∷ os) [] = ⊥
-AllAgree (o ∷ os) (r ∷ rs) = Agrees o r × AllAgree os rs
+AllAgree (o ∷ os) (r ∷ rs) = Agrees o r × (o ≡ none → AllAgree os rs)
 
--- So do two lists after them.
+-- So do two lists after them, if they agree where none before them is given.
 pub agree-append : (os : List (Option Refusal)) (rs : List Row) (os′ : List (Option Refusal)) (rs′ : List Row)
-    → AllAgree os rs → AllAgree os′ rs′ → AllAgree (os ++ os′) (rs ++ rs′)
-agree-append [] [] os′ rs′ a b = b
+    → AllAgree os rs → (firstGiven os ≡ none → AllAgree os′ rs′) → AllAgree (os ++ os′) (rs ++ rs′)
+unfolding firstGiven
+agree-append [] [] os′ rs′ a b = b refl
 agree-append [] (r ∷ rs) os′ rs′ a b = absurd a
 agree-append (o ∷ os) [] os′ rs′ a b = absurd a
-agree-append (o ∷ os) (r ∷ rs) os′ rs′ a b = (a .0, agree-append os rs os′ rs′ (a .1) b)
+agree-append (none ∷ os) (r ∷ rs) os′ rs′ a b = (a .0, λ e. agree-append os rs os′ rs′ (a .1 e) b)
+agree-append (some q ∷ os) (r ∷ rs) os′ rs′ a b = (a .0, λ e. absurd (none-some (sym e)))
 
 -- A row of the table with place 0 agrees with the page's: it gives its refusal exactly when the page's condition holds.
 pub row-agrees : {o : Option Refusal} {q : Refusal} {Yes No : Type 0} → IsRow o q Yes No → placeOf q ≡ 0 → Agrees o (rowOf (numberOf q) Yes)
@@ -65,8 +67,8 @@ first-agrees [] [] a number place = (λ f. absurd f, λ g. absurd (not-given ref
 first-agrees [] (r ∷ rs) a number place = absurd a
 first-agrees (o ∷ os) [] a number place = absurd a
 first-agrees (none ∷ os) (r ∷ rs) a number place = (
-  ⊎-elim (λ here. absurd (not-given refl (a .0 number place .0 here))) (λ rest. first-agrees os rs (a .1) number place .0 (rest .1)),
-  λ g. inr (λ n p h. not-given refl (a .0 n p .0 h), first-agrees os rs (a .1) number place .1 g),
+  ⊎-elim (λ here. absurd (not-given refl (a .0 number place .0 here))) (λ rest. first-agrees os rs (a .1 refl) number place .0 (rest .1)),
+  λ g. inr (λ n p h. not-given refl (a .0 n p .0 h), first-agrees os rs (a .1 refl) number place .1 g),
 )
 first-agrees (some q ∷ os) (r ∷ rs) a number place = (
   ⊎-elim (λ here. a .0 number place .0 here)
@@ -81,8 +83,8 @@ none-agrees [] [] a = (λ _. refl, λ _. tt)
 none-agrees [] (r ∷ rs) a = absurd a
 none-agrees (o ∷ os) [] a = absurd a
 none-agrees (none ∷ os) (r ∷ rs) a = (
-  λ none-given. none-agrees os rs (a .1) .0 (none-given .1),
-  λ e. (λ n p h. not-given refl (a .0 n p .0 h), none-agrees os rs (a .1) .1 e),
+  λ none-given. none-agrees os rs (a .1 refl) .0 (none-given .1),
+  λ e. (λ n p h. not-given refl (a .0 n p .0 h), none-agrees os rs (a .1 refl) .1 e),
 )
 none-agrees (some q ∷ os) (r ∷ rs) a = (
   λ none-given. absurd (none-given .0 (numberOf q) (placeOf q) (a .0 (numberOf q) (placeOf q) .1 (record { refusal = q; given = refl; number-is = refl; place-is = refl }))),

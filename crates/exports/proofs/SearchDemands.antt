@@ -32,7 +32,7 @@ pub search-agrees : (m k n room : ℕ) → AllAgree (admitRows m k n room) (sear
 unfolding admitRows
 search-agrees m k n room = (
   row-agrees (is-row-1 m k n room) refl,
-  (row-agrees (is-row-2 m k n room) refl, (row-agrees (is-row-3 m k n room) refl, (row-agrees (is-row-4 m k n room) refl, tt))),
+  λ _. (row-agrees (is-row-2 m k n room) refl, λ _. (row-agrees (is-row-3 m k n room) refl, λ _. (row-agrees (is-row-4 m k n room) refl, λ _. tt))),
 )
 
 -- A start is among the shown findings exactly when some rotation differs in at most k places and it is not named, if the shown are the findings not named.
