@@ -1,7 +1,7 @@
 -- Demand 1, once for every call. A call's list of rows (specs/Rows of the answers) and the rows of the page of demands agree one by one (`AllAgree`): so the first row
 -- that is given has the same number and place in both, and a call that goes by the first one meets demand 1. Induction on the rows.
 use Prim.Native.Nat.{ℕ, _<_}
-use mathlib.Core.Path.{_≡_, refl, sym, ap, _∙_}
+use mathlib.Core.Path.{_≡_, refl, sym, ap, subst, _∙_}
 use mathlib.Core.Logic.{_↔_, _⊎_, inl, inr, ⊎-elim}
 use mathlib.Core.List.{List, [], _∷_, _++_}
 use mathlib.Core.Option.{Option, none, some}
@@ -57,6 +57,24 @@ row-agrees {q = q} is no-place number place = (
   λ h. record { refusal = q; given = is .yes .1 (h .2); number-is = h .0; place-is = h .1 ∙ sym no-place },
   λ g. let same : g .refusal ≡ q = is .only (g .refusal) (g .given) in
       (g .number-is ∙ ap numberOf same, g .place-is ∙ ap placeOf same ∙ no-place, is .yes .0 (g .given ∙ ap some same)),
+)
+
+-- A row that two refusals can come from, each at any place, agrees with the page's two conditions.
+pub faults-agree : {o : Option Refusal} {A B : ℕ → Type 0} (one other : ℕ → Refusal) {a b : ℕ}
+    → ((p : ℕ) → (numberOf (one p) ≡ a) × (placeOf (one p) ≡ p)) → ((p : ℕ) → (numberOf (other p) ≡ b) × (placeOf (other p) ≡ p))
+    → ((p : ℕ) → (o ≡ some (one p)) ↔ A p) → ((p : ℕ) → (o ≡ some (other p)) ↔ B p)
+    → ((q : Refusal) → o ≡ some q → ((p : ℕ) × (q ≡ one p)) ⊎ ((p : ℕ) × (q ≡ other p)))
+    → Agrees o (λ number place. ((number ≡ a) × A place) ⊎ ((number ≡ b) × B place))
+faults-agree {A = A} {B = B} one other of-one of-other one-iff other-iff only number place = (
+  ⊎-elim
+  (λ h. record { refusal = one place; given = one-iff place .1 (h .1); number-is = h .0 ∙ sym (of-one place .0); place-is = sym (of-one place .1) })
+  (λ h. record { refusal = other place; given = other-iff place .1 (h .1); number-is = h .0 ∙ sym (of-other place .0); place-is = sym (of-other place .1) }),
+  λ g. ⊎-elim
+  (λ w. let at : w .0 ≡ place = sym (g .place-is ∙ ap placeOf (w .1) ∙ of-one (w .0) .1) in
+      inl (g .number-is ∙ ap numberOf (w .1) ∙ of-one (w .0) .0, subst A at (one-iff (w .0) .0 (g .given ∙ ap some (w .1)))))
+  (λ w. let at : w .0 ≡ place = sym (g .place-is ∙ ap placeOf (w .1) ∙ of-other (w .0) .1) in
+      inr (g .number-is ∙ ap numberOf (w .1) ∙ of-other (w .0) .0, subst B at (other-iff (w .0) .0 (g .given ∙ ap some (w .1)))))
+  (only (g .refusal) (g .given)),
 )
 
 -- The first row that is given is the same in both lists.
