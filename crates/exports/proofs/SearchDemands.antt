@@ -24,11 +24,11 @@ use Rattle.findings.proofs.AdmitRows.{is-row-1, is-row-2, is-row-3, is-row-4, n
 use Rattle.outlines.specs.Report.{ReportCounts, noReportCounts}
 use Rattle.exports.specs.declared.answering.Answer.{Answer}
 use Rattle.exports.specs.Exported.{paperOf, counted, searchCounts, IsExported, IsSurveyExported, IsScanExported}
-use Rattle.exports.specs.Demands.{searchRows, NeverNamed, Demand1, Demand2, Demand3, SurveyMeets, ScanMeets, SameWords}
+use Rattle.exports.specs.Demands.{searchTable, NeverNamed, Demand1, Demand2, Demand3, SurveyMeets, ScanMeets, SameWords}
 use Rattle.exports.proofs.RowsAgree.{AllAgree, row-agrees, GoesByRows, Accepts, demand-1-met, accepts}
 
 -- The rows of a search, one by one.
-pub search-agrees : (m k n room : ℕ) → AllAgree (admitRows m k n room) (searchRows m k n room)
+pub search-agrees : (m k n room : ℕ) → AllAgree (admitRows m k n room) (searchTable m k n room)
 unfolding admitRows
 search-agrees m k n room = (
   row-agrees (is-row-1 m k n room) refl,
@@ -69,7 +69,7 @@ module _ (ring line : List ℕ) (k looks : ℕ) (words : List ℕ) {r : Answer} 
   }
 
   -- It meets demand 1.
-  search-demand-1 : Demand1 (searchRows (length ring) k (length line) (length words)) r words out
+  search-demand-1 : Demand1 (searchTable (length ring) k (length line) (length words)) r words out
   search-demand-1 = demand-1-met (search-agrees (length ring) k (length line) (length words)) searched-by-rows
 
   module _ (zero-is : r .refusal ≡ 0) where

@@ -1,15 +1,19 @@
--- The three demands, of what a C caller gets: the struct `Answer` and the lent area at exit. Hold this page beside document 01. The theorems that every call
--- meets it are in proofs/DemandsMet.antt; nothing here speaks of how a call works.
+-- The three demands on the calls, stated of what a C caller gets: the struct `Answer` and the lent area at exit. Hold this page beside document 01. Nothing here
+-- speaks of how a call works. That each call meets it is proved in proofs/SearchDemands.antt (survey and scan), proofs/ReportDemands.antt and proofs/BookDemands.antt.
 --
---   Row, rowOf, FirstRow, NoRow                     a call's rows of the table of refusals, in the call's order
---   searchRows, bookRows, reportRows, unpackRows,   the rows of each call, "Given exactly when"
---   packRows
---   Demand1                  accepted, or refused by the first row that is given; a refusal counts 0 and writes nothing
---   BookNames, NeverNamed    what hides a finding
---   Demand2                  the findings written, and those hidden
---   UnpackDemand2, PackDemand2, GivesBack           books
---   Demand3                  the quick scan's looks
---   SurveyMeets, ScanMeets, ReportMeets, UnpackMeets, PackMeets, SameWords   the demands on each call
+--   Row, rowOf, FirstRow, NoRow              a row of the table of refusals; the first row that is given; none is
+--   searchTable, bookTable, reportTable,     the rows of each call in its order, "Given exactly when"
+--   unpackTable, packTable
+--   Demand1                                  accepted, or refused by the first row that is given; a refusal counts 0 and writes nothing
+--   BookNames, NeverNamed                    which starts the book names
+--   Demand2                                  the findings that are written, and those that are hidden
+--   UnpackDemand2, PackDemand2, GivesBack    books: what is accepted, what is written, and that reading gives it back
+--   Demand3                                  the looks of scan and report
+--   SurveyMeets, ScanMeets, ReportMeets,     the demands on each call
+--   UnpackMeets, PackMeets
+--   SameWords                                survey and scan give the same findings
+--
+-- The theorems presume that a book's numbers are bytes and that words are 32-bit words: a C caller's types say so.
 use Prim.Native.Nat.{ℕ, _+_, _-_, _*_, _%_, _≤_, _<_}
 use mathlib.Core.Path.{_≡_}
 use mathlib.Core.Logic.{_↔_, _⊎_}
@@ -45,8 +49,8 @@ NoRow [] = Unit {0}
 NoRow (r ∷ rows) = ((n p : ℕ) → r n p → ⊥) × NoRow rows
 
 -- "Order: survey and scan 1 to 4". m edges of the ring, n of the line, allowance k, `room` words lent for findings.
-abbrev pub searchRows : ℕ → ℕ → ℕ → ℕ → List Row
-searchRows m k n room =
+abbrev pub searchTable : ℕ → ℕ → ℕ → ℕ → List Row
+searchTable m k n room =
     -- "m = 0 or m > 256"
     rowOf 1 ((m ≡ 0) ⊎ (256 < m))
     -- "k ≥ m"
@@ -58,8 +62,8 @@ searchRows m k n room =
     ∷ []
 
 -- Rows 5, 6 and 7 of a book that is read. "Within a book the first faulty field decides, 6 before 7": a fault says that all fields before it are right.
-abbrev pub bookRows : List ℕ → List Row
-bookRows book =
+abbrev pub bookTable : List ℕ → List Row
+bookTable book =
     -- "book longer than 13,000 bytes"
     rowOf 5 (13000 < length book)
     -- "a field isn't 13 bytes beginning 21 00 0A hex, or is cut off", or "a record isn't above the one before it"; "its byte offset"
@@ -67,20 +71,20 @@ bookRows book =
     ∷ []
 
 -- "report 1 to 7"
-abbrev pub reportRows : ℕ → ℕ → ℕ → ℕ → List ℕ → List Row
-reportRows m k n room book = searchRows m k n room ++ bookRows book
+abbrev pub reportTable : ℕ → ℕ → ℕ → ℕ → List ℕ → List Row
+reportTable m k n room book = searchTable m k n room ++ bookTable book
 
 -- "unpacker 5, 6, 7, 10": with room for `room` words.
-abbrev pub unpackRows : List ℕ → ℕ → List Row
-unpackRows book room =
-    bookRows book
+abbrev pub unpackTable : List ℕ → ℕ → List Row
+unpackTable book room =
+    bookTable book
     -- "packing or unpacking lacks room for its whole output"
     ++ rowOf 10 ((ss : List Silence) × IsBook ss book × (room < length (wordsOfSilences ss)))
     ∷ []
 
 -- "packer 8, then each record 9 before 7, then 10": with room for `room` bytes.
-abbrev pub packRows : List ℕ → ℕ → List Row
-packRows words room =
+abbrev pub packTable : List ℕ → ℕ → List Row
+packTable words room =
     -- "words to pack aren't a multiple of 3, or exceed 3,000"
     rowOf 8 ((length words % 3 ≡ 0 → ⊥) ⊎ (3000 < length words))
     -- "a ring number to pack is above 65,535", or "a record isn't above the one before it"; "record number"
@@ -168,14 +172,14 @@ pub record GivesBack (given : List ℕ) (first second : Answer) (out : List ℕ)
 
 -- The demands on `outlines_survey`. "2·m·n − m·m looks for n ≥ m, else 0"
 pub record SurveyMeets (ring line : List ℕ) (k : ℕ) (words : List ℕ) (r : Answer) (out : List ℕ) : Type 0 where
-  pub demand-1 : Demand1 (searchRows (length ring) k (length line) (length words)) r words out
+  pub demand-1 : Demand1 (searchTable (length ring) k (length line) (length words)) r words out
   pub demand-2 : r .refusal ≡ 0 → Demand2 NeverNamed ring line k words r out
   pub looks-are : r .refusal ≡ 0 → length ring ≤ length line → r .looks ≡ 2 * length ring * length line - length ring * length ring
   pub no-looks : r .refusal ≡ 0 → length line < length ring → r .looks ≡ 0
 
 -- The demands on `outlines_scan`.
 pub record ScanMeets (ring line : List ℕ) (k : ℕ) (words : List ℕ) (r : Answer) (out : List ℕ) : Type 0 where
-  pub demand-1 : Demand1 (searchRows (length ring) k (length line) (length words)) r words out
+  pub demand-1 : Demand1 (searchTable (length ring) k (length line) (length words)) r words out
   pub demand-2 : r .refusal ≡ 0 → Demand2 NeverNamed ring line k words r out
   pub demand-3 : r .refusal ≡ 0 → Demand3 ring line k r
 
@@ -188,16 +192,16 @@ pub record SameWords (survey scan : Answer) (survey-out scan-out : List ℕ) : T
 
 -- The demands on `outlines_report`.
 pub record ReportMeets (cell ringNumber : ℕ) (ring line : List ℕ) (k : ℕ) (book words : List ℕ) (r : Answer) (out : List ℕ) : Type 0 where
-  pub demand-1 : Demand1 (reportRows (length ring) k (length line) (length words) book) r words out
+  pub demand-1 : Demand1 (reportTable (length ring) k (length line) (length words) book) r words out
   pub demand-2 : r .refusal ≡ 0 → Demand2 (BookNames book cell ringNumber) ring line k words r out
   pub demand-3 : r .refusal ≡ 0 → Demand3 ring line k r
 
 -- The demands on `outlines_unpack`.
 pub record UnpackMeets (book area : List ℕ) (r : Answer) (out : List ℕ) : Type 0 where
-  pub demand-1 : Demand1 (unpackRows book (length area)) r area out
+  pub demand-1 : Demand1 (unpackTable book (length area)) r area out
   pub demand-2 : UnpackDemand2 book area r out
 
 -- The demands on `outlines_pack`.
 pub record PackMeets (words area : List ℕ) (r : Answer) (out : List ℕ) : Type 0 where
-  pub demand-1 : Demand1 (packRows words (length area)) r area out
+  pub demand-1 : Demand1 (packTable words (length area)) r area out
   pub demand-2 : PackDemand2 words area r out
