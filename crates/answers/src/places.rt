@@ -4,8 +4,8 @@
 // The compiler sees to this: where a line place is kept, taken or returned, there can be no ring place and no bare number,
 // and the other way round. A reader checks the rest, since each type hands out its number by `.0` and any number can be
 // wrapped. In the search a ring place is made by `to_ring`, as rotation 0 (`count_edges`) and of the index of a count
-// (`lowest_rotation`), and never of a line place's number. The numbers are read as indices, in sums with lengths and
-// comparisons with them or with places of the same kind, and as the words of a finding.
+// (`lowest_rotation`), and never of a line place's number. The numbers are read as indices, as words of a finding and the
+// start in a silence's address, and in sums and comparisons with lengths and with places of the same kind.
 ghost use mathlib.Core.Path.{_≡_};
 ghost use Prim.Native.Nat.{_+_};
 ghost use Rattle.answers.specs.Places.{around, IsRingPlace, IsLinePlace};
