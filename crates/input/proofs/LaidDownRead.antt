@@ -1,102 +1,93 @@
--- An input laid down from a request is read back as that request: field after field, each beginning where the one before it ends (`laid-stands`, `laid-rest`). So
--- the definition that reads and the one that writes cannot both be wrong in the same way.
--- Assumes nothing.
-use Prim.Native.Nat.{ℕ}
-use mathlib.Core.Path.{_≡_, refl, sym, _∙_}
-use mathlib.Core.List.{List, _++_}
+-- An input laid down from a request is read back as that request, field after field (`parts-laid`). So the definition that reads and the one that writes cannot both be
+-- wrong in the same way.
+use Prim.Native.Nat.{ℕ, _+_, _-_, _^_, _≤_, _<_}
+use mathlib.Core.Path.{_≡_, refl, sym, ap, ap₂, _∙_}
+use mathlib.Core.List.{List, [], _∷_, _++_, append-nil}
+use mathlib.Core.Option.{none}
 use native.Mathlib.Omega.{arith}
-use lib.ListN.{length, drop}
+use lib.ListN.{length, getD, take, drop}
+use lib.Seq.{take-append-seam}
+use borrow.Author.Tests.{le-ltb}
 use Rattle.answers.specs.Paper.{accepted}
-use Rattle.fields.specs.Numbers.{bytesOf}
-use Rattle.fields.specs.Tagged.{field, fieldEnd}
+use Rattle.fields.specs.Numbers.{bytesOf, numberAt}
+use Rattle.fields.specs.Tagged.{lengthBytes, headLength, field, longAt, fieldEnd}
 use Rattle.fields.proofs.NumberBytes.{bytesOf-length}
-use Rattle.input.specs.Fields.{cellField, ringNumberField, allowanceField, ringField, lineField}
-use Rattle.input.specs.Input.{Request, requestOf, laidDown, CanLayDown}
-use Rattle.input.specs.RowEleven.{CellStands, RingNumberStands, AllowanceStands, RingStands}
-use Rattle.input.proofs.AskedCases.{LineStands, asked-parts}
-use Rattle.fields.proofs.FieldLaid.{laid-rest}
-use Rattle.input.proofs.FieldLaid.{laid-between, laid-stands, laid-number}
+use Rattle.fields.proofs.FieldLaid.{laid-number, laid-tag, laid-long, laid-value, laid-rest, laid-within}
+use Rattle.input.specs.declared.field.FieldKind.{FieldKind}
+use Rattle.input.specs.Fields.{ringField, lineField, inputFields, nextAt, valueAt}
+use Rattle.input.specs.Input.{Request, mostInput, firstFault, inputFault, partsFrom, numberIn, requestOf, laidDown, CanLayDown}
+use Rattle.input.specs.RowEleven.{IsFieldAt}
+use Rattle.input.proofs.FieldStands.{field-iff}
 
-module _ (q : Request) (can : CanLayDown q) where
-  abbrev whole : List ℕ
-  whole = laidDown q
+-- Fields of these kinds with these values, one after the other, and the last part after them.
+abbrev pub laid : List FieldKind → List (List ℕ) → List ℕ
+laid [] parts = getD parts 0 []
+laid (kind ∷ kinds) [] = []
+laid (kind ∷ kinds) (value ∷ parts) = field (kind .tag) value ++ laid kinds parts
 
-  -- the bytes after the ring
-  abbrev after-ring : List ℕ
-  after-ring = field (lineField .tag) (q .line) ++ q .book
+-- Each value has a length that its kind takes, and one part comes after the fields.
+data Fit : List FieldKind → List (List ℕ) → Type 0 where
+  book-left : {book : List ℕ} → Fit [] (book ∷ [])
+  field-fits : {kind : FieldKind} {kinds : List FieldKind} {value : List ℕ} {parts : List (List ℕ)} → kind .least ≤ length value → length value ≤ kind .most
+      → length value < 256 ^ lengthBytes → Fit kinds parts → Fit (kind ∷ kinds) (value ∷ parts)
 
-  -- after the allowance
-  abbrev after-allowance : List ℕ
-  after-allowance = field (ringField .tag) (q .ring) ++ after-ring
+-- What is laid down is read back: no field is faulty, and the parts are those.
+parts-laid : {kinds : List FieldKind} {parts : List (List ℕ)} (whole : List ℕ) (at : ℕ) → Fit kinds parts → drop at whole ≡ laid kinds parts
+    → (firstFault kinds whole at ≡ none) × (partsFrom kinds whole at ≡ parts)
+unfolding firstFault partsFrom
+parts-laid whole at book-left e = (refl, ap (λ (l : List ℕ). l ∷ []) e)
+parts-laid whole at (field-fits {kind} {kinds} {value} {parts} least-le most-le short fit) e =
+    let rest : List ℕ = laid kinds parts in
+    let long : longAt whole at ≡ length value = laid-long whole at (kind .tag) value rest e short in
+    let next-is : nextAt whole at ≡ fieldEnd at (length value) = ap (fieldEnd at) long in
+    let stands : IsFieldAt kind whole at =
+    record {
+      tag-is = laid-tag whole at (kind .tag) value rest e;
+      least-le = omega arith;
+      most-le = omega arith;
+      not-cut = omega (arith, laid-within whole at (kind .tag) value rest e);
+    } in
+    let value-long : nextAt whole at - (at + headLength) ≡ length value = omega arith in
+    let value-is : valueAt whole at ≡ value =
+    ap₂ (λ (n : ℕ) (l : List ℕ). take n l) value-long (laid-value whole at (kind .tag) value rest e) ∙ take-append-seam value rest in
+    let after = parts-laid whole (nextAt whole at) fit (ap (λ (n : ℕ). drop n whole) next-is ∙ laid-rest whole at (kind .tag) value rest e) in
+    (simp (field-iff kind whole at .1 stands, after .0), ap₂ (λ (v : List ℕ) (l : List (List ℕ)). v ∷ l) value-is (after .1))
 
-  -- after the ring number
-  abbrev after-ring-number : List ℕ
-  after-ring-number = field (allowanceField .tag) (bytesOf 1 (q .allowance)) ++ after-allowance
+-- a number's bytes give it back
+number-in-bytes : (count number : ℕ) → number < 256 ^ count → numberIn (bytesOf count number) ≡ number
+number-in-bytes count number fits =
+    ap (λ (n : ℕ). numberAt n (bytesOf count number) 0) (bytesOf-length count number)
+    ∙ laid-number (bytesOf count number) 0 count number [] (sym (append-nil (bytesOf count number))) fits
 
-  -- after the cell
-  abbrev after-cell : List ℕ
-  after-cell = field (ringNumberField .tag) (bytesOf 2 (q .ringNumber)) ++ after-ring-number
+-- and fit the kind of field that takes them
+number-fits : {tag : ℕ} {kinds : List FieldKind} {parts : List (List ℕ)} (count number : ℕ) → count < 256 ^ lengthBytes → Fit kinds parts
+    → Fit (record { tag = tag; least = count; most = count } ∷ kinds) (bytesOf count number ∷ parts)
+number-fits {tag} count number small fit =
+    let kind : FieldKind = record { tag = tag; least = count; most = count } in
+    let long = bytesOf-length count number in
+    field-fits {kind = kind} {value = bytesOf count number} (omega arith) (omega arith) (omega arith) fit
 
-  -- What is laid down is read back.
-  pub laid-down-read : requestOf (laidDown q) ≡ accepted q
-  unfolding laidDown
-  laid-down-read =
-      let cell : List ℕ = bytesOf 4 (q .cell) in
-      let ring-number : List ℕ = bytesOf 2 (q .ringNumber) in
-      let allowance : List ℕ = bytesOf 1 (q .allowance) in
-      let cell-long : length cell ≡ 4 = bytesOf-length 4 (q .cell) in
-      let ring-number-long : length ring-number ≡ 2 = bytesOf-length 2 (q .ringNumber) in
-      let allowance-long : length allowance ≡ 1 = bytesOf-length 1 (q .allowance) in
-      let cell-end : ℕ = fieldEnd 0 (length cell) in
-      let ring-number-end : ℕ = fieldEnd cell-end (length ring-number) in
-      let allowance-end : ℕ = fieldEnd ring-number-end (length allowance) in
-      let ring-end : ℕ = fieldEnd allowance-end (length (q .ring)) in
-      let line-end : ℕ = fieldEnd ring-end (length (q .line)) in
-      let at-cell : drop 0 whole ≡ field (cellField .tag) cell ++ after-cell = refl in
-      let at-ring-number : drop cell-end whole ≡ after-cell = laid-rest whole 0 (cellField .tag) cell after-cell at-cell in
-      let at-allowance : drop ring-number-end whole ≡ after-ring-number = laid-rest whole cell-end (ringNumberField .tag) ring-number after-ring-number at-ring-number in
-      let at-ring : drop allowance-end whole ≡ after-allowance = laid-rest whole ring-number-end (allowanceField .tag) allowance after-allowance at-allowance in
-      let at-line : drop ring-end whole ≡ after-ring = laid-rest whole allowance-end (ringField .tag) (q .ring) after-ring at-ring in
-      let cell-stands : CellStands whole cell-end =
-      record {
-        not-longer = can .whole-le;
-        cell = laid-stands whole 0 (cellField .tag) cell after-cell at-cell 4 4 (omega arith) (omega arith) (omega arith);
-      } in
-      let ring-number-stands : RingNumberStands whole ring-number-end =
-      record {
-        cell-end = cell-end;
-        earlier = cell-stands;
-        ring-number = laid-stands whole cell-end (ringNumberField .tag) ring-number after-ring-number at-ring-number 2 2 (omega arith) (omega arith) (omega arith);
-      } in
-      let allowance-stands : AllowanceStands whole allowance-end =
-      record {
-        ring-number-end = ring-number-end;
-        earlier = ring-number-stands;
-        allowance = laid-stands whole ring-number-end (allowanceField .tag) allowance after-allowance at-allowance 1 1 (omega arith) (omega arith) (omega arith);
-      } in
-      let ring-stands : RingStands whole ring-end =
-      record {
-        allowance-end = allowance-end;
-        earlier = allowance-stands;
-        ring = laid-stands whole allowance-end (ringField .tag) (q .ring) after-ring at-ring 0 65535 (omega arith) (can .ring-le) (omega (arith, can .ring-le));
-      } in
-      let line-stands : LineStands whole line-end =
-      record {
-        ring-end = ring-end;
-        earlier = ring-stands;
-        line = laid-stands whole ring-end (lineField .tag) (q .line) (q .book) at-line 0 4096 (omega arith) (can .line-le) (omega (arith, can .line-le));
-      } in
-      let asked =
-      asked-parts line-stands
-      (sym (laid-number whole 0 (cellField .tag) cell after-cell at-cell 4 (q .cell) (can .cell-lt) refl))
-      (sym (laid-number whole cell-end (ringNumberField .tag) ring-number after-ring-number at-ring-number 2 (q .ringNumber) (can .ring-number-lt) refl))
-      (sym (laid-number whole ring-number-end (allowanceField .tag) allowance after-allowance at-allowance 1 (q .allowance) (can .allowance-lt) refl)) in
-      sym (asked .is)
-      ∙ (λ i. accepted (record {
-        cell = q .cell;
-        ringNumber = q .ringNumber;
-        allowance = q .allowance;
-        ring = laid-between whole allowance-end (ringField .tag) (q .ring) after-ring at-ring i;
-        line = laid-between whole ring-end (lineField .tag) (q .line) (q .book) at-line i;
-        book = laid-rest whole ring-end (lineField .tag) (q .line) (q .book) at-line i;
-      }))
+-- The parts of a request.
+abbrev partsOf : Request → List (List ℕ)
+partsOf q = bytesOf 4 (q .cell) ∷ bytesOf 2 (q .ringNumber) ∷ bytesOf 1 (q .allowance) ∷ q .ring ∷ q .line ∷ q .book ∷ []
+
+-- A request that can be laid down is read back.
+pub laid-down-read : (q : Request) → CanLayDown q → requestOf (laidDown q) ≡ accepted q
+unfolding requestOf inputFault laidDown
+laid-down-read q can =
+    let fit : Fit inputFields (partsOf q) =
+    number-fits 4 (q .cell) (omega arith)
+    (number-fits 2 (q .ringNumber) (omega arith)
+    (number-fits 1 (q .allowance) (omega arith)
+    (field-fits {kind = ringField} {value = q .ring} (omega arith) (can .ring-le) (omega (arith, can .ring-le))
+    (field-fits {kind = lineField} {value = q .line} (omega arith) (can .line-le) (omega (arith, can .line-le)) book-left)))) in
+    let read = parts-laid (laidDown q) 0 fit refl in
+    simp (le-ltb mostInput (length (laidDown q)) (can .whole-le), read .0, read .1)
+    (λ i. accepted (record {
+      cell = number-in-bytes 4 (q .cell) (can .cell-lt) i;
+      ringNumber = number-in-bytes 2 (q .ringNumber) (can .ring-number-lt) i;
+      allowance = number-in-bytes 1 (q .allowance) (can .allowance-lt) i;
+      ring = q .ring;
+      line = q .line;
+      book = q .book;
+    }))

@@ -1,9 +1,8 @@
--- Laws behind the report program's input: which inputs are read as a request, which are refused and where, and what the functions' proofs cite.
-pub mod FieldEnds
-pub mod AskedCases
-pub mod FieldLaid
-pub mod LaidDownRead
-pub mod FieldThen
-pub mod ReadIsLaidDown
+-- Laws of the report program's input, and what the functions' proofs cite.
+pub mod FieldStands
+pub mod PastFields
+pub mod RequestRead
 pub mod RowElevenIff
+pub mod LaidDownRead
+pub mod ReadIsLaidDown
 pub mod OneAnswer

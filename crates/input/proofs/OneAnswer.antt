@@ -1,6 +1,5 @@
 -- Any two answers of `read_request` that meet its contract are equal. They say the same request; its book's length tells where the line ends, the line's length
 -- where it begins, the head before it where the ring ends, and the ring's length where that begins.
--- Assumes nothing.
 use Prim.Native.Nat.{ℕ, _+_, _-_, _≤_}
 use mathlib.Core.Path.{_≡_, refl, sym, ap, _∙_}
 use mathlib.Core.List.{List}
@@ -13,7 +12,7 @@ use Rattle.input.specs.declared.asking.Asked.{Asked}
 use Rattle.input.specs.declared.asking.Asked.the-variants.{Parts as PartsCase, Refused}
 use Rattle.input.specs.Fields.{between}
 use Rattle.input.specs.Input.{Request}
-use Rattle.input.specs.Asking.{requestAt, askedOf, WithinBy, IsAsked}
+use Rattle.input.specs.Asking.{requestAt, askedOf, WithinBy, IsRequestRead}
 
 -- the byte offsets of a request in its input, each from the one behind it
 abbrev lineTo : List ℕ → Request → ℕ
@@ -73,6 +72,6 @@ asked-back input (PartsCase p) within =
 asked-back input (Refused refusal) within = refl
 
 -- Any two answers of `read_request` are equal.
-pub asked-unique : (input : List ℕ) (r r′ : Asked) → IsAsked input r → IsAsked input r′ → r ≡ r′
+pub asked-unique : (input : List ℕ) (r r′ : Asked) → IsRequestRead input r → IsRequestRead input r′ → r ≡ r′
 asked-unique input r r′ a b =
     sym (asked-back input r (a .within)) ∙ ap (askedBack input) (a .is ∙ sym (b .is)) ∙ asked-back input r′ (b .within)

@@ -1,68 +1,67 @@
--- Row 11 is given, with its place, exactly when the input is longer or the first field that does not stand begins there: reading ends at the first such field
--- (`then-refused`), and gives the row there (`fault-refused`).
--- Assumes nothing.
-use Prim.Native.Nat.{ℕ, _≤_}
-use mathlib.Core.Path.{_≡_, refl, sym, subst}
+-- Row 11 is given, with its place, exactly when the input is longer or the first field that does not stand begins there.
+use Prim.Native.Nat.{ℕ}
+use mathlib.Core.Path.{_≡_, refl, subst}
 use mathlib.Core.Bool.{Bool, true, false, cond}
-use mathlib.Core.Logic.{⊎-elim, _↔_}
-use mathlib.Core.List.{List}
+use mathlib.Core.Logic.{_↔_}
+use mathlib.Core.List.{List, [], _∷_}
+use mathlib.Core.Option.{Option, none, some}
+use native.Mathlib.Omega.{arith}
 use lib.Dec.{ltb}
 use lib.ListN.{length}
-use borrow.Author.Tests.{ltb-true, ltb-false}
-use Rattle.answers.specs.declared.refusals.Refusal.{Refusal}
+use borrow.Author.Tests.{ltb-true, ltb-false, lt-ltb, le-ltb}
 use Rattle.answers.specs.declared.refusals.Refusal.the-variants.{Input}
 use Rattle.answers.specs.Paper.{refused}
 use Rattle.answers.proofs.AnswerCases.{accepted-not-refused}
-use Rattle.input.specs.Fields.{cellField, ringNumberField, allowanceField, ringField, lineField}
-use Rattle.input.specs.Input.{mostInput, fieldsOf, requestOf}
-use Rattle.input.specs.RowEleven.{CellStands, RingNumberStands, AllowanceStands, IsInputFault, longer, no-cell, no-ring-number, no-allowance, no-ring, no-line}
-use Rattle.input.proofs.AskedCases.{fault-refused}
-use Rattle.input.proofs.FieldThen.{refusal-same, then-refused}
+use Rattle.input.specs.declared.field.FieldKind.{FieldKind}
+use Rattle.input.specs.Fields.{inputFields, nextAt, isField}
+use Rattle.input.specs.Input.{mostInput, firstFault, inputFault, requestBy, requestOf}
+use Rattle.input.specs.RowEleven.{FirstFault, here, later, IsInputFault, longer, no-field}
+use Rattle.input.proofs.FieldStands.{field-iff, no-field-iff}
 
 module _ (input : List ℕ) where
-  -- reading refuses by row 11 alone, and where the fault is
-  refused-fault : (r : Refusal) → requestOf input ≡ refused r → (place : ℕ) × (r ≡ Input place) × IsInputFault input place
-  unfolding requestOf fieldsOf
-  refused-fault r h = go (ltb mostInput (length input)) refl h
+  -- two places that are equal
+  place-same : {a b : ℕ} → some a ≡ some b → a ≡ b
+  place-same e = cc
+
+  -- no place is not some place
+  none-not-some : {place : ℕ} → none ≡ some place → ⊥
+  none-not-some e = let z : _≡_ {A = ℕ} 0 1 = cc in omega arith
+
+  -- a fault that is found is the first
+  fault-found : (kinds : List FieldKind) (at : ℕ) {place : ℕ} → firstFault kinds input at ≡ some place → FirstFault input kinds at place
+  unfolding firstFault
+  fault-found [] at e = absurd (none-not-some e)
+  fault-found (kind ∷ kinds) at {place} e = go (isField kind input at) refl (fault-found kinds (nextAt input at)) e
     where
-      go : (t : Bool) → ltb mostInput (length input) ≡ t → cond t (refused (Input 0)) (fieldsOf input) ≡ refused r
-          → (place : ℕ) × (r ≡ Input place) × IsInputFault input place
-      go true long h = (0, sym (refusal-same h), longer (ltb-true mostInput (length input) long))
-      go false short h =
-          let le : length input ≤ mostInput = ltb-false mostInput (length input) short in
-          ⊎-elim
-          (λ gone. (0, gone .1, no-cell le (gone .0)))
-          (λ cell.
-          let to-cell : CellStands input (cell .0) = record { not-longer = le; cell = cell .1 } in
-          ⊎-elim
-          (λ gone. (cell .0, gone .1, no-ring-number to-cell (gone .0)))
-          (λ ring-number.
-          let to-ring-number : RingNumberStands input (ring-number .0) = record { cell-end = cell .0; earlier = to-cell; ring-number = ring-number .1 } in
-          ⊎-elim
-          (λ gone. (ring-number .0, gone .1, no-allowance to-ring-number (gone .0)))
-          (λ allowance.
-          let to-allowance : AllowanceStands input (allowance .0) =
-          record { ring-number-end = ring-number .0; earlier = to-ring-number; allowance = allowance .1 } in
-          ⊎-elim
-          (λ gone. (allowance .0, gone .1, no-ring to-allowance (gone .0)))
-          (λ ring.
-          ⊎-elim
-          (λ gone. (ring .0, gone .1, no-line (record { allowance-end = allowance .0; earlier = to-allowance; ring = ring .1 }) (gone .0)))
-          (λ line. absurd (accepted-not-refused refl (line .2)))
-          (then-refused input (ring .0) lineField _ (ring .2)))
-          (then-refused input (allowance .0) ringField _ (allowance .2)))
-          (then-refused input (ring-number .0) allowanceField _ (ring-number .2)))
-          (then-refused input (cell .0) ringNumberField _ (cell .2)))
-          (then-refused input 0 cellField _ h)
+      go : (t : Bool) → isField kind input at ≡ t → (firstFault kinds input (nextAt input at) ≡ some place → FirstFault input kinds (nextAt input at) place)
+          → cond t (firstFault kinds input (nextAt input at)) (some at) ≡ some place → FirstFault input (kind ∷ kinds) at place
+      go true stands among-later e = later (field-iff kind input at .0 stands) (among-later e)
+      go false missing among-later e = subst (FirstFault input (kind ∷ kinds) at) (place-same e) (here (no-field-iff kind input at .0 missing))
+
+  -- the first fault is found
+  fault-first : {kinds : List FieldKind} {at place : ℕ} → FirstFault input kinds at place → firstFault kinds input at ≡ some place
+  unfolding firstFault
+  fault-first (here missing) = simp (no-field-iff _ input _ .1 missing)
+  fault-first (later stands fault) = simp (field-iff _ input _ .1 stands, fault-first fault)
+
+  -- the place of row 11
+  fault-iff : (place : ℕ) → (inputFault input ≡ some place) ↔ IsInputFault input place
+  unfolding inputFault
+  fault-iff place = (λ e. to (ltb mostInput (length input)) refl e, from)
+    where
+      to : (t : Bool) → ltb mostInput (length input) ≡ t → cond t (some 0) (firstFault inputFields input 0) ≡ some place → IsInputFault input place
+      to true long e = subst (IsInputFault input) (place-same e) (longer (ltb-true mostInput (length input) long))
+      to false short e = no-field (ltb-false mostInput (length input) short) (fault-found inputFields 0 e)
+
+      from : {place : ℕ} → IsInputFault input place → inputFault input ≡ some place
+      from (longer long) = simp (lt-ltb mostInput (length input) long)
+      from (no-field short fault) = simp (le-ltb mostInput (length input) short, fault-first fault)
 
   -- Row 11: "the program's input isn't as laid down", with its place.
   pub row-11-iff : (place : ℕ) → (requestOf input ≡ refused (Input place)) ↔ IsInputFault input place
-  row-11-iff place = (
-    λ h.
-        let fault = refused-fault (Input place) h in
-        subst (IsInputFault input) (same (fault .1)) (fault .2),
-    fault-refused,
-  )
+  unfolding requestOf
+  row-11-iff place = (λ h. go (inputFault input) refl h, λ fault. simp (fault-iff place .1 fault))
     where
-      same : {a b : ℕ} → Input a ≡ Input b → b ≡ a
-      same e = cc
+      go : (o : Option ℕ) → inputFault input ≡ o → requestBy input o ≡ refused (Input place) → IsInputFault input place
+      go none e h = absurd (accepted-not-refused refl h)
+      go (some found) e h = let same : found ≡ place = cc in subst (IsInputFault input) same (fault-iff found .0 e)

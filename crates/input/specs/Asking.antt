@@ -1,10 +1,11 @@
--- What `read_request` promises: the request of the input's bytes, its ring, its line and its book by the byte offsets between which they stand; or refusal 11.
+-- The contract of `read_request`: the request of the input's bytes, its ring, its line and its book by the byte offsets between which they stand; or refusal 11.
 --
 --   requestAt    the request whose numbers and byte offsets these are
---   askedOf      what an enum's case stands for
+--   askedOf      the request, or the refusal, of an answer
 --   Within       how the byte offsets lie
---   WithinBy     the same of an enum's case
---   IsAsked      what `read_request` promises
+--   WithinBy     the same for either answer
+--   IsRequestRead
+--                the contract of `read_request`
 use Prim.Native.Nat.{ℕ, _+_, _≤_}
 use mathlib.Core.Path.{_≡_}
 use mathlib.Core.List.{List}
@@ -28,7 +29,7 @@ requestAt input p = record {
   book = drop (p .«line_to») input;
 }
 
--- The request, or the refusal, that an enum's case stands for.
+-- The request, or the refusal, of an answer.
 abbrev pub askedOf : List ℕ → Asked → Answer Request
 askedOf input (PartsCase p) = accepted (requestAt input p)
 askedOf input (Refused refusal) = refused refusal
@@ -43,12 +44,12 @@ pub record Within (input : List ℕ) (p : Parts) : Type 0 where
   pub line-within : p .«line_to» ≤ length input
   pub line-most : p .«line_to» ≤ p .«line_from» + lineField .most
 
--- The same of an enum's case.
+-- The same for either answer.
 abbrev pub WithinBy : List ℕ → Asked → Type 0
 WithinBy input (PartsCase p) = Within input p
 WithinBy input (Refused refusal) = Unit {0}
 
--- What `read_request` promises: of the input and the answer.
-pub record IsAsked (input : List ℕ) (r : Asked) : Type 0 where
+-- The contract of `read_request`.
+pub record IsRequestRead (input : List ℕ) (r : Asked) : Type 0 where
   pub is : askedOf input r ≡ requestOf input
   pub within : WithinBy input r

@@ -1,29 +1,20 @@
--- Document 01, "The report program": one field of the program's input. Fields are those of "Silence book": "A house format of tagged fields: one-byte tag,
+-- Document 01, "The report program": the fields of the program's input. They are those of "Silence book": "A house format of tagged fields: one-byte tag,
 -- two-byte length, value; numbers high byte first."
 --
---   FieldKind                     the tag of a field, and how long its value may be
---   cellField, ringNumberField,   the five kinds
+--   cellField, ringNumberField,   the five kinds: each has its tag, and the least and the most bytes of its value
 --   allowanceField, ringField,
 --   lineField
---   nextAt                        the byte offset just past a field
---   isField                       a field of a kind stands at a byte offset
---   fieldEndAt                    the byte offset just past it, if it stands
+--   inputFields                   the five in their order
 --   between                       the bytes from one byte offset up to another
---
--- A field that is missing, cut, wrongly tagged or wrongly long is not a field of its kind: what that comes to is said in Input.antt.
+--   nextAt, valueAt               the byte offset just past a field, and the field's value
+--   isField                       a field of a kind stands at a byte offset
 use Prim.Native.Nat.{ℕ, _+_, _-_}
-use mathlib.Core.Bool.{Bool, cond, _&&_}
-use mathlib.Core.List.{List}
-use mathlib.Core.Option.{Option, none, some}
+use mathlib.Core.Bool.{Bool, _&&_}
+use mathlib.Core.List.{List, [], _∷_}
 use lib.Dec.{leb, eqb}
 use lib.ListN.{length, getD, take, drop}
-use Rattle.fields.specs.Tagged.{longAt, fieldEnd}
-
--- A kind of field: its tag, and the least and the most bytes that its value has.
-pub record FieldKind : Type 0 where
-  pub tag : ℕ
-  pub least : ℕ
-  pub most : ℕ
+use Rattle.fields.specs.Tagged.{headLength, longAt, fieldEnd}
+use Rattle.input.specs.declared.field.FieldKind.{FieldKind}
 
 -- "34 cell (4 bytes)"
 abbrev pub cellField : FieldKind
@@ -45,9 +36,21 @@ ringField = record { tag = 0x31; least = 0; most = 65535 }
 abbrev pub lineField : FieldKind
 lineField = record { tag = 0x32; least = 0; most = 4096 }
 
+-- "fields in this order"
+abbrev pub inputFields : List FieldKind
+inputFields = cellField ∷ ringNumberField ∷ allowanceField ∷ ringField ∷ lineField ∷ []
+
+-- The bytes of the input from one byte offset up to another.
+abbrev pub between : List ℕ → ℕ → ℕ → List ℕ
+between input from to = take (to - from) (drop from input)
+
 -- The byte offset just past the field at a byte offset.
 abbrev pub nextAt : List ℕ → ℕ → ℕ
 nextAt input at = fieldEnd at (longAt input at)
+
+-- The value of the field at a byte offset.
+abbrev pub valueAt : List ℕ → ℕ → List ℕ
+valueAt input at = between input (at + headLength) (nextAt input at)
 
 -- A field of this kind stands at a byte offset: it is not wrongly tagged, not wrongly long and not cut. (Past the input's end a byte reads as 0, which
 -- is no kind's tag.)
@@ -55,11 +58,3 @@ unfoldable pub isField : FieldKind → List ℕ → ℕ → Bool
 isField kind input at =
     eqb (getD input at 0) (kind .tag)
     && (leb (kind .least) (longAt input at) && (leb (longAt input at) (kind .most) && leb (nextAt input at) (length input)))
-
--- The byte offset just past the field of this kind at a byte offset, if such a field stands there.
-unfoldable pub fieldEndAt : FieldKind → List ℕ → ℕ → Option ℕ
-fieldEndAt kind input at = cond (isField kind input at) (some (nextAt input at)) none
-
--- The bytes of the input from one byte offset up to another.
-abbrev pub between : List ℕ → ℕ → ℕ → List ℕ
-between input from to = take (to - from) (drop from input)

@@ -3,24 +3,27 @@
 --
 --   Request       cell, ring number, allowance, ring, line and book
 --   mostInput     "at most 32,768 bytes"
---   fieldsOf      the five fields in their order, or refusal 11 at the first that does not stand
+--   firstFault    where the first field begins that does not stand
+--   inputFault    the place of row 11
+--   partsFrom     the values of the fields, and the book
 --   requestOf     the request of an input's bytes, or refusal 11
 --   laidDown      the bytes of a request, as the document lays them down
 --   CanLayDown    the requests that have such bytes
 --
 -- `requestOf` reads and `laidDown` writes, each by itself: that the first undoes the second, and accepts nothing else, is `laid-down-iff` of proofs/.
 -- The ring may have any length here, 0 and 257 too: row 1 of the report refuses those, after all five fields are right.
-use Prim.Native.Nat.{ℕ, _+_, _≤_, _<_, _^_}
+use Prim.Native.Nat.{ℕ, _≤_, _<_, _^_}
 use mathlib.Core.Bool.{cond}
-use mathlib.Core.List.{List, _++_}
+use mathlib.Core.List.{List, [], _∷_, _++_}
 use mathlib.Core.Option.{Option, none, some}
 use lib.Dec.{ltb}
-use lib.ListN.{length, drop}
+use lib.ListN.{length, getD, drop}
 use Rattle.answers.specs.declared.refusals.Refusal.the-variants.{Input}
 use Rattle.answers.specs.Paper.{Answer, accepted, refused}
 use Rattle.fields.specs.Numbers.{numberAt, bytesOf}
-use Rattle.fields.specs.Tagged.{field, headLength}
-use Rattle.input.specs.Fields.{FieldKind, cellField, ringNumberField, allowanceField, ringField, lineField, fieldEndAt, between}
+use Rattle.fields.specs.Tagged.{field}
+use Rattle.input.specs.declared.field.FieldKind.{FieldKind}
+use Rattle.input.specs.Fields.{cellField, ringNumberField, allowanceField, ringField, lineField, inputFields, nextAt, valueAt, isField}
 
 -- What the program is asked: the report of a cell, a ring number, a ring, a line, an allowance and a book.
 pub record Request : Type 0 where
@@ -35,38 +38,48 @@ pub record Request : Type 0 where
 abbrev pub mostInput : ℕ
 mostInput = 32768
 
--- A field that ends at `next`, and what `rest` makes of the byte offset of its value and of `next`. No such field: "A missing, cut, wrongly tagged or
--- wrongly long field of the first five is refusal 11, place the offset where the first such field begins or should begin".
-abbrev pub endThen : ℕ → Option ℕ → (ℕ → ℕ → Answer Request) → Answer Request
-endThen at none rest = refused (Input at)
-endThen at (some next) rest = rest (at + headLength) next
+-- Of fields of these kinds, the first of which begins at `at` and each next one where the one before it ends: "the offset where the first such field begins
+-- or should begin", which is missing, cut, wrongly tagged or wrongly long.
+unfoldable pub firstFault : List FieldKind → List ℕ → ℕ → Option ℕ
+firstFault [] input at = none
+firstFault (kind ∷ kinds) input at =
+    let among-later : Option ℕ = firstFault kinds input (nextAt input at) in
+    cond (isField kind input at) among-later (some at)
 
--- The field of this kind that begins, or should begin, at `at`, and what `rest` makes of it.
-abbrev pub fieldThen : List ℕ → ℕ → FieldKind → (ℕ → ℕ → Answer Request) → Answer Request
-fieldThen input at kind rest = endThen at (fieldEndAt kind input at) rest
+-- The place of row 11, if it is given: "a longer input is refusal 11, place 0, and is tested first".
+unfoldable pub inputFault : List ℕ → Option ℕ
+inputFault input =
+    let of-fields : Option ℕ = firstFault inputFields input 0 in
+    cond (ltb mostInput (length input)) (some 0) of-fields
 
--- The five fields in their order, each where the one before it ends, and every byte after them as the book. "numbers high byte first"
-unfoldable pub fieldsOf : List ℕ → Answer Request
-fieldsOf input =
-    fieldThen input 0 cellField (λ cell cell-end.
-    fieldThen input cell-end ringNumberField (λ ring-number ring-number-end.
-    fieldThen input ring-number-end allowanceField (λ allowance allowance-end.
-    fieldThen input allowance-end ringField (λ ring ring-end.
-    fieldThen input ring-end lineField (λ line line-end.
-    accepted (record {
-      cell = numberAt 4 input cell;
-      ringNumber = numberAt 2 input ring-number;
-      allowance = numberAt 1 input allowance;
-      ring = between input ring ring-end;
-      line = between input line line-end;
-      book = drop line-end input;
-    }))))))
+-- The values of such fields, "then the book to the end".
+unfoldable pub partsFrom : List FieldKind → List ℕ → ℕ → List (List ℕ)
+partsFrom [] input at = drop at input ∷ []
+partsFrom (kind ∷ kinds) input at = valueAt input at ∷ partsFrom kinds input (nextAt input at)
 
--- "a longer input is refusal 11, place 0, and is tested first"
+-- The number in bytes: "numbers high byte first".
+abbrev pub numberIn : List ℕ → ℕ
+numberIn bytes = numberAt (length bytes) bytes 0
+
+-- The request of the values of the five fields and the book.
+abbrev pub requestOfParts : List (List ℕ) → Request
+requestOfParts parts = record {
+  cell = numberIn (getD parts 0 []);
+  ringNumber = numberIn (getD parts 1 []);
+  allowance = numberIn (getD parts 2 []);
+  ring = getD parts 3 [];
+  line = getD parts 4 [];
+  book = getD parts 5 [];
+}
+
+-- The request of an input's bytes, by the place of row 11.
+abbrev pub requestBy : List ℕ → Option ℕ → Answer Request
+requestBy input (some place) = refused (Input place)
+requestBy input none = accepted (requestOfParts (partsFrom inputFields input 0))
+
+-- The request of an input's bytes, or refusal 11.
 unfoldable pub requestOf : List ℕ → Answer Request
-requestOf input =
-    let fields : Answer Request = fieldsOf input in
-    cond (ltb mostInput (length input)) (refused (Input 0)) fields
+requestOf input = requestBy input (inputFault input)
 
 -- A request's bytes: the five fields in their order, "then the book to the end".
 unfoldable pub laidDown : Request → List ℕ

@@ -1,17 +1,19 @@
--- What the private function promises that tells where a field ends. Nothing here is the public call's meaning.
+-- The contract of the private function that reads one field. Nothing here is part of the public call's meaning.
 use Prim.Native.Nat.{ℕ}
 use mathlib.Core.Path.{_≡_}
+use mathlib.Core.Bool.{true, false, cond}
 use mathlib.Core.List.{List}
-use mathlib.Core.Option.{Option, none, some}
-use Rattle.input.specs.declared.field.FieldEnd.{FieldEnd}
-use Rattle.input.specs.declared.field.FieldEnd.the-variants.{At, NoField}
-use Rattle.input.specs.Fields.{fieldEndAt}
+use Rattle.input.specs.declared.field.FieldKind.{FieldKind}
+use Rattle.input.specs.declared.field.ReadTo.{ReadTo}
+use Rattle.input.specs.Fields.{nextAt, isField}
 
--- The end that an enum's case stands for.
-abbrev pub endOf : FieldEnd → Option ℕ
-endOf (At next) = some next
-endOf NoField = none
+-- One field more is read: if no field before it is faulty and it stands, up to its end; else the first that does not stand keeps its place.
+unfoldable pub past : FieldKind → List ℕ → ReadTo → ReadTo
+past kind input before =
+    let whole : ReadTo = record { next = nextAt input (before .next); faulty = false } in
+    let fault : ReadTo = record { next = before .next; faulty = true } in
+    cond (before .faulty) before (cond (isField kind input (before .next)) whole fault)
 
--- A field's end is told: of its tag, the least and the most bytes of its value, the input, the byte offset and the answer.
-pub record IsEnd (tag least most : ℕ) (input : List ℕ) (at : ℕ) (r : FieldEnd) : Type 0 where
-  pub is : endOf r ≡ fieldEndAt (record { tag = tag; least = least; most = most }) input at
+-- The contract of `past_field`.
+pub record IsPast (kind : FieldKind) (input : List ℕ) (before r : ReadTo) : Type 0 where
+  pub is : r ≡ past kind input before

@@ -1,43 +1,59 @@
 // What the program is asked: the five fields in their order, and then the book.
-use crate::field::FieldEnd;
-use crate::field::field_end;
+use crate::field::FieldKind;
+use crate::field::ReadTo;
+use crate::field::past_field;
 use answers::Refusal;
 use fields::HEAD_LENGTH;
 use fields::number_at;
-ghost use Rattle.input.specs.Asking.{IsAsked};
+ghost use Rattle.input.specs.Asking.{IsRequestRead};
 
 // "It reads at most 32,768 bytes of standard input".
 const MOST_INPUT: usize = 32768;
 
-// "34 cell (4 bytes)"
-const CELL_TAG: u8 = 0x34;
-
-// And how many bytes its value has.
+// How many bytes the number of a cell has, of a ring number, and of an allowance.
 const CELL_BYTES: usize = 4;
 
-// "35 ring number (2)"
-const RING_NUMBER_TAG: u8 = 0x35;
-
-// And how many bytes its value has.
 const RING_NUMBER_BYTES: usize = 2;
 
-// "33 allowance (1)"
-const ALLOWANCE_TAG: u8 = 0x33;
-
-// And how many bytes its value has.
 const ALLOWANCE_BYTES: usize = 1;
 
-// "31 ring (any length)"
-const RING_TAG: u8 = 0x31;
+// The most edges of a line.
+pub const MOST_LINE_BYTES: usize = 4096;
 
-// Any length that two bytes say.
-const MOST_RING_BYTES: usize = 65535;
+// "34 cell (4 bytes)"
+const CELL: FieldKind = FieldKind {
+    tag: 0x34,
+    least: CELL_BYTES,
+    most: CELL_BYTES,
+};
+
+// "35 ring number (2)"
+const RING_NUMBER: FieldKind = FieldKind {
+    tag: 0x35,
+    least: RING_NUMBER_BYTES,
+    most: RING_NUMBER_BYTES,
+};
+
+// "33 allowance (1)"
+const ALLOWANCE: FieldKind = FieldKind {
+    tag: 0x33,
+    least: ALLOWANCE_BYTES,
+    most: ALLOWANCE_BYTES,
+};
+
+// "31 ring (any length)": any that a two-byte length says.
+const RING: FieldKind = FieldKind {
+    tag: 0x31,
+    least: 0,
+    most: 65535,
+};
 
 // "32 line (at most 4,096)"
-const LINE_TAG: u8 = 0x32;
-
-// And how many bytes its value has at most.
-pub const MOST_LINE_BYTES: usize = 4096;
+const LINE: FieldKind = FieldKind {
+    tag: 0x32,
+    least: 0,
+    most: MOST_LINE_BYTES,
+};
 
 // The numbers of a request, and the byte offsets between which its ring and its line stand. The book begins where the line
 // ends.
@@ -60,46 +76,27 @@ pub enum Asked {
 // "a longer input is refusal 11, place 0, and is tested first"; then each field, or refusal 11 where it begins or should
 // begin.
 pub fn read_request(input: &[u8]) -> Asked
-    ensures { λ r. ⌜ IsAsked (now (input .entry)) r ⌝ }
+    ensures { λ r. ⌜ IsRequestRead (now (input .entry)) r ⌝ }
 {
-    if MOST_INPUT < input.len() {
-        return Asked::Refused(Refusal::Input(0));
+    let start = ReadTo {
+        next: 0,
+        faulty: MOST_INPUT < input.len(),
+    };
+    let cell = past_field(input, start, CELL);
+    let ring_number = past_field(input, cell, RING_NUMBER);
+    let allowance = past_field(input, ring_number, ALLOWANCE);
+    let ring = past_field(input, allowance, RING);
+    let line = past_field(input, ring, LINE);
+    if line.faulty {
+        return Asked::Refused(Refusal::Input(line.next));
     }
-    let FieldEnd::At(cell_end) = field_end(input, 0, CELL_TAG, CELL_BYTES, CELL_BYTES) else {
-        return Asked::Refused(Refusal::Input(0));
-    };
-    let FieldEnd::At(ring_number_end) = field_end(
-        input,
-        cell_end,
-        RING_NUMBER_TAG,
-        RING_NUMBER_BYTES,
-        RING_NUMBER_BYTES,
-    ) else {
-        return Asked::Refused(Refusal::Input(cell_end));
-    };
-    let FieldEnd::At(allowance_end) = field_end(
-        input,
-        ring_number_end,
-        ALLOWANCE_TAG,
-        ALLOWANCE_BYTES,
-        ALLOWANCE_BYTES,
-    ) else {
-        return Asked::Refused(Refusal::Input(ring_number_end));
-    };
-    let FieldEnd::At(ring_end) = field_end(input, allowance_end, RING_TAG, 0, MOST_RING_BYTES)
-    else {
-        return Asked::Refused(Refusal::Input(allowance_end));
-    };
-    let FieldEnd::At(line_end) = field_end(input, ring_end, LINE_TAG, 0, MOST_LINE_BYTES) else {
-        return Asked::Refused(Refusal::Input(ring_end));
-    };
     Asked::Parts(Parts {
         cell: number_at(input, HEAD_LENGTH, CELL_BYTES),
-        ring_number: number_at(input, cell_end + HEAD_LENGTH, RING_NUMBER_BYTES) as u16,
-        allowance: number_at(input, ring_number_end + HEAD_LENGTH, ALLOWANCE_BYTES) as usize,
-        ring_from: allowance_end + HEAD_LENGTH,
-        ring_to: ring_end,
-        line_from: ring_end + HEAD_LENGTH,
-        line_to: line_end,
+        ring_number: number_at(input, cell.next + HEAD_LENGTH, RING_NUMBER_BYTES) as u16,
+        allowance: number_at(input, ring_number.next + HEAD_LENGTH, ALLOWANCE_BYTES) as usize,
+        ring_from: allowance.next + HEAD_LENGTH,
+        ring_to: ring.next,
+        line_from: ring.next + HEAD_LENGTH,
+        line_to: line.next,
     })
 }

@@ -3,36 +3,55 @@ use fields::HEAD_LENGTH;
 use fields::LENGTH_BYTES;
 use fields::TAG_BYTES;
 use fields::number_at;
-ghost use Prim.Native.Nat.{_≤_};
-ghost use lib.ListN.{length};
-ghost use Rattle.input.specs.Parsing.{IsEnd};
+ghost use Rattle.input.specs.Parsing.{IsPast};
 
-// Where a field ends: the byte offset just past it. Or no field of its kind stands there.
-pub enum FieldEnd {
-    At(usize),
-    NoField,
+// A kind of field: its tag, and the least and the most bytes of its value.
+pub struct FieldKind {
+    pub tag: u8,
+    pub least: usize,
+    pub most: usize,
 }
 
-// The field at byte offset `at`: it has this tag, its value has `least` to `most` bytes, and it is not cut.
-pub fn field_end(input: &[u8], at: usize, tag: u8, least: usize, most: usize) -> FieldEnd
-    requires { ⌜ at ≤ length (now input) ⌝ }
-    ensures { λ r. ⌜ IsEnd tag least most (now (input .entry)) at r ⌝ }
+// How far the fields are read. Either they all stand and the last ends at byte offset `next`; or one is missing, cut, wrongly
+// tagged or wrongly long, and the first such field begins, or should begin, at `next`.
+pub struct ReadTo {
+    pub next: usize,
+    pub faulty: bool,
+}
+
+// Reads one field more. It stands if it has the kind's tag, its value has `least` to `most` bytes, and it is not cut.
+pub fn past_field(input: &[u8], before: ReadTo, kind: FieldKind) -> ReadTo
+    ensures { λ r. ⌜ IsPast kind (now (input .entry)) before r ⌝ }
 {
-    if input.len() - at < HEAD_LENGTH {
-        return FieldEnd::NoField;
+    if before.faulty {
+        return before;
     }
-    if input[at] != tag {
-        return FieldEnd::NoField;
+    let at = before.next;
+    let fault = ReadTo {
+        next: at,
+        faulty: true,
+    };
+    if input.len() < HEAD_LENGTH {
+        return fault;
+    }
+    if input.len() - HEAD_LENGTH < at {
+        return fault;
+    }
+    if input[at] != kind.tag {
+        return fault;
     }
     let long = number_at(input, at + TAG_BYTES, LENGTH_BYTES) as usize;
-    if long < least {
-        return FieldEnd::NoField;
+    if long < kind.least {
+        return fault;
     }
-    if most < long {
-        return FieldEnd::NoField;
+    if kind.most < long {
+        return fault;
     }
     if input.len() - at - HEAD_LENGTH < long {
-        return FieldEnd::NoField;
+        return fault;
     }
-    FieldEnd::At(at + HEAD_LENGTH + long)
+    ReadTo {
+        next: at + HEAD_LENGTH + long,
+        faulty: false,
+    }
 }

@@ -13,7 +13,7 @@ use Rattle.input.specs.declared.asking.Asked.the-variants.{Parts as PartsCase, 
 use Rattle.input.specs.declared.asking.Parts.{Parts}
 use Rattle.input.specs.Fields.{between}
 use Rattle.input.specs.Input.{Request}
-use Rattle.input.specs.Asking.{askedOf, Within, WithinBy, IsAsked}
+use Rattle.input.specs.Asking.{askedOf, Within, WithinBy, IsRequestRead}
 use Rattle.request.specs.Lines.{refusalLine}
 use Rattle.request.specs.Answering.{requestText, textBy, answerText, IsAnswered}
 use Rattle.request.specs.Writing.{request, IsText}
@@ -31,7 +31,7 @@ answered-by {area = area} e is-text = record {
   written = is-text .written ∙ ap (λ (l : List ℕ). written l area) e;
 }
 
-module _ {input : List ℕ} {r : Asked} (asked : IsAsked input r) where
+module _ {input : List ℕ} {r : Asked} (asked : IsRequestRead input r) where
   -- Where the parts of a request lie.
   pub parts-within : {p : Parts} → r ≡ PartsCase p → Within input p
   parts-within e = subst (WithinBy input) e (asked .within)

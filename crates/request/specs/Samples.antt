@@ -18,8 +18,8 @@ use Rattle.silences.specs.Reading.{lengthByTag, silenceAt, fieldBy, fieldAt, fi
 use Rattle.answers.specs.Rows.{firstGiven}
 use Rattle.findings.specs.Admitting.{admitRows}
 use Rattle.outlines.specs.Report.{those, admittedSilences}
-use Rattle.input.specs.Fields.{isField, fieldEndAt}
-use Rattle.input.specs.Input.{fieldsOf, requestOf, laidDown}
+use Rattle.input.specs.Fields.{isField}
+use Rattle.input.specs.Input.{firstFault, inputFault, partsFrom, requestOf, laidDown}
 use Rattle.request.specs.Decimal.{digitsWithin, decimal}
 use Rattle.request.specs.Lines.{lf, firstLine, findingLine, findingLines, lastLine, refusalLineOf}
 use Rattle.request.specs.Answering.{reportLines, requestText, answerText}
@@ -41,7 +41,7 @@ printed letters = letters ++ lf ∷ []
 -- "Output, whole".
 sample-right : answerText (sampleFields ++ sampleBook)
     ≡ printed (ascii "cell 7 ring 2 edges 2 allow 0") ++ (printed (ascii "0 0 0") ++ printed (ascii "found 2 hidden 1 looks 12"))
-unfolding sampleFields sampleBook ascii answerText requestOf fieldsOf isField fieldEndAt numberAt requestText reportLines firstLine findingLine findingLines lastLine digitsWithin decimal admittedSilences admitRows firstGiven readBook readFrom fieldsFrom fieldAt fieldBy lengthByTag isWhole silenceAt isBelow isSame names those findingsBelow foundAt lowestRotation lowest distance count differs readLooks tallyLooks verifyLooks windowsFrom candidatesOf readWindow readLeft readEdge begins fits someBelow
+unfolding sampleFields sampleBook ascii answerText requestOf inputFault firstFault partsFrom isField numberAt requestText reportLines firstLine findingLine findingLines lastLine digitsWithin decimal admittedSilences admitRows firstGiven readBook readFrom fieldsFrom fieldAt fieldBy lengthByTag isWhole silenceAt isBelow isSame names those findingsBelow foundAt lowestRotation lowest distance count differs readLooks tallyLooks verifyLooks windowsFrom candidatesOf readWindow readLeft readEdge begins fits someBelow
 sample-right = refl
 
 -- It is what is laid down for this request.
@@ -59,7 +59,7 @@ row-11 : (answerText [] ≡ printed (ascii "refused 11 place 0"))
     × (answerText (take 21 sampleFields) ≡ printed (ascii "refused 11 place 21"))
     × (answerText (0x35 ∷ sampleFields) ≡ printed (ascii "refused 11 place 0"))
     × (answerText (sampleFields ++ replicate 32742 0x21) ≡ printed (ascii "refused 11 place 0"))
-unfolding sampleFields ascii answerText requestOf fieldsOf isField fieldEndAt numberAt refusalLineOf digitsWithin decimal
+unfolding sampleFields ascii answerText requestOf inputFault firstFault partsFrom isField numberAt refusalLineOf digitsWithin decimal
 row-11 = (refl, refl, refl, refl, refl, refl, refl, refl)
 
 -- The fields of cell 7, ring number 2, this allowance, this ring and a line of this many edges.
@@ -76,7 +76,7 @@ order-of-rows : (answerText (fieldsWith 0 [] 3) ≡ printed (ascii "refused 1 pl
     × (answerText (sampleFields ++ 0x21 ∷ []) ≡ printed (ascii "refused 6 place 0"))
     × (answerText (sampleFields ++ (sampleBook ++ 0x21 ∷ [])) ≡ printed (ascii "refused 6 place 13"))
     × (answerText (sampleFields ++ (sampleBook ++ sampleBook)) ≡ printed (ascii "refused 7 place 13"))
-unfolding sampleFields sampleBook ascii laidDown bytesOf answerText requestOf fieldsOf isField fieldEndAt numberAt requestText refusalLineOf digitsWithin decimal admittedSilences admitRows firstGiven readBook readFrom fieldsFrom fieldAt fieldBy lengthByTag isWhole silenceAt isBelow
+unfolding sampleFields sampleBook ascii laidDown bytesOf answerText requestOf inputFault firstFault partsFrom isField numberAt requestText refusalLineOf digitsWithin decimal admittedSilences admitRows firstGiven readBook readFrom fieldsFrom fieldAt fieldBy lengthByTag isWhole silenceAt isBelow
 order-of-rows = (refl, refl, refl, refl, refl, refl, refl)
 
 -- Digits: no leading zero, and a 0 for zero.
