@@ -21,13 +21,17 @@ answer-refused-iff a none q = (
 )
 answer-refused-iff a (some p) q = (λ h. cc, λ h. cc)
 
+-- The answer is accepted with a value exactly when no row is given and the call gives that value.
+pub answer-gives-iff : {A : Type 0} (a b : A) (o : Option Refusal) → (answerBy o a ≡ accepted b) ↔ ((o ≡ none) × (a ≡ b))
+answer-gives-iff a b none = (λ h. (refl, cc), λ h. ap accepted (h .1))
+answer-gives-iff a b (some p) = (
+  λ h. absurd (let z : _≡_ {A = ℕ} 0 1 = cc in omega arith),
+  λ h. absurd (let e : some p ≡ none = h .0 in let z : _≡_ {A = ℕ} 0 1 = cc in omega arith),
+)
+
 -- The answer is accepted exactly when no row is given.
 pub answer-accepted-iff : {A : Type 0} (a : A) (o : Option Refusal) → (answerBy o a ≡ accepted a) ↔ (o ≡ none)
-answer-accepted-iff a none = (λ h. refl, λ h. refl)
-answer-accepted-iff a (some p) = (
-  λ h. absurd (let z : _≡_ {A = ℕ} 0 1 = cc in omega arith),
-  λ h. absurd (let z : _≡_ {A = ℕ} 0 1 = cc in omega arith),
-)
+answer-accepted-iff a o = (λ h. answer-gives-iff a a o .0 h .0, λ h. answer-gives-iff a a o .1 (h, refl))
 
 -- the paper by its cases
 module _ {C : Type 0} (zeros counts : C) where

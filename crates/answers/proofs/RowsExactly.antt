@@ -77,6 +77,20 @@ unfolding firstGiven
 none-given-iff none rows = (λ e. (refl, e), λ h. h .1)
 none-given-iff (some r) rows = (λ e. absurd (none-some (sym e)), λ h. absurd (none-some (sym (h .0))))
 
+-- A row that several refusals can come from, as the first faulty field or record: what each of them and none of them mean goes by itself.
+module _ {o : Option Refusal} {rows : List (Option Refusal)} where
+  -- It is the first exactly when it is given: no later row has its number.
+  pub at-fault : {q : Refusal} {Yes : Type 0} → ((o ≡ some q) ↔ Yes) → EachRow (OtherNumber q) rows → FirstExactly (o ∷ rows) q Yes
+  at-fault {q} given others = record { exactly = Iff·trans (here-iff o rows q (λ e. first-has others q e refl)) given }
+
+  -- A row after it is the first: it is not given, and that is the first of the others.
+  pub past-fault : {q : Refusal} {No P : Type 0} → ((o ≡ none) ↔ No) → (o ≡ some q → ⊥) → FirstExactly rows q P → FirstExactly (o ∷ rows) q (No × P)
+  past-fault {q} not-given other rest = record { exactly = Iff·trans (later-iff o rows q other) (Iff·and not-given (rest .exactly)) }
+
+  -- None is given: it is not, and none of the others.
+  pub no-fault : {No P : Type 0} → ((o ≡ none) ↔ No) → NoneExactly rows P → NoneExactly (o ∷ rows) (No × P)
+  no-fault not-given rest = record { exactly = Iff·trans (none-given-iff o rows) (Iff·and not-given (rest .exactly)) }
+
 module _ {o : Option Refusal} {refusal : Refusal} {Yes No : Type 0} (is : IsRow o refusal Yes No) where
   -- A row has what its refusal has.
   pub row-has : {P : Refusal → Type 0} {rows : List (Option Refusal)} → P refusal → EachRow P rows → EachRow P (o ∷ rows)
@@ -84,18 +98,15 @@ module _ {o : Option Refusal} {refusal : Refusal} {Yes No : Type 0} (is : IsRow 
 
   -- The row is the first exactly when it is given: no later row has its number.
   pub at-row : {rows : List (Option Refusal)} → EachRow (OtherNumber refusal) rows → FirstExactly (o ∷ rows) refusal Yes
-  at-row {rows} others =
-      record { exactly = Iff·trans (here-iff o rows refusal (λ e. first-has others refusal e refl)) (is .yes) }
+  at-row others = at-fault (is .yes) others
 
   -- A row after it is the first: it is not given, and that is the first of the others.
   pub past-row : {rows : List (Option Refusal)} {q : Refusal} {P : Type 0} → OtherNumber q refusal → FirstExactly rows q P → FirstExactly (o ∷ rows) q (No × P)
-  past-row {rows} {q} other rest = record {
-    exactly = Iff·trans (later-iff o rows q (λ e. other (sym (ap numberOf (is .only q e))))) (Iff·and (is .no) (rest .exactly));
-  }
+  past-row {q = q} other rest = past-fault (is .no) (λ e. other (sym (ap numberOf (is .only q e)))) rest
 
   -- None is given: it is not, and none of the others.
   pub no-row : {rows : List (Option Refusal)} {P : Type 0} → NoneExactly rows P → NoneExactly (o ∷ rows) (No × P)
-  no-row {rows} rest = record { exactly = Iff·trans (none-given-iff o rows) (Iff·and (is .no) (rest .exactly)) }
+  no-row rest = no-fault (is .no) rest
 
   -- The same of the last row.
   pub no-last-row : NoneExactly (o ∷ []) No

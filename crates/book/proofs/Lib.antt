@@ -15,7 +15,6 @@ pub mod SoughtCases
 pub mod RowNumbers
 pub mod RowsOfReading
 pub mod RowsOfUnpacking
-pub mod RefusedCalls
 -- what each function's proof cites: loops, and the cases of a call
 pub mod ReadLoop
 pub mod SeekLoop

@@ -1,82 +1,106 @@
--- The rows of `unpack`, for any answer that meets its contract: rows 5, 6, 7 and 10 of document 01's table as an iff each, number and place written out,
--- and that it gives so many records exactly for the book of so many silences with room for their words. From BookRows and UnpackRows, through the numbers
--- of RowNumbers.
+-- The rows of `unpack`, for any answer that meets its contract: rows 5, 6, 7 and 10 of document 01's table as an iff each, number and place written out, that it
+-- gives no other row, that a refusal counts and writes nothing, and that it is accepted, and gives so many records, exactly for the book of so many silences with room
+-- for their words. From UnpackRows of the silences, by AnswerByRows of the answers; rows 5 to 7 as of reading (RowsOfReading).
 use Prim.Native.Nat.{ℕ, _*_, _≤_, _<_}
-use mathlib.Core.Logic.{_↔_, Iff·trans}
-use mathlib.Core.Path.{_≡_}
+use mathlib.Core.Logic.{_⊎_, inl, inr, _↔_, Iff·trans}
+use mathlib.Core.Path.{_≡_, refl, _∙_}
 use mathlib.Core.List.{List}
+use mathlib.Core.Option.{Option}
 use native.Mathlib.Omega.{arith}
 use lib.ListN.{length}
-use Rattle.answers.specs.declared.refusals.Refusal.the-variants.{BookLength, Field, NotAbove, OutputRoom}
-use Rattle.answers.specs.Paper.{Answer, accepted}
-use Rattle.book.specs.declared.answering.BookAnswer.{BookAnswer}
-use Rattle.book.specs.declared.answering.BookAnswer.the-variants.{Records}
+use Rattle.lists.specs.Areas.{written}
+use Rattle.lists.specs.Bounds.{IsBytes}
+use Rattle.answers.specs.declared.refusals.Refusal.{Refusal}
+use Rattle.answers.specs.declared.refusals.Refusal.the-variants.{BookLength, OutputRoom}
+use Rattle.answers.specs.Refusals.{numberOf}
+use Rattle.answers.specs.Paper.{answerPaper}
+use Rattle.answers.specs.Rows.{answerBy}
+use Rattle.answers.proofs.RefusalNumbers.{refusal-place-is}
+use Rattle.answers.proofs.AnswerByRows.{row-number-iff, accepted-number-iff, number-by, refused-counts, refused-area}
 use Rattle.silences.specs.Silences.{Silence}
 use Rattle.silences.specs.Layout.{mostBytes}
-use Rattle.silences.specs.Packing.{recordWords, unpacked}
-use Rattle.lists.specs.Bounds.{IsBytes}
+use Rattle.silences.specs.Reading.{silencesRead}
+use Rattle.silences.specs.Packing.{wordsOfSilences, recordWords, unpackRefusal, unpacked}
 use Rattle.silences.specs.Books.{IsBook}
 use Rattle.silences.specs.Rows.{IsFieldFault, IsOrderFault}
+use Rattle.silences.proofs.AcceptedIsLayout.{read-book-iff}
+use Rattle.silences.proofs.UnpackRows.{unpack-has, unpack-row-iff, unpack-10-iff, unpack-none-iff}
+use Rattle.book.specs.declared.answering.BookAnswer.{BookAnswer}
+use Rattle.book.specs.declared.answering.BookAnswer.the-variants.{Records}
 use Rattle.book.specs.Calls.{paperOf, IsUnpacked}
-use Rattle.silences.proofs.AcceptedIsLayout.{accepted-iff}
-use Rattle.silences.proofs.WordsOfSilences.{words-length}
-use Rattle.book.proofs.RowNumbers.{row-iff, row-number-iff, row-place-is, records-iff}
-use Rattle.silences.proofs.BookRows.{book-row-5-iff, book-row-6-iff, book-row-7-iff}
-use Rattle.silences.proofs.UnpackRows.{unpacked-accepted-iff, unpacked-row-iff, unpacked-10-iff}
+use Rattle.book.proofs.RowNumbers.{area-by, paper-by, records-iff}
+use Rattle.book.proofs.RowsOfReading.{row-5, row-6, row-7}
 
 module _ (book area : List ℕ) (r : BookAnswer) (out : List ℕ) (meets : IsUnpacked book area r out) where
-  -- what the definition gives
-  abbrev given : Answer (List Silence)
-  given = unpacked book (length area)
+  -- the first row that is given
+  abbrev o : Option Refusal
+  o = unpackRefusal book (length area)
+
+  -- as many records as silences
+  abbrev records : ℕ
+  records = length (silencesRead book)
+
+  -- its paper, by the first row that is given
+  paper : paperOf r ≡ answerPaper 0 (answerBy o records)
+  unfolding unpacked
+  paper = paper-by o (silencesRead book) (meets .paper)
 
   -- Row 5: "book longer than 13,000 bytes".
   pub unpack-row-5 : (paperOf r .number ≡ 5) ↔ (mostBytes < length book)
-  unpack-row-5 =
-      Iff·trans (row-number-iff given r (meets .paper) BookLength (omega arith))
-      (Iff·trans (unpacked-row-iff book (length area) BookLength (λ q. omega arith)) (book-row-5-iff book))
+  unpack-row-5 = row-5 book o records paper (unpack-row-iff book (length area))
 
-  -- Its place: 0.
+  -- No other row: its number is 0, 5, 6, 7 or 10.
+  pub unpack-numbers : (paperOf r .number ≡ 0) ⊎ ((paperOf r .number ≡ 5) ⊎ ((paperOf r .number ≡ 6) ⊎ ((paperOf r .number ≡ 7) ⊎ (paperOf r .number ≡ 10))))
+  unpack-numbers =
+      number-by 0 records o paper (λ (n : ℕ). (n ≡ 0) ⊎ ((n ≡ 5) ⊎ ((n ≡ 6) ⊎ ((n ≡ 7) ⊎ (n ≡ 10))))) (inl refl)
+      (unpack-has book (length area)
+      (λ (q : Refusal). (numberOf q ≡ 0) ⊎ ((numberOf q ≡ 5) ⊎ ((numberOf q ≡ 6) ⊎ ((numberOf q ≡ 7) ⊎ (numberOf q ≡ 10)))))
+      (inr (inl refl)) (λ at. inr (inr (inl refl))) (λ at. inr (inr (inr (inl refl)))) (inr (inr (inr (inr refl)))))
+
+  -- The place of row 5: 0.
   pub unpack-row-5-place : paperOf r .number ≡ 5 → paperOf r .place ≡ 0
-  unpack-row-5-place = row-place-is given r (meets .paper) BookLength (omega arith)
+  unpack-row-5-place = refusal-place-is 0 (answerBy o records) paper BookLength (omega arith)
 
   -- The place of row 10: 0.
   pub unpack-row-10-place : paperOf r .number ≡ 10 → paperOf r .place ≡ 0
-  unpack-row-10-place = row-place-is given r (meets .paper) OutputRoom (omega arith)
+  unpack-row-10-place = refusal-place-is 0 (answerBy o records) paper OutputRoom (omega arith)
+
+  -- "A refusal carries .. zero in every count".
+  pub unpack-refused-none : 0 < paperOf r .number → paperOf r .counts ≡ 0
+  unpack-refused-none = refused-counts 0 records o paper
+
+  -- A refusal "writes nothing to any lent area".
+  pub unpack-refused-area : 0 < paperOf r .number → out ≡ area
+  unfolding unpacked
+  unpack-refused-area =
+      refused-area 0 records o paper (written (wordsOfSilences (silencesRead book)) area) area (meets .written ∙ area-by wordsOfSilences area o (silencesRead book))
 
   module _ (bytes : IsBytes book) where
     -- Row 6: "a field isn't 13 bytes beginning 21 00 0A hex, or is cut off", its byte offset.
     pub unpack-row-6 : (at : ℕ) → ((paperOf r .number ≡ 6) × (paperOf r .place ≡ at)) ↔ ((length book ≤ mostBytes) × IsFieldFault book at)
-    unpack-row-6 at =
-        Iff·trans (row-iff given r (meets .paper) (Field at))
-        (Iff·trans (unpacked-row-iff book (length area) (Field at) (λ q. omega arith)) (book-row-6-iff book bytes at))
+    unpack-row-6 = row-6 book o records paper (unpack-row-iff book (length area)) bytes
 
     -- Row 7: "a record isn't above the one before it", its byte offset.
     pub unpack-row-7 : (at : ℕ) → ((paperOf r .number ≡ 7) × (paperOf r .place ≡ at)) ↔ ((length book ≤ mostBytes) × IsOrderFault book at)
-    unpack-row-7 at =
-        Iff·trans (row-iff given r (meets .paper) (NotAbove at))
-        (Iff·trans (unpacked-row-iff book (length area) (NotAbove at) (λ q. omega arith)) (book-row-7-iff book bytes at))
+    unpack-row-7 = row-7 book o records paper (unpack-row-iff book (length area)) bytes
 
     -- Row 10: "unpacking lacks room for its whole output", three words for each silence of the book.
     pub unpack-row-10 : (paperOf r .number ≡ 10) ↔ ((ss : List Silence) × IsBook ss book × (length area < recordWords * length ss))
     unpack-row-10 =
-        Iff·trans (row-number-iff given r (meets .paper) OutputRoom (omega arith))
-        (Iff·trans (unpacked-10-iff book (length area)) (
-          λ h. (h .0, accepted-iff book (h .0) bytes .0 (h .1), omega (arith, words-length (h .0), h .2)),
-          λ h. (h .0, accepted-iff book (h .0) bytes .1 (h .1), omega (arith, words-length (h .0), h .2)),
-        ))
+        Iff·trans (row-number-iff 0 records o paper OutputRoom (omega arith))
+        (Iff·trans (unpack-10-iff book (length area)) (read-book-iff book bytes (λ (ss : List Silence). length area < recordWords * length ss)))
 
-    -- unpacking is accepted for a book, with room
-    accepted-book-iff : (ss : List Silence) → (given ≡ accepted ss) ↔ (IsBook ss book × (recordWords * length ss ≤ length area))
-    accepted-book-iff ss =
-        Iff·trans (unpacked-accepted-iff book (length area) ss) (
-          λ h. (accepted-iff book ss bytes .0 (h .0), omega (arith, words-length ss, h .1)),
-          λ h. (accepted-iff book ss bytes .1 (h .0), omega (arith, words-length ss, h .1)),
-        )
+    -- It is accepted exactly for the book of some silences, with room for three words each.
+    pub unpack-accepted : (paperOf r .number ≡ 0) ↔ ((ss : List Silence) × IsBook ss book × (recordWords * length ss ≤ length area))
+    unpack-accepted =
+        Iff·trans (accepted-number-iff 0 records o paper)
+        (Iff·trans (unpack-none-iff book (length area)) (read-book-iff book bytes (λ (ss : List Silence). recordWords * length ss ≤ length area)))
 
     -- So many records are given exactly for the book of so many silences, with room for three words each.
-    pub unpack-records : (n : ℕ) → (r ≡ Records n) ↔ ((ss : List Silence) × IsBook ss book × (length ss ≡ n) × (recordWords * n ≤ length area))
+    pub unpack-records : (n : ℕ) → (r ≡ Records n) ↔ ((ss : List Silence) × IsBook ss book × ((length ss ≡ n) × (recordWords * length ss ≤ length area)))
+    unfolding unpacked
     unpack-records n =
-        Iff·trans (records-iff given r (meets .paper) n) (
-          λ h. let a : IsBook (h .0) book × (recordWords * length (h .0) ≤ length area) = accepted-book-iff (h .0) .0 (h .1) in (h .0, a .0, h .2, omega (arith, a .1, h .2)),
-          λ h. (h .0, accepted-book-iff (h .0) .1 (h .1, omega (arith, h .2, h .3)), h .2),
-        )
+        Iff·trans (records-iff o (silencesRead book) r (meets .paper) n)
+        (Iff·trans
+        (λ h. let none-is = unpack-none-iff book (length area) .0 (h .0) in (none-is .0, (h .1, none-is .1)), λ h. (unpack-none-iff book (length area) .1 (h .0, h .1 .1), h .1 .0))
+        (read-book-iff book bytes (λ (ss : List Silence). (length ss ≡ n) × (recordWords * length ss ≤ length area))))

@@ -2,31 +2,37 @@
 -- the area as it was.
 use Prim.Native.Nat.{ℕ, _*_, _≤_, _<_}
 use mathlib.Core.Path.{_≡_, sym, ap, _∙_}
-use mathlib.Core.List.{List}
+use mathlib.Core.List.{List, [], _∷_}
+use mathlib.Core.Option.{some}
 use native.Mathlib.Omega.{arith}
 use lib.ListN.{length}
 use Rattle.answers.specs.declared.refusals.Refusal.{Refusal}
 use Rattle.answers.specs.declared.refusals.Refusal.the-variants.{OutputRoom}
-use Rattle.answers.specs.Paper.{Answer, accepted, refused, answerPaper}
-use Rattle.book.specs.declared.answering.BookAnswer.the-variants.{Records, Refused}
+use Rattle.answers.specs.Paper.{Answer, accepted, refused}
+use Rattle.answers.proofs.AnswerByRows.{answer-refused-iff}
 use Rattle.silences.specs.Silences.{Silence}
-use Rattle.silences.specs.Reading.{readBook}
-use Rattle.silences.specs.Packing.{wordsOfSilences, recordWords, inRoom, areaAtExit, unpacked}
-use Rattle.book.specs.Calls.{recordsOf, recordsPaper, IsUnpacked}
+use Rattle.silences.specs.Reading.{silencesRead, readBook}
+use Rattle.silences.specs.Packing.{wordsOfSilences, recordWords, areaAtExit, unpackRefusal, unpacked}
 use Rattle.silences.proofs.WordsOfSilences.{words-length}
+use Rattle.silences.proofs.BookRows.{book-refused-iff, book-accepted-iff, book-rows}
+use Rattle.silences.proofs.UnpackRows.{unpack-row-iff, unpack-10-iff, unpacked-accepted-iff}
+use Rattle.book.specs.declared.answering.BookAnswer.the-variants.{Records, Refused}
+use Rattle.book.specs.Calls.{paperOf, recordsOf, recordsPaper, IsUnpacked}
 use Rattle.book.proofs.AcceptedBook.{HasRecords, has-records, has-refusal}
-use Rattle.silences.proofs.AreaAtExit.{area-refused}
-use Rattle.silences.proofs.RoomRows.{in-room, in-less-room}
 
 module _ (book area : List ℕ) where
   -- a refusal, and nothing written
-  is-refused : {r : Refusal} → unpacked book (length area) ≡ refused r → IsUnpacked book area (Refused r) area
-  is-refused {r} e = record { paper = sym (ap recordsPaper e); written = sym (area-refused wordsOfSilences area (unpacked book (length area)) r e) }
+  is-refused : {q : Refusal} → unpackRefusal book (length area) ≡ some q → IsUnpacked book area (Refused q) area
+  unfolding unpacked
+  is-refused {q} e =
+      let is : unpacked book (length area) ≡ refused q = answer-refused-iff (silencesRead book) (unpackRefusal book (length area)) q .1 e in
+      record { paper = sym (ap recordsPaper is); written = sym (ap (λ (a : Answer (List Silence)). areaAtExit wordsOfSilences a area) is) }
 
   -- What reading refuses, unpacking refuses.
-  pub unpack-refused : (r : Refusal) → recordsOf (readBook book) ≡ refused r → IsUnpacked book area (Refused r) area
-  unfolding unpacked
-  unpack-refused r e = is-refused (ap (inRoom wordsOfSilences (length area)) (has-refusal (readBook book) r e))
+  pub unpack-refused : (q : Refusal) → recordsOf (readBook book) ≡ refused q → IsUnpacked book area (Refused q) area
+  unpack-refused q e =
+      let is : readBook book ≡ refused q = has-refusal (readBook book) q e in
+      is-refused (unpack-row-iff book (length area) q (λ ten. omega (arith, book-rows book q is)) .1 (book-refused-iff book q .0 is))
 
   module _ (records : ℕ) (read : recordsOf (readBook book) ≡ accepted records) where
     -- the silences of so many records
@@ -35,25 +41,17 @@ module _ (book area : List ℕ) where
 
     -- With fewer than three words for each record, row 10.
     pub unpack-no-room : length area < recordWords * records → IsUnpacked book area (Refused OutputRoom) area
-    unfolding unpacked
     unpack-no-room short =
-        is-refused
-        (ap (inRoom wordsOfSilences (length area)) (has .is)
-        ∙ in-less-room wordsOfSilences (length area) (has .silences) (omega (arith, words-length (has .silences), has .records-is)))
-
-    -- with three words for each, all its silences
-    unpacked-room : recordWords * records ≤ length area → unpacked book (length area) ≡ readBook book
-    unfolding unpacked
-    unpacked-room enough =
-        ap (inRoom wordsOfSilences (length area)) (has .is)
-        ∙ in-room wordsOfSilences (length area) (has .silences) (omega (arith, words-length (has .silences), has .records-is))
-        ∙ sym (has .is)
+        let given = book-accepted-iff book (has .silences) .0 (has .is) in
+        is-refused (unpack-10-iff book (length area) .1 (given .0, omega (arith, ap length (given .1), has .records-is)))
 
     -- With their words written, all records.
     pub unpack-written : {out : List ℕ} → recordWords * records ≤ length area → out ≡ areaAtExit wordsOfSilences (readBook book) area
         → IsUnpacked book area (Records records) out
     unpack-written enough put =
+        let is : unpacked book (length area) ≡ accepted (has .silences) =
+        unpacked-accepted-iff book (length area) (has .silences) .1 (has .is, omega (arith, words-length (has .silences), has .records-is)) in
         record {
-          paper = ap (answerPaper 0) (sym (ap recordsOf (unpacked-room enough) ∙ read));
-          written = put ∙ sym (ap (λ (a : Answer (List Silence)). areaAtExit wordsOfSilences a area) (unpacked-room enough));
+          paper = ap (λ (n : ℕ). paperOf (Records n)) (has .records-is) ∙ sym (ap recordsPaper is);
+          written = put ∙ ap (λ (a : Answer (List Silence)). areaAtExit wordsOfSilences a area) (has .is ∙ sym is);
         }

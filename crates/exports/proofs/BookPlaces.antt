@@ -1,30 +1,30 @@
 -- The place of a refusal fits 32 bits, for the calls on a book: a byte offset is at most the book's length and so 13,000; a record number is below the
 -- number of records and so 1,000.
--- Assumes nothing.
 use Prim.Native.Nat.{ℕ, _≤_, _<_}
 use mathlib.Core.Logic.{⊎-elim}
-use mathlib.Core.Path.{refl, sym, ap}
-use mathlib.Core.Bool.{Bool, true, false, cond}
+use mathlib.Core.Path.{_≡_, refl, sym, ap}
 use mathlib.Core.List.{List, _∷_}
-use mathlib.Core.Option.{none}
+use mathlib.Core.Option.{Option, none, some}
 use native.Mathlib.Omega.{arith}
-use lib.Dec.{leb}
 use lib.ListN.{length, length-append}
 use Rattle.lists.proofs.Cases.{le-or-lt}
-use Rattle.answers.specs.declared.refusals.Refusal.the-variants.{OutputRoom}
+use Rattle.answers.specs.declared.refusals.Refusal.{Refusal}
+use Rattle.answers.specs.Refusals.{placeOf}
 use Rattle.answers.specs.Paper.{Answer, accepted, refused}
+use Rattle.answers.specs.Rows.{answerBy}
 use Rattle.silences.specs.Silences.{Silence}
-use Rattle.silences.specs.Layout.{layout}
-use Rattle.silences.specs.Reading.{readBook}
-use Rattle.silences.specs.Packing.{wordsOfSilences, silencesOf, packed, unpacked, inRoom}
+use Rattle.silences.specs.Layout.{mostSilences, mostBytes}
+use Rattle.silences.specs.Reading.{silencesRead, readBook}
+use Rattle.silences.specs.Packing.{silencesOf, packRefusal, packed, unpackRefusal, unpacked}
+use Rattle.silences.specs.Rows.{HasWordCount, IsRecord}
 use Rattle.book.specs.Calls.{recordsPaper}
 use Rattle.silences.proofs.ReadFrom.{readBook-long, readBook-fields}
 use Rattle.silences.proofs.FieldTest.{field-ends}
 use Rattle.silences.proofs.FieldsRead.{ReadsAs, read-all, stopped-faulty, stopped-order, reads-as}
 use Rattle.silences.proofs.WordsOfSilences.{silences-length}
-use Rattle.silences.proofs.RecordsPacked.{RecordStands, PacksAs, packed-all, stopped-ring, stopped-order as stopped-above, packs-as}
-use Rattle.silences.proofs.RecordRows.{packedRecords}
-use Rattle.silences.proofs.PackRows.{packed-counted, packed-uncounted, word-count-cases}
+use Rattle.silences.proofs.BookRows.{book-refused-iff}
+use Rattle.silences.proofs.UnpackRows.{unpack-either}
+use Rattle.silences.proofs.PackRows.{pack-has, pack-9-iff, pack-7-iff}
 
 module _ (book : List ℕ) where
   -- where reading stops
@@ -34,48 +34,37 @@ module _ (book : List ℕ) where
   reads-place (stopped-order {stop = stop} {s = s} {next = next} f n o) = omega (arith, field-ends book stop s next n)
 
   -- A place of reading is at most 13,000.
-  pub read-place-le : recordsPaper (readBook book) .place ≤ 13000
+  pub read-place-le : recordsPaper (readBook book) .place ≤ mostBytes
   read-place-le =
       ⊎-elim
-      (λ (h : length book ≤ 13000). omega (arith, reads-place (reads-as book none 0 (readBook book) (sym (readBook-fields book h)))))
-      (λ (h : 13000 < length book). rw (readBook-long book h) (omega arith))
-      (le-or-lt (length book) 13000)
+      (λ (h : length book ≤ mostBytes). omega (arith, reads-place (reads-as book none 0 (readBook book) (sym (readBook-fields book h)))))
+      (λ (h : mostBytes < length book). rw (readBook-long book h) (omega arith))
+      (le-or-lt (length book) mostBytes)
 
--- Row 10 has no place, and every other row keeps its own.
-in-room-place : (output : List Silence → List ℕ) (room : ℕ) (a : Answer (List Silence)) → recordsPaper (inRoom output room a) .place ≤ recordsPaper a .place
-in-room-place output room (refused r) = omega arith
-in-room-place output room (accepted ss) = go (leb (length (output ss)) room)
-  where
-    go : (t : Bool) → recordsPaper (cond t (accepted ss) (refused OutputRoom)) .place ≤ 0
-    go true = omega arith
-    go false = omega arith
+-- A place is at most so much, if it is in each row that is given.
+place-le : (most : ℕ) (o : Option Refusal) (ss : List Silence) → ((q : Refusal) → o ≡ some q → placeOf q ≤ most) → recordsPaper (answerBy o ss) .place ≤ most
+place-le most none ss each = omega arith
+place-le most (some q) ss each = each q refl
 
 -- A place of unpacking is at most 13,000.
-pub unpacked-place-le : (book : List ℕ) (room : ℕ) → recordsPaper (unpacked book room) .place ≤ 13000
+pub unpacked-place-le : (book : List ℕ) (room : ℕ) → recordsPaper (unpacked book room) .place ≤ mostBytes
 unfolding unpacked
-unpacked-place-le book room = omega (arith, in-room-place wordsOfSilences room (readBook book), read-place-le book)
-
--- a record that stands among those packed has a number below theirs
-record-number-lt : {ss fine : List Silence} {j : ℕ} {s : Silence} → RecordStands none 0 ss fine j s → j < length ss
-record-number-lt {ss} {fine} {j} {s} r = omega (arith, r .number-is, ap length (r .records-are), length-append fine (s ∷ r .later))
-
-packs-place : {ss : List Silence} {a : Answer (List Silence)} → PacksAs none 0 ss a → recordsPaper a .place ≤ length ss
-packs-place (packed-all rings ascends) = omega arith
-packs-place (stopped-ring r g) = omega (arith, record-number-lt r)
-packs-place (stopped-above r g o) = omega (arith, record-number-lt r)
+unpacked-place-le book room =
+    place-le mostBytes (unpackRefusal book room) (silencesRead book) (λ q e.
+    ⊎-elim
+    (λ of-book. rw (book-refused-iff book q .1 of-book) at (read-place-le book))
+    (λ is-room. rw is-room (omega arith))
+    (unpack-either book room q e))
 
 -- A place of packing is at most 1,000.
-pub packed-place-le : (words : List ℕ) (room : ℕ) → recordsPaper (packed words room) .place ≤ 1000
+pub packed-place-le : (words : List ℕ) (room : ℕ) → recordsPaper (packed words room) .place ≤ mostSilences
+unfolding packed
 packed-place-le words room =
-    ⊎-elim
-    (λ c.
-    rw (packed-counted words room (c .1))
-    (omega (
-      arith,
-      in-room-place layout room (packedRecords words),
-      packs-place (packs-as none 0 (silencesOf words) (packedRecords words) refl),
-      silences-length words (c .1 .multiple),
-      c .1 .words-le,
-    )))
-    (λ n. rw (packed-uncounted words room (n .1)) (omega arith))
-    (word-count-cases words)
+    place-le mostSilences (packRefusal words room) (silencesOf words) (λ q e.
+    pack-has words room (λ (r : Refusal). packRefusal words room ≡ some r → placeOf r ≤ mostSilences) (λ e. omega arith)
+    (λ j e. let f = pack-9-iff words room j .0 e in number-le (f .0) (f .1 .is-record))
+    (λ j e. let f = pack-7-iff words room j .0 e in number-le (f .0) (f .1 .is-record)) (λ e. omega arith) q e e)
+  where
+    number-le : {j : ℕ} {fine : List Silence} {s : Silence} → HasWordCount words → IsRecord words j fine s → j ≤ mostSilences
+    number-le {fine = fine} {s = s} right r =
+        omega (arith, r .number-is, ap length (r .records-are), length-append fine (s ∷ r .later), silences-length words (right .multiple), right .words-le)

@@ -1,9 +1,9 @@
 -- Tests of sizes. A function that tests sizes returns a conjunction of comparisons, and a record states the same as facts. That the two agree follows from the
--- comparisons (`lt-iff`, `le-iff`, `eq-iff`, `and-iff`, `or-iff`). Code returns false at the first comparison that fails (`test-fails`), and else its last
+-- comparisons (`lt-iff`, `le-iff`, `eq-iff`, `and-iff`, `or-iff`, `not-iff`). Code returns false at the first comparison that fails (`test-fails`), and else its last
 -- comparison, which then decides alone (`test-same`).
 use Prim.Native.Nat.{ℕ, _≤_, _<_}
 use mathlib.Core.Path.{_≡_, refl, sym, _∙_}
-use mathlib.Core.Bool.{Bool, true, false, _&&_, _||_, false≢true}
+use mathlib.Core.Bool.{Bool, true, false, not, _&&_, _||_, false≢true}
 use mathlib.Core.Logic.{_↔_, _⊎_, inl, inr, ⊎-elim}
 use lib.Dec.{ltb, leb, eqb}
 use borrow.Author.Tests.{ltb-true, leb-true, eqb-true, lt-ltb, le-leb, eq-eqb}
@@ -32,6 +32,11 @@ and-iff {s = s} {t = t} first second = (
   λ e. let both = and-true s t e in (first .0 (both .0), second .0 (both .1)),
   λ h. and-yes s t (first .1 (h .0)) ∙ second .1 (h .1),
 )
+
+-- The opposite of a test passes exactly where its condition does not hold.
+pub not-iff : {t : Bool} {P : Type 0} → ((t ≡ true) ↔ P) → (not t ≡ true) ↔ (P → ⊥)
+not-iff {t = true} passes = (λ e. absurd (false≢true e), λ h. absurd (h (passes .0 refl)))
+not-iff {t = false} passes = (λ e p. false≢true (passes .1 p), λ h. refl)
 
 -- Where the condition of a test does not hold, the test fails.
 pub test-fails : {t : Bool} {P : Type 0} → ((t ≡ true) ↔ P) → (P → ⊥) → false ≡ t

@@ -13,13 +13,15 @@ use lib.ListN.{length, drop, length-append}
 use lib.Seq.{append-snoc}
 use Rattle.lists.specs.Records.{wordsOfEach}
 use Rattle.lists.proofs.Records.{each-more}
+use Rattle.answers.specs.declared.refusals.Refusal.{Refusal}
 use Rattle.answers.specs.declared.refusals.Refusal.the-variants.{NotAbove, RingNumber}
-use Rattle.answers.specs.Paper.{accepted, refused}
+use Rattle.answers.specs.Paper.{Answer, accepted, refused}
+use Rattle.answers.specs.Rows.{firstGiven, answerBy}
 use Rattle.silences.specs.Silences.{Silence, isAbove}
 use Rattle.silences.specs.Layout.{fieldOf, layout}
-use Rattle.silences.specs.Packing.{silencesOf, recordWords, mostRingNumber, packRecords}
+use Rattle.silences.specs.Packing.{silencesOf, recordWords, mostRingNumber, recordRows, recordFault}
 use Rattle.silences.specs.Rows.{AllRingNumbers}
-use Rattle.packing.specs.Judging.{sized, sizesOf}
+use Rattle.packing.specs.Judging.{Sizes, sized, sizes}
 use Rattle.silences.proofs.FieldBytes.{field-length}
 use Rattle.silences.proofs.WordsOfSilences.{silenceOfWords, silencesOf-step, silencesOf-end}
 use Rattle.silences.proofs.AscendingAfter.{AscendingAfter, lastAfter, lastAfter-end, ascends-more}
@@ -37,6 +39,14 @@ pub record JudgedTo (words : List ℕ) (last : Option Silence) (records bytes at
   pub last-is : last ≡ lastAfter none passed
   pub records-is : records ≡ length passed
   pub bytes-is : bytes ≡ length (layout passed)
+
+-- What judging the records gives.
+abbrev judgement : List ℕ → Answer Sizes
+judgement words = answerBy (recordFault words) (sizes (silencesOf words))
+
+-- It goes by the first faulty record.
+judged-by : (words : List ℕ) {o : Option Refusal} → recordFault words ≡ o → judgement words ≡ answerBy o (sizes (silencesOf words))
+judged-by words e = ap (λ (o : Option Refusal). answerBy o (sizes (silencesOf words))) e
 
 module _ {words : List ℕ} where
   -- At the start no record is passed.
@@ -74,14 +84,14 @@ module _ {words : List ℕ} where
           }
 
       -- Row 9 at this record.
-      pub judge-ring-number : mostRingNumber < silenceOfWords words at .ringNumber → refused (RingNumber records) ≡ sizesOf (packRecords none 0 (silencesOf words))
-      judge-ring-number high = sym (ap sizesOf (packs-as-is (stopped-ring stands-here high)))
+      pub judge-ring-number : mostRingNumber < silenceOfWords words at .ringNumber → refused (RingNumber records) ≡ judgement words
+      judge-ring-number high = sym (judged-by words (packs-as-is (stopped-ring stands-here high)))
 
       module _ (low : silenceOfWords words at .ringNumber ≤ mostRingNumber) where
         -- Row 7 at this record.
-        pub judge-not-above : isAbove last (silenceOfWords words at) ≡ false → refused (NotAbove records) ≡ sizesOf (packRecords none 0 (silencesOf words))
+        pub judge-not-above : isAbove last (silenceOfWords words at) ≡ false → refused (NotAbove records) ≡ judgement words
         judge-not-above e =
-            sym (ap sizesOf (packs-as-is (stopped-order stands-here low (subst (λ (l : Option Silence). isAbove l (silenceOfWords words at) ≡ false) (now .last-is) e))))
+            sym (judged-by words (packs-as-is (stopped-order stands-here low (subst (λ (l : Option Silence). isAbove l (silenceOfWords words at) ≡ false) (now .last-is) e))))
 
         -- A turn takes this record.
         pub judge-turn : {field : ℕ} → isAbove last (silenceOfWords words at) ≡ true → length (fieldOf (silenceOfWords words at)) ≡ field
@@ -110,9 +120,10 @@ module _ {words : List ℕ} where
             }
 
     -- At the end no record is left: the sizes are those of all.
-    pub judge-end : length words < at + recordWords → accepted (sized records bytes) ≡ sizesOf (packRecords none 0 (silencesOf words))
+    pub judge-end : length words < at + recordWords → accepted (sized records bytes) ≡ judgement words
     judge-end h =
         let all : silencesOf words ≡ now .passed =
         now .all-are ∙ ap (λ (l : List Silence). now .passed ++ l) (silencesOf-end words at h) ∙ append-nil (now .passed) in
         (λ i. accepted (sized (now .records-is i) (now .bytes-is i)))
-        ∙ sym (ap sizesOf (ap (packRecords none 0) all ∙ packs-as-is (packed-all (now .ring-numbers) (now .ascends))))
+        ∙ ap (λ (ss : List Silence). accepted (sizes ss)) (sym all)
+        ∙ sym (judged-by words (ap (λ (ss : List Silence). firstGiven (recordRows none 0 ss)) all ∙ packs-as-is (packed-all (now .ring-numbers) (now .ascends))))

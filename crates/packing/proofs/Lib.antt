@@ -4,7 +4,6 @@
 -- answers, the rows, and the round trips with unpacking
 pub mod OneAnswer
 pub mod RowsOfPacking
-pub mod RefusedCalls
 pub mod RoundTripsOfCalls
 -- what each function's proof cites: bytes written from an offset on, loops, and the cases of the call
 pub mod NumberPut

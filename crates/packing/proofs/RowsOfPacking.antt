@@ -1,71 +1,103 @@
--- The rows of `pack`, for any answer that meets its contract: rows 8, 9, 7 and 10 of document 01's table as an iff each, number and place written out,
--- and that it gives so many records exactly for the words of so many silences with room for their fields. From PackRows of the silences, through
--- the numbers of RowNumbers of the book.
-use Prim.Native.Nat.{ℕ, _*_, _%_, _≤_, _<_}
-use mathlib.Core.Logic.{_⊎_, _↔_, Iff·trans}
-use mathlib.Core.Path.{_≡_, refl, sym, ap, _∙_}
+-- The rows of `pack`, for any answer that meets its contract: rows 8, 9, 7 and 10 of document 01's table as an iff each, number and place written out, that it gives
+-- no other row, that a refusal counts and writes nothing, and that it is accepted, and gives so many records, exactly for the words of so many silences with room for
+-- their fields. From PackRows of the silences, by AnswerByRows of the answers.
+use Prim.Native.Nat.{ℕ, _*_, _≤_, _<_}
+use mathlib.Core.Logic.{_⊎_, inl, inr, _↔_, Iff·rfl, Iff·trans, Iff·and}
+use mathlib.Core.Path.{_≡_, refl, _∙_}
 use mathlib.Core.List.{List}
+use mathlib.Core.Option.{Option, none}
 use native.Mathlib.Omega.{arith}
 use lib.ListN.{length}
+use Rattle.lists.specs.Areas.{written}
+use Rattle.answers.specs.declared.refusals.Refusal.{Refusal}
 use Rattle.answers.specs.declared.refusals.Refusal.the-variants.{NotAbove, WordCount, RingNumber, OutputRoom}
-use Rattle.answers.specs.Paper.{Answer, accepted}
+use Rattle.answers.specs.Refusals.{numberOf}
+use Rattle.answers.specs.Paper.{answerPaper}
+use Rattle.answers.specs.Rows.{answerBy}
+use Rattle.answers.proofs.RefusalNumbers.{refusal-place-is}
+use Rattle.answers.proofs.AnswerByRows.{row-place-iff, row-number-iff, accepted-number-iff, number-by, refused-counts, refused-area}
+use Rattle.silences.specs.Silences.{Silence}
+use Rattle.silences.specs.Layout.{fieldLength, layout}
+use Rattle.silences.specs.Packing.{silencesOf, packRefusal, packed}
+use Rattle.silences.specs.Rows.{HasWordCount, IsRingFault, IsRecordFault, IsPackable}
+use Rattle.silences.proofs.LayoutRead.{layout-length}
+use Rattle.silences.proofs.PackRows.{HasWrongCount, pack-has, pack-8-iff, pack-9-iff, pack-7-iff, pack-10-iff, pack-none-iff}
 use Rattle.book.specs.declared.answering.BookAnswer.{BookAnswer}
 use Rattle.book.specs.declared.answering.BookAnswer.the-variants.{Records}
-use Rattle.silences.specs.Silences.{Silence}
-use Rattle.silences.specs.Layout.{fieldLength}
-use Rattle.silences.specs.Packing.{silencesOf, recordWords, mostWords, packed}
-use Rattle.silences.specs.Rows.{HasWordCount, IsRingFault, IsRecordFault, IsPackable}
 use Rattle.book.specs.Calls.{paperOf}
+use Rattle.book.proofs.RowNumbers.{area-by, paper-by, records-iff}
 use Rattle.packing.specs.Calls.{IsPacked}
-use Rattle.silences.proofs.LayoutRead.{layout-length}
-use Rattle.book.proofs.RowNumbers.{row-iff, row-number-iff, row-place-is, records-iff}
-use Rattle.silences.proofs.PackRows.{packed-8-iff, packed-9-iff, packed-7-iff, packed-10-iff, packed-accepted-iff}
 
 module _ (words area : List ℕ) (r : BookAnswer) (out : List ℕ) (meets : IsPacked words area r out) where
-  -- what the definition gives
-  abbrev given : Answer (List Silence)
-  given = packed words (length area)
+  -- the first row that is given
+  abbrev o : Option Refusal
+  o = packRefusal words (length area)
+
+  -- as many records as silences
+  abbrev records : ℕ
+  records = length (silencesOf words)
+
+  -- its paper, by the first row that is given
+  paper : paperOf r ≡ answerPaper 0 (answerBy o records)
+  unfolding packed
+  paper = paper-by o (silencesOf words) (meets .paper)
 
   -- Row 8: "words to pack aren't a multiple of 3, or exceed 3,000".
-  pub pack-row-8 : (paperOf r .number ≡ 8) ↔ ((length words % recordWords ≡ 0 → ⊥) ⊎ (mostWords < length words))
-  pack-row-8 = Iff·trans (row-number-iff given r (meets .paper) WordCount (omega arith)) (packed-8-iff words (length area))
+  pub pack-row-8 : (paperOf r .number ≡ 8) ↔ HasWrongCount words
+  pack-row-8 = Iff·trans (row-number-iff 0 records o paper WordCount (omega arith)) (pack-8-iff words (length area))
 
   -- Its place: 0.
   pub pack-row-8-place : paperOf r .number ≡ 8 → paperOf r .place ≡ 0
-  pack-row-8-place = row-place-is given r (meets .paper) WordCount (omega arith)
+  pack-row-8-place = refusal-place-is 0 (answerBy o records) paper WordCount (omega arith)
 
   -- Row 9: "a ring number to pack is above 65,535", its record number.
   pub pack-row-9 : (i : ℕ) → ((paperOf r .number ≡ 9) × (paperOf r .place ≡ i)) ↔ (HasWordCount words × IsRingFault words i)
-  pack-row-9 i = Iff·trans (row-iff given r (meets .paper) (RingNumber i)) (packed-9-iff words (length area) i)
+  pack-row-9 i = Iff·trans (row-place-iff 0 records o paper (RingNumber i)) (pack-9-iff words (length area) i)
 
   -- Row 7: "a record isn't above the one before it", its record number.
   pub pack-row-7 : (i : ℕ) → ((paperOf r .number ≡ 7) × (paperOf r .place ≡ i)) ↔ (HasWordCount words × IsRecordFault words i)
-  pack-row-7 i = Iff·trans (row-iff given r (meets .paper) (NotAbove i)) (packed-7-iff words (length area) i)
+  pack-row-7 i = Iff·trans (row-place-iff 0 records o paper (NotAbove i)) (pack-7-iff words (length area) i)
 
   -- Row 10: "packing lacks room for its whole output", 13 bytes for each silence.
-  pub pack-row-10 : (paperOf r .number ≡ 10) ↔ (IsPackable words × (length area < fieldLength * length (silencesOf words)))
+  pub pack-row-10 : (paperOf r .number ≡ 10) ↔ (IsPackable words × (length area < fieldLength * records))
   pack-row-10 =
-      Iff·trans (row-number-iff given r (meets .paper) OutputRoom (omega arith))
-      (Iff·trans (packed-10-iff words (length area)) (
-        λ h. (h .0, omega (arith, layout-length (silencesOf words), h .1)),
-        λ h. (h .0, omega (arith, layout-length (silencesOf words), h .1)),
-      ))
+      Iff·trans (row-number-iff 0 records o paper OutputRoom (omega arith))
+      (Iff·trans (pack-10-iff words (length area))
+      (Iff·and Iff·rfl (λ h. omega (arith, layout-length (silencesOf words)), λ h. omega (arith, layout-length (silencesOf words)))))
 
   -- Its place: 0.
   pub pack-row-10-place : paperOf r .number ≡ 10 → paperOf r .place ≡ 0
-  pack-row-10-place = row-place-is given r (meets .paper) OutputRoom (omega arith)
+  pack-row-10-place = refusal-place-is 0 (answerBy o records) paper OutputRoom (omega arith)
 
-  -- packing is accepted for words that can be packed, with room
-  accepted-words-iff : (ss : List Silence) → (given ≡ accepted ss) ↔ (IsPackable words × (ss ≡ silencesOf words) × (fieldLength * length ss ≤ length area))
-  accepted-words-iff ss =
-      Iff·trans (packed-accepted-iff words (length area) ss)
-      (λ h. (h .0, h .1, omega (arith, layout-length ss, h .2)), λ h. (h .0, h .1, omega (arith, layout-length ss, h .2)))
+  -- No other row: its number is 0, 8, 9, 7 or 10.
+  pub pack-numbers : (paperOf r .number ≡ 0) ⊎ ((paperOf r .number ≡ 8) ⊎ ((paperOf r .number ≡ 9) ⊎ ((paperOf r .number ≡ 7) ⊎ (paperOf r .number ≡ 10))))
+  pack-numbers =
+      number-by 0 records o paper (λ (n : ℕ). (n ≡ 0) ⊎ ((n ≡ 8) ⊎ ((n ≡ 9) ⊎ ((n ≡ 7) ⊎ (n ≡ 10))))) (inl refl)
+      (pack-has words (length area)
+      (λ (q : Refusal). (numberOf q ≡ 0) ⊎ ((numberOf q ≡ 8) ⊎ ((numberOf q ≡ 9) ⊎ ((numberOf q ≡ 7) ⊎ (numberOf q ≡ 10)))))
+      (inr (inl refl)) (λ j. inr (inr (inl refl))) (λ j. inr (inr (inr (inl refl)))) (inr (inr (inr (inr refl)))))
+
+  -- "A refusal carries .. zero in every count".
+  pub pack-refused-none : 0 < paperOf r .number → paperOf r .counts ≡ 0
+  pack-refused-none = refused-counts 0 records o paper
+
+  -- A refusal "writes nothing to any lent area".
+  pub pack-refused-area : 0 < paperOf r .number → out ≡ area
+  unfolding packed
+  pack-refused-area =
+      refused-area 0 records o paper (written (layout (silencesOf words)) area) area (meets .written ∙ area-by layout area o (silencesOf words))
+
+  -- no row is given exactly for words that can be packed, with room for 13 bytes each
+  none-iff : (o ≡ none) ↔ (IsPackable words × (fieldLength * records ≤ length area))
+  none-iff =
+      Iff·trans (pack-none-iff words (length area))
+      (Iff·and Iff·rfl (λ h. omega (arith, layout-length (silencesOf words)), λ h. omega (arith, layout-length (silencesOf words))))
+
+  -- It is accepted exactly then.
+  pub pack-accepted : (paperOf r .number ≡ 0) ↔ (IsPackable words × (fieldLength * records ≤ length area))
+  pack-accepted = Iff·trans (accepted-number-iff 0 records o paper) none-iff
 
   -- So many records are given exactly for words that can be packed, of so many silences, with room for 13 bytes each.
-  pub pack-records : (n : ℕ) → (r ≡ Records n) ↔ (IsPackable words × (length (silencesOf words) ≡ n) × (fieldLength * n ≤ length area))
-  pack-records n =
-      Iff·trans (records-iff given r (meets .paper) n) (
-        λ h. let a : IsPackable words × (h .0 ≡ silencesOf words) × (fieldLength * length (h .0) ≤ length area) = accepted-words-iff (h .0) .0 (h .1) in
-            (a .0, sym (ap length (a .1)) ∙ h .2, omega (arith, a .2, h .2)),
-        λ h. (silencesOf words, accepted-words-iff (silencesOf words) .1 (h .0, refl, omega (arith, h .1, h .2)), h .1),
-      )
+  pub pack-records : (n : ℕ) → (r ≡ Records n) ↔ ((IsPackable words × (fieldLength * records ≤ length area)) × (records ≡ n))
+  unfolding packed
+  pack-records n = Iff·trans (records-iff o (silencesOf words) r (meets .paper) n) (Iff·and none-iff Iff·rfl)

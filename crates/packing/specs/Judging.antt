@@ -1,4 +1,4 @@
--- What `judge` promises, the packer's private function that judges the records before a byte is written. Nothing here is a public call's meaning.
+-- The contract of `judge`, the packer's private function that judges the records before a byte is written. Nothing here is a public call's meaning.
 use mathlib.Core.List.{List}
 use Prim.Native.Nat.{ℕ}
 use lib.ListN.{length}
@@ -20,11 +20,6 @@ sized records bytes = record { records = records; bytes = bytes }
 -- The sizes of the output of these silences.
 abbrev pub sizes : List Silence → Sizes
 sizes ss = sized (length ss) (length (layout ss))
-
--- The sizes of the output, where the records are accepted.
-abbrev pub sizesOf : Answer (List Silence) → Answer Sizes
-sizesOf (accepted ss) = accepted (sizes ss)
-sizesOf (refused refusal) = refused refusal
 
 -- The answer that an enum's case stands for.
 abbrev pub judgedOf : Judged → Answer Sizes

@@ -1,4 +1,4 @@
-// What packing asks of the words before it writes a byte: rows 9 and 7, record by record, and the sizes of the output.
+// What packing tests before it writes a byte: rows 9 and 7, record by record. It also counts the sizes of the output.
 use answers::Refusal;
 use silences::Address;
 use silences::FIELD_LENGTH;
@@ -6,11 +6,11 @@ use silences::Last;
 use silences::RECORD_WORDS;
 use silences::is_above;
 ghost use mathlib.Core.Path.{_≡_};
-ghost use mathlib.Core.Option.{none};
 ghost use Prim.Native.Nat.{_≤_};
 ghost use lib.ListN.{length};
-ghost use Rattle.silences.specs.Packing.{silencesOf, mostWords, packRecords};
-ghost use Rattle.packing.specs.Judging.{judgedOf, sizesOf};
+ghost use Rattle.answers.specs.Rows.{answerBy};
+ghost use Rattle.silences.specs.Packing.{silencesOf, mostWords, recordFault};
+ghost use Rattle.packing.specs.Judging.{judgedOf, sizes};
 
 // "a ring number to pack is above 65,535": the largest ring number.
 const MOST_RING_NUMBER: u32 = 65535;
@@ -24,7 +24,7 @@ pub enum Judged {
 // Each record "9 before 7", and the bytes of its field. One or two words at the end are no record.
 pub fn judge(words: &[u32]) -> Judged
     requires { ⌜ length (now words) ≤ mostWords ⌝ }
-    ensures { λ r. ⌜ judgedOf r ≡ sizesOf (packRecords none 0 (silencesOf (now (words .entry)))) ⌝ }
+    ensures { λ r. ⌜ judgedOf r ≡ answerBy (recordFault (now (words .entry))) (sizes (silencesOf (now (words .entry)))) ⌝ }
 {
     let mut last = Last::NoRecord;
     let mut records: usize = 0;

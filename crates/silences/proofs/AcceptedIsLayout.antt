@@ -1,8 +1,8 @@
 -- A book is accepted exactly when it is the layout of a strictly ascending list of at most 1,000 silences in range. Reading stops at the end
 -- (`ReadsAs`), so the whole book is the layout of what was read; and a layout is read to its end. 13,000 bytes are 1,000 fields.
 use Prim.Native.Nat.{ℕ, _≤_}
-use mathlib.Core.Logic.{⊎-elim, _↔_}
-use mathlib.Core.Path.{_≡_, refl, sym, ap, _∙_}
+use mathlib.Core.Logic.{⊎-elim, _↔_, Iff·symm, Iff·trans}
+use mathlib.Core.Path.{_≡_, refl, sym, ap, subst, _∙_}
 use mathlib.Core.List.{List}
 use mathlib.Core.Option.{none}
 use native.Mathlib.Omega.{arith}
@@ -11,13 +11,14 @@ use lib.Seq.{take-all}
 use Rattle.answers.specs.Paper.{accepted}
 use Rattle.silences.specs.Silences.{Silence}
 use Rattle.silences.specs.Layout.{layout, mostBytes}
-use Rattle.silences.specs.Reading.{readBook}
+use Rattle.silences.specs.Reading.{silencesRead, bookRefusal, readBook}
 use Rattle.lists.specs.Bounds.{IsBytes}
 use Rattle.silences.specs.Books.{IsBook}
 use Rattle.silences.specs.Rows.{IsFineBefore}
 use Rattle.answers.proofs.AnswerCases.{accepted-not-refused}
 use Rattle.silences.proofs.ReadFrom.{readBook-fields}
 use Rattle.silences.proofs.FieldsRead.{FieldsRead, ReadsAs, read-all, reads-as-is, book-reads}
+use Rattle.silences.proofs.BookRows.{book-accepted-iff}
 use Rattle.silences.proofs.LayoutRead.{layout-length, read-fine, fine-read}
 
 -- How a book was accepted: it is no longer than 13,000 bytes, and its fields were read to its end.
@@ -67,3 +68,19 @@ book-accepted book ss b =
 -- A book is accepted, and gives these silences, exactly when it is their layout, they ascend strictly, are in range, and are at most 1,000.
 pub accepted-iff : (book : List ℕ) (ss : List Silence) → IsBytes book → (readBook book ≡ accepted ss) ↔ IsBook ss book
 accepted-iff book ss bytes = (λ e. whole-book book ss bytes (accepted-whole-iff book ss .0 e), book-accepted book ss)
+
+module _ (book : List ℕ) (bytes : IsBytes book) where
+  -- none of a book's rows is given, and these silences are read, exactly when it is their book
+  silences-read-iff : (ss : List Silence) → ((bookRefusal book ≡ none) × (silencesRead book ≡ ss)) ↔ IsBook ss book
+  silences-read-iff ss = Iff·trans (Iff·symm (book-accepted-iff book ss)) (accepted-iff book ss bytes)
+
+  -- None of its rows is given, and the silences read have some property, exactly when it is the book of silences that have it.
+  pub read-book-iff : (P : List Silence → Type 0) → ((bookRefusal book ≡ none) × P (silencesRead book)) ↔ ((ss : List Silence) × IsBook ss book × P ss)
+  read-book-iff P = (
+    λ h. (silencesRead book, silences-read-iff (silencesRead book) .0 (h .0, refl), h .1),
+    λ h. let read = silences-read-iff (h .0) .1 (h .1) in (read .0, subst P (sym (read .1)) (h .2)),
+  )
+
+  -- None of its rows is given exactly when it is the book of some silences.
+  pub no-refusal-iff : (bookRefusal book ≡ none) ↔ ((ss : List Silence) × IsBook ss book)
+  no-refusal-iff = (λ e. (silencesRead book, silences-read-iff (silencesRead book) .0 (e, refl)), λ h. silences-read-iff (h .0) .1 (h .1) .0)

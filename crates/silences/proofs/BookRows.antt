@@ -1,83 +1,133 @@
 -- When reading a book gives row 5, 6 or 7, and where: row 5 exactly for a book longer than 13,000 bytes, else row 6 or 7 exactly at the first faulty
--- field, as the table has it. Reading stops there (`ReadsAs`), and all fields before it are a layout's. It gives no other row.
+-- field, as the table has it. Reading stops there (`ReadsAs`), and all fields before it are a layout's. It gives no other row. Each law is of the first row that is
+-- given (`bookRefusal`), which a report goes by too; `book-refused-iff` says the same of `readBook`.
 use Prim.Native.Nat.{ℕ, _+_, _≤_, _<_}
-use mathlib.Core.Logic.{⊎-elim, _↔_, Iff·rfl, Iff·trans, Iff·and}
-use mathlib.Core.Path.{_≡_, refl, subst, _∙_}
-use mathlib.Core.List.{List}
-use mathlib.Core.Option.{none}
+use mathlib.Core.Logic.{_↔_, Iff·trans}
+use mathlib.Core.Path.{_≡_, refl, sym, ap, subst, _∙_}
+use mathlib.Core.List.{List, [], _∷_}
+use mathlib.Core.Option.{Option, none, some}
 use native.Mathlib.Omega.{arith}
 use lib.ListN.{length}
+use Rattle.lists.specs.Bounds.{IsBytes}
+use Rattle.lists.proofs.SizesTested.{lt-iff}
 use Rattle.answers.specs.declared.refusals.Refusal.{Refusal}
 use Rattle.answers.specs.declared.refusals.Refusal.the-variants.{BookLength, Field, NotAbove}
 use Rattle.answers.specs.Refusals.{numberOf}
-use Rattle.answers.specs.Paper.{refused}
+use Rattle.answers.specs.Paper.{Answer, accepted, refused}
+use Rattle.answers.specs.Rows.{row, answerBy}
+use Rattle.answers.proofs.FirstRow.{none-some}
+use Rattle.answers.proofs.RowsExactly.{OtherNumber, IsRow, is-row, end, each, row-has, first-has, at-fault, at-row, past-row}
+use Rattle.answers.proofs.AnswerByRows.{answer-refused-iff, answer-gives-iff}
 use Rattle.fields.specs.Tagged.{headLength}
+use Rattle.silences.specs.Silences.{Silence}
 use Rattle.silences.specs.Layout.{mostBytes}
-use Rattle.silences.specs.Reading.{silenceAt, readBook}
-use Rattle.lists.specs.Bounds.{IsBytes}
+use Rattle.silences.specs.Reading.{silenceAt, readFrom, faultIn, silencesIn, fieldFault, silencesRead, isRow5, bookRows, bookRefusal, readBook}
 use Rattle.silences.specs.Rows.{IsNotAbove, IsFieldFault, IsOrderFault}
-use Rattle.answers.proofs.AnswerCases.{row-unique}
-use Rattle.silences.proofs.ReadFrom.{readBook-long, readBook-fields}
 use Rattle.silences.proofs.FieldTest.{field-whole-is, tested-iff, field-whole-iff, field-faulty-iff}
 use Rattle.silences.proofs.AscendingAfter.{not-above-iff}
-use Rattle.silences.proofs.FieldsRead.{ReadsAs, stopped-faulty, stopped-order, reads-as-is, book-reads}
+use Rattle.silences.proofs.FieldsRead.{ReadsAs, stopped-faulty, stopped-order, reads-as, reads-as-is}
 use Rattle.silences.proofs.LayoutRead.{read-fine, fine-read}
 
 module _ (book : List ℕ) where
-  -- another row than 5 is given exactly when the book is no longer than 13,000 bytes and reading it gives that row
-  refused-reads-iff : (r : Refusal) → (numberOf r ≡ 5 → ⊥) → (readBook book ≡ refused r) ↔ ((length book ≤ mostBytes) × ReadsAs book none 0 (refused r))
-  refused-reads-iff r other = (
-    λ e. ⊎-elim (λ long. absurd (other (row-unique refl (long .1)))) (λ reads. reads) (book-reads book (refused r) e),
-    λ h. readBook-fields book (h .0) ∙ reads-as-is book (h .1),
-  )
+  -- A book is refused by the first row that is given.
+  pub book-refused-iff : (q : Refusal) → (readBook book ≡ refused q) ↔ (bookRefusal book ≡ some q)
+  unfolding readBook
+  book-refused-iff q = answer-refused-iff (silencesIn (readFrom book none 0)) (bookRefusal book) q
 
-  -- past row 5, reading gives row 6 or 7
-  reads-row : (r : Refusal) → ReadsAs book none 0 (refused r) → (6 ≤ numberOf r) × (numberOf r ≤ 7)
-  reads-row _ (stopped-faulty f h n) = (omega arith, omega arith)
-  reads-row _ (stopped-order f n o) = (omega arith, omega arith)
+  -- the first faulty field's refusal is given exactly where reading stops with it
+  fault-iff : (q : Refusal) → (fieldFault book ≡ some q) ↔ ReadsAs book none 0 (refused q)
+  fault-iff q = (λ e. reads-as book none 0 (refused q) (back (readFrom book none 0) e), λ w. ap faultIn (reads-as-is book w))
+    where
+      back : (a : Answer (List Silence)) → faultIn a ≡ some q → a ≡ refused q
+      back (accepted ss) e = absurd (none-some e)
+      back (refused r) e = cc
+
+  -- It goes by that row, with the silences read.
+  pub book-answer-is : readBook book ≡ answerBy (bookRefusal book) (silencesRead book)
+  unfolding readBook
+  book-answer-is = go (bookRefusal book) (silencesIn (readFrom book none 0))
+    where
+      go : (o : Option Refusal) (read : List Silence) → answerBy o read ≡ answerBy o (silencesIn (answerBy o read))
+      go none read = refl
+      go (some q) read = refl
+
+  -- It is accepted, with these silences, exactly when no row is given.
+  pub book-accepted-iff : (ss : List Silence) → (readBook book ≡ accepted ss) ↔ ((bookRefusal book ≡ none) × (silencesRead book ≡ ss))
+  book-accepted-iff ss = Iff·trans (λ e. sym book-answer-is ∙ e, λ e. book-answer-is ∙ e) (answer-gives-iff (silencesRead book) ss (bookRefusal book))
+
+  -- Row 5: its test.
+  pub is-row-5 : IsRow (row (isRow5 book) BookLength) BookLength (mostBytes < length book) (length book ≤ mostBytes)
+  is-row-5 = is-row (lt-iff mostBytes (length book)) (λ short long. omega arith) (λ not. omega arith)
+
+  -- The first faulty field gives row 6 or 7, and no other.
+  pub fault-has : (P : Refusal → Type 0) → ((at : ℕ) → P (Field at)) → ((at : ℕ) → P (NotAbove at)) → (q : Refusal) → fieldFault book ≡ some q → P q
+  fault-has P six seven q e = go q (fault-iff q .0 e)
+    where
+      go : (q : Refusal) → ReadsAs book none 0 (refused q) → P q
+      go _ (stopped-faulty {stop = stop} f h n) = six stop
+      go _ (stopped-order {stop = stop} f n o) = seven stop
 
   -- Row 5 is given exactly for a "book longer than 13,000 bytes".
-  pub book-row-5-iff : (readBook book ≡ refused BookLength) ↔ (mostBytes < length book)
-  book-row-5-iff = (
-    λ e. ⊎-elim (λ long. long .0) (λ reads. absurd (omega (arith, reads-row BookLength (reads .1)))) (book-reads book (refused BookLength) e),
-    readBook-long book,
-  )
+  pub refusal-5-iff : (bookRefusal book ≡ some BookLength) ↔ (mostBytes < length book)
+  unfolding bookRows
+  refusal-5-iff = at-row is-row-5 (each (fault-has (OtherNumber BookLength) (λ at e. omega arith) (λ at e. omega arith)) end) .exactly
+
+  -- What holds of rows 5, 6 and 7 holds of the row that is given: reading gives no other.
+  pub refusal-has : (P : Refusal → Type 0) → P BookLength → ((at : ℕ) → P (Field at)) → ((at : ℕ) → P (NotAbove at)) → (q : Refusal) → bookRefusal book ≡ some q → P q
+  unfolding bookRows
+  refusal-has P five six seven = first-has (row-has is-row-5 five (each (fault-has P six seven) end))
 
   -- Reading gives rows 5, 6 and 7 and no other.
-  pub book-rows : (r : Refusal) → readBook book ≡ refused r → (5 ≤ numberOf r) × (numberOf r ≤ 7)
-  book-rows r e =
-      ⊎-elim (λ long. omega (arith, row-unique refl (long .1))) (λ reads. omega (arith, reads-row r (reads .1))) (book-reads book (refused r) e)
+  pub book-rows : (q : Refusal) → readBook book ≡ refused q → (5 ≤ numberOf q) × (numberOf q ≤ 7)
+  book-rows q e =
+      refusal-has (λ (r : Refusal). (5 ≤ numberOf r) × (numberOf r ≤ 7)) (omega arith) (λ at. omega arith) (λ at. omega arith) q (book-refused-iff q .0 e)
 
-module _ (book : List ℕ) (bytes : IsBytes book) where
-  -- where reading stops at no field, row 6's fault stands
-  field-fault : (at : ℕ) → ReadsAs book none 0 (refused (Field at)) → IsFieldFault book at
-  field-fault at (stopped-faulty {ss = ss} f h n) = record { fine = ss; fine-before = read-fine book bytes f; more = h; no-field = field-faulty-iff book at .0 n }
+  -- Row 5 of `readBook`.
+  pub book-row-5-iff : (readBook book ≡ refused BookLength) ↔ (mostBytes < length book)
+  book-row-5-iff = Iff·trans (book-refused-iff BookLength) refusal-5-iff
 
-  -- and where it stops at a record not above, row 7's
-  order-fault : (at : ℕ) → ReadsAs book none 0 (refused (NotAbove at)) → IsOrderFault book at
-  order-fault at (stopped-order {ss = ss} {s = s} {next = next} f n o) =
-      record {
-        fine = ss;
-        fine-before = read-fine book bytes f;
-        field = tested-iff book at .0 (field-whole-is book at s next n .0);
-        not-above = subst (IsNotAbove ss) (field-whole-is book at s next n .1) (not-above-iff ss s .0 o);
-      }
+module _ (book : List ℕ) (bytes : IsBytes book) (at : ℕ) where
+  -- The first faulty field gives row 6 exactly where that row's fault stands.
+  pub fault-6-iff : (fieldFault book ≡ some (Field at)) ↔ IsFieldFault book at
+  fault-6-iff =
+      Iff·trans (fault-iff book (Field at))
+      (stands at, λ f. stopped-faulty (fine-read book (f .fine) at (f .fine-before)) (f .more) (field-faulty-iff book at .1 (f .no-field)))
+    where
+      stands : (i : ℕ) → ReadsAs book none 0 (refused (Field i)) → IsFieldFault book i
+      stands i (stopped-faulty {ss = ss} f h n) = record { fine = ss; fine-before = read-fine book bytes f; more = h; no-field = field-faulty-iff book i .0 n }
 
-  -- Row 6 is given, at a byte offset, exactly when row 5 is not and the first faulty field stands there and is none: "6 before 7".
-  pub book-row-6-iff : (at : ℕ) → (readBook book ≡ refused (Field at)) ↔ ((length book ≤ mostBytes) × IsFieldFault book at)
-  book-row-6-iff at =
-      Iff·trans (refused-reads-iff book (Field at) (λ q. omega arith))
-      (Iff·and Iff·rfl (
-        field-fault at,
-        λ f. stopped-faulty (fine-read book (f .fine) at (f .fine-before)) (f .more) (field-faulty-iff book at .1 (f .no-field)),
-      ))
-
-  -- Row 7 is given, at a byte offset, exactly when row 5 is not and the first faulty field stands there, whole, and isn't above the one before it.
-  pub book-row-7-iff : (at : ℕ) → (readBook book ≡ refused (NotAbove at)) ↔ ((length book ≤ mostBytes) × IsOrderFault book at)
-  book-row-7-iff at =
-      Iff·trans (refused-reads-iff book (NotAbove at) (λ q. omega arith))
-      (Iff·and Iff·rfl (
-        order-fault at,
+  -- It gives row 7 exactly where that row's does.
+  pub fault-7-iff : (fieldFault book ≡ some (NotAbove at)) ↔ IsOrderFault book at
+  fault-7-iff =
+      Iff·trans (fault-iff book (NotAbove at)) (
+        stands at,
         λ f. stopped-order (fine-read book (f .fine) at (f .fine-before)) (field-whole-iff book at .1 (f .field))
             (not-above-iff (f .fine) (silenceAt book (at + headLength)) .1 (f .not-above)),
-      ))
+      )
+    where
+      stands : (i : ℕ) → ReadsAs book none 0 (refused (NotAbove i)) → IsOrderFault book i
+      stands i (stopped-order {ss = ss} {s = s} {next = next} f n o) =
+          record {
+            fine = ss;
+            fine-before = read-fine book bytes f;
+            field = tested-iff book i .0 (field-whole-is book i s next n .0);
+            not-above = subst (IsNotAbove ss) (field-whole-is book i s next n .1) (not-above-iff ss s .0 o);
+          }
+
+  -- Row 6 is given, at a byte offset, exactly when row 5 is not and the first faulty field stands there and is none: "6 before 7".
+  pub refusal-6-iff : (bookRefusal book ≡ some (Field at)) ↔ ((length book ≤ mostBytes) × IsFieldFault book at)
+  unfolding bookRows
+  refusal-6-iff = past-row (is-row-5 book) (λ e. omega arith) (at-fault fault-6-iff end) .exactly
+
+  -- Row 7 is given, at a byte offset, exactly when row 5 is not and the first faulty field stands there, whole, and isn't above the one before it.
+  pub refusal-7-iff : (bookRefusal book ≡ some (NotAbove at)) ↔ ((length book ≤ mostBytes) × IsOrderFault book at)
+  unfolding bookRows
+  refusal-7-iff = past-row (is-row-5 book) (λ e. omega arith) (at-fault fault-7-iff end) .exactly
+
+  -- Row 6 of `readBook`.
+  pub book-row-6-iff : (readBook book ≡ refused (Field at)) ↔ ((length book ≤ mostBytes) × IsFieldFault book at)
+  book-row-6-iff = Iff·trans (book-refused-iff book (Field at)) refusal-6-iff
+
+  -- Row 7 of `readBook`.
+  pub book-row-7-iff : (readBook book ≡ refused (NotAbove at)) ↔ ((length book ≤ mostBytes) × IsOrderFault book at)
+  book-row-7-iff = Iff·trans (book-refused-iff book (NotAbove at)) refusal-7-iff

@@ -19,7 +19,6 @@ pub mod AcceptedIsLayout
 -- the rows of the table, of the definitions, the areas at exit and the round trips
 pub mod WordsOfSilences
 pub mod BookRows
-pub mod RoomRows
 pub mod RecordsPacked
 pub mod RecordRows
 pub mod PackRows

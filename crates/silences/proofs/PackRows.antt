@@ -1,134 +1,104 @@
 -- When packing words gives row 8, 9, 7 or 10, and when it is accepted: row 8 exactly for a wrong number of words; else what the records give
--- (RecordRows), and row 10 exactly where they are accepted and there is too little room (RoomRows).
+-- (RecordRows), and row 10 exactly where they give nothing and there is too little room. By the laws of a list of rows (RowsExactly of the answers).
 use Prim.Native.Nat.{ℕ, _%_, _≤_, _<_}
-use mathlib.Core.Logic.{_⊎_, inl, inr, ⊎-elim, _↔_, Iff·rfl, Iff·trans, Iff·and}
+use mathlib.Core.Logic.{_⊎_, inl, inr, ⊎-elim, _↔_, Iff·rfl, Iff·trans}
 use mathlib.Core.Path.{_≡_, refl, sym, ap, _∙_}
-use mathlib.Core.Bool.{Bool, true, false}
-use mathlib.Core.List.{List}
+use mathlib.Core.List.{List, [], _∷_}
+use mathlib.Core.Option.{none, some}
 use native.Mathlib.Omega.{arith}
-use lib.Dec.{leb, eqb}
 use lib.ListN.{length}
-use borrow.Author.Tests.{eqb-true, eqb-false, leb-true, leb-false}
+use Rattle.lists.proofs.Cases.{le-or-lt}
+use Rattle.lists.proofs.SizesTested.{lt-iff, eq-iff, or-iff, not-iff}
 use Rattle.answers.specs.declared.refusals.Refusal.{Refusal}
 use Rattle.answers.specs.declared.refusals.Refusal.the-variants.{NotAbove, WordCount, RingNumber, OutputRoom}
-use Rattle.answers.specs.Refusals.{numberOf}
-use Rattle.answers.specs.Paper.{accepted, refused}
-use Rattle.silences.specs.Silences.{Silence, Ascending}
+use Rattle.answers.specs.Paper.{accepted}
+use Rattle.answers.specs.Rows.{row, firstGiven}
+use Rattle.answers.proofs.RowsExactly.{OtherNumber, IsRow, is-row, end, each, row-has, first-has, at-fault, past-fault, no-fault, at-row, past-row, no-row, no-last-row}
+use Rattle.answers.proofs.AnswerByRows.{answer-gives-iff}
+use Rattle.silences.specs.Silences.{Silence}
 use Rattle.silences.specs.Layout.{layout}
-use Rattle.silences.specs.Packing.{mostWords, recordWords, silencesOf, isWordCount, packed, inRoom}
-use Rattle.silences.specs.Rows.{HasWordCount, AllRingNumbers, IsRingFault, IsRecordFault, IsPackable}
-use Rattle.answers.proofs.AnswerCases.{accepted-not-refused, row-unique}
-use Rattle.silences.proofs.RoomRows.{in-room-accepted-iff, in-room-row-iff, in-room-10-iff}
-use Rattle.silences.proofs.RecordRows.{packedRecords, records-rows, records-accepted-iff, records-9-iff, records-7-iff}
+use Rattle.silences.specs.Packing.{recordWords, mostWords, silencesOf, isRow8, recordFault, roomRow, packRows, packRefusal, packed}
+use Rattle.silences.specs.Rows.{HasWordCount, IsRingFault, IsRecordFault, IsPackable}
+use Rattle.silences.proofs.RecordRows.{records-have, records-none-iff, records-9-iff, records-7-iff}
 
 -- The words to pack "aren't a multiple of 3, or exceed 3,000": row 8.
 abbrev pub HasWrongCount : List ℕ → Type 0
 HasWrongCount words = (length words % recordWords ≡ 0 → ⊥) ⊎ (mostWords < length words)
 
--- The words have a right number, or a wrong one; and so says the test.
-pub word-count-cases : (words : List ℕ)
-    → ((isWordCount words ≡ true) × HasWordCount words) ⊎ ((isWordCount words ≡ false) × HasWrongCount words)
-unfolding isWordCount
-word-count-cases words = go (eqb (length words % recordWords) 0) (leb (length words) mostWords) refl refl
-  where
-    go : (m l : Bool) → eqb (length words % recordWords) 0 ≡ m → leb (length words) mostWords ≡ l
-        → ((isWordCount words ≡ true) × HasWordCount words) ⊎ ((isWordCount words ≡ false) × HasWrongCount words)
-    go true true e f = inl (simp (e, f), record { multiple = eqb-true (length words % recordWords) 0 e; words-le = leb-true (length words) mostWords f })
-    go true false e f = inr (simp (e, f), inr (leb-false (length words) mostWords f))
-    go false l e f = inr (simp e, inl (eqb-false (length words % recordWords) 0 e))
-
--- a wrong number is not a right one
-not-both-counts : (words : List ℕ) → HasWordCount words → HasWrongCount words → ⊥
-not-both-counts words h n = ⊎-elim (λ m. m (h .multiple)) (λ l. omega (arith, h .words-le)) n
-
--- What is accepted of the records of a right number of words is all their silences, and they can be packed.
-pub packable : (words : List ℕ) → HasWordCount words → (ss : List Silence) → packedRecords words ≡ accepted ss → IsPackable words × (ss ≡ silencesOf words)
-packable words h ss e =
-    let fine : (ss ≡ silencesOf words) × AllRingNumbers (silencesOf words) × Ascending (silencesOf words) = records-accepted-iff words ss .0 e in
-    (record { word-count = h; ring-numbers = fine .1; ascending = fine .2 }, fine .0)
-
--- and back
-packable-records : (words : List ℕ) → IsPackable words → packedRecords words ≡ accepted (silencesOf words)
-packable-records words p = records-accepted-iff words (silencesOf words) .1 (refl, p .ring-numbers, p .ascending)
+-- Row 10, of packing and unpacking.
+pub is-room-row : (output : List ℕ) (room : ℕ) → IsRow (roomRow output room) OutputRoom (room < length output) (length output ≤ room)
+is-room-row output room = is-row (lt-iff room (length output)) (λ enough short. omega arith) (λ not. omega arith)
 
 module _ (words : List ℕ) (room : ℕ) where
-  -- With a right number of words the records decide.
-  pub packed-counted : HasWordCount words → packed words room ≡ inRoom layout room (packedRecords words)
-  unfolding packed
-  packed-counted h =
-      ⊎-elim
-      (λ c. rw (c .0))
-      (λ n. absurd (not-both-counts words h (n .1)))
-      (word-count-cases words)
+  -- Row 8: its test.
+  pub is-row-8 : IsRow (row (isRow8 words) WordCount) WordCount (HasWrongCount words) (HasWordCount words)
+  is-row-8 =
+      is-row (or-iff (not-iff (eq-iff (length words % recordWords) 0)) (lt-iff mostWords (length words)))
+      (λ right. ⊎-elim (λ no. no (right .multiple)) (λ many. omega (arith, right .words-le)))
+      (λ not.
+      let not-many : mostWords < length words → ⊥ = λ many. not (inr many) in
+      record {
+        multiple = ⊎-elim (λ none-left. omega arith) (λ left. absurd (not (inl (λ e. omega arith)))) (le-or-lt (length words % recordWords) 0);
+        words-le = omega arith;
+      })
 
-  -- With a wrong one it is row 8.
-  pub packed-uncounted : HasWrongCount words → packed words room ≡ refused WordCount
-  unfolding packed
-  packed-uncounted h =
-      ⊎-elim
-      (λ c. absurd (not-both-counts words (c .1) h))
-      (λ n. rw (n .0))
-      (word-count-cases words)
+  -- Row 10: its test.
+  pub is-row-10 : IsRow (roomRow (layout (silencesOf words)) room) OutputRoom (room < length (layout (silencesOf words))) (length (layout (silencesOf words)) ≤ room)
+  is-row-10 = is-room-row (layout (silencesOf words)) room
+
+  -- What holds of rows 8, 9, 7 and 10 holds of the row that is given: packing gives no other.
+  pub pack-has : (P : Refusal → Type 0) → P WordCount → ((j : ℕ) → P (RingNumber j)) → ((j : ℕ) → P (NotAbove j)) → P OutputRoom
+      → (q : Refusal) → packRefusal words room ≡ some q → P q
+  unfolding packRows
+  pack-has P eight nine seven ten = first-has (row-has is-row-8 eight (each (records-have words P nine seven) (row-has is-row-10 ten end)))
 
   -- Row 8, exactly when the words "aren't a multiple of 3, or exceed 3,000".
-  pub packed-8-iff : (packed words room ≡ refused WordCount) ↔ ((length words % recordWords ≡ 0 → ⊥) ⊎ (mostWords < length words))
-  packed-8-iff = (
-    λ e. ⊎-elim
-        (λ c. let r : packedRecords words ≡ refused WordCount =
-        in-room-row-iff layout room (packedRecords words) WordCount (λ q. omega arith) .0 (sym (packed-counted (c .1)) ∙ e) in
-        absurd (records-rows words WordCount r .2 refl))
-        (λ n. n .1)
-        (word-count-cases words),
-    packed-uncounted,
-  )
-
-  -- another row, exactly when the number of words is right and the records give it, or the room does
-  counted-row-iff : (q : Refusal) → (numberOf q ≡ 8 → ⊥)
-      → (packed words room ≡ refused q) ↔ (HasWordCount words × (inRoom layout room (packedRecords words) ≡ refused q))
-  counted-row-iff q other = (
-    λ e. ⊎-elim
-        (λ c. (c .1, sym (packed-counted (c .1)) ∙ e))
-        (λ n. absurd (other (row-unique e (packed-uncounted (n .1)))))
-        (word-count-cases words),
-    λ h. packed-counted (h .0) ∙ h .1,
-  )
-
-  -- a row of the records, exactly when the number of words is right and they give it
-  records-row-iff : (q : Refusal) → (numberOf q ≡ 8 → ⊥) → (numberOf q ≡ 10 → ⊥)
-      → (packed words room ≡ refused q) ↔ (HasWordCount words × (packedRecords words ≡ refused q))
-  records-row-iff q not-8 not-10 = Iff·trans (counted-row-iff q not-8) (Iff·and Iff·rfl (in-room-row-iff layout room (packedRecords words) q not-10))
+  pub pack-8-iff : (packRefusal words room ≡ some WordCount) ↔ HasWrongCount words
+  unfolding packRows
+  pack-8-iff = at-row is-row-8 (each (records-have words (OtherNumber WordCount) (λ j e. omega arith) (λ j e. omega arith)) (row-has is-row-10 (λ e. omega arith) end)) .exactly
 
   -- Row 9 at a record number, exactly when row 8 is not given and the first faulty record's ring number is above 65,535.
-  pub packed-9-iff : (j : ℕ) → (packed words room ≡ refused (RingNumber j)) ↔ (HasWordCount words × IsRingFault words j)
-  packed-9-iff j = Iff·trans (records-row-iff (RingNumber j) (λ q. omega arith) (λ q. omega arith)) (Iff·and Iff·rfl (records-9-iff words j))
+  pub pack-9-iff : (j : ℕ) → (packRefusal words room ≡ some (RingNumber j)) ↔ (HasWordCount words × IsRingFault words j)
+  unfolding packRows
+  pack-9-iff j = past-row is-row-8 (λ e. omega arith) (at-fault (records-9-iff words j) (row-has is-row-10 (λ e. omega arith) end)) .exactly
 
   -- Row 7 at a record number, exactly when row 8 is not given and the first faulty record isn't above the one before it.
-  pub packed-7-iff : (j : ℕ) → (packed words room ≡ refused (NotAbove j)) ↔ (HasWordCount words × IsRecordFault words j)
-  packed-7-iff j = Iff·trans (records-row-iff (NotAbove j) (λ q. omega arith) (λ q. omega arith)) (Iff·and Iff·rfl (records-7-iff words j))
+  pub pack-7-iff : (j : ℕ) → (packRefusal words room ≡ some (NotAbove j)) ↔ (HasWordCount words × IsRecordFault words j)
+  unfolding packRows
+  pack-7-iff j = past-row is-row-8 (λ e. omega arith) (at-fault (records-7-iff words j) (row-has is-row-10 (λ e. omega arith) end)) .exactly
+
+  -- The first faulty record's row, where row 8 is not given.
+  pub pack-fault : HasWordCount words → (q : Refusal) → recordFault words ≡ some q → packRefusal words room ≡ some q
+  unfolding packRows firstGiven
+  pack-fault right q e = rw (is-row-8 .no .1 right, e)
+
+  -- None of rows 8, 9 and 7 is given exactly when the words can be packed.
+  pub packable-iff : {P : Type 0} → (HasWordCount words × ((recordFault words ≡ none) × P)) ↔ (IsPackable words × P)
+  packable-iff = (
+    λ h. let fine = records-none-iff words .0 (h .1 .0) in (record { word-count = h .0; ring-numbers = fine .0; ascending = fine .1 }, h .1 .1),
+    λ h. (h .0 .word-count, (records-none-iff words .1 (h .0 .ring-numbers, h .0 .ascending), h .1)),
+  )
 
   -- Row 10, exactly when the words can be packed and there is less room than for their book.
-  pub packed-10-iff : (packed words room ≡ refused OutputRoom) ↔ (IsPackable words × (room < length (layout (silencesOf words))))
-  packed-10-iff = (
-    λ e. let h : HasWordCount words × (inRoom layout room (packedRecords words) ≡ refused OutputRoom) = counted-row-iff OutputRoom (λ q. omega arith) .0 e in
-        let t : (ss : List Silence) × (packedRecords words ≡ accepted ss) × (room < length (layout ss)) = ten .0 (h .1) in
-        let p : IsPackable words × (t .0 ≡ silencesOf words) = packable words (h .0) (t .0) (t .1) in
-        (p .0, omega (arith, ap (λ (l : List Silence). length (layout l)) (p .1))),
-    λ h. counted-row-iff OutputRoom (λ q. omega arith) .1 (h .0 .word-count, ten .1 (silencesOf words, packable-records words (h .0), h .1)),
-  )
+  pub pack-10-iff : (packRefusal words room ≡ some OutputRoom) ↔ (IsPackable words × (room < length (layout (silencesOf words))))
+  unfolding packRows
+  pack-10-iff =
+      Iff·trans (past-row is-row-8 (λ e. omega arith) (past-fault Iff·rfl not-records (at-row is-row-10 end)) .exactly) packable-iff
     where
-      ten : (inRoom layout room (packedRecords words) ≡ refused OutputRoom) ↔ ((ss : List Silence) × (packedRecords words ≡ accepted ss) × (room < length (layout ss)))
-      ten = in-room-10-iff layout room (packedRecords words) (λ e. omega (arith, records-rows words OutputRoom e .1))
+      not-records : recordFault words ≡ some OutputRoom → ⊥
+      not-records e = records-have words (OtherNumber OutputRoom) (λ j e. omega arith) (λ j e. omega arith) OutputRoom e refl
 
-  -- Packing is accepted exactly when the words can be packed and there is room for their book; then it gives their silences.
+  -- No row is given exactly when the words can be packed and there is room for their book.
+  pub pack-none-iff : (packRefusal words room ≡ none) ↔ (IsPackable words × (length (layout (silencesOf words)) ≤ room))
+  unfolding packRows
+  pack-none-iff = Iff·trans (no-row is-row-8 (no-fault Iff·rfl (no-last-row is-row-10)) .exactly) packable-iff
+
+  -- Packing is accepted exactly then, and it gives their silences.
   pub packed-accepted-iff : (ss : List Silence)
       → (packed words room ≡ accepted ss) ↔ (IsPackable words × (ss ≡ silencesOf words) × (length (layout ss) ≤ room))
-  packed-accepted-iff ss = (
-    λ e. ⊎-elim
-        (λ c. let a : (packedRecords words ≡ accepted ss) × (length (layout ss) ≤ room) =
-        in-room-accepted-iff layout room (packedRecords words) ss .0 (sym (packed-counted (c .1)) ∙ e) in
-        let p : IsPackable words × (ss ≡ silencesOf words) = packable words (c .1) ss (a .0) in
-        (p .0, p .1, a .1))
-        (λ n. absurd (accepted-not-refused e (packed-uncounted (n .1))))
-        (word-count-cases words),
-    λ h. packed-counted (h .0 .word-count) ∙ in-room-accepted-iff layout room (packedRecords words) ss .1 (packable-records words (h .0) ∙ ap accepted (sym (h .1)), h .2),
-  )
+  unfolding packed
+  packed-accepted-iff ss =
+      Iff·trans (answer-gives-iff (silencesOf words) ss (packRefusal words room)) (
+        λ h. let p = pack-none-iff .0 (h .0) in (p .0, sym (h .1), rw (sym (h .1)) (p .1)),
+        λ h. (pack-none-iff .1 (h .0, rw (sym (h .1)) (h .2)), sym (h .1)),
+      )

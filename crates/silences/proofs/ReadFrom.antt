@@ -3,7 +3,7 @@
 use Prim.Native.Nat.{ℕ, zero, suc, _-_, _≤_, _<_}
 use mathlib.Core.Path.{_≡_, refl, _∙_}
 use mathlib.Core.Bool.{Bool, true, false, cond}
-use mathlib.Core.List.{List, []}
+use mathlib.Core.List.{List, [], _∷_}
 use mathlib.Core.Option.{Option, none, some}
 use native.Mathlib.Omega.{arith}
 use lib.Dec.{leb}
@@ -11,9 +11,10 @@ use lib.ListN.{length}
 use borrow.Author.Tests.{lt-ltb, le-ltb, le-leb, lt-leb}
 use Rattle.answers.specs.declared.refusals.Refusal.the-variants.{BookLength, Field, NotAbove}
 use Rattle.answers.specs.Paper.{Answer, accepted, refused}
+use Rattle.answers.specs.Rows.{firstGiven, answerBy}
 use Rattle.silences.specs.Silences.{Silence, isAbove}
 use Rattle.silences.specs.Layout.{mostBytes}
-use Rattle.silences.specs.Reading.{FieldAt, whole, faulty, fieldAt, before, readField, fieldsFrom, readFrom, readBook}
+use Rattle.silences.specs.Reading.{FieldAt, whole, faulty, fieldAt, before, readField, fieldsFrom, readFrom, faultIn, silencesIn, bookRows, readBook}
 use Rattle.silences.proofs.FieldTest.{field-ends}
 use Rattle.silences.proofs.FieldInduction.{GoesOnPast, count-step}
 
@@ -69,10 +70,14 @@ module _ (book : List ℕ) where
 
   -- A book longer than 13,000 bytes is refused by row 5.
   pub readBook-long : mostBytes < length book → readBook book ≡ refused BookLength
-  unfolding readBook
+  unfolding readBook bookRows firstGiven
   readBook-long long = rw (lt-ltb mostBytes (length book) long)
 
   -- Any other is read field by field.
   pub readBook-fields : length book ≤ mostBytes → readBook book ≡ readFrom book none 0
-  unfolding readBook
-  readBook-fields short = rw (le-ltb mostBytes (length book) short)
+  unfolding readBook bookRows firstGiven
+  readBook-fields short = rw (le-ltb mostBytes (length book) short) (same (readFrom book none 0))
+    where
+      same : (a : Answer (List Silence)) → answerBy (firstGiven (faultIn a ∷ [])) (silencesIn a) ≡ a
+      same (accepted ss) = refl
+      same (refused r) = refl

@@ -1,27 +1,30 @@
 -- Document 01, "What each call returns", rows 7 to 10: words to silences and back, and what a call writes into its lent area.
 --
 --   silencesOf, wordsOfSilences   silences as words, three each: cell, ring number, start
---   isWordCount, mostRingNumber   rows 8 and 9
---   inRoom                        row 10
---   packRecords                   "each record 9 before 7"
---   packed, unpacked              what packing and unpacking give, in the order of their refusals
+--   isRow8, mostRingNumber        rows 8 and 9
+--   recordRows, recordFault       "each record 9 before 7"
+--   roomRow                       row 10
+--   packRows, unpackRows          the rows of packing and unpacking in their order
+--   packed, unpacked              what packing and unpacking give
 --   areaAtExit                    the lent area at exit
 --
 -- That the words of a record come in this order is a reading: document 01 names the three in it and gives no other.
 use Prim.Native.Nat.{ℕ, suc, _*_, _%_, _^_}
 use mathlib.Core.Path.{_≡_, refl}
-use mathlib.Core.Bool.{Bool, cond, _&&_}
+use mathlib.Core.Bool.{Bool, not, _||_}
 use mathlib.Core.List.{List, [], _∷_, _++_}
 use mathlib.Core.Option.{Option, none, some}
-use lib.Dec.{ltb, leb, eqb}
+use lib.Dec.{ltb, eqb}
 use lib.ListN.{length}
 use Rattle.lists.specs.Areas.{written}
 use Rattle.lists.specs.Records.{wordsOfEach}
+use Rattle.answers.specs.declared.refusals.Refusal.{Refusal}
 use Rattle.answers.specs.declared.refusals.Refusal.the-variants.{NotAbove, WordCount, RingNumber, OutputRoom}
 use Rattle.answers.specs.Paper.{Answer, accepted, refused}
+use Rattle.answers.specs.Rows.{row, firstGiven, answerBy}
 use Rattle.silences.specs.Silences.{Silence, silence, ringNumberBytes, isAbove}
 use Rattle.silences.specs.Layout.{layout, mostSilences}
-use Rattle.silences.specs.Reading.{before, readBook}
+use Rattle.silences.specs.Reading.{silencesRead, bookRows}
 
 -- The words of a silence: cell, ring number, start.
 abbrev pub silenceWords : Silence → List ℕ
@@ -50,9 +53,9 @@ mostWords = recordWords * mostSilences
 most-words-is : mostWords ≡ 3000
 most-words-is = refl
 
--- Row 8 is not given: the words are a multiple of 3 and do not exceed 3,000.
-unfoldable pub isWordCount : List ℕ → Bool
-isWordCount words = eqb (length words % recordWords) 0 && leb (length words) mostWords
+-- Row 8: "words to pack aren't a multiple of 3, or exceed 3,000".
+abbrev pub isRow8 : List ℕ → Bool
+isRow8 words = not (eqb (length words % recordWords) 0) || ltb mostWords (length words)
 
 -- "a ring number to pack is above 65,535": the largest ring number.
 abbrev pub mostRingNumber : ℕ
@@ -62,31 +65,46 @@ mostRingNumber = 65535
 most-ring-number-is : suc mostRingNumber ≡ 256 ^ ringNumberBytes
 most-ring-number-is = refl
 
--- Rows 9 and 7, "each record 9 before 7", with the record number: the records from number `i` on, `last` the one before them.
-unfoldable pub packRecords : Option Silence → ℕ → List Silence → Answer (List Silence)
-packRecords last i [] = accepted []
-packRecords last i (s ∷ ss) =
-    let more : Answer (List Silence) = before s (packRecords (some s) (suc i) ss) in
-    let risen : Answer (List Silence) = cond (isAbove last s) more (refused (NotAbove i)) in
-    cond (ltb mostRingNumber (s .ringNumber)) (refused (RingNumber i)) risen
+-- "each record 9 before 7", with the record number: the rows of the records from number `i` on, `last` the one before them.
+unfoldable pub recordRows : Option Silence → ℕ → List Silence → List (Option Refusal)
+recordRows last i [] = []
+recordRows last i (s ∷ ss) =
+    row (ltb mostRingNumber (s .ringNumber)) (RingNumber i) ∷ row (not (isAbove last s)) (NotAbove i) ∷ recordRows (some s) (suc i) ss
 
--- Row 10, "packing or unpacking lacks room for its whole output": `output` is what the silences are written as.
-abbrev pub inRoom : (List Silence → List ℕ) → ℕ → Answer (List Silence) → Answer (List Silence)
-inRoom output room (accepted ss) = cond (leb (length (output ss)) room) (accepted ss) (refused OutputRoom)
-inRoom output room (refused r) = refused r
+-- Rows 9 and 7, one row: the refusal of the first faulty record.
+abbrev pub recordFault : List ℕ → Option Refusal
+recordFault words = firstGiven (recordRows none 0 (silencesOf words))
+
+-- Row 10: "packing or unpacking lacks room for its whole output".
+abbrev pub roomRow : List ℕ → ℕ → Option Refusal
+roomRow output room = row (ltb room (length output)) OutputRoom
+
+-- "packer 8, then each record 9 before 7, then 10": the rows of packing these words, with room for so many bytes.
+unfoldable pub packRows : List ℕ → ℕ → List (Option Refusal)
+packRows words room = row (isRow8 words) WordCount ∷ recordFault words ∷ roomRow (layout (silencesOf words)) room ∷ []
+
+-- The first of these rows that is given, if one is.
+abbrev pub packRefusal : List ℕ → ℕ → Option Refusal
+packRefusal words room = firstGiven (packRows words room)
+
+-- What packing these words gives: their silences, or the first row that is given.
+unfoldable pub packed : List ℕ → ℕ → Answer (List Silence)
+packed words room = answerBy (packRefusal words room) (silencesOf words)
+
+-- "unpacker 5, 6, 7, 10": the rows of unpacking this book, with room for so many words.
+unfoldable pub unpackRows : List ℕ → ℕ → List (Option Refusal)
+unpackRows book room = bookRows book ++ roomRow (wordsOfSilences (silencesRead book)) room ∷ []
+
+-- The first of these rows that is given, if one is.
+abbrev pub unpackRefusal : List ℕ → ℕ → Option Refusal
+unpackRefusal book room = firstGiven (unpackRows book room)
+
+-- What unpacking this book gives: its silences, or the first row that is given.
+unfoldable pub unpacked : List ℕ → ℕ → Answer (List Silence)
+unpacked book room = answerBy (unpackRefusal book room) (silencesRead book)
 
 -- The lent area at exit: the whole output and then the room beyond it as it was, for calls "leave room beyond their output unwritten"; a refusal
 -- "writes nothing to any lent area".
 abbrev pub areaAtExit : (List Silence → List ℕ) → Answer (List Silence) → List ℕ → List ℕ
 areaAtExit output (accepted ss) area = written (output ss) area
 areaAtExit output (refused r) area = area
-
--- "packer 8, then each record 9 before 7, then 10": what packing these words gives, with room for so many bytes.
-unfoldable pub packed : List ℕ → ℕ → Answer (List Silence)
-packed words room =
-    let records : Answer (List Silence) = inRoom layout room (packRecords none 0 (silencesOf words)) in
-    cond (isWordCount words) records (refused WordCount)
-
--- "unpacker 5, 6, 7, 10": what unpacking this book gives, with room for so many words.
-unfoldable pub unpacked : List ℕ → ℕ → Answer (List Silence)
-unpacked book room = inRoom wordsOfSilences room (readBook book)

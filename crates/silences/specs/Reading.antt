@@ -4,19 +4,22 @@
 --   silenceAt               the silence of a value
 --   FieldAt, fieldAt        what stands at a byte offset: a whole field, or a faulty one (row 6)
 --   readFrom                the fields from a byte offset on; "the first faulty field decides, 6 before 7"
---   readBook                a whole book, row 5 before all others
+--   fieldFault, bookRows    rows 5, 6 and 7 in their order
+--   readBook                a whole book
 --
 -- `readFrom` does not recur on a part of its arguments: `fieldsFrom` counts down the bytes that are left. Read instead the two equations that hide
 -- it, `readFrom-end` and `readFrom-step` of proofs/ReadFrom.antt; nothing after them looks at the count. Places count from the book's first byte.
 -- Stricter than document 01 nowhere; `readFrom` also has a value past the book's end, where nothing is read.
 use Prim.Native.Nat.{ℕ, zero, suc, _+_, _-_}
-use mathlib.Core.Bool.{cond}
+use mathlib.Core.Bool.{Bool, cond}
 use mathlib.Core.List.{List, [], _∷_}
 use mathlib.Core.Option.{Option, none, some}
 use lib.Dec.{ltb, leb, eqb}
 use lib.ListN.{length, getD}
+use Rattle.answers.specs.declared.refusals.Refusal.{Refusal}
 use Rattle.answers.specs.declared.refusals.Refusal.the-variants.{BookLength, Field, NotAbove}
 use Rattle.answers.specs.Paper.{Answer, accepted, refused}
+use Rattle.answers.specs.Rows.{row, firstGiven, answerBy}
 use Rattle.fields.specs.Numbers.{numberAt}
 use Rattle.fields.specs.Tagged.{headLength, fieldEnd, isWhole}
 use Rattle.silences.specs.Silences.{Silence, cellBytes, ringNumberBytes, startBytes, isAbove}
@@ -73,8 +76,36 @@ fieldsFrom (suc left) book last at =
 unfoldable pub readFrom : List ℕ → Option Silence → ℕ → Answer (List Silence)
 readFrom book last at = fieldsFrom (length book - at) book last at
 
--- What reading a book gives: its silences, or row 5, 6 or 7. "An empty book is valid."
+-- "the first faulty field decides": its refusal, where the fields are not accepted.
+abbrev pub faultIn : Answer (List Silence) → Option Refusal
+faultIn (accepted ss) = none
+faultIn (refused refusal) = some refusal
+
+-- The silences that were read; none where they are not accepted.
+abbrev pub silencesIn : Answer (List Silence) → List Silence
+silencesIn (accepted ss) = ss
+silencesIn (refused refusal) = []
+
+-- Rows 6 and 7, one row: "Within a book the first faulty field decides, 6 before 7."
+abbrev pub fieldFault : List ℕ → Option Refusal
+fieldFault book = faultIn (readFrom book none 0)
+
+-- Row 5: "book longer than 13,000 bytes".
+abbrev pub isRow5 : List ℕ → Bool
+isRow5 book = ltb mostBytes (length book)
+
+-- "5, 6, 7": the order of a book's rows.
+unfoldable pub bookRows : List ℕ → List (Option Refusal)
+bookRows book = row (isRow5 book) BookLength ∷ fieldFault book ∷ []
+
+-- The first of these rows that is given, if one is.
+abbrev pub bookRefusal : List ℕ → Option Refusal
+bookRefusal book = firstGiven (bookRows book)
+
+-- What reading a book gives: the silences of its fields, or the first row that is given. "An empty book is valid."
 unfoldable pub readBook : List ℕ → Answer (List Silence)
-readBook book =
-    let read : Answer (List Silence) = readFrom book none 0 in
-    cond (ltb mostBytes (length book)) (refused BookLength) read
+readBook book = answerBy (bookRefusal book) (silencesIn (readFrom book none 0))
+
+-- The silences of a book; none of one that is refused.
+abbrev pub silencesRead : List ℕ → List Silence
+silencesRead book = silencesIn (readBook book)
