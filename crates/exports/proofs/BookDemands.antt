@@ -1,32 +1,40 @@
 -- `outlines_unpack` and `outlines_pack` meet the demands. Both go by their rows, so demand 1 is that of every call (RowsAgree). A book is accepted exactly when it is the
 -- layout (`accepted-iff` of the silences), and the words of its silences and their layout undo each other: so each call gives back what the other was given.
-use Prim.Native.Nat.{ℕ, _*_, _≤_}
+use Prim.Native.Nat.{ℕ, _*_, _≤_, _<_}
 use mathlib.Core.Path.{_≡_, refl, sym, ap, subst, _∙_}
+use mathlib.Core.Logic.{_↔_, _⊎_, inl, inr, Iff·trans}
 use mathlib.Core.List.{List}
+use mathlib.Core.Option.{Option, none, some}
 use native.Mathlib.Omega.{arith}
 use lib.ListN.{length, take}
 use Rattle.lists.specs.Areas.{written}
 use Rattle.lists.specs.Bounds.{IsBytes, IsWords}
 use Rattle.lists.proofs.Areas.{written-front}
-use Rattle.answers.specs.Paper.{Answer, accepted, refused, Paper}
+use Rattle.answers.specs.declared.refusals.Refusal.{Refusal}
+use Rattle.answers.specs.declared.refusals.Refusal.the-variants.{Field, NotAbove, RingNumber}
+use Rattle.answers.specs.Paper.{Answer, accepted, refused, Paper, answerPaper}
+use Rattle.answers.specs.Rows.{firstGiven, answerBy, areaBy}
 use Rattle.answers.proofs.OneAnswer.{number-in}
 use Rattle.answers.proofs.AnswerCases.{accepted-unique}
 use Rattle.silences.specs.Silences.{Silence}
 use Rattle.silences.specs.Layout.{layout}
 use Rattle.silences.specs.Books.{IsBook}
-use Rattle.silences.specs.Reading.{readBook}
-use Rattle.silences.specs.Packing.{recordWords, silencesOf, wordsOfSilences, areaAtExit, packed, unpacked}
+use Rattle.silences.specs.Reading.{silencesRead, bookRows, readBook}
+use Rattle.silences.specs.Packing.{recordWords, silencesOf, wordsOfSilences, areaAtExit, roomRow, packRows, packRefusal, packed, unpackRows, unpackRefusal, unpacked}
 use Rattle.silences.specs.Rows.{IsPackable}
 use Rattle.silences.proofs.AcceptedIsLayout.{book-accepted, accepted-iff}
 use Rattle.silences.proofs.RoundTrips.{packable-book, book-packable}
 use Rattle.silences.proofs.WordsOfSilences.{words-length, words-of-silences, silences-of-words}
+use Rattle.silences.proofs.BookRows.{is-row-5, fault-has, fault-6-iff, fault-7-iff, book-accepted-iff}
+use Rattle.silences.proofs.RecordRows.{records-have, records-9-iff, records-7-iff}
 use Rattle.silences.proofs.UnpackRows.{unpacked-accepted-iff}
-use Rattle.silences.proofs.PackRows.{packed-accepted-iff}
+use Rattle.silences.proofs.PackRows.{is-row-8, is-room-row, packed-accepted-iff}
 use Rattle.book.specs.Calls.{recordsPaper}
-use Rattle.outlines.specs.Report.{ReportCounts}
+use Rattle.outlines.specs.Report.{ReportCounts, noReportCounts}
 use Rattle.exports.specs.declared.answering.Answer.{Answer as AnswerStruct}
 use Rattle.exports.specs.Exported.{counted, recordCounts, IsExported, IsPackExported, IsUnpackExported}
-use Rattle.exports.specs.Demands.{UnpackDemand2, PackDemand2, GivesBack}
+use Rattle.exports.specs.Demands.{rowOf, bookTable, packTable, UnpackDemand2, PackDemand2, GivesBack, UnpackMeets, PackMeets}
+use Rattle.exports.proofs.RowsAgree.{Agrees, AllAgree, agree-append, row-agrees, faults-agree, demand-1-met}
 
 -- What an accepted call on a book answers and writes.
 record GivesRecords (output : List Silence → List ℕ) (ss : List Silence) (area : List ℕ) (r : AnswerStruct) (out : List ℕ) : Type 0 where
@@ -55,14 +63,14 @@ module _ (output : List Silence → List ℕ) (a : Answer (List Silence)) (area 
 module _ (book area : List ℕ) {out : List ℕ} {r : AnswerStruct} (bytes : IsBytes book) (e : IsUnpackExported book area r out) where
   -- the book of silences, with room, is unpacked
   book-given : (ss : List Silence) → IsBook ss book → length (wordsOfSilences ss) ≤ length area → GivesRecords wordsOfSilences ss area r out
-  book-given ss is-book room = gives-records wordsOfSilences (unpacked book (length area)) area e ss (unpacked-accepted-iff book (length area) ss .1 (book-accepted book ss is-book, room))
+  book-given ss is-book room = gives-records wordsOfSilences (unpacked book (length area)) area e ss (unpacked-accepted-iff book (length area) ss .1 (book-accepted book ss is-book, omega (arith, words-length ss, room)))
 
   -- an unpacked book is the book of silences
   unpacked-has : r .refusal ≡ 0 → (ss : List Silence) × IsBook ss book × (length (wordsOfSilences ss) ≤ length area)
   unpacked-has zero-is =
       let h = accepted-has wordsOfSilences (unpacked book (length area)) area e zero-is in
       let b = unpacked-accepted-iff book (length area) (h .0) .0 (h .1) in
-      (h .0, accepted-iff book (h .0) bytes .0 (b .0), b .1)
+      (h .0, accepted-iff book (h .0) bytes .0 (b .0), omega (arith, words-length (h .0), b .1))
 
   -- a book is that of one list of silences
   the-book : (ss : List Silence) → IsBook ss book → r .refusal ≡ 0 → GivesRecords wordsOfSilences ss area r out
@@ -111,7 +119,7 @@ pack-unpack words area {out} {r} are-words e zero-is area′ {out′} {r′} roo
     let back : wordsOfSilences ss ≡ words = words-of-silences words (packs .accepted-iff .0 zero-is .0 .word-count .multiple) in
     let unpacks : IsUnpackExported (layout ss) area′ r′ out′ = subst (λ (b : List ℕ). IsUnpackExported b area′ r′ out′) front e′ in
     let given = gives-records wordsOfSilences (unpacked (layout ss) (length area′)) area′ unpacks ss (unpacked-accepted-iff (layout ss) (length area′) ss .1
-    (book-accepted (layout ss) ss (packs .book-is zero-is), omega (arith, room, ap length back))) in
+    (book-accepted (layout ss) ss (packs .book-is zero-is), omega (arith, room, ap length back, words-length ss))) in
     record {
       accepted = given .accepted-is;
       found-is = given .found-is ∙ sym (packs .found-is zero-is);
@@ -137,3 +145,76 @@ unpack-pack book area {out} {r} bytes e zero-is area′ {out′} {r′} room e�
       found-is = given .found-is ∙ sym (was .found-is);
       front-is = written-front (layout ss) area′ (given .written-is) (length book) (ap length book-is) ∙ book-is;
     }
+
+-- a book's paper in the struct, and its area, by the first row that is given
+records-by : (o : Option Refusal) (ss : List Silence)
+    → counted recordCounts (recordsPaper (answerBy o ss)) ≡ answerPaper noReportCounts (answerBy o (recordCounts (length ss)))
+records-by none ss = refl
+records-by (some q) ss = refl
+
+area-by : (output : List Silence → List ℕ) (o : Option Refusal) (ss : List Silence) (area : List ℕ)
+    → areaAtExit output (answerBy o ss) area ≡ areaBy o (written (output ss) area) area
+area-by output none ss area = refl
+area-by output (some q) ss area = refl
+
+-- The rows of a book, one by one: 5, then the first faulty field.
+pub book-agrees : (book : List ℕ) → IsBytes book → AllAgree (bookRows book) (bookTable book)
+unfolding bookRows
+book-agrees book bytes = (
+  row-agrees (is-row-5 book) refl,
+  λ _. (
+    faults-agree Field NotAbove (λ p. (refl, refl)) (λ p. (refl, refl)) (fault-6-iff book bytes) (fault-7-iff book bytes)
+        (fault-has book (λ (q : Refusal). ((p : ℕ) × (q ≡ Field p)) ⊎ ((p : ℕ) × (q ≡ NotAbove p))) (λ at. inl (at, refl)) (λ at. inr (at, refl))),
+    λ _. tt,
+  ),
+)
+
+module _ (book area : List ℕ) {out : List ℕ} {r : AnswerStruct} (bytes : IsBytes book) (e : IsUnpackExported book area r out) where
+  -- row 10, where no row of the book is given: there is a book, and its words have no room
+  room-agrees : firstGiven (bookRows book) ≡ none
+      → Agrees (roomRow (wordsOfSilences (silencesRead book)) (length area)) (rowOf 10 ((ss : List Silence) × IsBook ss book × (length area < length (wordsOfSilences ss))))
+  room-agrees none-given number place =
+      let read : readBook book ≡ accepted (silencesRead book) = book-accepted-iff book (silencesRead book) .1 (none-given, refl) in
+      let there : (length area < length (wordsOfSilences (silencesRead book))) ↔ ((ss : List Silence) × IsBook ss book × (length area < length (wordsOfSilences ss))) = (
+        λ short. (silencesRead book, accepted-iff book (silencesRead book) bytes .0 read, short),
+        λ h. subst (λ (l : List Silence). length area < length (wordsOfSilences l)) (accepted-unique (book-accepted book (h .0) (h .1)) read) (h .2),
+      ) in
+      let plain = row-agrees (is-room-row (wordsOfSilences (silencesRead book)) (length area)) refl number place in
+      Iff·trans (λ h. (h .0, h .1, there .1 (h .2)), λ h. (h .0, h .1, there .0 (h .2))) plain
+
+  -- `outlines_unpack` meets the demands.
+  pub unpack-meets : UnpackMeets book area r out
+  unfolding unpacked unpackRows
+  unpack-meets = record {
+    demand-1 =
+        demand-1-met
+        (agree-append (bookRows book) (bookTable book) _ _ (book-agrees book bytes) (λ none-given. (room-agrees none-given, λ _. tt)))
+        (record {
+          paper = e .paper ∙ records-by (unpackRefusal book (length area)) (silencesRead book);
+          written = e .written ∙ area-by wordsOfSilences (unpackRefusal book (length area)) (silencesRead book) area;
+        });
+    demand-2 = unpack-demand-2 book area bytes e;
+  }
+
+-- The rows of packing, one by one: 8, then the first faulty record, then 10.
+pack-agrees : (words : List ℕ) (room : ℕ) → AllAgree (packRows words room) (packTable words room)
+unfolding packRows
+pack-agrees words room = (
+  row-agrees (is-row-8 words room) refl,
+  λ _. (
+    faults-agree RingNumber NotAbove (λ p. (refl, refl)) (λ p. (refl, refl)) (records-9-iff words) (records-7-iff words)
+        (records-have words (λ (q : Refusal). ((p : ℕ) × (q ≡ RingNumber p)) ⊎ ((p : ℕ) × (q ≡ NotAbove p))) (λ j. inl (j, refl)) (λ j. inr (j, refl))),
+    λ _. (row-agrees (is-room-row (layout (silencesOf words)) room) refl, λ _. tt),
+  ),
+)
+
+-- `outlines_pack` meets the demands.
+pub pack-meets : (words area : List ℕ) {out : List ℕ} {r : AnswerStruct} → IsWords words → IsPackExported words area r out → PackMeets words area r out
+unfolding packed
+pack-meets words area are-words e = record {
+  demand-1 = demand-1-met (pack-agrees words (length area)) (record {
+    paper = e .paper ∙ records-by (packRefusal words (length area)) (silencesOf words);
+    written = e .written ∙ area-by layout (packRefusal words (length area)) (silencesOf words) area;
+  });
+  demand-2 = pack-demand-2 words area are-words e;
+}

@@ -67,14 +67,14 @@ pub faults-agree : {o : Option Refusal} {A B : ℕ → Type 0} (one other : ℕ 
     → Agrees o (λ number place. ((number ≡ a) × A place) ⊎ ((number ≡ b) × B place))
 faults-agree {A = A} {B = B} one other of-one of-other one-iff other-iff only number place = (
   ⊎-elim
-  (λ h. record { refusal = one place; given = one-iff place .1 (h .1); number-is = h .0 ∙ sym (of-one place .0); place-is = sym (of-one place .1) })
-  (λ h. record { refusal = other place; given = other-iff place .1 (h .1); number-is = h .0 ∙ sym (of-other place .0); place-is = sym (of-other place .1) }),
+      (λ h. record { refusal = one place; given = one-iff place .1 (h .1); number-is = h .0 ∙ sym (of-one place .0); place-is = sym (of-one place .1) })
+      (λ h. record { refusal = other place; given = other-iff place .1 (h .1); number-is = h .0 ∙ sym (of-other place .0); place-is = sym (of-other place .1) }),
   λ g. ⊎-elim
-  (λ w. let at : w .0 ≡ place = sym (g .place-is ∙ ap placeOf (w .1) ∙ of-one (w .0) .1) in
+      (λ w. let at : w .0 ≡ place = sym (g .place-is ∙ ap placeOf (w .1) ∙ of-one (w .0) .1) in
       inl (g .number-is ∙ ap numberOf (w .1) ∙ of-one (w .0) .0, subst A at (one-iff (w .0) .0 (g .given ∙ ap some (w .1)))))
-  (λ w. let at : w .0 ≡ place = sym (g .place-is ∙ ap placeOf (w .1) ∙ of-other (w .0) .1) in
+      (λ w. let at : w .0 ≡ place = sym (g .place-is ∙ ap placeOf (w .1) ∙ of-other (w .0) .1) in
       inr (g .number-is ∙ ap numberOf (w .1) ∙ of-other (w .0) .0, subst B at (other-iff (w .0) .0 (g .given ∙ ap some (w .1)))))
-  (only (g .refusal) (g .given)),
+      (only (g .refusal) (g .given)),
 )
 
 -- The first row that is given is the same in both lists.
