@@ -5,7 +5,7 @@ use mathlib.Core.Path.{_≡_, refl, _∙_}
 use mathlib.Core.Bool.{true}
 use mathlib.Core.List.{List}
 use mathlib.Core.Logic.{dite}
-use native.Mathlib.Nat.{add-mul, zero-mul}
+use native.Mathlib.Nat.{add-mul}
 use native.Mathlib.Decide.{decLt, ℕ-discrete}
 use native.Mathlib.Omega.{arith}
 use lib.ListN.{length}
@@ -25,33 +25,15 @@ module _ (ring line : List ℕ) (below : ℕ) (some : 0 < length ring) (most : l
   abbrev m : ℕ
   m = length ring
 
-  -- The tally is moved from one point to another, in at most `left` steps.
+  -- The tally is moved from one point to another, by at least one step and at most `left`.
   record CameTo (at : CountsAt) (left : ℕ) (to : CountsAt) : Type 0 where
+    pub after : at .start < to .start
     pub start-le : to .start ≤ at .start + left
-    pub at-le : at .start ≤ to .start
     pub tallied : Tallied ring line (to .start) (to .counts)
-    pub least-kept : IsLeast m (at .counts) (at .least) → IsLeast m (to .counts) (to .least)
-    pub least-found : 0 < left → IsLeast m (to .counts) (to .least)
+    pub least-is : IsLeast m (to .counts) (to .least)
     pub looks-are : to .looks ≡ at .looks + (to .start - at .start) * stepLooks m
     pub passed : (j : ℕ) → at .start < j → j < to .start → below ≤ leastDistance ring line j
     pub stopped : to .start < at .start + left → to .least < below
-    pub some-step : 0 < left → at .start < to .start
-
-  -- No step.
-  came-none : (at : CountsAt) → Tallied ring line (at .start) (at .counts) → CameTo at 0 at
-  came-none at tallied =
-      let none : at .start - at .start ≡ 0 = omega arith in
-      record {
-        start-le = omega arith;
-        at-le = omega arith;
-        tallied = tallied;
-        least-kept = λ is. is;
-        least-found = λ l. absurd (omega arith);
-        looks-are = rw none (omega (arith, zero-mul (stepLooks m)));
-        passed = λ j l h. absurd (omega arith);
-        stopped = λ l. absurd (omega arith);
-        some-step = λ l. absurd (omega arith);
-      }
 
   module _ (at : CountsAt) (tallied : Tallied ring line (at .start) (at .counts)) where
     abbrev next : CountsAt
@@ -73,48 +55,48 @@ module _ (ring line : List ℕ) (below : ℕ) (some : 0 < length ring) (most : l
     unfolding stepOn
     next-least = leastOf-is m (next .counts) some
 
-    -- One step.
-    came-one : (left : ℕ) → next .least < below → CameTo at (suc left) next
+    -- One step: the last, or one whose least count is below the bound.
+    came-one : (left : ℕ) → (0 < left → next .least < below) → CameTo at (suc left) next
     came-one left near =
         let one : next .start - at .start ≡ 1 = omega (arith, next-start) in
         record {
+          after = omega (arith, next-start);
           start-le = omega (arith, next-start);
-          at-le = omega (arith, next-start);
           tallied = next-tallied;
-          least-kept = λ _. next-least;
-          least-found = λ _. next-least;
+          least-is = next-least;
           looks-are = rw one (omega (arith, next-looks));
           passed = λ j l h. absurd (omega (arith, next-start));
-          stopped = λ _. near;
-          some-step = λ _. omega (arith, next-start);
+          stopped = λ l. near (omega (arith, next-start));
         }
 
     -- One step and on from there.
     came-on : (left : ℕ) (to : CountsAt) → below ≤ next .least → CameTo next left to → CameTo at (suc left) to
     came-on left to far on =
-        let more : to .start - at .start ≡ 1 + (to .start - next .start) = omega (arith, next-start, on .at-le) in
+        let more : to .start - at .start ≡ 1 + (to .start - next .start) = omega (arith, next-start, on .after) in
         record {
+          after = omega (arith, next-start, on .after);
           start-le = omega (arith, next-start, on .start-le);
-          at-le = omega (arith, next-start, on .at-le);
           tallied = on .tallied;
-          least-kept = λ _. on .least-kept next-least;
-          least-found = λ _. on .least-kept next-least;
+          least-is = on .least-is;
           looks-are = rw more (omega (arith, on .looks-are, next-looks, add-mul 1 (to .start - next .start) (stepLooks m)));
           passed = λ j l h. dite (ℕ-discrete j (next .start))
               (λ here. rw here (omega (arith, far, least-is ring line 0 (next .start) (next .counts) (next .least) some next-tallied next-least)))
               (λ past. on .passed j (omega (arith, past, next-start)) h);
           stopped = λ l. on .stopped (omega (arith, next-start));
-          some-step = λ _. omega (arith, next-start, on .at-le);
         }
 
-  -- `left` steps, or fewer.
-  came : (left : ℕ) (at : CountsAt) → Tallied ring line (at .start) (at .counts) → CameTo at left (moveOn ring line below left at)
-  came zero at tallied = rw (move-none ring line below at) (came-none at tallied)
-  came (suc left) at tallied = dite (decLt (stepOn ring line at .least) below)
-      (λ near. rw (move-stops ring line below left at near) (came-one at tallied left near))
+  -- One step and `left` more, or fewer.
+  came : (left : ℕ) (at : CountsAt) → Tallied ring line (at .start) (at .counts) → CameTo at (suc left) (moveOn ring line below (suc left) at)
+  came zero at tallied = dite (decLt (stepOn ring line at .least) below)
+      (λ near. rw (move-stops ring line below 0 at near) (came-one at tallied 0 (λ _. near)))
       (λ far.
-      rw (move-goes-on ring line below left at (omega (arith, far)))
-      (came-on at tallied left (moveOn ring line below left (stepOn ring line at)) (omega (arith, far))
+      rw (move-goes-on ring line below 0 at (omega (arith, far)), move-none ring line below (stepOn ring line at))
+      (came-one at tallied 0 (λ l. absurd (omega arith))))
+  came (suc left) at tallied = dite (decLt (stepOn ring line at .least) below)
+      (λ near. rw (move-stops ring line below (suc left) at near) (came-one at tallied (suc left) (λ _. near)))
+      (λ far.
+      rw (move-goes-on ring line below (suc left) at (omega (arith, far)))
+      (came-on at tallied (suc left) (moveOn ring line below (suc left) (stepOn ring line at)) (omega (arith, far))
       (came left (stepOn ring line at) (next-tallied at tallied))))
 
   module _ (from steps : ℕ) (old : List ℕ) (tallied : Tallied ring line from old) (some-step : 0 < steps) (ends : FitsInLine ring line (from + steps))
@@ -129,11 +111,12 @@ module _ (ring line : List ℕ) (below : ℕ) (some : 0 < length ring) (most : l
     pub moved-tallied : (new : List ℕ) (r : Reached) → IsMoved ring line from steps below old new r → IsReached ring line from steps below new r
     moved-tallied new r moved =
         let is : reachedWith r new ≡ moveOn ring line below steps (unmoved from old) = rw can-be at (moved .is) in
-        let to : CameTo (unmoved from old) steps (reachedWith r new) = rw is (came steps (unmoved from old) tallied) in
+        let whole : steps ≡ suc (steps - 1) = omega arith in
+        let to : CameTo (unmoved from old) steps (reachedWith r new) = rw (is, whole) (came (steps - 1) (unmoved from old) tallied) in
         record {
-          after = to .some-step some-step;
+          after = to .after;
           start-le = to .start-le;
-          verified = record { tallied = to .tallied; least-is = to .least-found some-step; looks-are = to .looks-are ∙ omega arith };
+          verified = record { tallied = to .tallied; least-is = to .least-is; looks-are = to .looks-are ∙ omega arith };
           passed = to .passed;
           stopped = to .stopped;
         }

@@ -1,100 +1,50 @@
--- The loop of `lowest_rotation`: before turn r the answer is still among the rotations from r on. A turn whose count is the one sought returns r, any other goes on.
--- For the least count the answer is the lowest rotation that has it.
+-- The loop of `lowest_rotation`: before turn r no rotation below r has the count. So the rotation at which it ends, or the number of rotations where none has the
+-- count, is `lowestFrom`. For the least count it is the lowest rotation at which the counts are least.
 use Prim.Native.Nat.{ℕ, zero, suc, _+_, _-_, _≤_, _<_, min}
 use mathlib.Core.Path.{_≡_, refl, sym, ap, _∙_}
 use mathlib.Core.List.{List}
 use mathlib.Core.Logic.{dite}
+use native.Mathlib.Nat.{zero-add}
 use native.Mathlib.Decide.{ℕ-discrete}
 use native.Mathlib.Omega.{arith}
-use lib.Dec.{eqb}
 use lib.ListN.{getD}
-use borrow.Author.Tests.{eq-eqb, ne-eqb, eqb-true, eqb-false}
-use Rattle.lists.proofs.Cases.{by-test}
-use Rattle.tally.specs.Counts.{mostCounts, lowestFrom, IsLowestWith, IsLeast}
-use Rattle.tally.specs.Tallied.{IsLowestAt}
+use borrow.Author.Tests.{eq-eqb, ne-eqb}
+use Rattle.meaning.specs.Numbers.{lowest}
+use Rattle.meaning.proofs.Lowest.{lowest-is}
+use Rattle.tally.specs.Counts.{mostCounts, leastOf, lowestFrom, lowestWith, IsLowestWith, IsLeast}
+use Rattle.tally.proofs.LeastIsOne.{leastOf-only}
 
 module _ (counts : List ℕ) (least : ℕ) where
-  -- The count is the one sought.
-  lowest-here : (n r : ℕ) → getD counts r 0 ≡ least → lowestFrom counts least (suc n) r ≡ r
+  -- Of n rotations from a on the first d do not have the count, and the next one has it or there is none: a + d.
+  lowest-after : (n a d : ℕ) → d ≤ n → ((s : ℕ) → a ≤ s → s < a + d → getD counts s 0 ≡ least → ⊥) → (d < n → getD counts (a + d) 0 ≡ least)
+      → lowestFrom counts least n a ≡ a + d
   unfolding lowestFrom
-  lowest-here n r is = rw (eq-eqb (getD counts r 0) least is) refl
+  lowest-after zero a d le none has = omega arith
+  lowest-after (suc n) a d le none has = dite (ℕ-discrete d 0)
+      (λ here.
+      let there : a + d ≡ a = omega arith in
+      rw (there, eq-eqb (getD counts a 0) least (rw there at (has (omega arith)))) refl)
+      (λ later.
+      let there : a + 1 + (d - 1) ≡ a + d = omega (arith, later) in
+      rw (ne-eqb (getD counts a 0) least (none a (omega arith) (omega (arith, later))))
+      (lowest-after n (a + 1) (d - 1) (omega arith) (λ s l h. none s (omega arith) (omega arith)) (λ l. rw there (has (omega arith))) ∙ there))
 
-  -- It is not.
-  lowest-later : (n r : ℕ) → (getD counts r 0 ≡ least → ⊥) → lowestFrom counts least (suc n) r ≡ lowestFrom counts least n (r + 1)
-  unfolding lowestFrom
-  lowest-later n r differs = rw (ne-eqb (getD counts r 0) least differs) refl
+  -- The same from rotation 0 on.
+  lowest-first : (n d : ℕ) → d ≤ n → ((s : ℕ) → s < d → getD counts s 0 ≡ least → ⊥) → (d < n → getD counts d 0 ≡ least) → lowestFrom counts least n 0 ≡ d
+  lowest-first n d le none has =
+      lowest-after n 0 d le (λ s _ l. none s (omega arith)) (λ l. rw (zero-add d) (has l)) ∙ zero-add d
 
-  -- None is left.
-  lowest-none : (r : ℕ) → lowestFrom counts least 0 r ≡ r
-  unfolding lowestFrom
-  lowest-none r = refl
+  -- The loop ends at a rotation that has the count, or past the last.
+  pub seeking-ends : {m all r : ℕ} → all ≡ min m mostCounts → r ≤ all → ((s : ℕ) → s < r → getD counts s 0 ≡ least → ⊥) → (r < all → getD counts r 0 ≡ least)
+      → IsLowestWith m counts least r
+  seeking-ends {m} {all} {r} all-is le none has = record { is = sym (rw all-is at (lowest-first all r le none has)) }
 
-  -- Before turn r of the loop over `all` rotations.
-  pub record SeekingLowest (all r : ℕ) : Type 0 where
-    pub turn-le : r ≤ all
-    pub still : lowestFrom counts least (all - r) r ≡ lowestFrom counts least all 0
-
-  -- Before the first turn all is to be sought.
-  pub seeking-lowest-start : (all : ℕ) → SeekingLowest all 0
-  seeking-lowest-start all = let whole : all - 0 ≡ all = omega arith in record { turn-le = omega arith; still = rw whole refl }
-
-  module _ (m all r : ℕ) (all-is : all ≡ min m mostCounts) (known : SeekingLowest all r) where
-    one-less : r < all → all - r ≡ suc (all - (r + 1))
-    one-less h = omega arith
-
-    -- A turn whose count is not the one sought goes on.
-    pub seeking-lowest-turn : r < all → (getD counts r 0 ≡ least → ⊥) → SeekingLowest all (r + 1)
-    seeking-lowest-turn h differs = record {
-      turn-le = omega arith;
-      still = sym (ap (λ (n : ℕ). lowestFrom counts least n r) (one-less h) ∙ lowest-later (all - (r + 1)) r differs) ∙ known .still;
-    }
-
-    -- A turn whose count is the one sought has the answer.
-    pub seeking-lowest-found : r < all → getD counts r 0 ≡ least → IsLowestWith m counts least r
-    seeking-lowest-found h same = record {
-      is = sym (ap (λ (n : ℕ). lowestFrom counts least n r) (one-less h) ∙ lowest-here (all - (r + 1)) r same) ∙ known .still
-          ∙ ap (λ (n : ℕ). lowestFrom counts least n 0) all-is;
-    }
-
-    -- At the end none has it.
-    pub seeking-lowest-end : all ≤ r → IsLowestWith m counts least r
-    seeking-lowest-end h =
-        let none : all - r ≡ 0 = omega arith in
-        record {
-          is = sym (ap (λ (n : ℕ). lowestFrom counts least n r) none ∙ lowest-none r) ∙ known .still
-              ∙ ap (λ (n : ℕ). lowestFrom counts least n 0) all-is;
-        }
-
-  -- What is sought among n rotations from a on, where one of them has it: below the end, has it, and none before it has.
-  lowest-from : (n a place : ℕ) → a ≤ place → place < a + n → getD counts place 0 ≡ least
-      → (lowestFrom counts least n a < a + n) × (getD counts (lowestFrom counts least n a) 0 ≡ least)
-      × ((s : ℕ) → a ≤ s → s < lowestFrom counts least n a → getD counts s 0 ≡ least → ⊥)
-  unfolding lowestFrom
-  lowest-from zero a place from-le lt is = absurd (omega arith)
-  lowest-from (suc n) a place from-le lt is =
-      by-test
-      (λ (x : ℕ). (x < a + suc n) × (getD counts x 0 ≡ least) × ((s : ℕ) → a ≤ s → s < x → getD counts s 0 ≡ least → ⊥))
-      (eqb (getD counts a 0) least)
-      (λ e. (omega arith, eqb-true (getD counts a 0) least e, λ s l h. absurd (omega arith)))
-      (λ e.
-      let differs : getD counts a 0 ≡ least → ⊥ = eqb-false (getD counts a 0) least e in
-      let apart : a ≡ place → ⊥ = λ same. differs (ap (λ (p : ℕ). getD counts p 0) same ∙ is) in
-      let later = lowest-from n (a + 1) place (omega (arith, apart)) (omega arith) is in (
-        omega (arith, later .0),
-        later .1,
-        λ s l h same. dite (ℕ-discrete s a)
-            (λ here. differs (ap (λ (p : ℕ). getD counts p 0) (sym here) ∙ same))
-            (λ past. later .2 s (omega (arith, past)) h same),
-      ))
-
-  -- For the least of the counts of at most 256 rotations the answer is the lowest rotation that has it.
-  pub lowest-at : (m r : ℕ) → m ≤ mostCounts → IsLeast m counts least → IsLowestWith m counts least r → IsLowestAt m counts least r
-  lowest-at m r most is-least answer =
+  -- For the least count of at most 256 rotations it is the lowest rotation at which the counts are least.
+  pub lowest-least : {m : ℕ} → m ≤ mostCounts → IsLeast m counts least → lowestWith m counts least ≡ lowest (λ r. getD counts r 0) m
+  unfolding leastOf
+  lowest-least {m} most is-least =
       let all : min m mostCounts ≡ m = omega arith in
-      let place : r ≡ lowestFrom counts least m 0 = answer .is ∙ ap (λ (n : ℕ). lowestFrom counts least n 0) all in
-      let there = lowest-from m 0 (is-least .place) (omega arith) (omega (arith, is-least .place-lt)) (is-least .is) in
-      record {
-        below = omega (arith, there .0);
-        is = ap (λ (p : ℕ). getD counts p 0) place ∙ there .1;
-        first = λ s l. there .2 s (omega arith) (omega arith);
-      }
+      let place : ℕ = lowest (λ r. getD counts r 0) m in
+      let low = lowest-is (λ (r : ℕ). getD counts r 0) m (omega (arith, is-least .place-lt)) in
+      let is : least ≡ getD counts place 0 = leastOf-only m counts least is-least in
+      rw all (lowest-first m place (omega (arith, low .below)) (λ s l same. omega (arith, low .first s l)) (λ _. sym is))

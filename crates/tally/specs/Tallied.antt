@@ -3,7 +3,6 @@
 --   Tallied       "the tally of one count per rotation", at a start
 --   TallyFits     a ring that a tally has room for
 --   Verified      a start's tally, its least count and its looks
---   IsLowestAt    the lowest rotation whose count is the least
 use Prim.Native.Nat.{ℕ, _≤_, _<_}
 use mathlib.Core.Path.{_≡_}
 use mathlib.Core.List.{List}
@@ -27,9 +26,3 @@ pub record Verified (ring line : List ℕ) (i looks : ℕ) (counts : List ℕ) (
   pub tallied : Tallied ring line i counts
   pub least-is : IsLeast (length ring) counts least
   pub looks-are : looked ≡ looks
-
--- The lowest rotation whose count is the least.
-pub record IsLowestAt (m : ℕ) (counts : List ℕ) (least r : ℕ) : Type 0 where
-  pub below : r < m
-  pub is : getD counts r 0 ≡ least
-  pub first : (s : ℕ) → s < r → getD counts s 0 ≡ least → ⊥

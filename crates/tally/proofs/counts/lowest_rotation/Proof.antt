@@ -1,13 +1,17 @@
--- `tally::counts::lowest_rotation` meets its contract: its loop is `SeekingLowest`, and what is left of the rotations falls.
-use Prim.Native.Nat.{_-_}
-use mathlib.Core.Path.{_∙_, sym}
+-- `tally::counts::lowest_rotation` meets its contract: before turn r no rotation below r has the count, and the loop ends as `LowestLoop` says. What is left of the
+-- rotations falls.
+use Prim.Native.Nat.{ℕ, _-_, _≤_, _<_}
+use mathlib.Core.Path.{_≡_, _∙_, sym}
+use native.Mathlib.Omega.{arith}
+use lib.ListN.{getD}
+use borrow.Author.Count.{below-more}
 use borrow.Author.Needs.{needs}
-use Rattle.tally.proofs.LowestLoop.{SeekingLowest, seeking-lowest-start, seeking-lowest-turn, seeking-lowest-found, seeking-lowest-end}
+use Rattle.tally.proofs.LowestLoop.{seeking-ends}
 use Rattle.tally.proofs.counts.lowest_rotation.Statement.{statement}
 use Rattle.tally.proofs.counts.lowest_rotation.Tie as tie
 
 abbrev Inv-loop : tie.InvT-loop
-Inv-loop counts m least all r₀ r = SeekingLowest counts least all r
+Inv-loop counts m least all r₀ r = (r ≤ all) × ((s : ℕ) → s < r → getD counts s 0 ≡ least → ⊥)
 
 abbrev μ-loop : tie.MeasureT-loop
 μ-loop counts m least all r₀ r = all - r
@@ -16,7 +20,7 @@ rotations-requires : tie.Need-rotations-requires Inv-loop μ-loop
 rotations-requires c κs = search needs
 
 loop-holds : tie.Need-loop-holds Inv-loop μ-loop
-loop-holds c = seeking-lowest-start _ _ _
+loop-holds c = (omega arith, λ s l. absurd (omega arith))
 
 mul-wide : tie.Need-mul-wide Inv-loop μ-loop
 mul-wide c = search needs
@@ -31,8 +35,7 @@ returns : tie.Need-returns Inv-loop μ-loop
 returns c =
     let turn = c .before .before .before in
     let at-loop = turn .before in
-    seeking-lowest-found _ _ _ _ _ (at-loop .before .rotations .ensures) (at-loop .loop .inv) (turn .loop-test .taken)
-    (sym (c .before .wide .ensures) ∙ c .if1 .taken)
+    seeking-ends _ _ (at-loop .before .rotations .ensures) (omega arith) (at-loop .loop .inv .1) (λ _. sym (c .before .wide .ensures) ∙ c .if1 .taken)
 
 add-rotation : tie.Need-add-rotation Inv-loop μ-loop
 add-rotation c = search needs
@@ -42,13 +45,11 @@ loop-less c = search needs
 
 loop-again : tie.Need-loop-again Inv-loop μ-loop
 loop-again c =
-    let turn = c .before .before .before in
-    let at-loop = turn .before in
-    seeking-lowest-turn _ _ _ _ _ (at-loop .before .rotations .ensures) (at-loop .loop .inv) (turn .loop-test .taken)
-    (λ same. c .if1 .left (c .before .wide .ensures ∙ same))
+    let at-loop = c .before .before .before .before in
+    (omega arith, below-more _ _ (at-loop .loop .inv .1) (λ same. c .if1 .left (c .before .wide .ensures ∙ same)))
 
 returns-2 : tie.Need-returns-2 Inv-loop μ-loop
-returns-2 c = seeking-lowest-end _ _ _ _ _ (c .before .before .rotations .ensures) (c .before .loop .inv) (c .loop-test .left)
+returns-2 c = seeking-ends _ _ (c .before .before .rotations .ensures) (omega arith) (c .before .loop .inv .1) (λ l. absurd (omega (arith, c .loop-test .left)))
 
 pub lowest-rotation-spec : {M : Type 1} → statement M
 lowest-rotation-spec =
