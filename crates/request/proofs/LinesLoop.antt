@@ -9,9 +9,9 @@ use native.Mathlib.Omega.{arith}
 use lib.ListN.{length, drop}
 use Rattle.meaning.specs.Findings.{Finding, wordsEach}
 use Rattle.request.specs.Lines.{findingLine, findingLines}
-use Rattle.request.specs.Writing.{findingsOf, IsWritten}
+use Rattle.request.specs.Writing.{findingFrom, findingsOf, IsWritten}
 use Rattle.request.proofs.PutLoop.{StillToPut, put-start, put-turn, put-end}
-use Rattle.request.proofs.WordsOfFindings.{findingOfWords, findingsOf-step, findingsOf-end}
+use Rattle.request.proofs.WordsOfFindings.{findingsOf-step, findingsOf-end}
 
 -- What the loop keeps.
 pub record PuttingLines (words area : List ℕ) (at done : ℕ) (out : List ℕ) (next : ℕ) : Type 0 where
@@ -24,7 +24,7 @@ lines-start = record { done-le = omega arith; left = put-start }
 
 module _ {words area out : List ℕ} {at done next : ℕ} (now : PuttingLines words area at done out next) where
   -- A turn puts the next line.
-  pub lines-turn : {f : Finding} {put : List ℕ} {last : ℕ} → done + wordsEach ≤ length words → findingOfWords words done ≡ f → length put ≡ length out
+  pub lines-turn : {f : Finding} {put : List ℕ} {last : ℕ} → done + wordsEach ≤ length words → findingFrom words done ≡ f → length put ≡ length out
       → IsWritten (findingLine f) out next put last → PuttingLines words area at (done + wordsEach) put last
   unfolding findingLines
   lines-turn h is same line-put =

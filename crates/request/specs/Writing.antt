@@ -15,6 +15,7 @@ use lib.Dec.{ltb, eqb}
 use lib.ListN.{length, getD, drop, set}
 use Rattle.meaning.specs.Findings.{Finding, wordsEach}
 use Rattle.lists.specs.Areas.{written}
+use Rattle.lists.specs.Records.{recordsOf}
 use Rattle.outlines.specs.Report.{ReportCounts}
 use Rattle.input.specs.Fields.{lineField}
 use Rattle.input.specs.Input.{Request}
@@ -65,12 +66,13 @@ filled (byte ∷ form) numbers =
 abbrev pub findingOf : ℕ → ℕ → ℕ → Finding
 findingOf start rotation distance = record { start = start; rotation = rotation; distance = distance }
 
--- The findings of words, three words each; one or two words at the end are none.
+-- The finding whose words stand from word `at` on.
+abbrev pub findingFrom : List ℕ → ℕ → Finding
+findingFrom words at = findingOf (getD words at 0) (getD words (at + 1) 0) (getD words (at + 2) 0)
+
+-- The findings of words. Fewer words than a finding has, at the end, are none.
 unfoldable pub findingsOf : List ℕ → List Finding
-findingsOf [] = []
-findingsOf (start ∷ []) = []
-findingsOf (start ∷ rotation ∷ []) = []
-findingsOf (start ∷ rotation ∷ distance ∷ words) = findingOf start rotation distance ∷ findingsOf words
+findingsOf words = recordsOf wordsEach (λ (its-words : List ℕ). findingFrom its-words 0) words
 
 -- These three counts.
 abbrev pub countsOf : ℕ → ℕ → ℕ → ReportCounts
