@@ -1,5 +1,4 @@
 -- The place of a report's refusal fits 32 bits: rows 1 to 4 have place 0, and the others are the book's.
--- Assumes nothing.
 use Prim.Native.Nat.{ℕ, _≤_}
 use mathlib.Core.Path.{_≡_, refl}
 use mathlib.Core.List.{List}
@@ -7,26 +6,26 @@ use mathlib.Core.Option.{Option, none, some}
 use native.Mathlib.Omega.{arith}
 use lib.ListN.{length}
 use Rattle.answers.specs.declared.refusals.Refusal.{Refusal}
-use Rattle.answers.specs.Paper.{Answer, accepted, refused, answerPaper}
-use Rattle.silences.specs.Silences.{Silence}
-use Rattle.silences.specs.Reading.{readBook}
-use Rattle.book.specs.Calls.{recordsPaper}
-use Rattle.findings.specs.Admitting.{refusalOf}
+use Rattle.answers.specs.Refusals.{placeOf}
+use Rattle.answers.specs.Paper.{answerPaper}
+use Rattle.answers.specs.Rows.{answerBy}
+use Rattle.silences.specs.Layout.{mostBytes}
+use Rattle.silences.specs.Reading.{silencesRead}
+use Rattle.silences.proofs.BookRows.{book-refused-iff}
 use Rattle.findings.proofs.AdmitRows.{row-places}
-use Rattle.outlines.specs.Report.{noReportCounts, silencesBy, admittedSilences, reportedBy}
+use Rattle.outlines.specs.Report.{reportRefusal, noReportCounts, reportCounts, reported}
+use Rattle.outlines.proofs.FirstOfReport.{report-row-has}
 use Rattle.exports.proofs.BookPlaces.{read-place-le}
 
 -- A place of the report is at most 13,000.
 pub report-place-le : (ring line : List ℕ) (k room cell ringNumber : ℕ) (book : List ℕ)
-    → answerPaper noReportCounts (reportedBy ring line k cell ringNumber (admittedSilences ring line k book room)) .place ≤ 13000
-unfolding admittedSilences
-report-place-le ring line k room cell ringNumber book = by-row (refusalOf (length ring) k (length line) room) refl
+    → answerPaper noReportCounts (reported ring line k cell ringNumber book room) .place ≤ mostBytes
+unfolding reported
+report-place-le ring line k room cell ringNumber book = by-row (reportRefusal (length ring) k (length line) room book) refl
   where
-    by-book : (a : Answer (List Silence)) → recordsPaper a .place ≤ 13000 → answerPaper noReportCounts (reportedBy ring line k cell ringNumber a) .place ≤ 13000
-    by-book (accepted ss) h = omega arith
-    by-book (refused r) h = h
-
-    by-row : (o : Option Refusal) → refusalOf (length ring) k (length line) room ≡ o
-        → answerPaper noReportCounts (reportedBy ring line k cell ringNumber (silencesBy o (readBook book))) .place ≤ 13000
-    by-row (some q) e = omega (arith, row-places (length ring) k (length line) room q e)
-    by-row none e = by-book (readBook book) (read-place-le book)
+    by-row : (o : Option Refusal) → reportRefusal (length ring) k (length line) room book ≡ o
+        → answerPaper noReportCounts (answerBy o (reportCounts ring line k cell ringNumber (silencesRead book))) .place ≤ mostBytes
+    by-row none e = omega arith
+    by-row (some q) e =
+        report-row-has (length ring) k (length line) room book (λ (r : Refusal). placeOf r ≤ mostBytes)
+        (λ r is. omega (arith, row-places (length ring) k (length line) room r is)) (λ r is. rw (book-refused-iff book r .1 is) at (read-place-le book)) q e

@@ -17,7 +17,7 @@ use Rattle.silences.specs.Layout.{layout}
 use Rattle.silences.specs.Packing.{wordsOfSilences, packed, unpacked, areaAtExit}
 use Rattle.book.specs.Calls.{recordsPaper}
 use Rattle.findings.specs.Searching.{Counts, searchPaper, searchedWords}
-use Rattle.outlines.specs.Report.{ReportCounts, noReportCounts, admittedSilences, reportedBy, reportedWordsBy}
+use Rattle.outlines.specs.Report.{ReportCounts, noReportCounts, reported, reportedWords}
 use Rattle.exports.specs.declared.answering.Answer.{Answer}
 
 -- "A refusal carries its number and place, zero in every count"; 0 is no refusal's number, and is an accepted answer's.
@@ -54,8 +54,7 @@ IsScanExported ring line k words r out =
 -- What `outlines_report` promises: of cell, ring number, ring, line, allowance, book, the lent words, the answer and the words at exit.
 abbrev pub IsReportExported : ℕ → ℕ → List ℕ → List ℕ → ℕ → List ℕ → List ℕ → Answer → List ℕ → Type 0
 IsReportExported cell ringNumber ring line k book words r out =
-    IsExported (answerPaper noReportCounts (reportedBy ring line k cell ringNumber (admittedSilences ring line k book (length words))))
-    (reportedWordsBy ring line k cell ringNumber words (admittedSilences ring line k book (length words))) r out
+    IsExported (answerPaper noReportCounts (reported ring line k cell ringNumber book (length words))) (reportedWords ring line k cell ringNumber book words) r out
 
 -- What `outlines_pack` promises: of the words, the area lent for the book, the answer and the area at exit.
 abbrev pub IsPackExported : List ℕ → List ℕ → Answer → List ℕ → Type 0

@@ -3,19 +3,21 @@
 use Prim.Native.Nat.{ℕ, _≤_}
 use mathlib.Core.Path.{_≡_, refl, sym, subst}
 use mathlib.Core.List.{List}
+use mathlib.Core.Option.{none}
 use native.Mathlib.Omega.{arith}
 use Rattle.meaning.specs.Findings.{Finding}
 use Rattle.silences.specs.declared.addresses.Address.{Address}
 use Rattle.silences.specs.declared.addresses.Sought.{Sought}
 use Rattle.silences.specs.Silences.{Silence, silence}
+use Rattle.silences.specs.Reading.{silencesRead, bookRefusal}
 use Rattle.silences.specs.Addresses.{silenceOf, soughtOf}
 use Rattle.book.specs.Calls.{IsSought}
+use Rattle.silences.proofs.BookRows.{book-accepted-iff}
 use Rattle.silences.proofs.StrictOrder.{start-not-below}
 use Rattle.book.proofs.SeekRising.{Seeking, seeking-turn, seeking-names}
 use Rattle.book.proofs.SoughtRising.{sought-start}
 use Rattle.outlines.specs.Report.{isHidden}
 use Rattle.outlines.specs.Hiding.{addressOf, heldFor, hides}
-use Rattle.outlines.specs.LineScan.{IsAccepted}
 
 -- A field that was sought for a start at or below i.
 pub record HeldFrom (cell ringNumber : ℕ) (book : List ℕ) (i : ℕ) (held : Sought) : Type 0 where
@@ -54,5 +56,7 @@ module _ {cell ringNumber : ℕ} {book : List ℕ} where
           record { last-asked = f .start; asked-le = l; seeking = subst (Seeking book (addressOf cell ringNumber f)) (sym is) held-next }
 
       -- It is for the finding exactly when the book names the finding.
-      pub held-hides : (read : IsAccepted book) → hides cell ringNumber book f (soughtOf held) ≡ isHidden (read .silences) cell ringNumber f
-      held-hides read = seeking-names book (read .silences) (addressOf cell ringNumber f) (heldFor cell ringNumber book f (soughtOf held)) (read .is) held-next
+      pub held-hides : bookRefusal book ≡ none → hides cell ringNumber book f (soughtOf held) ≡ isHidden (silencesRead book) cell ringNumber f
+      held-hides read =
+          seeking-names book (silencesRead book) (addressOf cell ringNumber f) (heldFor cell ringNumber book f (soughtOf held))
+          (book-accepted-iff book (silencesRead book) .1 (read, refl)) held-next

@@ -8,19 +8,18 @@ pub mod TakenByTest
 pub mod ShownExactly
 pub mod ShownAndHidden
 -- The loop over windows.
-pub mod SweepKeeps
-pub mod QuickLoop
 pub mod AskCases
 pub mod HeldFrom
--- The report.
+pub mod SweepKeeps
+pub mod QuickLoop
+-- The report's rows and answers.
+pub mod FirstOfReport
 pub mod ReportAnswers
 -- What any answer of a report gives.
+pub mod RowsOfReport
 pub mod ReportOneAnswer
-pub mod GoesBy
 pub mod ReportGives
 pub mod ShownRising
 pub mod SilencesAlike
 pub mod OneSilenceMore
 pub mod EmptyBookIsScan
-pub mod ReportRefusals
-pub mod ReportRows

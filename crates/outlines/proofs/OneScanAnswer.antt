@@ -1,6 +1,4 @@
--- Any two answers that meet the contract of `scan` are equal, and so are the words at exit: it is a search, and `search-unique` of the findings says so of
--- any.
--- Assumes nothing.
+-- Any two answers that meet the contract of `scan` are equal, and so are the words at exit: it is a search (`search-unique` of crates/findings).
 use Prim.Native.Nat.{ℕ}
 use mathlib.Core.Path.{_≡_}
 use mathlib.Core.List.{List}

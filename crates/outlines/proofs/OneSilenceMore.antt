@@ -1,6 +1,5 @@
--- What one silence does: it names one address more, so it hides at most one finding of a report, since each start has at most one; one that names no finding
--- changes nothing, and so does one of another cell or ring number.
--- Assumes nothing.
+-- One silence more in a book. It names one more address, so it hides at most one more finding, because each start has at most one. A silence that names no finding
+-- changes nothing; nor does one of another cell or ring number.
 use Prim.Native.Nat.{ℕ, suc, _+_, _≤_}
 use mathlib.Core.Path.{_≡_, refl, ap, _∙_}
 use mathlib.Core.Bool.{Bool, true, false, cond, _||_}

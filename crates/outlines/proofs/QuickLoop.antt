@@ -10,11 +10,13 @@ use native.Mathlib.Omega.{arith}
 use lib.ListN.{length, length-append}
 use Rattle.lists.proofs.Cases.{le-or-lt}
 use Rattle.lists.specs.Areas.{written}
+use Rattle.meaning.specs.Meanings.{FitsInLine, IsPastLine}
 use Rattle.meaning.specs.Findings.{Finding, findings, wordsOf, wordsEach}
 use Rattle.meaning.proofs.FindingsBelow.{below-length-le, findings-length-le, findings-short}
 use Rattle.meaning.proofs.ScanLoop.{scan-found-le, scan-end}
 use Rattle.silences.specs.declared.addresses.Address.{Address}
 use Rattle.silences.specs.Silences.{Silence, silence}
+use Rattle.silences.specs.Reading.{silencesRead}
 use Rattle.silences.specs.Addresses.{silenceOf, soughtOf}
 use Rattle.book.specs.Calls.{IsSought}
 use Rattle.findings.specs.Admitting.{mostLine, Admitted}
@@ -27,7 +29,7 @@ use Rattle.sweep.specs.VerifyingRules.{lastOf}
 use Rattle.outlines.specs.declared.asking.BookAsked.{BookAsked}
 use Rattle.outlines.specs.Report.{isHidden, isShown, those, shown, hidden}
 use Rattle.outlines.specs.Hiding.{hides, CanAsk, IsHiddenOrShown, IsShownPut}
-use Rattle.outlines.specs.LineScan.{IsAccepted, CanScan, LineScanned}
+use Rattle.outlines.specs.LineScan.{CanScan, LineScanned}
 use Rattle.outlines.proofs.TakenByTest.{taken-more-no, taken-more-yes}
 use Rattle.outlines.proofs.ShownAndHidden.{shown-hidden-length}
 use Rattle.outlines.proofs.HeldFrom.{HeldFrom, held-start, held-later, held-turn, held-hides}
@@ -38,8 +40,8 @@ pub record QuickLoop (cell ringNumber : ℕ) (ring doubled table line : List ℕ
   pub can : CanScan ring doubled table line k book counts₀ area
   pub so-far : List Finding
   pub sweep : SweepKeeps ring line k so-far at counts
-  pub in-words : WordsSoFar area (shown (can .book-read .silences) cell ringNumber so-far) (asked .shown) words
-  pub hidden-is : asked .hidden ≡ length (hidden (can .book-read .silences) cell ringNumber so-far)
+  pub in-words : WordsSoFar area (shown (silencesRead book) cell ringNumber so-far) (asked .shown) words
+  pub hidden-is : asked .hidden ≡ length (hidden (silencesRead book) cell ringNumber so-far)
   pub held-from : HeldFrom cell ringNumber book (at .start .0) (asked .held)
 
 -- an accepted call has room for the words of all findings
@@ -68,7 +70,7 @@ module _ {cell ringNumber : ℕ} {ring doubled table line : List ℕ} {k : ℕ} 
 
   module _ {at : Sweep} {asked : BookAsked} {counts words : List ℕ} (h : QuickLoop cell ringNumber ring doubled table line k book counts₀ area at asked counts words) where
     abbrev ss : List Silence
-    ss = h .can .book-read .silences
+    ss = silencesRead book
 
     -- shown and hidden together are the findings so far
     counts-add : asked .shown + asked .hidden ≡ length (h .so-far)
@@ -83,14 +85,13 @@ module _ {cell ringNumber : ℕ} {ring doubled table line : List ℕ} {k : ℕ} 
     quick-length = so-far-length (h .in-words) (omega (arith, counts-add, scan-found-le ring line k _ _ _ _ (h .sweep .scanning), room-for-all ring line k (h .can .admitted)))
 
     -- Past the last window the line is scanned.
-    pub quick-end : length line < at .start .0 + length ring
+    pub quick-end : IsPastLine ring line (at .start .0)
         → LineScanned cell ringNumber ring line k book area (asked .shown + asked .hidden) (asked .hidden) (at .looks) words
     quick-end past =
-        let e = scan-end ring line k _ _ _ _ (h .sweep .scanning) (omega arith) in
+        let e = scan-end ring line k _ _ _ _ (h .sweep .scanning) past in
         record {
-          silences = ss;
-          book-is = h .can .book-read .is;
           admitted = h .can .admitted;
+          book-read = h .can .book-read;
           found-is = counts-add ∙ ap (λ (l : List Finding). length l) (e .0);
           hidden-is = h .hidden-is ∙ ap (λ (l : List Finding). length (hidden ss cell ringNumber l)) (e .0);
           looks-are = e .1;
@@ -102,8 +103,8 @@ module _ {cell ringNumber : ℕ} {ring doubled table line : List ℕ} {k : ℕ} 
       turn = sweep-turn (h .can) (h .sweep) swept
 
       -- The next window is a later one: the starts that are left fall.
-      pub quick-less : at .start .0 + length ring ≤ length line → length line + 1 - next .start .0 < length line + 1 - at .start .0
-      quick-less in-line = rw is-next at (turn .less in-line)
+      pub quick-less : FitsInLine ring line (at .start .0) → length line + 1 - next .start .0 < length line + 1 - at .start .0
+      quick-less fits = rw is-next at (turn .less fits)
 
       -- A turn that finds nothing.
       pub quick-none : foundOf r ≡ [] → QuickLoop cell ringNumber ring doubled table line k book counts₀ area next asked counts′ words

@@ -1,84 +1,57 @@
--- What an accepted report gives: found are all findings, hidden those that the book names, looks the steps of rules 1 to 5 and at most 3·m·n. And it is accepted
--- exactly when no row is given, the book being that of some silences.
-use Prim.Native.Nat.{ℕ, _*_, _≤_}
-use mathlib.Core.Logic.{_↔_}
-use mathlib.Core.Path.{_≡_, refl, sym, ap, _∙_}
+-- What an accepted report gives: found are all findings, hidden those that the book names, looks the steps of rules 1 to 5: "never above 3·m·n − 2·m·m + m, which
+-- is at most 3·m·n". When it is accepted, and what a refusal leaves, stands in RowsOfReport.
+use Prim.Native.Nat.{ℕ, _+_, _-_, _*_, _≤_, _<_}
+use mathlib.Core.Path.{_≡_, refl, ap, _∙_}
 use mathlib.Core.List.{List}
+use mathlib.Core.Option.{Option, none}
 use native.Mathlib.Omega.{arith}
 use lib.ListN.{length}
+use Rattle.lists.specs.Areas.{written}
+use Rattle.meaning.specs.Findings.{findings, wordsOf}
 use Rattle.meaning.specs.Looks.{quickLooks}
-use Rattle.meaning.proofs.LookBound.{quickLooks-most}
+use Rattle.meaning.proofs.LookBound.{quickLooks-le, quickLooks-most, quickLooks-short}
 use Rattle.answers.specs.declared.refusals.Refusal.{Refusal}
-use Rattle.answers.specs.Refusals.{numberOf}
-use Rattle.answers.specs.Paper.{Answer, accepted, refused, Paper, answerPaper}
-use Rattle.answers.proofs.OneAnswer.{number-in}
-use Rattle.silences.specs.Silences.{Silence}
-use Rattle.lists.specs.Bounds.{IsBytes}
-use Rattle.silences.specs.Books.{IsBook}
-use Rattle.silences.proofs.AcceptedIsLayout.{accepted-iff}
-use Rattle.outlines.specs.declared.reporting.Reported.{Reported}
-use Rattle.outlines.specs.declared.reporting.Reported.the-variants.{Counts as CountsCase, Refused}
-use Rattle.findings.specs.Admitting.{Admitted}
-use Rattle.outlines.specs.Report.{ReportCounts, noReportCounts, admittedSilences, reportedBy, reportedWordsBy, paperOf, IsReported}
+use Rattle.answers.proofs.AnswerByRows.{accepted-number-iff, accepted-counts, accepted-area}
+use Rattle.silences.specs.Reading.{silencesRead}
+use Rattle.outlines.specs.declared.reporting.Reported.the-variants.{Counts as CountsCase}
+use Rattle.outlines.specs.Report.{shown, reportRefusal, ReportCounts, noReportCounts, reportCounts, reported, reportedWords, IsReported}
 use Rattle.outlines.specs.LineScan.{LineScanned}
-use Rattle.outlines.proofs.GoesBy.{by-book-iff}
+use Rattle.outlines.proofs.FirstOfReport.{none-row-iff}
 
-module _ (cell ringNumber : ℕ) (ring line : List ℕ) (k : ℕ) (book words : List ℕ) where
-  abbrev goesBy : Answer (List Silence)
-  goesBy = admittedSilences ring line k book (length words)
+module _ {cell ringNumber : ℕ} {ring line : List ℕ} {k : ℕ} {book words : List ℕ} {found hid looks : ℕ} {out : List ℕ}
+    (meets : IsReported cell ringNumber ring line k book words (CountsCase found hid looks) out) where
+  -- What an accepted report gives.
+  pub report-gives : LineScanned cell ringNumber ring line k book words found hid looks out
+  unfolding reported reportedWords
+  report-gives =
+      let row : Option Refusal = reportRefusal (length ring) k (length line) (length words) book in
+      let counts : ReportCounts = reportCounts ring line k cell ringNumber (silencesRead book) in
+      let no-row : row ≡ none = accepted-number-iff noReportCounts counts row (meets .paper) .0 refl in
+      let same = accepted-counts noReportCounts counts row (meets .paper) no-row in
+      let by = none-row-iff (length ring) k (length line) (length words) book .0 no-row in
+      record {
+        admitted = by .0;
+        book-read = by .1;
+        found-is = ap (λ (c : ReportCounts). c .found) same;
+        hidden-is = ap (λ (c : ReportCounts). c .hidden) same;
+        looks-are = ap (λ (c : ReportCounts). c .looks) same;
+        words-are =
+            accepted-area noReportCounts counts row (meets .paper)
+            (written (wordsOf (shown (silencesRead book) cell ringNumber (findings ring line k))) words) words (meets .written) no-row;
+      }
 
-  module _ (r : Reported) (out : List ℕ) (meets : IsReported cell ringNumber ring line k book words r out) where
-    module _ (found hid looks : ℕ) (e : r ≡ CountsCase found hid looks) where
-      -- What an accepted report gives.
-      pub report-gives : LineScanned cell ringNumber ring line k book words found hid looks out
-      report-gives = go goesBy refl (sym (ap paperOf e) ∙ meets .paper) (meets .written)
-        where
-          go : (a : Answer (List Silence)) → goesBy ≡ a
-              → paperOf (CountsCase found hid looks) ≡ answerPaper noReportCounts (reportedBy ring line k cell ringNumber a)
-              → out ≡ reportedWordsBy ring line k cell ringNumber words a → LineScanned cell ringNumber ring line k book words found hid looks out
-          go (refused p) is paper put =
-              absurd (let number-is : 0 ≡ numberOf p = ap (λ (q : Paper ReportCounts). q .number) paper in omega (arith, number-in p .0))
-          go (accepted ss) is paper put =
-              let by = by-book-iff ring line k book (length words) (accepted ss) tt .0 is in
-              record {
-                silences = ss;
-                book-is = by .1;
-                admitted = by .0;
-                found-is = ap (λ (p : Paper ReportCounts). p .counts .found) paper;
-                hidden-is = ap (λ (p : Paper ReportCounts). p .counts .hidden) paper;
-                looks-are = ap (λ (p : Paper ReportCounts). p .counts .looks) paper;
-                words-are = put;
-              }
+  -- "Looks are the sum over rules 1 and 5": the definition's steps.
+  pub report-looks-are : looks ≡ quickLooks ring line k
+  report-looks-are = report-gives .looks-are
 
-      -- "Looks are the sum over rules 1 and 5": the definition's steps.
-      pub report-looks-are : looks ≡ quickLooks ring line k
-      report-looks-are = report-gives .looks-are
+  -- "For n ≥ m they are never above 3·m·n − 2·m·m + m".
+  pub report-looks-le : length ring ≤ length line → looks ≤ 3 * length ring * length line - 2 * length ring * length ring + length ring
+  report-looks-le h = rw report-looks-are (quickLooks-le ring line k h)
 
-      -- They are at most 3·m·n.
-      pub report-looks-le : looks ≤ 3 * length ring * length line
-      report-looks-le = omega (arith, report-looks-are, quickLooks-most ring line k (report-gives .admitted .some-edge))
+  -- "which is at most 3·m·n".
+  pub report-looks-most : looks ≤ 3 * length ring * length line
+  report-looks-most = rw report-looks-are (quickLooks-most ring line k (report-gives .admitted .some-edge))
 
-    -- A refusal "writes nothing to any lent area".
-    pub report-refused-same : (refusal : Refusal) → r ≡ Refused refusal → out ≡ words
-    report-refused-same refusal e = go goesBy (sym (ap paperOf e) ∙ meets .paper) (meets .written)
-      where
-        go : (a : Answer (List Silence)) → paperOf (Refused refusal) ≡ answerPaper noReportCounts (reportedBy ring line k cell ringNumber a)
-            → out ≡ reportedWordsBy ring line k cell ringNumber words a → out ≡ words
-        go (refused p) paper put = put
-        go (accepted ss) paper put =
-            absurd (let number-is : numberOf refusal ≡ 0 = ap (λ (q : Paper ReportCounts). q .number) paper in omega (arith, number-in refusal .0))
-
-    -- It is accepted exactly when no row is given and the book is that of some silences.
-    pub report-accepted-iff : IsBytes book → (paperOf r .number ≡ 0) ↔ (Admitted (length ring) k (length line) (length words) × ((ss : List Silence) × IsBook ss book))
-    report-accepted-iff bytes = (
-      λ zero. there goesBy refl (sym (ap (λ (p : Paper ReportCounts). p .number) (meets .paper)) ∙ zero),
-      λ h.
-          ap (λ (p : Paper ReportCounts). p .number) (meets .paper)
-          ∙ ap (λ (a : Answer (List Silence)). answerPaper noReportCounts (reportedBy ring line k cell ringNumber a) .number)
-          (by-book-iff ring line k book (length words) (accepted (h .1 .0)) tt .1 (h .0, accepted-iff book (h .1 .0) bytes .1 (h .1 .1))),
-    )
-      where
-        there : (a : Answer (List Silence)) → goesBy ≡ a → answerPaper noReportCounts (reportedBy ring line k cell ringNumber a) .number ≡ 0
-            → Admitted (length ring) k (length line) (length words) × ((ss : List Silence) × IsBook ss book)
-        there (accepted ss) is zero = let by = by-book-iff ring line k book (length words) (accepted ss) tt .0 is in (by .0, (ss, accepted-iff book ss bytes .0 (by .1)))
-        there (refused p) is zero = absurd (omega (arith, number-in p .0))
+  -- "A line shorter than the ring is accepted: no start, no look, zero findings."
+  pub report-no-looks : length line < length ring → looks ≡ 0
+  report-no-looks short = report-looks-are ∙ quickLooks-short ring line k short

@@ -1,6 +1,5 @@
--- Any two answers of `report` that meet its contract are equal, and so are the lent words at exit: the paper determines the answer (`answer-unique` of the
--- answers), and the answer its case.
--- Assumes nothing.
+-- Any two answers that meet the contract of `report` are equal, and so are the words at exit: the paper determines the answer (`answer-unique` of crates/answers),
+-- and the answer determines the enum's case.
 use Prim.Native.Nat.{ℕ}
 use mathlib.Core.Path.{_≡_, refl, sym, ap, _∙_}
 use mathlib.Core.List.{List}

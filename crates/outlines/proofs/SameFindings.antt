@@ -1,6 +1,5 @@
--- "It gives the same findings": of one input, whatever survey answers and whatever scan answers, they give the same refusal or the same found, and leave
--- the same words. Both go by the definitions of specs/Searching.antt of crates/findings; they differ in their looks alone.
--- Assumes nothing.
+-- "It gives the same findings": for one input, survey and scan return the same refusal or the same found, and leave the same words. Both contracts are `IsSearched` of
+-- crates/findings; only the looks differ.
 use Prim.Native.Nat.{ℕ}
 use mathlib.Core.Path.{_≡_, refl, sym, _∙_}
 use mathlib.Core.List.{List}

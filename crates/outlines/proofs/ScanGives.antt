@@ -1,15 +1,13 @@
--- What the table and the looks say of any answer that meets the contract of `scan`: rows 1 to 4 hold of it, and an accepted one has found all findings. Its looks
--- are the rules' steps, and "never above 3·m·n − 2·m·m + m, which is at most 3·m·n". What every search gives is SearchGives of the findings; only the looks are
--- the scan's own.
--- Assumes nothing.
-use Prim.Native.Nat.{ℕ, _+_, _-_, _*_, _≤_}
-use mathlib.Core.Path.{_≡_}
+-- Any answer that meets the contract of `scan`: rows 1 to 4 of the table hold, and an accepted scan has found all findings. Its looks are the rules' steps, and "never
+-- above 3·m·n − 2·m·m + m, which is at most 3·m·n". The rest holds for every search (SearchGives of crates/findings).
+use Prim.Native.Nat.{ℕ, _+_, _-_, _*_, _≤_, _<_}
+use mathlib.Core.Path.{_≡_, refl}
 use mathlib.Core.List.{List}
 use native.Mathlib.Omega.{arith}
 use lib.ListN.{length}
 use Rattle.meaning.specs.Findings.{findings}
 use Rattle.meaning.specs.Looks.{quickLooks}
-use Rattle.meaning.proofs.LookBound.{quickLooks-le, quickLooks-most}
+use Rattle.meaning.proofs.LookBound.{quickLooks-le, quickLooks-most, quickLooks-short}
 use Rattle.findings.specs.declared.searching.Searched.{Searched}
 use Rattle.findings.specs.Searching.{paperOf}
 use Rattle.findings.specs.SearchRows.{SearchRows}
@@ -39,3 +37,7 @@ module _ (ring line : List ℕ) (k : ℕ) (words : List ℕ) (r : Searched) (out
   pub scan-looks-most : paperOf r .counts .looks ≤ 3 * length ring * length line
   scan-looks-most =
       looks-of-search meets (λ (looks : ℕ). looks ≤ 3 * length ring * length line) (omega arith) (λ some-edge. quickLooks-most ring line k some-edge)
+
+  -- "A line shorter than the ring is accepted: no start, no look, zero findings."
+  pub scan-no-looks : length line < length ring → paperOf r .counts .looks ≡ 0
+  scan-no-looks short = looks-of-search meets (λ (looks : ℕ). looks ≡ 0) refl (λ some-edge. quickLooks-short ring line k short)

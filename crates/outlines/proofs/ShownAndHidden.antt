@@ -1,6 +1,4 @@
--- Shown and hidden together are the findings: each finding is in exactly one of the two lists, and their lengths add up. A finding is taken into one list by
--- the test, and into the other where the test does not take it.
--- Assumes nothing.
+-- Shown and hidden together are the findings: each finding is in exactly one of the two lists, and their lengths add up. One test decides: `isHidden`.
 use Prim.Native.Nat.{ℕ, _+_}
 use mathlib.Core.Path.{_≡_, refl, sym, ap, _∙_}
 use mathlib.Core.Bool.{Bool, true, false, not, true≢false}
@@ -13,7 +11,7 @@ use Rattle.outlines.specs.Report.{isHidden, isShown, shown, hidden}
 use Rattle.outlines.proofs.TakenByTest.{taken-iff, taken-or-not-length}
 
 module _ (silences : List Silence) (cell ringNumber : ℕ) where
-  -- So many are shown and so many hidden as there are findings.
+  -- The lengths of the two lists add up to that of the findings.
   pub shown-hidden-length : (fs : List Finding) → length (shown silences cell ringNumber fs) + length (hidden silences cell ringNumber fs) ≡ length fs
   shown-hidden-length fs = taken-or-not-length (isHidden silences cell ringNumber) fs
 

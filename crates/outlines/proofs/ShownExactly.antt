@@ -1,6 +1,5 @@
--- A finding is shown exactly when it is a finding and the book does not name its cell, ring number and start, and hidden exactly when it is one and the book
--- names them. Both lists are taken by a test (`taken-iff`), and the one test decides both: `isHidden`, which is yes exactly when the book names them (`names-iff` of the silences).
--- Assumes nothing.
+-- A finding is shown exactly when it is a finding and the book does not name its cell, ring number and start. It is hidden exactly when it is a finding and the book names
+-- them. Both lists are taken by a test (`taken-iff`): `isHidden`, which is true exactly when the book names them (`names-iff` of crates/silences).
 use Prim.Native.Nat.{ℕ, _<_}
 use mathlib.Core.Path.{_≡_, refl, sym, _∙_}
 use mathlib.Core.Bool.{Bool, true, false, not, false≢true}

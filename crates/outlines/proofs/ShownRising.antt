@@ -1,5 +1,5 @@
--- The shown findings stand by strictly rising start, and so do the hidden ones: so no finding is counted twice, and hidden counts findings, whatever the
--- number of records. The words after those of the last shown one keep their values.
+-- The shown findings have strictly rising starts, and so have the hidden ones: no finding is counted twice, and hidden counts findings, not records. The words after
+-- those of the last shown finding keep their values.
 use Prim.Native.Nat.{ℕ, _+_, _-_, _*_}
 use mathlib.Core.Path.{_≡_, sym, ap, subst, _∙_}
 use mathlib.Core.List.{List}
@@ -12,6 +12,7 @@ use Rattle.meaning.proofs.Rising.{findings-rising}
 use Rattle.meaning.proofs.Words.{words-length}
 use Rattle.lists.proofs.Areas.{written-rest}
 use Rattle.silences.specs.Silences.{Silence}
+use Rattle.silences.specs.Reading.{silencesRead}
 use Rattle.outlines.specs.Report.{isHidden, isShown, shown, hidden}
 use Rattle.outlines.specs.LineScan.{LineScanned}
 use Rattle.outlines.proofs.TakenByTest.{taken-rising}
@@ -30,14 +31,14 @@ module _ (silences : List Silence) (cell ringNumber : ℕ) where
 module _ (cell ringNumber : ℕ) (ring line : List ℕ) (k : ℕ) (book words : List ℕ) (found hid looks : ℕ) (out : List ℕ)
     (given : LineScanned cell ringNumber ring line k book words found hid looks out) where
   -- "found (hidden ones included)": the others are shown
-  found-shown-is : found - hid ≡ length (shown (given .silences) cell ringNumber (findings ring line k))
-  found-shown-is = omega (arith, given .found-is, given .hidden-is, shown-hidden-length (given .silences) cell ringNumber (findings ring line k))
+  found-shown-is : found - hid ≡ length (shown (silencesRead book) cell ringNumber (findings ring line k))
+  found-shown-is = omega (arith, given .found-is, given .hidden-is, shown-hidden-length (silencesRead book) cell ringNumber (findings ring line k))
 
   -- "Words after the last one written keep their values."
   pub report-words-rest : (j : ℕ) → getD out (wordsEach * (found - hid) + j) 0 ≡ getD words (wordsEach * (found - hid) + j) 0
   report-words-rest j =
-      let put : List ℕ = wordsOf (shown (given .silences) cell ringNumber (findings ring line k)) in
+      let put : List ℕ = wordsOf (shown (silencesRead book) cell ringNumber (findings ring line k)) in
       let at : length put ≡ wordsEach * (found - hid) =
-      words-length (shown (given .silences) cell ringNumber (findings ring line k)) ∙ ap (λ (n : ℕ). wordsEach * n) (sym found-shown-is) in
+      words-length (shown (silencesRead book) cell ringNumber (findings ring line k)) ∙ ap (λ (n : ℕ). wordsEach * n) (sym found-shown-is) in
       ap (λ (l : List ℕ). getD l (wordsEach * (found - hid) + j) 0) (given .words-are)
       ∙ subst (λ (n : ℕ). getD (written put words) (n + j) 0 ≡ getD words (n + j) 0) at (written-rest put words j)

@@ -1,22 +1,25 @@
--- Two lists of silences that name the same findings show and hide the same: of a list of findings, and of a report whose book they are.
--- Assumes nothing.
+-- Two lists of silences that name the same findings show and hide the same findings of a list, and make two reports the same.
 use Prim.Native.Nat.{ℕ, _<_}
 use mathlib.Core.Path.{_≡_, refl, sym, ap, _∙_}
 use mathlib.Core.Bool.{not}
 use mathlib.Core.List.{List, List·Memᴰ}
 use mathlib.Core.Option.{Option, none, some}
 use lib.ListN.{length}
-use Rattle.meaning.specs.Findings.{Finding, IsFinding, findings}
+use Rattle.lists.specs.Areas.{written}
+use Rattle.meaning.specs.Findings.{Finding, IsFinding, findings, wordsOf}
 use Rattle.meaning.proofs.FoundExactly.{findings-iff}
 use Rattle.answers.specs.declared.refusals.Refusal.{Refusal}
-use Rattle.answers.specs.Paper.{Answer, accepted, answerPaper}
+use Rattle.answers.specs.Paper.{accepted, answerPaper}
+use Rattle.answers.specs.Rows.{answerBy, areaBy}
 use Rattle.silences.specs.Silences.{Silence}
-use Rattle.silences.specs.Reading.{readBook}
-use Rattle.outlines.specs.declared.reporting.Reported.{Reported}
+use Rattle.silences.specs.Reading.{readBook, silencesRead}
+use Rattle.silences.proofs.BookRows.{book-accepted-iff}
 use Rattle.findings.specs.Admitting.{refusalOf}
-use Rattle.outlines.specs.Report.{isHidden, isShown, shown, hidden, noReportCounts, silencesBy, admittedSilences, reportedBy, reportedWordsBy, IsReported}
 use Rattle.findings.proofs.AdmitRows.{no-row-iff}
+use Rattle.outlines.specs.declared.reporting.Reported.{Reported}
+use Rattle.outlines.specs.Report.{isHidden, isShown, shown, hidden, reportRefusal, noReportCounts, reportCounts, reported, reportedWords, IsReported}
 use Rattle.outlines.proofs.TakenByTest.{taken-same}
+use Rattle.outlines.proofs.FirstOfReport.{accepted-book-row}
 use Rattle.outlines.proofs.ReportOneAnswer.{report-paper-unique}
 
 module _ (ss ts : List Silence) (cell ringNumber : ℕ) where
@@ -34,28 +37,43 @@ module _ (ss ts : List Silence) (cell ringNumber : ℕ) where
 
   module _ (ring line : List ℕ) (k : ℕ) (book book′ words : List ℕ) (is : readBook book ≡ accepted ss) (is′ : readBook book′ ≡ accepted ts)
       (alike : (f : Finding) → IsFinding ring line k f → isHidden ss cell ringNumber f ≡ isHidden ts cell ringNumber f) where
-    -- what a report gives, and writes, by the silences that it goes by
-    given : {A : Type 0} (by : Answer (List Silence) → A)
+    abbrev row : Option Refusal
+    row = refusalOf (length ring) k (length line) (length words)
+
+    -- what a report returns, or writes, is by the search's row, since both books are accepted; where none is given it goes by the silences
+    given : {A : Type 0} (by : Option Refusal → List Silence → A)
+        → ((q : Refusal) → by (some q) ss ≡ by (some q) ts)
         → (shown ss cell ringNumber (findings ring line k) ≡ shown ts cell ringNumber (findings ring line k)
-        → hidden ss cell ringNumber (findings ring line k) ≡ hidden ts cell ringNumber (findings ring line k) → by (accepted ss) ≡ by (accepted ts))
-        → by (admittedSilences ring line k book (length words)) ≡ by (admittedSilences ring line k book′ (length words))
-    unfolding admittedSilences
-    given by same = go (refusalOf (length ring) k (length line) (length words)) refl
+        → hidden ss cell ringNumber (findings ring line k) ≡ hidden ts cell ringNumber (findings ring line k) → by none ss ≡ by none ts)
+        → by (reportRefusal (length ring) k (length line) (length words) book) (silencesRead book)
+        ≡ by (reportRefusal (length ring) k (length line) (length words) book′) (silencesRead book′)
+    given by refused-same accepted-same =
+        let read = book-accepted-iff book ss .0 is in
+        let read′ = book-accepted-iff book′ ts .0 is′ in
+        rw (
+          accepted-book-row (length ring) k (length line) (length words) book (read .0),
+          read .1,
+          accepted-book-row (length ring) k (length line) (length words) book′ (read′ .0),
+          read′ .1,
+        ) (go row refl)
       where
-        go : (o : Option Refusal) → refusalOf (length ring) k (length line) (length words) ≡ o → by (silencesBy o (readBook book)) ≡ by (silencesBy o (readBook book′))
-        go (some refusal) e = refl
+        go : (o : Option Refusal) → row ≡ o → by o ss ≡ by o ts
+        go (some refusal) e = refused-same refusal
         go none e =
             let pos : 0 < length ring = no-row-iff (length ring) k (length line) (length words) .0 e .some-edge in
             let named : NamesAlike (findings ring line k) = λ f m. alike f (findings-iff ring line k pos f .0 m) in
-            ap by is ∙ same (shown-same (findings ring line k) named) (hidden-same (findings ring line k) named) ∙ sym (ap by is′)
+            accepted-same (shown-same (findings ring line k) named) (hidden-same (findings ring line k) named)
 
     -- Two reports whose books name the same findings give the same answer and write the same words.
     pub reports-same : (r r′ : Reported) (out out′ : List ℕ) → IsReported cell ringNumber ring line k book words r out
         → IsReported cell ringNumber ring line k book′ words r′ out′ → (r ≡ r′) × (out ≡ out′)
+    unfolding reported reportedWords
     reports-same r r′ out out′ p p′ = (
       report-paper-unique r r′
           (p .paper
-          ∙ given (λ (a : Answer (List Silence)). answerPaper noReportCounts (reportedBy ring line k cell ringNumber a)) (λ s h. rw h)
+          ∙ given (λ (o : Option Refusal) (l : List Silence). answerPaper noReportCounts (answerBy o (reportCounts ring line k cell ringNumber l))) (λ q. refl) (λ s h. rw h)
           ∙ sym (p′ .paper)),
-      p .written ∙ given (reportedWordsBy ring line k cell ringNumber words) (λ s h. rw s) ∙ sym (p′ .written),
+      p .written
+          ∙ given (λ (o : Option Refusal) (l : List Silence). areaBy o (written (wordsOf (shown l cell ringNumber (findings ring line k))) words) words) (λ q. refl) (λ s h. rw s)
+          ∙ sym (p′ .written),
     )

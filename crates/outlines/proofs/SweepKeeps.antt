@@ -10,6 +10,7 @@ use native.Mathlib.Nat.{mul-le-mul}
 use native.Mathlib.Omega.{arith}
 use lib.ListN.{length}
 use borrow.Author.Tests.{le-leb}
+use Rattle.meaning.specs.Meanings.{FitsInLine}
 use Rattle.meaning.specs.Findings.{Finding, findingWords, foundAt}
 use Rattle.meaning.proofs.LookBound.{quickLooks-most}
 use Rattle.meaning.proofs.Places.{found-small}
@@ -44,7 +45,7 @@ pub record FoundBetween (from to : ℕ) (f : Finding) : Type 0 where
 pub record SweepTurn (ring line : List ℕ) (k : ℕ) (so-far : List Finding) (at : Sweep) (r : Swept) (counts : List ℕ) : Type 0 where
   pub keeps : SweepKeeps ring line k (so-far ++ foundOf r) (stateOf r) counts
   pub later : at .start .0 ≤ stateOf r .start .0
-  pub less : at .start .0 + length ring ≤ length line → length line + 1 - stateOf r .start .0 < length line + 1 - at .start .0
+  pub less : FitsInLine ring line (at .start .0) → length line + 1 - stateOf r .start .0 < length line + 1 - at .start .0
   pub found : (f : Finding) → foundOf r ≡ f ∷ [] → FoundBetween (at .start .0) (stateOf r .start .0) f
 
 module _ {ring doubled table line : List ℕ} {k : ℕ} {book counts₀ area : List ℕ} (can : CanScan ring doubled table line k book counts₀ area) where
@@ -102,7 +103,7 @@ module _ {ring doubled table line : List ℕ} {k : ℕ} {book counts₀ area : L
               start-le = omega (arith, left-start-le ring line k (at .start .0) (h .start-le) (on .left-to));
             };
             later = omega arith;
-            less = λ in-line. omega (arith, e .past);
+            less = λ fits. omega (arith, e .past);
             found = λ f none-is. absurd (let z : _≡_ {A = ℕ} 0 1 = cc in omega arith);
           }
 
@@ -117,13 +118,13 @@ module _ {ring doubled table line : List ℕ} {k : ℕ} {book counts₀ area : L
             keeps = record {
               scanning =
                   rw (c .swept .start-is, c .swept .last-is, c .swept .looks-are, le-leb _ _ (c .few), found-are)
-                  (scan-verified ring line k (on .stop) (lastOf (at .last)) so-far _ left (omega (arith, c .in-line)) (c .few));
+                  (scan-verified ring line k (on .stop) (lastOf (at .last)) so-far _ left (c .in-line) (c .few));
               before = c .swept .before;
               size = c .swept .size;
               start-le = omega (arith, c .swept .start-is, c .in-line);
             };
             later = omega (arith, c .swept .start-is);
-            less = λ in-line. omega (arith, c .swept .start-is, c .in-line);
+            less = λ fits. omega (arith, c .swept .start-is, c .in-line);
             found = λ f is.
                 let small = found-small ring line k (on .stop) f (can .admitted .some-edge) (sym found-are ∙ is) in
                 record {

@@ -1,6 +1,5 @@
--- The findings of a list that a test takes (`those`), whatever the test: which they are, one more behind them, that they rise as the list does, and that tests
--- which agree on the list take the same. The shown findings and the hidden ones are both such a list, so each law is said of both here.
--- Assumes nothing.
+-- The findings of a list that a test takes (`those`), for any test: which they are, the effect of one more finding, that they rise as the list does, and that tests
+-- which agree on the list take the same ones. The shown findings and the hidden ones are both such a list.
 use Prim.Native.Nat.{ℕ, suc, _+_, _≤_}
 use mathlib.Core.Path.{_≡_, refl, sym, ap, _∙_}
 use mathlib.Core.Bool.{Bool, true, false, not, cond, false≢true}

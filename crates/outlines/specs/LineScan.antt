@@ -1,48 +1,40 @@
 -- Contracts of the private functions of src/quick.rt: a line is scanned with a book.
 --
---   IsAccepted     a book that reading accepts, with its silences
 --   CanScanLine    precondition of `scan_line`
 --   CanScan        precondition of `scan_windows`
 --   LineScanned    contract of both
 use Prim.Native.Nat.{ℕ}
 use mathlib.Core.Path.{_≡_}
 use mathlib.Core.List.{List}
+use mathlib.Core.Option.{none}
 use lib.ListN.{length}
 use Rattle.lists.specs.Areas.{written}
 use Rattle.meaning.specs.Findings.{findings, wordsOf}
 use Rattle.meaning.specs.Looks.{quickLooks}
-use Rattle.answers.specs.Paper.{accepted}
-use Rattle.silences.specs.Silences.{Silence}
-use Rattle.silences.specs.Reading.{readBook}
+use Rattle.silences.specs.Reading.{bookRefusal, silencesRead}
 use Rattle.vectors.specs.ByValue.{Occurrences}
 use Rattle.tally.specs.Counts.{mostCounts, IsDoubled}
 use Rattle.findings.specs.Admitting.{Admitted}
 use Rattle.outlines.specs.Report.{shown, hidden}
 
--- A book that reading accepts, with its silences.
-pub record IsAccepted (book : List ℕ) : Type 0 where
-  pub silences : List Silence
-  pub is : readBook book ≡ accepted silences
-
--- Precondition of `scan_line`: none of refusals 1 to 4 holds, and the book is accepted.
+-- Precondition of `scan_line`: none of refusals 1 to 7 holds.
 pub record CanScanLine (ring line : List ℕ) (k : ℕ) (book words : List ℕ) : Type 0 where
   pub admitted : Admitted (length ring) k (length line) (length words)
-  pub book-read : IsAccepted book
+  pub book-read : bookRefusal book ≡ none
 
 -- Precondition of `scan_windows`: the same, with the ring's vectors, its double and an area of counts, whatever they hold.
 pub record CanScan (ring doubled table line : List ℕ) (k : ℕ) (book counts words : List ℕ) : Type 0 where
   pub admitted : Admitted (length ring) k (length line) (length words)
-  pub book-read : IsAccepted book
+  pub book-read : bookRefusal book ≡ none
   pub occurs : Occurrences ring table
   pub twice : IsDoubled ring doubled
   pub size : length counts ≡ mostCounts
 
--- A line is scanned with a book: the call is accepted, the book has these silences, and what is found, hidden, looked at and written goes by them.
+-- A line is scanned with a book: no refusal holds, and what is found, hidden, looked at and written goes by the book's silences.
 pub record LineScanned (cell ringNumber : ℕ) (ring line : List ℕ) (k : ℕ) (book words : List ℕ) (found hid looks : ℕ) (out : List ℕ) : Type 0 where
-  pub silences : List Silence
-  pub book-is : readBook book ≡ accepted silences
   pub admitted : Admitted (length ring) k (length line) (length words)
+  pub book-read : bookRefusal book ≡ none
   pub found-is : found ≡ length (findings ring line k)
-  pub hidden-is : hid ≡ length (hidden silences cell ringNumber (findings ring line k))
+  pub hidden-is : hid ≡ length (hidden (silencesRead book) cell ringNumber (findings ring line k))
   pub looks-are : looks ≡ quickLooks ring line k
-  pub words-are : out ≡ written (wordsOf (shown silences cell ringNumber (findings ring line k))) words
+  pub words-are : out ≡ written (wordsOf (shown (silencesRead book) cell ringNumber (findings ring line k))) words

@@ -1,6 +1,5 @@
 -- Document 01, "Sample rings": "P2 with the one silence (7, 2, 10): as cell 7, ring 2 it shows starts 9 and 11, hidden 1; as cell 8 all three." And the report
 -- program's example, with the silence (7, 2, 1); and that a silence for cell 0 hides in cell 0 alone. All are computed.
--- Assumes nothing.
 use Prim.Native.Nat.{ℕ}
 use mathlib.Core.Path.{_≡_, refl}
 use mathlib.Core.List.{List, [], _∷_}
@@ -15,9 +14,8 @@ use Rattle.meaning.specs.Rules.{readEdge, readLeft, readWindow, windowsFrom, ca
 use Rattle.meaning.specs.Looks.{readLooks, tallyLooks, verifyLooks}
 use Rattle.meaning.specs.Samples.{finding}
 use Rattle.lists.specs.Texts.{ascii}
-use Rattle.answers.specs.Paper.{accepted}
 use Rattle.silences.specs.Silences.{Silence, silence, isSame, names}
-use Rattle.outlines.specs.Report.{those, shown, hidden, reportedBy, reportedWordsBy}
+use Rattle.outlines.specs.Report.{those, shown, hidden, reportCounts}
 
 -- P2's ring.
 unfoldable ring2 : List ℕ
@@ -47,8 +45,8 @@ unfolding ring2 line2 those isSame names ascii count lowest differs distance low
 sample-cell-0 = (refl, refl)
 
 -- "found 2 hidden 1 looks 12", and the one line "0 0 0": of the words lent, three are written and three kept. As cell 8 nothing is hidden.
-sample-example : (reportedBy (ascii "aa") (ascii "aaa") 0 7 2 (accepted (silence 7 2 1 ∷ [])) ≡ accepted (record { found = 2; hidden = 1; looks = 12 }))
-    × (reportedBy (ascii "aa") (ascii "aaa") 0 8 2 (accepted (silence 7 2 1 ∷ [])) ≡ accepted (record { found = 2; hidden = 0; looks = 12 }))
-    × (reportedWordsBy (ascii "aa") (ascii "aaa") 0 7 2 (1 ∷ 2 ∷ 3 ∷ 4 ∷ 5 ∷ 6 ∷ []) (accepted (silence 7 2 1 ∷ [])) ≡ 0 ∷ 0 ∷ 0 ∷ 4 ∷ 5 ∷ 6 ∷ [])
+sample-example : (reportCounts (ascii "aa") (ascii "aaa") 0 7 2 (silence 7 2 1 ∷ []) ≡ record { found = 2; hidden = 1; looks = 12 })
+    × (reportCounts (ascii "aa") (ascii "aaa") 0 8 2 (silence 7 2 1 ∷ []) ≡ record { found = 2; hidden = 0; looks = 12 })
+    × (written (wordsOf (shown (silence 7 2 1 ∷ []) 7 2 (findings (ascii "aa") (ascii "aaa") 0))) (1 ∷ 2 ∷ 3 ∷ 4 ∷ 5 ∷ 6 ∷ []) ≡ 0 ∷ 0 ∷ 0 ∷ 4 ∷ 5 ∷ 6 ∷ [])
 unfolding those wordsOfEach written isSame names ascii count lowest someBelow differs distance lowestRotation foundAt findingsBelow begins fits readEdge readLeft readWindow windowsFrom candidatesOf reported readLooks tallyLooks verifyLooks
 sample-example = (refl, refl, refl)

@@ -1,8 +1,8 @@
 // Outlines stored twice: a ring's rotated copies in a line of edges, with at most k differing edges.
 //
-// `scan` is the quick scan of document 01: rules 1 to 5, each look counted where the edge is read or compared. What it finds,
-// what it refuses and what it writes stand in specs/Scan.antt. `report` is the scan with the silence book asked for each finding before
-// it is written: specs/Report.antt. `survey`, the plain survey, verifies every start and gives the same findings: crates/survey.
+// `scan` is the quick scan of document 01, rules 1 to 5. Its contract is in specs/Scan.antt. `report` is the same scan with a
+// silence book, which is asked for each finding before its words are written. Its contract is in specs/Report.antt. One loop
+// serves both (src/quick.rt): the scan lends it an empty book. `survey`, the plain survey, is handed on from crates/survey.
 // No public function has a `requires`: each takes every input.
 mod asking;
 mod quick;

@@ -1,22 +1,22 @@
 -- From a report's answer to the text of a request. A refusal is the text's one line. Counts give three pieces of text: the first line, the lines of the findings
 -- whose words the report wrote, and the last line; together they are no longer than the program's array.
 use Prim.Native.Nat.{ℕ, _+_, _-_, _*_, _^_, _≤_, _<_}
-use mathlib.Core.Path.{_≡_, sym, ap, ap₂, _∙_}
+use mathlib.Core.Path.{_≡_, refl, sym, ap, ap₂, _∙_}
 use mathlib.Core.List.{List, _++_}
+use mathlib.Core.Option.{Option}
 use native.Mathlib.Omega.{arith}
 use lib.ListN.{length, take}
 use Rattle.meaning.specs.Findings.{Finding, findings, wordsEach, wordsOf}
 use Rattle.meaning.proofs.Words.{words-length}
 use Rattle.answers.specs.declared.refusals.Refusal.{Refusal}
-use Rattle.answers.specs.Paper.{Answer, accepted}
-use Rattle.silences.specs.Silences.{Silence}
+use Rattle.answers.proofs.AnswerByRows.{row-place-iff}
+use Rattle.silences.specs.Reading.{silencesRead}
 use Rattle.outlines.specs.declared.reporting.Reported.{Reported}
 use Rattle.outlines.specs.declared.reporting.Reported.the-variants.{Counts as CountsCase, Refused}
-use Rattle.outlines.specs.Report.{shown, hidden, ReportCounts, reportCounts, admittedSilences, paperOf, IsReported}
-use Rattle.outlines.proofs.ReportRefusals.{report-refusal-iff}
+use Rattle.outlines.specs.Report.{shown, hidden, reportRefusal, ReportCounts, noReportCounts, reportCounts, reported, paperOf, IsReported}
 use Rattle.outlines.specs.LineScan.{LineScanned}
 use Rattle.outlines.proofs.ReportGives.{report-gives}
-use Rattle.outlines.proofs.GoesBy.{by-book-iff}
+use Rattle.outlines.proofs.FirstOfReport.{none-row-iff}
 use Rattle.outlines.proofs.ShownAndHidden.{shown-hidden-length}
 use Rattle.input.specs.Fields.{lineField}
 use Rattle.input.specs.Input.{Request}
@@ -24,7 +24,7 @@ use Rattle.request.specs.Lines.{firstLine, findingLines, lastLine, refus
 use Rattle.request.specs.Answering.{reportLines, linesBy, requestText}
 use Rattle.request.specs.Writing.{findingsOf, countsOf, mostText, mostFindingWords, request}
 use Rattle.lists.proofs.Areas.{written-front, written-le}
-use Rattle.request.proofs.RoomEnough.{silences-same}
+use Rattle.request.proofs.RoomEnough.{refusal-same}
 use Rattle.request.proofs.WordsOfFindings.{findingsOf-words}
 use Rattle.request.proofs.TextRoom.{report-lines-le}
 
@@ -37,22 +37,23 @@ pub record Answered (q : Request) (found hid looks : ℕ) (words : List ℕ) : T
       ≡ requestText q
   pub length-le : length (requestText q) ≤ mostText
 
--- the text of a request, from the report's silences or its refusal, with the words that the program lends
-text-by : (q : Request) (room : ℕ) {a : Answer (List Silence)} → length (q .line) ≤ lineField .most → mostFindingWords ≤ room
-    → admittedSilences (q .ring) (q .line) (q .allowance) (q .book) room ≡ a → requestText q ≡ linesBy q a
+-- the text of a request, by the report's first row, with the words that the program lends
+text-by : (q : Request) (room : ℕ) {o : Option Refusal} → length (q .line) ≤ lineField .most → mostFindingWords ≤ room
+    → reportRefusal (length (q .ring)) (q .allowance) (length (q .line)) room (q .book) ≡ o → requestText q ≡ linesBy q o
 unfolding requestText
 text-by q room line-le enough e =
-    ap (linesBy q) (sym (silences-same (q .ring) (q .line) (q .allowance) (q .book) room (λ some-edge fits. omega arith)) ∙ e)
+    ap (linesBy q) (sym (refusal-same (length (q .ring)) (q .allowance) (length (q .line)) room (q .book) (λ some-edge fits. omega arith)) ∙ e)
 
 module _ {cell ringNumber k : ℕ} {ring line book words out : List ℕ} {r : Reported} (meets : IsReported cell ringNumber ring line k book words r out)
     (line-le : length line ≤ lineField .most) (enough : mostFindingWords ≤ length words) where
   -- A refusal is the text's one line.
   pub refused-text : (refusal : Refusal) → r ≡ Refused refusal → refusalLine refusal ≡ requestText (request cell ringNumber k ring line book)
+  unfolding reported
   refused-text refusal e =
       sym
       (text-by (request cell ringNumber k ring line book) (length words) line-le enough
-      (report-refusal-iff cell ringNumber ring line k book words r out meets refusal .0
-      (ap (λ (x : Reported). paperOf x .number) e, ap (λ (x : Reported). paperOf x .place) e)))
+      (row-place-iff noReportCounts (reportCounts ring line k cell ringNumber (silencesRead book)) (reportRefusal (length ring) k (length line) (length words) book)
+      (sym (ap paperOf e) ∙ meets .paper) refusal .0 (refl, refl)))
 
   -- Counts are three pieces of text.
   pub counted-text : {found hid looks : ℕ} → cell < 2 ^ 32 → ringNumber < 2 ^ 16 → r ≡ CountsCase found hid looks
@@ -60,18 +61,17 @@ module _ {cell ringNumber k : ℕ} {ring line book words out : List ℕ} {r : Re
   unfolding reportLines
   counted-text {found} {hid} {looks} cell-lt ring-number-lt e =
       let q : Request = request cell ringNumber k ring line book in
-      let given : LineScanned cell ringNumber ring line k book words found hid looks out =
-      report-gives cell ringNumber ring line k book words r out meets found hid looks e in
+      let given : LineScanned cell ringNumber ring line k book words found hid looks out = report-gives (rw e at meets) in
       let all : List Finding = findings ring line k in
-      let seen : List Finding = shown (given .silences) cell ringNumber all in
-      let lengths : length seen + length (hidden (given .silences) cell ringNumber all) ≡ length all = shown-hidden-length (given .silences) cell ringNumber all in
+      let seen : List Finding = shown (silencesRead book) cell ringNumber all in
+      let lengths : length seen + length (hidden (silencesRead book) cell ringNumber all) ≡ length all = shown-hidden-length (silencesRead book) cell ringNumber all in
       let found-is : found ≡ length all = given .found-is in
-      let hidden-is : hid ≡ length (hidden (given .silences) cell ringNumber all) = given .hidden-is in
+      let hidden-is : hid ≡ length (hidden (silencesRead book) cell ringNumber all) = given .hidden-is in
       let words-are : length (wordsOf seen) ≡ wordsEach * (found - hid) = omega (arith, words-length seen) in
       let front : take (wordsEach * (found - hid)) out ≡ wordsOf seen = written-front (wordsOf seen) words (given .words-are) (wordsEach * (found - hid)) words-are in
-      let text : requestText q ≡ reportLines q (given .silences) =
-      text-by q (length words) line-le enough (by-book-iff ring line k book (length words) (accepted (given .silences)) tt .1 (given .admitted, given .book-is)) in
-      let counts : countsOf found hid looks ≡ reportCounts ring line k cell ringNumber (given .silences) =
+      let text : requestText q ≡ reportLines q (silencesRead book) =
+      text-by q (length words) line-le enough (none-row-iff (length ring) k (length line) (length words) book .1 (given .admitted, given .book-read)) in
+      let counts : countsOf found hid looks ≡ reportCounts ring line k cell ringNumber (silencesRead book) =
       λ j. countsOf (found-is j) (hidden-is j) (given .looks-are j) in
       record {
         hidden-le = omega arith;
@@ -80,5 +80,5 @@ module _ {cell ringNumber k : ℕ} {ring line book words out : List ℕ} {r : Re
             ap₂ (λ (fs : List Finding) (c : ReportCounts). firstLine cell ringNumber (length ring) k ++ (findingLines fs ++ lastLine c))
             (ap findingsOf front ∙ findingsOf-words seen) counts
             ∙ sym text;
-        length-le = rw text (report-lines-le q (length words) (given .admitted) line-le (given .silences) cell-lt ring-number-lt);
+        length-le = rw text (report-lines-le q (length words) (given .admitted) line-le (silencesRead book) cell-lt ring-number-lt);
       }

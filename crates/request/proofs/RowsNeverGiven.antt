@@ -1,18 +1,17 @@
 -- Which refusals a request is given: not 3, its line being at most 4,096 edges, and not 4, the report being lent as many words as row 4 asks. So of the
 -- report's rows 1 to 7 there come 1, 2, 5, 6 and 7, after 11.
 use Prim.Native.Nat.{ℕ, _≤_}
-use mathlib.Core.Path.{_≡_, refl, ap}
-use mathlib.Core.Option.{Option, none, some}
+use mathlib.Core.Path.{_≡_}
+use mathlib.Core.Option.{some}
 use native.Mathlib.Omega.{arith}
 use lib.ListN.{length}
 use Rattle.answers.specs.declared.refusals.Refusal.{Refusal}
 use Rattle.answers.specs.Refusals.{numberOf}
-use Rattle.answers.specs.Paper.{refused}
-use Rattle.silences.specs.Reading.{readBook}
-use Rattle.silences.proofs.BookRows.{book-rows}
+use Rattle.silences.proofs.BookRows.{refusal-has}
 use Rattle.findings.specs.Admitting.{roomAsked, refusalOf}
 use Rattle.findings.proofs.AdmitRows.{by-row}
-use Rattle.outlines.specs.Report.{silencesBy, admittedSilences}
+use Rattle.outlines.specs.Report.{reportRefusal}
+use Rattle.outlines.proofs.FirstOfReport.{report-row-has}
 use Rattle.input.specs.Fields.{lineField}
 use Rattle.input.specs.Input.{Request}
 
@@ -29,16 +28,9 @@ module _ (q : Request) (line-le : length (q .line) ≤ lineField .most) where
       by-row m (q .allowance) n (roomAsked m n) (λ (r : Refusal). numberOf r ≤ 2) (λ _. omega arith) (λ _. omega arith) (λ long. absurd (omega arith)) (λ short. absurd (omega arith))
 
   -- A request's refusal is neither 3 nor 4.
-  pub rows-3-4-never : (refusal : Refusal) → admittedSilences (q .ring) (q .line) (q .allowance) (q .book) (roomAsked m n) ≡ refused refusal
+  pub rows-3-4-never : (refusal : Refusal) → reportRefusal m (q .allowance) n (roomAsked m n) (q .book) ≡ some refusal
       → (numberOf refusal ≡ 3 → ⊥) × (numberOf refusal ≡ 4 → ⊥)
-  unfolding admittedSilences
-  rows-3-4-never refusal h = go (refusalOf m (q .allowance) n (roomAsked m n)) refl h
-    where
-      go : (o : Option Refusal) → refusalOf m (q .allowance) n (roomAsked m n) ≡ o → silencesBy o (readBook (q .book)) ≡ refused refusal
-          → (numberOf refusal ≡ 3 → ⊥) × (numberOf refusal ≡ 4 → ⊥)
-      go (some p) e h =
-          let same : p ≡ refusal = cc in
-          let early : numberOf p ≤ 2 = early-rows p e in
-          let number-same : numberOf p ≡ numberOf refusal = ap numberOf same in
-          (λ k. omega arith, λ k. omega arith)
-      go none e h = let late = book-rows (q .book) refusal h .0 in (λ k. omega arith, λ k. omega arith)
+  rows-3-4-never =
+      report-row-has m (q .allowance) n (roomAsked m n) (q .book) (λ (r : Refusal). (numberOf r ≡ 3 → ⊥) × (numberOf r ≡ 4 → ⊥))
+      (λ r e. let early = early-rows r e in (λ k. omega arith, λ k. omega arith))
+      (refusal-has (q .book) (λ (r : Refusal). (numberOf r ≡ 3 → ⊥) × (numberOf r ≡ 4 → ⊥)) (λ k. omega arith, λ k. omega arith) (λ at. (λ k. omega arith, λ k. omega arith)) (λ at. (λ k. omega arith, λ k. omega arith)))

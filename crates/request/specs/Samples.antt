@@ -17,7 +17,7 @@ use Rattle.fields.specs.Tagged.{isWhole}
 use Rattle.silences.specs.Reading.{lengthByTag, silenceAt, fieldBy, fieldAt, fieldsFrom, readFrom, bookRows, readBook}
 use Rattle.answers.specs.Rows.{firstGiven}
 use Rattle.findings.specs.Admitting.{admitRows}
-use Rattle.outlines.specs.Report.{those, admittedSilences}
+use Rattle.outlines.specs.Report.{those, reportRows}
 use Rattle.input.specs.Fields.{isField}
 use Rattle.input.specs.Input.{firstFault, inputFault, partsFrom, requestOf, laidDown}
 use Rattle.request.specs.Decimal.{digitsWithin, decimal}
@@ -41,7 +41,7 @@ printed letters = letters ++ lf ∷ []
 -- "Output, whole".
 sample-right : answerText (sampleFields ++ sampleBook)
     ≡ printed (ascii "cell 7 ring 2 edges 2 allow 0") ++ (printed (ascii "0 0 0") ++ printed (ascii "found 2 hidden 1 looks 12"))
-unfolding sampleFields sampleBook ascii answerText requestOf inputFault firstFault partsFrom isField numberAt requestText reportLines firstLine findingLine findingLines lastLine digitsWithin decimal admittedSilences admitRows firstGiven bookRows readBook readFrom fieldsFrom fieldAt fieldBy lengthByTag isWhole silenceAt isBelow isSame names those findingsBelow foundAt lowestRotation lowest distance count differs readLooks tallyLooks verifyLooks windowsFrom candidatesOf readWindow readLeft readEdge begins fits someBelow
+unfolding sampleFields sampleBook ascii answerText requestOf inputFault firstFault partsFrom isField numberAt requestText reportLines firstLine findingLine findingLines lastLine digitsWithin decimal reportRows admitRows firstGiven bookRows readBook readFrom fieldsFrom fieldAt fieldBy lengthByTag isWhole silenceAt isBelow isSame names those findingsBelow foundAt lowestRotation lowest distance count differs readLooks tallyLooks verifyLooks windowsFrom candidatesOf readWindow readLeft readEdge begins fits someBelow
 sample-right = refl
 
 -- It is what is laid down for this request.
@@ -76,7 +76,7 @@ order-of-rows : (answerText (fieldsWith 0 [] 3) ≡ printed (ascii "refused 1 pl
     × (answerText (sampleFields ++ 0x21 ∷ []) ≡ printed (ascii "refused 6 place 0"))
     × (answerText (sampleFields ++ (sampleBook ++ 0x21 ∷ [])) ≡ printed (ascii "refused 6 place 13"))
     × (answerText (sampleFields ++ (sampleBook ++ sampleBook)) ≡ printed (ascii "refused 7 place 13"))
-unfolding sampleFields sampleBook ascii laidDown bytesOf answerText requestOf inputFault firstFault partsFrom isField numberAt requestText refusalLineOf digitsWithin decimal admittedSilences admitRows firstGiven bookRows readBook readFrom fieldsFrom fieldAt fieldBy lengthByTag isWhole silenceAt isBelow
+unfolding sampleFields sampleBook ascii laidDown bytesOf answerText requestOf inputFault firstFault partsFrom isField numberAt requestText refusalLineOf digitsWithin decimal reportRows admitRows firstGiven bookRows readBook readFrom fieldsFrom fieldAt fieldBy lengthByTag isWhole silenceAt isBelow
 order-of-rows = (refl, refl, refl, refl, refl, refl, refl)
 
 -- Digits: no leading zero, and a 0 for zero.

@@ -1,4 +1,4 @@
--- `outlines::asking::ask` meets its contract: the finding is hidden or shown, as the field that is held for its address is for it or not.
+-- `outlines::asking::ask` meets its contract: the finding is hidden if the field that is held for its address is for it, else shown.
 use borrow.Author.Needs.{needs}
 use Rattle.findings.specs.Putting.{findingOf}
 use Rattle.outlines.proofs.AskCases.{ask-hidden, ask-shown}

@@ -1,13 +1,11 @@
 -- `outlines::quick::scan` meets its contract: the call is refused, or the line is scanned with an empty book (`empty-book-searched`). These are a search's two
 -- answers (`SearchAnswers` of crates/findings).
 use mathlib.Core.Path.{sym, ap, _∙_}
-use mathlib.Core.List.{[]}
 use borrow.Author.Needs.{needs}
-use Rattle.silences.specs.Samples.{empty-book}
 use Rattle.findings.specs.Admitting.{verdictOf}
 use Rattle.findings.proofs.AdmitRows.{no-row-iff}
 use Rattle.findings.proofs.SearchAnswers.{refused-search, accepted-search}
-use Rattle.outlines.proofs.EmptyBookIsScan.{empty-book-searched}
+use Rattle.outlines.proofs.EmptyBookIsScan.{empty-book-read, empty-book-searched}
 use Rattle.outlines.proofs.quick.scan.Statement.{statement}
 use Rattle.outlines.proofs.quick.scan.Tie as tie
 
@@ -28,7 +26,7 @@ scan-line-requires c κs =
     let told = c .before .before in
     record {
       admitted = no-row-iff _ _ _ _ .0 (sym (told .before .before .admit .ensures .is) ∙ ap verdictOf (told .enum-told .given .1));
-      book-read = record { silences = []; is = empty-book };
+      book-read = empty-book-read;
     }
 
 -- Refused.

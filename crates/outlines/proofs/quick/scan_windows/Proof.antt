@@ -58,7 +58,7 @@ loop-less c =
     let is-told = c .before .before .before .before .before .before in
     let swept = is-told .before .before in
     let told = is-told .next3 .given .1 in
-    quick-less (swept .before .before .before .before .loop .inv .1) (swept .sweep-on .ensures) (ap stateOf told) (swept .before .before .if1 .taken)
+    quick-less (swept .before .before .before .before .loop .inv .1) (swept .sweep-on .ensures) (ap stateOf told) (record { in-line = swept .before .before .if1 .taken })
 
 loop-again : tie.Need-loop-again Inv-loop μ-loop
 loop-again c =
@@ -74,7 +74,7 @@ loop-less-2 : tie.Need-loop-less-2 Inv-loop μ-loop
 loop-less-2 c =
     let swept = c .before .before .before in
     let told = c .before .next .given .1 in
-    quick-less (swept .before .before .before .before .loop .inv .1) (swept .sweep-on .ensures) (ap stateOf told) (swept .before .before .if1 .taken)
+    quick-less (swept .before .before .before .before .loop .inv .1) (swept .sweep-on .ensures) (ap stateOf told) (record { in-line = swept .before .before .if1 .taken })
 
 loop-again-2 : tie.Need-loop-again-2 Inv-loop μ-loop
 loop-again-2 c =
@@ -87,7 +87,7 @@ loop-less-3 : tie.Need-loop-less-3 Inv-loop μ-loop
 loop-less-3 c =
     let swept = c .before .before .before in
     let told = c .before .next2 .given .1 in
-    quick-less (swept .before .before .before .before .loop .inv .1) (swept .sweep-on .ensures) (ap stateOf told) (swept .before .before .if1 .taken)
+    quick-less (swept .before .before .before .before .loop .inv .1) (swept .sweep-on .ensures) (ap stateOf told) (record { in-line = swept .before .before .if1 .taken })
 
 loop-again-3 : tie.Need-loop-again-3 Inv-loop μ-loop
 loop-again-3 c =
@@ -103,7 +103,7 @@ same-length : tie.Need-same-length Inv-loop μ-loop
 same-length c = quick-length (c .before .before .before .loop .inv .1)
 
 returns : tie.Need-returns Inv-loop μ-loop
-returns c = quick-end (c .before .before .before .loop .inv .1) (c .before .if1 .left)
+returns c = quick-end (c .before .before .before .loop .inv .1) (record { past = c .before .if1 .left })
 
 pub scan-windows-spec : {M : Type 1} → statement M
 scan-windows-spec =

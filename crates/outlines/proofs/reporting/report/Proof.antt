@@ -1,4 +1,4 @@
--- `outlines::reporting::report` meets its contract: a row of 1 to 4 is given; none is, and the book is refused; or the line is scanned with the book.
+-- `outlines::reporting::report` meets its contract: one of rows 1 to 4 is given; none is, and the book is refused; or the line is scanned with the book.
 use mathlib.Core.Path.{sym, ap, _∙_}
 use borrow.Author.Needs.{needs}
 use Rattle.findings.specs.Admitting.{verdictOf}
@@ -31,33 +31,29 @@ scan-line-requires c κs =
     let told = read .before in
     record {
       admitted = no-row-iff _ _ _ _ .0 (sym (told .before .before .admit .ensures .is) ∙ ap verdictOf (told .enum-told .given .1));
-      book-read = read-accepted _ _ _ (read .read .ensures) (c .before .enum-told2 .given .1);
+      book-read = read-accepted (read .read .ensures) (c .before .enum-told2 .given .1);
     }
 
 -- A row of 1 to 4.
 returns : tie.Need-returns
 returns c =
     let admitted = c .before .before .before in
-    report-refused-row _ _ _ _ _ _ _ _ (sym (ap verdictOf (c .before .refusal .given .1)) ∙ admitted .admit .ensures .is)
+    report-refused-row (sym (ap verdictOf (c .before .refusal .given .1)) ∙ admitted .admit .ensures .is)
 
 -- A row of 5 to 7.
 returns-2 : tie.Need-returns-2
 returns-2 c =
     let read = c .before .before .before in
     let told = read .before in
-    report-refused-book _ _ _ _ _ _ _ (sym (ap verdictOf (told .enum-told .given .1)) ∙ told .before .before .admit .ensures .is) _
-    (read-refused _ _ _ (read .read .ensures) (c .before .refusal2 .given .1))
+    report-refused-book (sym (ap verdictOf (told .enum-told .given .1)) ∙ told .before .before .admit .ensures .is)
+    (read-refused (read .read .ensures) (c .before .refusal2 .given .1))
 
 same-length : tie.Need-same-length
 same-length c = search needs
 
 -- Accepted.
 returns-3 : tie.Need-returns-3
-returns-3 c =
-    let scanned = c .before .before in
-    let told = scanned .before .before .before .before .before in
-    report-accepted _ _ _ _ _ _ _ (sym (ap verdictOf (told .enum-told .given .1)) ∙ told .before .before .admit .ensures .is)
-    (scanned .scan-line .ensures)
+returns-3 c = report-accepted (c .before .before .scan-line .ensures)
 
 pub report-spec : {M : Type 1} → statement M
 report-spec =

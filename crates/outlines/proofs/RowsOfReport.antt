@@ -1,0 +1,69 @@
+-- The table's rows 1 to 7 hold of any answer that meets the contract of `report`: its paper and its words go by the first row that is given (`reportRefusal`). The
+-- paper's number is that of a refusal exactly when that row is the first (`AnswerByRows` of crates/answers), and `FirstOfReport` says when it is.
+use Prim.Native.Nat.{ℕ, _≤_}
+use mathlib.Core.Path.{_≡_, refl, ap, _∙_}
+use mathlib.Core.Logic.{Iff·trans, Iff·and, Iff·rfl}
+use mathlib.Core.List.{List}
+use mathlib.Core.Option.{Option, none, some}
+use native.Mathlib.Omega.{arith}
+use lib.ListN.{length}
+use Rattle.lists.specs.Areas.{written}
+use Rattle.lists.specs.Bounds.{IsBytes}
+use Rattle.meaning.specs.Findings.{findings, wordsOf}
+use Rattle.answers.specs.declared.refusals.Refusal.{Refusal}
+use Rattle.answers.specs.declared.refusals.Refusal.the-variants.{Ring, Allowance, Line, FindingsRoom, BookLength, Field, NotAbove}
+use Rattle.answers.specs.Refusals.{numberOf, placeOf}
+use Rattle.answers.specs.Paper.{Paper, answerPaper}
+use Rattle.answers.specs.Rows.{answerBy}
+use Rattle.answers.proofs.AnswerByRows.{row-number-iff, row-place-iff, accepted-number-iff, number-by, refused-counts, refused-area}
+use Rattle.silences.specs.Reading.{silencesRead, bookRefusal}
+use Rattle.silences.proofs.BookRows.{refusal-5-iff, refusal-6-iff, refusal-7-iff, refusal-has}
+use Rattle.silences.proofs.AcceptedIsLayout.{no-refusal-iff}
+use Rattle.findings.proofs.AdmitRows.{row-1-iff, row-2-iff, row-3-iff, row-4-iff, row-numbers, row-places}
+use Rattle.outlines.specs.declared.reporting.Reported.{Reported}
+use Rattle.outlines.specs.Report.{shown, reportRefusal, ReportCounts, noReportCounts, reportCounts, reported, reportedWords, paperOf, IsReported}
+use Rattle.outlines.specs.ReportRows.{ReportRows}
+use Rattle.outlines.proofs.FirstOfReport.{early-row-iff, late-row-iff, none-row-iff, report-row-has}
+
+-- a paper that goes by a row has that row's place, and an accepted one place 0
+place-by-row : (o : Option Refusal) (counts : ReportCounts) {p : Paper ReportCounts} → p ≡ answerPaper noReportCounts (answerBy o counts)
+    → ((q : Refusal) → o ≡ some q → numberOf q ≤ 5 → placeOf q ≡ 0) → p .number ≤ 5 → p .place ≡ 0
+place-by-row none counts paper each small = ap (λ (x : Paper ReportCounts). x .place) paper
+place-by-row (some q) counts paper each small =
+    ap (λ (x : Paper ReportCounts). x .place) paper ∙ each q refl (omega (arith, ap (λ (x : Paper ReportCounts). x .number) paper))
+
+-- The rows of `report`.
+pub report-rows : {cell ringNumber : ℕ} {ring line : List ℕ} {k : ℕ} {book words : List ℕ} {r : Reported} {out : List ℕ} → IsBytes book
+    → IsReported cell ringNumber ring line k book words r out → ReportRows (length ring) k (length line) book words (paperOf r) out
+unfolding reported reportedWords
+report-rows {cell} {ringNumber} {ring} {line} {k} {book} {words} bytes meets =
+    let m = length ring in
+    let n = length line in
+    let room = length words in
+    let row : Option Refusal = reportRefusal m k n room book in
+    let counts : ReportCounts = reportCounts ring line k cell ringNumber (silencesRead book) in
+    let paper = meets .paper in
+    record {
+      row-1 = Iff·trans (row-number-iff noReportCounts counts row paper Ring (omega arith)) (Iff·trans (early-row-iff m k n room book Ring (omega arith)) (row-1-iff m k n room));
+      row-2 = Iff·trans (row-number-iff noReportCounts counts row paper Allowance (omega arith)) (Iff·trans (early-row-iff m k n room book Allowance (omega arith)) (row-2-iff m k n room));
+      row-3 = Iff·trans (row-number-iff noReportCounts counts row paper Line (omega arith)) (Iff·trans (early-row-iff m k n room book Line (omega arith)) (row-3-iff m k n room));
+      row-4 = Iff·trans (row-number-iff noReportCounts counts row paper FindingsRoom (omega arith)) (Iff·trans (early-row-iff m k n room book FindingsRoom (omega arith)) (row-4-iff m k n room));
+      row-5 = Iff·trans (row-number-iff noReportCounts counts row paper BookLength (omega arith)) (Iff·trans (late-row-iff m k n room book BookLength (omega arith)) (Iff·and Iff·rfl (refusal-5-iff book)));
+      row-6 = λ at. Iff·trans (row-place-iff noReportCounts counts row paper (Field at)) (Iff·trans (late-row-iff m k n room book (Field at) (omega arith)) (Iff·and Iff·rfl (refusal-6-iff book bytes at)));
+      row-7 = λ at. Iff·trans (row-place-iff noReportCounts counts row paper (NotAbove at)) (Iff·trans (late-row-iff m k n room book (NotAbove at) (omega arith)) (Iff·and Iff·rfl (refusal-7-iff book bytes at)));
+      accepted = Iff·trans (accepted-number-iff noReportCounts counts row paper) (Iff·trans (none-row-iff m k n room book) (Iff·and Iff·rfl (no-refusal-iff book bytes)));
+      number-le =
+          number-by noReportCounts counts row paper (λ (number : ℕ). number ≤ 7) (omega arith)
+          (report-row-has m k n room book (λ (q : Refusal). numberOf q ≤ 7) (λ q e. omega (arith, row-numbers m k n room q e))
+          (refusal-has book (λ (q : Refusal). numberOf q ≤ 7) (omega arith) (λ at. omega arith) (λ at. omega arith)));
+      place-is =
+          place-by-row row counts paper
+          (report-row-has m k n room book (λ (q : Refusal). numberOf q ≤ 5 → placeOf q ≡ 0) (λ q e _. row-places m k n room q e)
+          (refusal-has book (λ (q : Refusal). numberOf q ≤ 5 → placeOf q ≡ 0) (λ _. refl) (λ at small. absurd (omega arith)) (λ at small. absurd (omega arith))));
+      no-found = λ l. ap (λ (c : ReportCounts). c .found) (refused-counts noReportCounts counts row paper l);
+      no-hidden = λ l. ap (λ (c : ReportCounts). c .hidden) (refused-counts noReportCounts counts row paper l);
+      no-looks = λ l. ap (λ (c : ReportCounts). c .looks) (refused-counts noReportCounts counts row paper l);
+      untouched =
+          refused-area noReportCounts counts row paper (written (wordsOf (shown (silencesRead book) cell ringNumber (findings ring line k))) words) words
+          (meets .written);
+    }
