@@ -1,8 +1,8 @@
 -- Laws of the exported calls.
 pub mod RowsAgree
 pub mod SearchDemands
-pub mod ReportDemands
 pub mod BookDemands
+pub mod ReportDemands
 pub mod BookPlaces
 pub mod ReportPlaces
 pub mod PassedOn

@@ -4,23 +4,33 @@ use Prim.Native.Nat.{ℕ, _+_, _<_}
 use mathlib.Core.Path.{_≡_, refl, sym, ap, subst, _∙_}
 use mathlib.Core.Logic.{_↔_, Iff·trans, Iff·and, Iff·rfl}
 use mathlib.Core.List.{List, List·Memᴰ}
+use mathlib.Core.Option.{Option, none}
 use native.Mathlib.Omega.{arith}
 use lib.ListN.{length}
 use Rattle.lists.specs.Areas.{written}
 use Rattle.meaning.specs.Findings.{Finding, IsFinding, findings, wordsOf}
+use Rattle.answers.specs.declared.refusals.Refusal.{Refusal}
 use Rattle.answers.specs.Paper.{accepted}
+use Rattle.answers.specs.Rows.{firstGiven}
+use Rattle.answers.proofs.RowsExactly.{none-append-iff}
 use Rattle.answers.proofs.AnswerCases.{accepted-unique}
 use Rattle.lists.specs.Bounds.{IsBytes}
 use Rattle.silences.specs.Silences.{Silence, Names}
-use Rattle.silences.specs.Reading.{readBook}
+use Rattle.silences.specs.Reading.{silencesRead, bookRows, readBook}
+use Rattle.silences.proofs.BookRows.{book-accepted-iff}
+use Rattle.findings.specs.Admitting.{admitRows, refusalOf}
+use Rattle.findings.proofs.AdmitRows.{no-row-iff}
 use Rattle.silences.proofs.AcceptedIsLayout.{book-accepted, accepted-iff}
-use Rattle.outlines.specs.Report.{shown, hidden}
+use Rattle.outlines.specs.Report.{shown, hidden, ReportCounts, reportCounts, reportRows, reported, reportedWords}
 use Rattle.outlines.proofs.ShownExactly.{shown-iff, hidden-iff}
 use Rattle.outlines.proofs.ShownAndHidden.{shown-hidden-length}
 use Rattle.outlines.proofs.ShownRising.{shown-rising, hidden-rising}
 use Rattle.exports.specs.declared.answering.Answer.{Answer}
-use Rattle.exports.specs.Demands.{BookNames, Demand2}
-use Rattle.exports.proofs.SearchDemands.{start-shown-iff}
+use Rattle.exports.specs.Exported.{IsReportExported}
+use Rattle.exports.specs.Demands.{searchTable, bookTable, reportTable, BookNames, Demand2, ReportMeets}
+use Rattle.exports.proofs.RowsAgree.{AllAgree, agree-append, GoesByRows, Accepts, demand-1-met, accepts}
+use Rattle.exports.proofs.BookDemands.{book-agrees}
+use Rattle.exports.proofs.SearchDemands.{search-agrees, start-shown-iff, looks-demand-3}
 
 -- The book's bytes name a start exactly when the silences read from them do.
 named-iff : {book : List ℕ} {ss : List Silence} → IsBytes book → readBook book ≡ accepted ss
@@ -55,3 +65,47 @@ module _ (cell ringNumber : ℕ) (ring line : List ℕ) (k : ℕ) where
         hidden-is = hidden-is;
         words-are = words-are;
       }
+
+module _ (cell ringNumber : ℕ) (ring line : List ℕ) (k : ℕ) (book words : List ℕ) {r : Answer} {out : List ℕ} (bytes : IsBytes book)
+    (e : IsReportExported cell ringNumber ring line k book words r out) where
+  abbrev rows : List (Option Refusal)
+  rows = reportRows (length ring) k (length line) (length words) book
+
+  -- a report goes by rows 1 to 7
+  reported-by-rows : GoesByRows rows (reportCounts ring line k cell ringNumber (silencesRead book))
+      (written (wordsOf (shown (silencesRead book) cell ringNumber (findings ring line k))) words) words r out
+  unfolding reported reportedWords
+  reported-by-rows = record { paper = e .paper; written = e .written }
+
+  -- one by one
+  report-agrees : AllAgree rows (reportTable (length ring) k (length line) (length words) book)
+  unfolding reportRows
+  report-agrees =
+      agree-append (admitRows (length ring) k (length line) (length words)) (searchTable (length ring) k (length line) (length words)) (bookRows book) (bookTable book)
+      (search-agrees (length ring) k (length line) (length words)) (λ _. book-agrees book bytes)
+
+  module _ (zero-is : r .refusal ≡ 0) where
+    taken : Accepts rows (reportCounts ring line k cell ringNumber (silencesRead book))
+        (written (wordsOf (shown (silencesRead book) cell ringNumber (findings ring line k))) words) r out
+    taken = accepts reported-by-rows zero-is
+
+    -- no row is given: of 1 to 4, nor of the book
+    none-of-either : (refusalOf (length ring) k (length line) (length words) ≡ none) × (firstGiven (bookRows book) ≡ none)
+    unfolding reportRows
+    none-of-either = none-append-iff (admitRows (length ring) k (length line) (length words)) (bookRows book) .0 (taken .none-given)
+
+    some-edge : 0 < length ring
+    some-edge = no-row-iff (length ring) k (length line) (length words) .0 (none-of-either .0) .some-edge
+
+    accepted-demand-2 : Demand2 (BookNames book cell ringNumber) ring line k words r out
+    accepted-demand-2 =
+        report-demand-2 cell ringNumber ring line k bytes (book-accepted-iff book (silencesRead book) .1 (none-of-either .1, refl)) some-edge
+        (ap (λ (c : ReportCounts). c .found) (taken .counts-are)) (ap (λ (c : ReportCounts). c .hidden) (taken .counts-are)) (taken .written)
+
+  -- `outlines_report` meets the demands.
+  pub report-meets : ReportMeets cell ringNumber ring line k book words r out
+  report-meets = record {
+    demand-1 = demand-1-met report-agrees reported-by-rows;
+    demand-2 = accepted-demand-2;
+    demand-3 = λ zero-is. looks-demand-3 (some-edge zero-is) (ap (λ (c : ReportCounts). c .looks) (taken zero-is .counts-are));
+  }
