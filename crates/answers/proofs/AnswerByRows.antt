@@ -29,10 +29,6 @@ answer-gives-iff a b (some p) = (
   λ h. absurd (let e : some p ≡ none = h .0 in let z : _≡_ {A = ℕ} 0 1 = cc in omega arith),
 )
 
--- The answer is accepted exactly when no row is given.
-pub answer-accepted-iff : {A : Type 0} (a : A) (o : Option Refusal) → (answerBy o a ≡ accepted a) ↔ (o ≡ none)
-answer-accepted-iff a o = (λ h. answer-gives-iff a a o .0 h .0, λ h. answer-gives-iff a a o .1 (h, refl))
-
 -- the paper by its cases
 module _ {C : Type 0} (zeros counts : C) where
   -- no row has number 0

@@ -19,11 +19,6 @@ pub row-iff : (test : Bool) (refusal r : Refusal) → (row test refusal ≡ some
 row-iff true refusal r = (λ e. (refl, cc), λ h. cc)
 row-iff false refusal r = (λ e. absurd (none-some e), λ h. absurd (let z : _≡_ {A = ℕ} 0 1 = cc in omega arith))
 
--- It is not given exactly when its test does not hold.
-pub row-none-iff : (test : Bool) (refusal : Refusal) → (row test refusal ≡ none) ↔ (test ≡ false)
-row-none-iff true refusal = (λ e. absurd (none-some (sym e)), λ h. absurd (let z : _≡_ {A = ℕ} 0 1 = cc in omega arith))
-row-none-iff false refusal = (λ e. refl, λ h. refl)
-
 -- Two parts of a list: where no row of the first is given, the second decides.
 pub first-append-none : (a b : List (Option Refusal)) → firstGiven a ≡ none → firstGiven (a ++ b) ≡ firstGiven b
 unfolding firstGiven

@@ -57,22 +57,22 @@ first-has end q e = absurd (none-some e)
 first-has (each {o = none} this others) q e = first-has others q e
 first-has (each {o = some r} this others) q e = this q e
 
--- The row o itself is the first exactly when it is given, if no later row gives its refusal.
-pub here-iff : (o : Option Refusal) (rows : List (Option Refusal)) (q : Refusal) → (firstGiven rows ≡ some q → ⊥)
+-- the row o itself is the first exactly when it is given, if no later row gives its refusal.
+here-iff : (o : Option Refusal) (rows : List (Option Refusal)) (q : Refusal) → (firstGiven rows ≡ some q → ⊥)
     → (firstGiven (o ∷ rows) ≡ some q) ↔ (o ≡ some q)
 unfolding firstGiven
 here-iff none rows q no-later = (λ e. absurd (no-later e), λ e. absurd (none-some e))
 here-iff (some r) rows q no-later = Iff·rfl
 
--- A later row is the first exactly when o is not given and it is the first of the others, if o does not give its refusal.
-pub later-iff : (o : Option Refusal) (rows : List (Option Refusal)) (q : Refusal) → (o ≡ some q → ⊥)
+-- a later row is the first exactly when o is not given and it is the first of the others, if o does not give its refusal.
+later-iff : (o : Option Refusal) (rows : List (Option Refusal)) (q : Refusal) → (o ≡ some q → ⊥)
     → (firstGiven (o ∷ rows) ≡ some q) ↔ ((o ≡ none) × (firstGiven rows ≡ some q))
 unfolding firstGiven
 later-iff none rows q not-this = (λ e. (refl, e), λ h. h .1)
 later-iff (some r) rows q not-this = (λ e. absurd (not-this e), λ h. absurd (none-some (sym (h .0))))
 
--- No row is given exactly when o is not, and none of the others.
-pub none-given-iff : (o : Option Refusal) (rows : List (Option Refusal)) → (firstGiven (o ∷ rows) ≡ none) ↔ ((o ≡ none) × (firstGiven rows ≡ none))
+-- no row is given exactly when o is not, and none of the others.
+none-given-iff : (o : Option Refusal) (rows : List (Option Refusal)) → (firstGiven (o ∷ rows) ≡ none) ↔ ((o ≡ none) × (firstGiven rows ≡ none))
 unfolding firstGiven
 none-given-iff none rows = (λ e. (refl, e), λ h. h .1)
 none-given-iff (some r) rows = (λ e. absurd (none-some (sym e)), λ h. absurd (none-some (sym (h .0))))

@@ -35,8 +35,8 @@ module _ {area : List ℕ} {fs : List Finding} {count : ℕ} {words : List ℕ} 
   pub so-far-length : wordsEach * count ≤ length area → length words ≡ length area
   so-far-length room = ap (λ (w : List ℕ). length w) (so-far .words-are) ∙ put-length fs count area (so-far .count-is) room
 
-  -- One finding more, whose words are put behind those before it.
-  pub so-far-put : (f : Finding) → wordsEach * count + wordsEach ≤ length area → WordsSoFar area (fs ++ f ∷ []) (count + 1) (wordsPut count f words)
+  -- one finding more, whose words are put behind those before it
+  so-far-put : (f : Finding) → wordsEach * count + wordsEach ≤ length area → WordsSoFar area (fs ++ f ∷ []) (count + 1) (wordsPut count f words)
   so-far-put f room = record {
     count-is = omega (arith, so-far .count-is, length-append fs (f ∷ []));
     words-are = ap (wordsPut count f) (so-far .words-are) ∙ put-more fs f count area (so-far .count-is) room;
