@@ -7,7 +7,9 @@ use native.Mathlib.Nat.{mul-zero, mul-suc, div-eq-of-lt, div-eq-sub-div, mod-add
 use native.Mathlib.Numerals.{add-one}
 use native.Mathlib.Omega.{arith}
 use lib.ListN.{length, getD, take, drop, length-append, length-drop, take-append-drop}
-use lib.Seq.{drop-cons, drop-drop, take-at, drop-at, length-take-le, getD-take, getD-drop, ext-getD}
+use lib.Seq.{drop-cons, drop-drop, take-at, drop-at, length-take-le, getD-take, getD-drop}
+use Rattle.lists.specs.ByPlace.{listOf}
+use Rattle.lists.proofs.ByPlace.{listOf-is}
 use Rattle.lists.specs.Records.{wordsOfEach, firstRecords, recordsOf}
 
 module _ {A : Type 0} (numbers : A → List ℕ) where
@@ -36,13 +38,11 @@ module _ {A : Type 0} (numbers : A → List ℕ) where
 pub part-at : (width : ℕ) (numbers : List ℕ) (at j : ℕ) → j < width → getD (take width (drop at numbers)) j 0 ≡ getD numbers (at + j) 0
 part-at width numbers at j l = getD-take width (drop at numbers) j 0 l ∙ getD-drop at numbers j 0
 
--- They are these numbers if they are so one by one.
-pub part-is : (numbers : List ℕ) (at : ℕ) (these : List ℕ) → at + length these ≤ length numbers
-    → ((j : ℕ) → j < length these → getD numbers (at + j) 0 ≡ getD these j 0) → take (length these) (drop at numbers) ≡ these
-part-is numbers at these h each =
-    let long : length (take (length these) (drop at numbers)) ≡ length these = length-take-le (length these) (drop at numbers) (simp length-drop (omega arith)) in
-    ext-getD 0 (take (length these) (drop at numbers)) these long
-    (λ j l. part-at (length these) numbers at j (omega arith) ∙ each j (omega arith))
+-- The same as a list given place by place.
+pub part-places : (numbers : List ℕ) (at width : ℕ) → at + width ≤ length numbers → take width (drop at numbers) ≡ listOf width (λ j. getD numbers (at + j) 0)
+part-places numbers at width within =
+    listOf-is (take width (drop at numbers)) width (λ j. getD numbers (at + j) 0) (length-take-le width (drop at numbers) (simp length-drop (omega arith)))
+    (part-at width numbers at)
 
 module _ {A : Type 0} (width : ℕ) (of : List ℕ → A) (some-number : 0 < width) where
   -- A whole record at the front of the list, and those of the rest.

@@ -15,7 +15,7 @@ use Rattle.silences.specs.Silences.{Silence}
 use Rattle.silences.specs.Layout.{fieldOf, layout}
 use Rattle.silences.specs.Packing.{silencesOf, recordWords}
 use Rattle.packing.specs.Putting.{IsPut}
-use Rattle.silences.proofs.WordsOfSilences.{silenceOfWords, silencesOf-step, silencesOf-end}
+use Rattle.silences.proofs.WordsOfSilences.{silenceFrom, silencesOf-step, silencesOf-end}
 
 -- The layout of the silences of the words from `at` on.
 abbrev pub layoutFrom : List ℕ → ℕ → List ℕ
@@ -35,26 +35,26 @@ module _ {words area : List ℕ} where
 
   module _ {at to : ℕ} {out : List ℕ} (now : PutFields words area at to out) where
     -- The layout from a record on is its field, and the layout from the next one on.
-    layout-step : at + recordWords ≤ length words → layoutFrom words at ≡ fieldOf (silenceOfWords words at) ++ layoutFrom words (at + recordWords)
+    layout-step : at + recordWords ≤ length words → layoutFrom words at ≡ fieldOf (silenceFrom words at) ++ layoutFrom words (at + recordWords)
     unfolding wordsOfEach
     layout-step h = ap layout (silencesOf-step words at h)
 
     -- There is room for the next field.
-    pub fields-room : at + recordWords ≤ length words → to + length (fieldOf (silenceOfWords words at)) ≤ length out
+    pub fields-room : at + recordWords ≤ length words → to + length (fieldOf (silenceFrom words at)) ≤ length out
     fields-room h =
         omega (
           arith,
           now .room,
           now .length-is,
           ap length (layout-step h),
-          length-append (fieldOf (silenceOfWords words at)) (layoutFrom words (at + recordWords)),
+          length-append (fieldOf (silenceFrom words at)) (layoutFrom words (at + recordWords)),
         )
 
     -- A turn puts the next field.
     pub fields-turn : {next : ℕ} {put : List ℕ} → at + recordWords ≤ length words → length put ≡ length out
-        → IsPut to (fieldOf (silenceOfWords words at)) out next put → PutFields words area (at + recordWords) next put
+        → IsPut to (fieldOf (silenceFrom words at)) out next put → PutFields words area (at + recordWords) next put
     fields-turn {next} {put} h same is-put =
-        let here : List ℕ = fieldOf (silenceOfWords words at) in
+        let here : List ℕ = fieldOf (silenceFrom words at) in
         let rest : List ℕ = layoutFrom words (at + recordWords) in
         record {
           at-le = h;

@@ -23,7 +23,7 @@ use Rattle.silences.specs.Packing.{silencesOf, recordWords, mostRingNumber, rec
 use Rattle.silences.specs.Rows.{AllRingNumbers}
 use Rattle.packing.specs.Judging.{Sizes, sized, sizes}
 use Rattle.silences.proofs.FieldBytes.{field-length}
-use Rattle.silences.proofs.WordsOfSilences.{silenceOfWords, silencesOf-step, silencesOf-end}
+use Rattle.silences.proofs.WordsOfSilences.{silenceFrom, silencesOf-step, silencesOf-end}
 use Rattle.silences.proofs.AscendingAfter.{AscendingAfter, lastAfter, lastAfter-end, ascends-more}
 use Rattle.silences.proofs.RecordsPacked.{RecordStands, packed-all, stopped-ring, stopped-order, ring-numbers-more, packs-as-is}
 
@@ -69,11 +69,11 @@ module _ {words : List ℕ} where
   module _ {last : Option Silence} {records bytes at : ℕ} (now : JudgedTo words last records bytes at) where
     module _ (h : at + recordWords ≤ length words) where
       -- this record is the next of them
-      all-from : silencesOf words ≡ now .passed ++ silenceOfWords words at ∷ silencesOf (drop (at + recordWords) words)
+      all-from : silencesOf words ≡ now .passed ++ silenceFrom words at ∷ silencesOf (drop (at + recordWords) words)
       all-from = now .all-are ∙ ap (λ (l : List Silence). now .passed ++ l) (silencesOf-step words at h)
 
       -- and stands after those passed
-      stands-here : RecordStands none 0 (silencesOf words) (now .passed) records (silenceOfWords words at)
+      stands-here : RecordStands none 0 (silencesOf words) (now .passed) records (silenceFrom words at)
       stands-here =
           record {
             later = silencesOf (drop (at + recordWords) words);
@@ -84,21 +84,21 @@ module _ {words : List ℕ} where
           }
 
       -- Row 9 at this record.
-      pub judge-ring-number : mostRingNumber < silenceOfWords words at .ringNumber → refused (RingNumber records) ≡ judgement words
+      pub judge-ring-number : mostRingNumber < silenceFrom words at .ringNumber → refused (RingNumber records) ≡ judgement words
       judge-ring-number high = sym (judged-by words (packs-as-is (stopped-ring stands-here high)))
 
-      module _ (low : silenceOfWords words at .ringNumber ≤ mostRingNumber) where
+      module _ (low : silenceFrom words at .ringNumber ≤ mostRingNumber) where
         -- Row 7 at this record.
-        pub judge-not-above : isAbove last (silenceOfWords words at) ≡ false → refused (NotAbove records) ≡ judgement words
+        pub judge-not-above : isAbove last (silenceFrom words at) ≡ false → refused (NotAbove records) ≡ judgement words
         judge-not-above e =
-            sym (judged-by words (packs-as-is (stopped-order stands-here low (subst (λ (l : Option Silence). isAbove l (silenceOfWords words at) ≡ false) (now .last-is) e))))
+            sym (judged-by words (packs-as-is (stopped-order stands-here low (subst (λ (l : Option Silence). isAbove l (silenceFrom words at) ≡ false) (now .last-is) e))))
 
         -- A turn takes this record.
-        pub judge-turn : {field : ℕ} → isAbove last (silenceOfWords words at) ≡ true → length (fieldOf (silenceOfWords words at)) ≡ field
-            → JudgedTo words (some (silenceOfWords words at)) (records + 1) (bytes + field) (at + recordWords)
+        pub judge-turn : {field : ℕ} → isAbove last (silenceFrom words at) ≡ true → length (fieldOf (silenceFrom words at)) ≡ field
+            → JudgedTo words (some (silenceFrom words at)) (records + 1) (bytes + field) (at + recordWords)
         unfolding wordsOfEach
         judge-turn {field} e long =
-            let here : Silence = silenceOfWords words at in
+            let here : Silence = silenceFrom words at in
             let others : List Silence = silencesOf (drop (at + recordWords) words) in
             record {
               at-le = h;

@@ -12,7 +12,8 @@ use lib.Dec.{eqb}
 use lib.ListN.{length, getD, take, drop}
 use lib.Seq.{getD-drop, getD-take}
 use Rattle.lists.proofs.Cases.{by-test}
-use Rattle.lists.proofs.Records.{drop-three}
+use Rattle.lists.specs.ByPlace.{listOf}
+use Rattle.lists.proofs.Records.{part-places}
 use Rattle.lists.proofs.SizesTested.{le-iff, eq-iff, and-iff}
 use Rattle.fields.specs.Numbers.{numberAt}
 use Rattle.fields.specs.Tagged.{headLength, longAt, fieldEnd, isWhole}
@@ -104,10 +105,11 @@ module _ (book : List ℕ) (at : ℕ) where
 
   -- The tests ask for what row 6 says: two bytes make 10 only as 00 0A.
   pub tested-iff : IsTested book at ↔ IsField book at
+  unfolding listOf
   tested-iff = (
     λ t. let second : getD book (at + 1) 0 ≡ 0x00 = omega (arith, length-is) in
         let third : getD book (at + 2) 0 ≡ 0x0a = omega (arith, length-is) in
-        record { begins = rw (drop-three book at (omega arith), t .tag-is, second, third); not-cut = omega arith },
+        record { begins = part-places book at headLength (omega arith) ∙ rw (add-zero at, t .tag-is, second, third); not-cut = omega arith },
     λ f. record {
       tag-is = rw add-zero at (begins-are f 0 (omega arith));
       long-is = omega (arith, length-is, begins-are f 1 (omega arith), begins-are f 2 (omega arith));

@@ -22,7 +22,7 @@ pub packable-book : (words : List ℕ) → IsWords words → IsPackable words �
 packable-book words w p =
     record {
       laid-out = refl;
-      in-range = silences-in-range words w (p .ring-numbers);
+      in-range = silences-in-range (silencesOf words) (subst IsWords (sym (words-of-silences words (p .word-count .multiple))) w) (p .ring-numbers);
       ascending = p .ascending;
       length-le = omega (arith, silences-length words (p .word-count .multiple), p .word-count .words-le);
     }

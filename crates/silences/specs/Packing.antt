@@ -15,9 +15,9 @@ use mathlib.Core.Bool.{Bool, not, _||_}
 use mathlib.Core.List.{List, [], _∷_, _++_}
 use mathlib.Core.Option.{Option, none, some}
 use lib.Dec.{ltb, eqb}
-use lib.ListN.{length}
+use lib.ListN.{length, getD}
 use Rattle.lists.specs.Areas.{written}
-use Rattle.lists.specs.Records.{wordsOfEach}
+use Rattle.lists.specs.Records.{wordsOfEach, recordsOf}
 use Rattle.answers.specs.declared.refusals.Refusal.{Refusal}
 use Rattle.answers.specs.declared.refusals.Refusal.the-variants.{NotAbove, WordCount, RingNumber, OutputRoom}
 use Rattle.answers.specs.Paper.{Answer, accepted, refused}
@@ -34,16 +34,17 @@ silenceWords s = s .cell ∷ s .ringNumber ∷ s .start ∷ []
 abbrev pub wordsOfSilences : List Silence → List ℕ
 wordsOfSilences = wordsOfEach silenceWords
 
--- The silences of a list of words, three words each; one or two words at the end are none.
-unfoldable pub silencesOf : List ℕ → List Silence
-silencesOf [] = []
-silencesOf (cell ∷ []) = []
-silencesOf (cell ∷ ringNumber ∷ []) = []
-silencesOf (cell ∷ ringNumber ∷ start ∷ words) = silence cell ringNumber start ∷ silencesOf words
-
 -- "words to pack aren't a multiple of 3": the words of a record.
 abbrev pub recordWords : ℕ
 recordWords = 3
+
+-- The silence of the words of a record.
+abbrev pub silenceOfWords : List ℕ → Silence
+silenceOfWords words = silence (getD words 0 0) (getD words 1 0) (getD words 2 0)
+
+-- The silences of a list of words, a record each; fewer words than a record's at the end are none.
+abbrev pub silencesOf : List ℕ → List Silence
+silencesOf = recordsOf recordWords silenceOfWords
 
 -- "or exceed 3,000": the most words that are packed.
 abbrev pub mostWords : ℕ

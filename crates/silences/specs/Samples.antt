@@ -8,13 +8,13 @@ use Rattle.answers.specs.declared.refusals.Refusal.the-variants.{BookLength, Fi
 use Rattle.answers.specs.Paper.{accepted, refused}
 use Rattle.answers.specs.Rows.{firstGiven}
 use Rattle.lists.specs.Areas.{written}
-use Rattle.lists.specs.Records.{wordsOfEach}
+use Rattle.lists.specs.Records.{wordsOfEach, firstRecords, recordsOf}
 use Rattle.fields.specs.Numbers.{bytesOf, numberAt}
 use Rattle.fields.specs.Tagged.{isWhole}
 use Rattle.silences.specs.Silences.{silence, isBelow, isSame, names}
 use Rattle.silences.specs.Layout.{valueOf, fieldOf, layout}
 use Rattle.silences.specs.Reading.{lengthByTag, silenceAt, fieldBy, fieldAt, fieldsFrom, readFrom, bookRows, readBook}
-use Rattle.silences.specs.Packing.{silencesOf, wordsOfSilences, recordRows, packRows, packed, unpackRows, unpacked, areaAtExit}
+use Rattle.silences.specs.Packing.{wordsOfSilences, recordRows, packRows, packed, unpackRows, unpacked, areaAtExit}
 
 -- The book of the report program's example: "21 00 0A 00 00 00 07 00 02 00 00 00 01".
 unfoldable pub example : List ℕ
@@ -51,14 +51,14 @@ packed-right : (packed (7 ∷ 2 ∷ 1 ∷ []) 15 ≡ accepted (silence 7 2 1 ∷
     × (areaAtExit layout (accepted (silence 7 2 1 ∷ [])) (replicate 13 0x60 ++ 0x61 ∷ 0x62 ∷ []) ≡ example ++ 0x61 ∷ 0x62 ∷ [])
     × (packed (7 ∷ 2 ∷ 1 ∷ []) 12 ≡ refused OutputRoom)
     × (areaAtExit layout (refused OutputRoom) (0x61 ∷ []) ≡ 0x61 ∷ [])
-unfolding written example bytesOf valueOf fieldOf wordsOfEach firstGiven packed packRows recordRows silencesOf isBelow
+unfolding written example bytesOf valueOf fieldOf wordsOfEach firstGiven packed packRows recordRows recordsOf firstRecords isBelow
 packed-right = (refl, refl, refl, refl)
 
 -- Four words: row 8. A ring number of 65,536 in record 1: row 9 there, before row 7. Equal neighbours: row 7 at record 1. Before row 10, each of them.
 rows-8-9-7 : (packed (7 ∷ 2 ∷ 1 ∷ 7 ∷ []) 0 ≡ refused WordCount)
     × (packed (7 ∷ 2 ∷ 1 ∷ 6 ∷ 65536 ∷ 1 ∷ []) 0 ≡ refused (RingNumber 1))
     × (packed (7 ∷ 2 ∷ 1 ∷ 7 ∷ 2 ∷ 1 ∷ []) 0 ≡ refused (NotAbove 1))
-unfolding bytesOf valueOf fieldOf wordsOfEach firstGiven packed packRows recordRows silencesOf isBelow
+unfolding bytesOf valueOf fieldOf wordsOfEach firstGiven packed packRows recordRows recordsOf firstRecords isBelow
 rows-8-9-7 = (refl, refl, refl)
 
 -- The example unpacked: its three words, with room for three and not for two.
