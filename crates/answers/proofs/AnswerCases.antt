@@ -1,10 +1,8 @@
--- An answer is accepted or refused, never both, and holds one thing: what is accepted has one value, and what is refused one row of the table. These laws know no
--- book.
+-- An answer is accepted or refused, never both, and what is accepted has one value.
 use Prim.Native.Nat.{ℕ}
-use mathlib.Core.Path.{_≡_, ap}
+use mathlib.Core.Path.{_≡_}
 use native.Mathlib.Omega.{arith}
 use Rattle.answers.specs.declared.refusals.Refusal.{Refusal}
-use Rattle.answers.specs.Refusals.{numberOf}
 use Rattle.answers.specs.Paper.{Answer, accepted, refused}
 
 module _ {A : Type 0} where
@@ -15,7 +13,3 @@ module _ {A : Type 0} where
   -- It is accepted with one value only.
   pub accepted-unique : {a : Answer A} {x y : A} → a ≡ accepted x → a ≡ accepted y → x ≡ y
   accepted-unique e f = cc
-
-  -- What is refused is refused by one row only.
-  pub row-unique : {a : Answer A} {r q : Refusal} → a ≡ refused r → a ≡ refused q → numberOf r ≡ numberOf q
-  row-unique {r = r} {q = q} e f = let same : r ≡ q = cc in ap numberOf same

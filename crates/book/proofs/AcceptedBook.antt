@@ -1,5 +1,5 @@
--- What is known of a book from what `read` answers. Where it is accepted with so many records, its silences are so many, they are what its fields give,
--- and they are no more than it has bytes, at most 13,000: so three times their number fits.
+-- What is known of a book from the answer of `read`. Where that is a number of records, the book has as many silences, no more than it has bytes, so at most
+-- 13,000: three times their number fits.
 use Prim.Native.Nat.{ℕ, _≤_}
 use mathlib.Core.Path.{_≡_, refl, sym, ap, _∙_}
 use mathlib.Core.List.{List}
@@ -21,13 +21,13 @@ use Rattle.silences.proofs.AcceptedIsLayout.{IsReadWhole, accepted-whole-iff}
 pub read-answer-is : (book : List ℕ) (r answer : BookAnswer) → IsRead book r → r ≡ answer → recordsOf (readBook book) ≡ answerOf answer
 read-answer-is book r answer h e = sym (answer-unique 0 (answerOf r) (recordsOf (readBook book)) (h .paper)) ∙ ap answerOf e
 
--- The silences of so many records that are accepted.
+-- The silences of a number of records that is accepted.
 pub record HasRecords (a : Answer (List Silence)) (records : ℕ) : Type 0 where
   pub silences : List Silence
   pub is : a ≡ accepted silences
   pub records-is : records ≡ length silences
 
--- Where so many records are accepted, so many silences are.
+-- Where a number of records is accepted, as many silences are.
 pub has-records : (a : Answer (List Silence)) (records : ℕ) → recordsOf a ≡ accepted records → HasRecords a records
 has-records (accepted ss) records e = record { silences = ss; is = refl; records-is = cc }
 has-records (refused r) records e = absurd (accepted-not-refused e refl)

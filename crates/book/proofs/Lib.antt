@@ -1,4 +1,4 @@
--- Laws behind the calls on a book: what each call's answer comes to, and what the functions' proofs cite. Read SeekNames, SoughtRising, OneAnswer and the
+-- Laws of the calls on a book: the meaning of each call's answer, and what the functions' proofs cite. Read SeekNames, SoughtRising, OneAnswer and the
 -- two RowsOf first: they are the theorems, and their heads name what they rest on; the laws of a book's definitions stand in the crate silences. Below
 -- each group stands on those before it.
 
@@ -10,7 +10,6 @@ pub mod SeekFrom
 pub mod SeekNames
 pub mod SeekRising
 pub mod SoughtRising
-pub mod SoughtCases
 -- the rows of each call
 pub mod RowNumbers
 pub mod RowsOfReading

@@ -1,4 +1,4 @@
--- Reading field by field. Before the field at `at` the fields before it have been read (`FieldsRead`), and so many are counted; where reading stops, there or at the
+-- Reading field by field. Before the field at `at` the fields before it have been read (`FieldsRead`) and counted; where reading stops, there or at the
 -- book's end, the walk so far is the whole one (`reads-as-is`). Each whole field gets on (`field-ends`), so there are no more records than bytes.
 use Prim.Native.Nat.{ℕ, _+_, _≤_, _<_}
 use mathlib.Core.Path.{_≡_, refl, sym, ap, subst, _∙_}
@@ -16,7 +16,7 @@ use Rattle.silences.proofs.FieldTest.{field-ends}
 use Rattle.silences.proofs.AscendingAfter.{lastAfter, lastAfter-end}
 use Rattle.silences.proofs.FieldsRead.{FieldsRead, none-read, ReadsAs, read-all, stopped-faulty, stopped-order, read-more, reads-as-is}
 
--- Before the field at `at`, after so many records, the last of them `last`.
+-- Before the field at `at`, after `records` records, the last of them `last`.
 pub record ReadOn (book : List ℕ) (at records : ℕ) (last : Option Silence) : Type 0 where
   pub at-le : at ≤ length book
   pub records-le : records ≤ at

@@ -30,7 +30,7 @@ pub paper-by : (o : Option Refusal) (ss : List Silence) {p : Paper ℕ} → p �
 paper-by none ss e = e
 paper-by (some q) ss e = e
 
--- A call gives so many records exactly when no row is given and there are so many silences.
+-- A call gives n records exactly when no row is given and there are n silences.
 pub records-iff : (o : Option Refusal) (ss : List Silence) (r : BookAnswer) → paperOf r ≡ recordsPaper (answerBy o ss) → (n : ℕ)
     → (r ≡ Records n) ↔ ((o ≡ none) × (length ss ≡ n))
 records-iff o ss r paper n =

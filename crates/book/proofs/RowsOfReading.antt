@@ -1,5 +1,5 @@
 -- The rows of `read`, for any answer that meets its contract: rows 5, 6 and 7 of document 01's table as an iff each, number and place written out, that it gives
--- no other row, and that it is accepted, and gives so many records, exactly for the book of so many silences. Rows 5, 6 and 7 are stated once, of any call that
+-- no other row, and that it is accepted, and gives n records, exactly for the book of n silences. Rows 5, 6 and 7 are stated once, of any call that
 -- begins with a book's rows (`row-5` to `row-7`); unpacking does, too. From BookRows of the silences, by AnswerByRows of the answers.
 use Prim.Native.Nat.{ℕ, _≤_, _<_}
 use mathlib.Core.Logic.{_⊎_, inl, inr, _↔_, Iff·rfl, Iff·trans}
@@ -81,7 +81,7 @@ module _ (book : List ℕ) (r : BookAnswer) (meets : IsRead book r) where
     pub read-accepted : (paperOf r .number ≡ 0) ↔ ((ss : List Silence) × IsBook ss book)
     read-accepted = Iff·trans (accepted-number-iff 0 (length (silencesRead book)) (bookRefusal book) paper) (no-refusal-iff book bytes)
 
-    -- So many records are given exactly for the book of so many silences.
+    -- It gives n records exactly for the book of n silences.
     pub read-records : (n : ℕ) → (r ≡ Records n) ↔ ((ss : List Silence) × IsBook ss book × (length ss ≡ n))
     read-records n =
         Iff·trans (records-iff (bookRefusal book) (silencesRead book) r (meets .paper ∙ ap recordsPaper (book-answer-is book)) n) (read-book-iff book bytes (λ (ss : List Silence). length ss ≡ n))

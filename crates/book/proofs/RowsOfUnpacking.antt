@@ -1,5 +1,5 @@
 -- The rows of `unpack`, for any answer that meets its contract: rows 5, 6, 7 and 10 of document 01's table as an iff each, number and place written out, that it
--- gives no other row, that a refusal counts and writes nothing, and that it is accepted, and gives so many records, exactly for the book of so many silences with room
+-- gives no other row, that a refusal counts and writes nothing, and that it is accepted, and gives n records, exactly for the book of n silences with room
 -- for their words. From UnpackRows of the silences, by AnswerByRows of the answers; rows 5 to 7 as of reading (RowsOfReading).
 use Prim.Native.Nat.{ℕ, _*_, _≤_, _<_}
 use mathlib.Core.Logic.{_⊎_, inl, inr, _↔_, Iff·trans}
@@ -96,7 +96,7 @@ module _ (book area : List ℕ) (r : BookAnswer) (out : List ℕ) (meets : IsUnp
         Iff·trans (accepted-number-iff 0 records o paper)
         (Iff·trans (unpack-none-iff book (length area)) (read-book-iff book bytes (λ (ss : List Silence). recordWords * length ss ≤ length area)))
 
-    -- So many records are given exactly for the book of so many silences, with room for three words each.
+    -- It gives n records exactly for the book of n silences, with room for three words each.
     pub unpack-records : (n : ℕ) → (r ≡ Records n) ↔ ((ss : List Silence) × IsBook ss book × ((length ss ≡ n) × (recordWords * length ss ≤ length area)))
     unfolding unpacked
     unpack-records n =

@@ -16,7 +16,7 @@ use Rattle.book.proofs.SeekFrom.{seekFrom-step, seekFrom-faulty, seekFr
 use Rattle.book.proofs.SeekNames.{namesAddress, seek-all-names}
 
 module _ (book : List ℕ) where
-  -- what is held for one address, asked for another that is not below it, is what seeking that other gives
+  -- the field held for one address, tested for another that is not below it, is what seeking that other gives
   seek-again : (a b : Silence) → (Below b a → ⊥) → (at : ℕ) → seekField b (seekFrom book a at) (seekFrom book b) ≡ seekFrom book b at
   seek-again a b not-below = field-induction book (λ (at : ℕ). seekField b (seekFrom book a at) (seekFrom book b) ≡ seekFrom book b at) turn
     where
@@ -27,7 +27,7 @@ module _ (book : List ℕ) where
           → held (seekFrom book a at) ≡ seekFrom book b at
       turn at on = by-field (fieldAt book at) refl
         where
-          -- passed for a: it is below b too, and is passed; not passed: it is held, and asked for b as any field
+          -- passed for a: it is below b too, and is passed; not passed: it is held, and tested for b as any field is
           by-order : (s : Silence) (next : ℕ) → fieldAt book at ≡ whole s next → (t : Bool) → isBelow s a ≡ t → held (seekFrom book a at) ≡ seekFrom book b at
           by-order s next e true p =
               let below : isBelow s b ≡ true = isBelow-iff s b .1 (below-not-below s a b (isBelow-iff s a .0 p) not-below) in
@@ -38,12 +38,12 @@ module _ (book : List ℕ) where
           by-field faulty e = ap held (seekFrom-faulty book a at e) ∙ sym (seekFrom-faulty book b at e)
           by-field (whole s next) e = by-order s next e (isBelow s a) refl
 
--- What a caller holds that asks with rising addresses: the field sought for the last address asked, as if it were sought from the first byte on.
+-- What a caller with rising addresses holds: the field sought for the last address, as if it were sought from the first byte on.
 pub record Seeking (book : List ℕ) (asked : Silence) (held : FieldAt) : Type 0 where
   pub held-is : held ≡ seekFrom book asked 0
 
 module _ (book : List ℕ) where
-  -- The next address, if it is not below the last: the held field is asked for it.
+  -- The next address, if it is not below the last: the held field is tested for it.
   pub seeking-turn : (a b : Silence) → (Below b a → ⊥) → (held : FieldAt) → Seeking book a held → Seeking book b (seekField b held (seekFrom book b))
   seeking-turn a b not-below held was =
       record { held-is = ap (λ (f : FieldAt). seekField b f (seekFrom book b)) (was .held-is) ∙ seek-again book a b not-below 0 }

@@ -8,13 +8,14 @@ use native.Mathlib.Omega.{arith}
 use lib.ListN.{length}
 use Rattle.answers.specs.declared.refusals.Refusal.{Refusal}
 use Rattle.answers.specs.declared.refusals.Refusal.the-variants.{OutputRoom}
+use Rattle.answers.specs.Refusals.{numberOf}
 use Rattle.answers.specs.Paper.{Answer, accepted, refused}
 use Rattle.answers.proofs.AnswerByRows.{answer-refused-iff}
 use Rattle.silences.specs.Silences.{Silence}
-use Rattle.silences.specs.Reading.{silencesRead, readBook}
+use Rattle.silences.specs.Reading.{silencesRead, bookRefusal, readBook}
 use Rattle.silences.specs.Packing.{wordsOfSilences, recordWords, areaAtExit, unpackRefusal, unpacked}
 use Rattle.silences.proofs.WordsOfSilences.{words-length}
-use Rattle.silences.proofs.BookRows.{book-refused-iff, book-accepted-iff, book-rows}
+use Rattle.silences.proofs.BookRows.{book-refused-iff, book-accepted-iff, refusal-has}
 use Rattle.silences.proofs.UnpackRows.{unpack-row-iff, unpack-10-iff, unpacked-accepted-iff}
 use Rattle.book.specs.declared.answering.BookAnswer.the-variants.{Records, Refused}
 use Rattle.book.specs.Calls.{paperOf, recordsOf, recordsPaper, IsUnpacked}
@@ -31,11 +32,12 @@ module _ (book area : List ℕ) where
   -- What reading refuses, unpacking refuses.
   pub unpack-refused : (q : Refusal) → recordsOf (readBook book) ≡ refused q → IsUnpacked book area (Refused q) area
   unpack-refused q e =
-      let is : readBook book ≡ refused q = has-refusal (readBook book) q e in
-      is-refused (unpack-row-iff book (length area) q (λ ten. omega (arith, book-rows book q is)) .1 (book-refused-iff book q .0 is))
+      let given : bookRefusal book ≡ some q = book-refused-iff book q .0 (has-refusal (readBook book) q e) in
+      is-refused (unpack-row-iff book (length area) q
+      (refusal-has book (λ (r : Refusal). numberOf OutputRoom ≡ numberOf r → ⊥) (λ h. omega arith) (λ at h. omega arith) (λ at h. omega arith) q given) .1 given)
 
   module _ (records : ℕ) (read : recordsOf (readBook book) ≡ accepted records) where
-    -- the silences of so many records
+    -- the silences of these records
     has : HasRecords (readBook book) records
     has = has-records (readBook book) records read
 

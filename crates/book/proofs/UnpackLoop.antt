@@ -43,7 +43,7 @@ length-none : (ss : List Silence) → length ss ≡ 0 → ss ≡ []
 length-none [] e = refl
 length-none (s ∷ ss) e = absurd (omega arith)
 
--- Before the field at `at`, with the words of so many records done.
+-- Before the field at `at`, with the words of `done` records written.
 pub record PutOn (book area : List ℕ) (records : ℕ) (words : List ℕ) (at done : ℕ) : Type 0 where
   pub last : Option Silence
   pub put : List Silence

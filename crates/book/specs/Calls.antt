@@ -1,9 +1,9 @@
--- What the calls on a book promise, each in one record: the answer in document 01's number, place and counts (`paper`), and the lent area at
+-- The contracts of the calls on a book, one record each: the answer as document 01's number, place and counts (`paper`), and the lent area at
 -- exit (`written`), on every input, accepted or refused. "Packer and unpacker return the number of records"; so does reading.
 --
---   answerOf, paperOf          what a call answers, and its paper
---   recordsOf, recordsPaper    what a definition gives, counted in records, and its paper
---   IsUnpacked, IsRead, IsSought, IsSoughtOn, IsAskedFor    what `unpack`, `read`, `seek`, `seek_on` and `is_for` promise
+--   answerOf, paperOf          the answer of a call, and its paper
+--   recordsOf, recordsPaper    the number of records that a definition gives, and its paper
+--   IsUnpacked, IsRead, IsSought, IsSoughtOn, IsAskedFor    the contracts of `unpack`, `read`, `seek`, `seek_on` and `is_for`
 use Prim.Native.Nat.{ℕ}
 use mathlib.Core.Path.{_≡_}
 use mathlib.Core.Bool.{Bool}
@@ -38,24 +38,24 @@ recordsOf (refused refusal) = refused refusal
 abbrev pub recordsPaper : Answer (List Silence) → Paper ℕ
 recordsPaper a = answerPaper 0 (recordsOf a)
 
--- What `unpack` promises: of the book, the area lent for the words, the answer and the area at exit.
+-- The contract of `unpack`, which returns `r` and leaves the lent words `area` as `out`.
 pub record IsUnpacked (book area : List ℕ) (r : BookAnswer) (out : List ℕ) : Type 0 where
   pub paper : paperOf r ≡ recordsPaper (unpacked book (length area))
   pub written : out ≡ areaAtExit wordsOfSilences (unpacked book (length area)) area
 
--- What `read` promises of the book and the answer.
+-- The contract of `read`, which returns `r`.
 pub record IsRead (book : List ℕ) (r : BookAnswer) : Type 0 where
   pub paper : paperOf r ≡ recordsPaper (readBook book)
 
--- What `seek` promises: of the book, the byte offset to begin at, the address (cell, ring number, start) and the answer.
+-- The contract of `seek`, which begins at byte offset `from` and returns `r`.
 pub record IsSought (book : List ℕ) (from : ℕ) (address : Address) (r : Sought) : Type 0 where
   pub is : soughtOf r ≡ seekFrom book (silenceOf address) from
 
--- What `seek_on` promises: of the book, the field that is held, the next address and the answer. The held field is asked for the address as any field
--- is: kept if it is not below it, else the address is sought from just past it; where nothing is held there is nothing.
+-- The contract of `seek_on`, which returns `r`. The field `held` is kept if it is not below the address; else the address is sought from just past it. Where nothing is
+-- held there is nothing.
 pub record IsSoughtOn (book : List ℕ) (held : Sought) (address : Address) (r : Sought) : Type 0 where
   pub is : soughtOf r ≡ seekField (silenceOf address) (soughtOf held) (seekFrom book (silenceOf address))
 
--- What `is_for` promises: whether what was sought is a field, and is for the address.
+-- The contract of `is_for`: whether what was sought is a field, and is for the address.
 pub record IsAskedFor (sought : Sought) (address : Address) (r : Bool) : Type 0 where
   pub is : r ≡ isFor (silenceOf address) (soughtOf sought)

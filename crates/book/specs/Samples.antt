@@ -8,8 +8,8 @@ use Rattle.silences.specs.Reading.{whole, faulty, lengthByTag, silenceAt, field
 use Rattle.silences.specs.Samples.{example}
 use Rattle.book.specs.Seeking.{seekFields, seekFrom, isFor}
 
--- The example asked for start 0, 1 and 2 of cell 7, ring 2: its field is sought for the first two and is for start 1 only; for start 2 it is passed. From
--- its middle no field stands.
+-- Seeking start 0, 1 and 2 of cell 7, ring 2 in the example: its field is found for the first two, and is for start 1 only; for start 2 it is passed. From its
+-- middle on no field stands.
 sought-right : (seekFrom example (silence 7 2 0) 0 ≡ whole (silence 7 2 1) 13)
     × (seekFrom example (silence 7 2 1) 0 ≡ whole (silence 7 2 1) 13)
     × (seekFrom example (silence 7 2 2) 0 ≡ faulty)

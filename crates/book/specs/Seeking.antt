@@ -1,5 +1,5 @@
 -- Seeking an address in a book's bytes, as the report does: the first field at or after a byte offset that is not below the address. Document 01 has
--- no such call; it is said on any bytes and any offset. Where no whole field stands, at the book's end, past it or within a faulty book,
+-- no such call; it is defined on any bytes and any offset. Where no whole field stands, at the book's end, past it or within a faulty book,
 -- seeking finds none.
 --
 --   seekFrom     the field that is sought, with the byte offset just past it, so that whoever asks with rising addresses reads no field twice

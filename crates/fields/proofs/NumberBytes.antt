@@ -10,7 +10,7 @@ use lib.Seq.{take-suc, getD-drop, getD-append-add, getD-at}
 use Rattle.fields.specs.Numbers.{bytesOf, numberAt}
 use Rattle.lists.specs.Bounds.{IsBytes}
 
--- So many bytes as are asked for.
+-- A number in `count` bytes has `count` bytes.
 pub bytesOf-length : (count number : ℕ) → length (bytesOf count number) ≡ count
 unfolding bytesOf
 bytesOf-length zero number = refl

@@ -1,4 +1,4 @@
--- Reading a number byte by byte, high byte first. After so many bytes the number is theirs, and below 256 to the power of their count: so with at most
+-- Reading a number byte by byte, high byte first. After `done` bytes the number is theirs, and below 256 to the power of their count: so with at most
 -- four bytes no turn overflows 32 bits. Where nothing is to be read, the answer is 0.
 use Prim.Native.Nat.{ℕ, _+_, _*_, _^_, _≤_, _<_}
 use mathlib.Core.Path.{_≡_, refl, sym, _∙_}

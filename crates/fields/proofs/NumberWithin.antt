@@ -1,4 +1,4 @@
--- A number asked for with any byte offset and count, by the two tests of its definition: within the bytes and of at most 4 it is `numberAt`, else 0.
+-- The number at any byte offset and of any count, by the two tests of its definition: within the bytes and of at most 4 it is `numberAt`, else 0.
 use Prim.Native.Nat.{ℕ, _+_, _≤_, _<_}
 use mathlib.Core.Path.{_≡_, _∙_}
 use mathlib.Core.Bool.{and-false}

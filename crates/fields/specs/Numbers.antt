@@ -2,8 +2,8 @@
 --
 --   bytesOf        number to bytes
 --   numberAt       bytes to number
---   numberWithin   the same, asked with any byte offset and count
---   IsNumberRead   what reading a number promises
+--   numberWithin   the same for any byte offset and count
+--   IsNumberRead   the contract of reading a number
 use Prim.Native.Nat.{ℕ, zero, suc, _+_, _*_, _/_, _%_, _^_, _<_}
 use mathlib.Core.Path.{_≡_}
 use mathlib.Core.Bool.{cond, _&&_}
@@ -31,7 +31,7 @@ numberWithin count bytes at =
     let number : ℕ = numberAt count bytes at in
     cond (leb count mostNumberBytes && leb (at + count) (length bytes)) number 0
 
--- What `number_at` promises of the bytes, the byte offset, the count and the answer: it is that number, and it fits so many bytes.
+-- The contract of `number_at`, which returns `r`: it is that number, and it fits `count` bytes.
 pub record IsNumberRead (bytes : List ℕ) (at count r : ℕ) : Type 0 where
   pub is : r ≡ numberWithin count bytes at
   pub lt : r < 256 ^ count

@@ -7,7 +7,7 @@ use native.Mathlib.Nat.{mul-zero, mul-suc, div-eq-of-lt, div-eq-sub-div, mod-add
 use native.Mathlib.Numerals.{add-one}
 use native.Mathlib.Omega.{arith}
 use lib.ListN.{length, getD, take, drop, length-append, length-drop, take-append-drop}
-use lib.Seq.{drop-cons, drop-drop, take-at, drop-at, length-take-le, getD-take, getD-drop}
+use lib.Seq.{drop-drop, take-at, drop-at, length-take-le, getD-take, getD-drop}
 use Rattle.lists.specs.ByPlace.{listOf}
 use Rattle.lists.proofs.ByPlace.{listOf-is}
 use Rattle.lists.specs.Records.{wordsOfEach, firstRecords, recordsOf}
@@ -101,19 +101,3 @@ module _ {A : Type 0} (width : ℕ) (of : List ℕ → A) (some-number : 0 < wid
             ap₂ (λ (a b : List ℕ). a ++ b) (back (take width l) (length-take-le width l long))
             (first-words count (drop width l) (simp length-drop (omega (arith, mul-suc width count))))
             ∙ take-append-drop width l
-
--- Where three numbers are left from place `at` on, they are the next, and the others come from place `at` + 3 on.
-pub drop-three : (xs : List ℕ) (at : ℕ) → at + 3 ≤ length xs
-    → drop at xs ≡ getD xs at 0 ∷ getD xs (at + 1) 0 ∷ getD xs (at + 2) 0 ∷ drop (at + 3) xs
-drop-three xs at h =
-    let second : at + 1 ≡ suc at = omega arith in
-    let third : at + 2 ≡ suc (suc at) = omega arith in
-    let past : at + 3 ≡ suc (suc (suc at)) = omega arith in
-    rw (
-      second,
-      third,
-      past,
-      drop-cons xs at 0 (omega arith),
-      drop-cons xs (suc at) 0 (omega arith),
-      drop-cons xs (suc (suc at)) 0 (omega arith),
-    )

@@ -1,4 +1,4 @@
--- Laws behind packing: what its answer comes to, and what the functions' proofs cite. Read RoundTripsOfCalls, OneAnswer and RowsOfPacking first: they are the
+-- Laws of packing: the meaning of its answer, and what the functions' proofs cite. Read RoundTripsOfCalls, OneAnswer and RowsOfPacking first: they are the
 -- theorems, and their heads name what they rest on; the laws of a book's definitions stand in the crate silences.
 
 -- answers, the rows, and the round trips with unpacking

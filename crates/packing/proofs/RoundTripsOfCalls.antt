@@ -28,7 +28,7 @@ use Rattle.packing.specs.Calls.{IsPacked}
 
 module _ (output : List Silence → List ℕ) (each : ℕ) (length-is : (ss : List Silence) → length (output ss) ≡ each * length ss) (o : Option Refusal)
     (ss : List Silence) (area : List ℕ) (n : ℕ) (out : List ℕ) (wrote : out ≡ areaAtExit output (answerBy o ss) area) where
-  -- where its definition gives so many silences, a call gives so many records, and their output stands at the front of its area
+  -- where its definition gives n silences, a call gives n records, and their output stands at the front of its area
   gives-records : (ts : List Silence) → answerBy o ss ≡ accepted ts → length ts ≡ n → (r : BookAnswer) → paperOf r ≡ recordsPaper (answerBy o ss)
       → (r ≡ Records n) × (take (each * n) out ≡ output ts)
   gives-records ts is records-is r paper =
@@ -37,7 +37,7 @@ module _ (output : List Silence → List ℕ) (each : ℕ) (length-is : (ss : Li
         ap (take (each * n)) wrote ∙ area-front output area (answerBy o ss) ts (each * n) is (length-is ts ∙ ap (λ (i : ℕ). each * i) records-is),
       )
 
-  -- where it gave so many records, its definition gives so many silences, and their output stands at the front
+  -- where it gave n records, its definition gives n silences, and their output stands at the front
   gave : paperOf (Records n) ≡ recordsPaper (answerBy o ss) → (answerBy o ss ≡ accepted ss) × (length ss ≡ n) × (take (each * n) out ≡ output ss)
   gave paper =
       let has = records-iff o ss (Records n) paper n .0 refl in

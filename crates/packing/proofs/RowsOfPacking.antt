@@ -1,5 +1,5 @@
 -- The rows of `pack`, for any answer that meets its contract: rows 8, 9, 7 and 10 of document 01's table as an iff each, number and place written out, that it gives
--- no other row, that a refusal counts and writes nothing, and that it is accepted, and gives so many records, exactly for the words of so many silences with room for
+-- no other row, that a refusal counts and writes nothing, and that it is accepted, and gives n records, exactly for the words of n silences with room for
 -- their fields. From PackRows of the silences, by AnswerByRows of the answers.
 use Prim.Native.Nat.{ℕ, _*_, _≤_, _<_}
 use mathlib.Core.Logic.{_⊎_, inl, inr, _↔_, Iff·rfl, Iff·trans, Iff·and}
@@ -97,7 +97,7 @@ module _ (words area : List ℕ) (r : BookAnswer) (out : List ℕ) (meets : IsPa
   pub pack-accepted : (paperOf r .number ≡ 0) ↔ (IsPackable words × (fieldLength * records ≤ length area))
   pack-accepted = Iff·trans (accepted-number-iff 0 records o paper) none-iff
 
-  -- So many records are given exactly for words that can be packed, of so many silences, with room for 13 bytes each.
+  -- It gives n records exactly for words that can be packed, of n silences, with room for 13 bytes each.
   pub pack-records : (n : ℕ) → (r ≡ Records n) ↔ ((IsPackable words × (fieldLength * records ≤ length area)) × (records ≡ n))
   unfolding packed
   pack-records n = Iff·trans (records-iff o (silencesOf words) r (meets .paper) n) (Iff·and none-iff Iff·rfl)

@@ -1,4 +1,4 @@
--- What packing promises, in one record as the calls on a book do: the answer in document 01's number, place and counts (`paper`), and the lent area at
+-- The contract of packing, one record as for the calls on a book: the answer as document 01's number, place and counts (`paper`), and the lent area at
 -- exit (`written`), on every input, accepted or refused. "Packer and unpacker return the number of records".
 use Prim.Native.Nat.{ℕ}
 use mathlib.Core.Path.{_≡_}
@@ -9,7 +9,7 @@ use Rattle.silences.specs.Packing.{packed, areaAtExit}
 use Rattle.book.specs.declared.answering.BookAnswer.{BookAnswer}
 use Rattle.book.specs.Calls.{paperOf, recordsPaper}
 
--- What `pack` promises: of the words, the area lent for the book, the answer and the area at exit.
+-- The contract of `pack`, which returns `r` and leaves the lent bytes `area` as `out`.
 pub record IsPacked (words area : List ℕ) (r : BookAnswer) (out : List ℕ) : Type 0 where
   pub paper : paperOf r ≡ recordsPaper (packed words (length area))
   pub written : out ≡ areaAtExit layout (packed words (length area)) area

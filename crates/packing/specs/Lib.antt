@@ -1,4 +1,4 @@
--- The packer of the silence book. Calls is what the public call promises, Judging and Putting what private functions do. What packing gives stands in the
+-- The packer of the silence book. Calls is the contract of the public call, Judging and Putting those of private functions. What packing gives stands in the
 -- crate silences.
 pub mod Calls
 pub mod Judging

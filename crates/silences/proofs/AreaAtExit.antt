@@ -1,12 +1,10 @@
--- The lent area at exit, of packing and unpacking at once: where the call was accepted its front is the output, and "room beyond their output" is as it was; where
--- it was refused nothing is written.
+-- The lent area at exit, of packing and unpacking at once: where the call was accepted its front is the output, and "room beyond their output" is as it was.
 use Prim.Native.Nat.{ℕ, _+_}
 use mathlib.Core.Path.{_≡_, refl}
 use mathlib.Core.List.{List}
 use lib.ListN.{length, getD, take}
 use Rattle.lists.proofs.Areas.{written-rest, written-front}
-use Rattle.answers.specs.declared.refusals.Refusal.{Refusal}
-use Rattle.answers.specs.Paper.{Answer, accepted, refused}
+use Rattle.answers.specs.Paper.{Answer, accepted}
 use Rattle.silences.specs.Silences.{Silence}
 use Rattle.silences.specs.Packing.{areaAtExit}
 
@@ -19,7 +17,3 @@ module _ (output : List Silence → List ℕ) (area : List ℕ) (a : Answer (Lis
   pub area-rest : (ss : List Silence) (j : ℕ) → a ≡ accepted ss
       → getD (areaAtExit output a area) (length (output ss) + j) 0 ≡ getD area (length (output ss) + j) 0
   area-rest ss j e = rw e (written-rest (output ss) area j)
-
-  -- A refusal "writes nothing to any lent area".
-  pub area-refused : (r : Refusal) → a ≡ refused r → areaAtExit output a area ≡ area
-  area-refused r e = rw e

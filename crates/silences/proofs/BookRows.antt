@@ -12,7 +12,6 @@ use Rattle.lists.specs.Bounds.{IsBytes}
 use Rattle.lists.proofs.SizesTested.{lt-iff}
 use Rattle.answers.specs.declared.refusals.Refusal.{Refusal}
 use Rattle.answers.specs.declared.refusals.Refusal.the-variants.{BookLength, Field, NotAbove}
-use Rattle.answers.specs.Refusals.{numberOf}
 use Rattle.answers.specs.Paper.{Answer, accepted, refused}
 use Rattle.answers.specs.Rows.{row, answerBy}
 use Rattle.answers.proofs.FirstRow.{none-some}
@@ -77,15 +76,6 @@ module _ (book : List ℕ) where
   unfolding bookRows
   refusal-has P five six seven = first-has (row-has is-row-5 five (each (fault-has P six seven) end))
 
-  -- Reading gives rows 5, 6 and 7 and no other.
-  pub book-rows : (q : Refusal) → readBook book ≡ refused q → (5 ≤ numberOf q) × (numberOf q ≤ 7)
-  book-rows q e =
-      refusal-has (λ (r : Refusal). (5 ≤ numberOf r) × (numberOf r ≤ 7)) (omega arith) (λ at. omega arith) (λ at. omega arith) q (book-refused-iff q .0 e)
-
-  -- Row 5 of `readBook`.
-  pub book-row-5-iff : (readBook book ≡ refused BookLength) ↔ (mostBytes < length book)
-  book-row-5-iff = Iff·trans (book-refused-iff BookLength) refusal-5-iff
-
 module _ (book : List ℕ) (bytes : IsBytes book) (at : ℕ) where
   -- The first faulty field gives row 6 exactly where that row's fault stands.
   pub fault-6-iff : (fieldFault book ≡ some (Field at)) ↔ IsFieldFault book at
@@ -123,11 +113,3 @@ module _ (book : List ℕ) (bytes : IsBytes book) (at : ℕ) where
   pub refusal-7-iff : (bookRefusal book ≡ some (NotAbove at)) ↔ ((length book ≤ mostBytes) × IsOrderFault book at)
   unfolding bookRows
   refusal-7-iff = past-row (is-row-5 book) (λ e. omega arith) (at-fault fault-7-iff end) .exactly
-
-  -- Row 6 of `readBook`.
-  pub book-row-6-iff : (readBook book ≡ refused (Field at)) ↔ ((length book ≤ mostBytes) × IsFieldFault book at)
-  book-row-6-iff = Iff·trans (book-refused-iff book (Field at)) refusal-6-iff
-
-  -- Row 7 of `readBook`.
-  pub book-row-7-iff : (readBook book ≡ refused (NotAbove at)) ↔ ((length book ≤ mostBytes) × IsOrderFault book at)
-  book-row-7-iff = Iff·trans (book-refused-iff book (NotAbove at)) refusal-7-iff

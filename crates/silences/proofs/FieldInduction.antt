@@ -11,7 +11,7 @@ use Rattle.silences.specs.Reading.{FieldAt, whole, fieldAt}
 use Rattle.silences.proofs.FieldTest.{field-ends}
 
 module _ (book : List ℕ) (P : ℕ → Type 0) (turn : (at : ℕ) → ((s : Silence) (next : ℕ) → fieldAt book at ≡ whole s next → P next) → P at) where
-  -- over at most so many bytes
+  -- with at most `left` bytes left
   over-bytes : (left at : ℕ) → length book - at ≤ left → P at
   over-bytes zero at h = turn at (λ s next e. absurd (let ends : (at < next) × (next ≤ length book) = field-ends book at s next e in omega arith))
   over-bytes (suc left) at h = turn at (λ s next e. let ends : (at < next) × (next ≤ length book) = field-ends book at s next e in over-bytes left next (omega arith))

@@ -1,4 +1,4 @@
--- Laws behind silences: what the definitions of a silence and of a book come to, and what the functions' proofs cite. Read AcceptedIsLayout, NamesIff, ZeroIsOrdinary,
+-- Laws of silences and books, and the laws that the functions' proofs cite. Read AcceptedIsLayout, NamesIff, ZeroIsOrdinary,
 -- BookRows, PackRows, RoundTrips and OneAnswer first: they are the theorems, and their heads name what they rest on. Below each group stands on those before it.
 
 -- the order of silences
@@ -11,14 +11,14 @@ pub mod ZeroIsOrdinary
 pub mod FieldTest
 pub mod FieldBytes
 pub mod FieldInduction
--- reading: its equations, the walk from field to field, and that a book is accepted exactly when it is a layout
+-- reading: its equations, the walk from field to field, its rows, and that a book is accepted exactly when it is a layout
 pub mod ReadFrom
 pub mod FieldsRead
 pub mod LayoutRead
-pub mod AcceptedIsLayout
--- the rows of the table, of the definitions, the areas at exit and the round trips
-pub mod WordsOfSilences
 pub mod BookRows
+pub mod AcceptedIsLayout
+-- the rows of packing and unpacking, the areas at exit and the round trips
+pub mod WordsOfSilences
 pub mod RecordsPacked
 pub mod RecordRows
 pub mod PackRows

@@ -9,7 +9,7 @@ use Rattle.silences.specs.Silences.{Silence, silence, isSame, names, Nam
 use Rattle.silences.proofs.SilenceOrder.{isSame-iff}
 
 module _ (cell ringNumber start : ℕ) where
-  -- the address asked for
+  -- the address
   address : Silence
   address = silence cell ringNumber start
 

@@ -1,5 +1,5 @@
--- Document 01, "Silence book", as propositions: what a book is, said of its bytes and silences and of no reading. That reading accepts exactly these is
--- `accepted-iff` of proofs/AcceptedIsLayout.antt.
+-- Document 01, "Silence book", as propositions: what a book is, in terms of bytes and silences, without reading. Reading accepts exactly these books: `accepted-iff` of
+-- proofs/AcceptedIsLayout.antt.
 --
 --   IsField   row 6, "13 bytes beginning 21 00 0A hex", and not cut off
 --   IsBook    the layout of an ascending list of at most 1,000 silences in range

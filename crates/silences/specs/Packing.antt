@@ -80,7 +80,7 @@ recordFault words = firstGiven (recordRows none 0 (silencesOf words))
 abbrev pub roomRow : List ℕ → ℕ → Option Refusal
 roomRow output room = row (ltb room (length output)) OutputRoom
 
--- "packer 8, then each record 9 before 7, then 10": the rows of packing these words, with room for so many bytes.
+-- "packer 8, then each record 9 before 7, then 10": the rows of packing these words into `room` bytes.
 unfoldable pub packRows : List ℕ → ℕ → List (Option Refusal)
 packRows words room = row (isRow8 words) WordCount ∷ recordFault words ∷ roomRow (layout (silencesOf words)) room ∷ []
 
@@ -92,7 +92,7 @@ packRefusal words room = firstGiven (packRows words room)
 unfoldable pub packed : List ℕ → ℕ → Answer (List Silence)
 packed words room = answerBy (packRefusal words room) (silencesOf words)
 
--- "unpacker 5, 6, 7, 10": the rows of unpacking this book, with room for so many words.
+-- "unpacker 5, 6, 7, 10": the rows of unpacking this book into `room` words.
 unfoldable pub unpackRows : List ℕ → ℕ → List (Option Refusal)
 unpackRows book room = bookRows book ++ roomRow (wordsOfSilences (silencesRead book)) room ∷ []
 

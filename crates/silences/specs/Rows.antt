@@ -1,6 +1,6 @@
--- Document 01, the table of refusals, rows 6 to 9: what "Given exactly when" says of them, as propositions that speak of no reading or packing. "Within a book the first faulty field decides": all fields before it are a book's. Rows 5 and 10 are a comparison each and
--- stand in their laws. The laws are in proofs/BookRows.antt, PackRows.antt and UnpackRows.antt, and of each call in RowsOfReading.antt and RowsOfUnpacking.antt of crates/book
--- and RowsOfPacking.antt of crates/packing.
+-- Document 01, the table of refusals, rows 6 to 9: their "Given exactly when" as propositions, without reading or packing. "Within a book the first faulty field
+-- decides": all fields before it are a book's. Rows 5 and 10 are a comparison each and stand in their laws. The laws of the definitions are in proofs/BookRows.antt,
+-- PackRows.antt and UnpackRows.antt, those of the calls in RowsOfReading.antt and RowsOfUnpacking.antt of crates/book and RowsOfPacking.antt of crates/packing.
 --
 --   IsFineBefore      the fields before a byte offset are those of an ascending list of silences in range
 --   IsNotAbove        "a record isn't above the one before it"

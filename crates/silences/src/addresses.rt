@@ -1,6 +1,6 @@
 // An address, and a field of a book.
 
-// An address that a silence has, and that is asked for: a cell, a ring number and a start.
+// An address: the cell, ring number and start that a silence is for, or that a caller seeks.
 pub struct Address {
     pub cell: u32,
     pub ring_number: u16,

@@ -1,7 +1,6 @@
 -- `book::seeking::seek_on` meets its contract: nothing stays nothing, a field that is below the address is passed, any other kept.
 use mathlib.Core.Path.{sym, _∙_}
 use borrow.Author.Needs.{needs}
-use Rattle.book.proofs.SoughtCases.{held-passed, held-kept}
 use Rattle.book.proofs.seeking.seek_on.Statement.{statement}
 use Rattle.book.proofs.seeking.seek_on.Tie as tie
 
@@ -25,7 +24,7 @@ returns c =
       is =
           c .seek .ensures .is
           ∙ rw (at-below .before .before .held .given .1)
-          (held-passed _ _ _ _ (sym (at-below .is-below .ensures) ∙ c .before .if1 .taken));
+          (simp (sym (at-below .is-below .ensures) ∙ c .before .if1 .taken));
     }
 
 -- Nothing.
@@ -36,7 +35,7 @@ returns-2 c = search needs
 returns-3 : tie.Need-returns-3
 returns-3 c =
     let at-below = c .before in
-    record { is = rw (at-below .before .before .held .given .1) (held-kept _ _ _ _ (sym (at-below .is-below .ensures) ∙ c .if1 .left)) }
+    record { is = rw (at-below .before .before .held .given .1) (simp (sym (at-below .is-below .ensures) ∙ c .if1 .left)) }
 
 pub seek-on-spec : {M : Type 1} → statement M
 seek-on-spec = tie.close (tie.spec enum-told enum-known-held is-below-requires seek-requires returns returns-2 returns-3)

@@ -1,4 +1,4 @@
--- `fields::numbers::number_at` meets its contract. More than four bytes, and bytes past those given, give 0. After so many bytes the number is theirs
+-- `fields::numbers::number_at` meets its contract. More than four bytes, and bytes past those given, give 0. After `done` bytes the number is theirs
 -- (`Numbered`), and at the end it is that of them all, which lie within; what is left of `count` falls.
 use Prim.Native.Nat.{_+_, _-_}
 use native.Mathlib.Omega.{arith}
