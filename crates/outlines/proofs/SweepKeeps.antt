@@ -9,9 +9,8 @@ use mathlib.Core.Option.{none}
 use native.Mathlib.Nat.{mul-le-mul}
 use native.Mathlib.Omega.{arith}
 use lib.ListN.{length}
-use borrow.Author.Tests.{le-leb}
 use Rattle.meaning.specs.Meanings.{FitsInLine}
-use Rattle.meaning.specs.Findings.{Finding, findingWords, foundAt}
+use Rattle.meaning.specs.Findings.{Finding, findingWords}
 use Rattle.meaning.proofs.LookBound.{quickLooks-most}
 use Rattle.meaning.proofs.Places.{found-small}
 use Rattle.meaning.proofs.ScanLoop.{ScanLoop, scan-start, scan-so-far-le, scan-verified}
@@ -22,7 +21,7 @@ use Rattle.sweep.specs.declared.sweeping.Sweep.{Sweep}
 use Rattle.sweep.specs.declared.sweeping.Swept.{Swept}
 use Rattle.sweep.specs.declared.sweeping.Swept.the-variants.{Ended, NoFinding, Found}
 use Rattle.sweep.specs.Sweeps.{IsSweptBy}
-use Rattle.sweep.specs.SweepRules.{stateOf, foundOf, hasEnded, CanSweepOn, IsSweptOn, IsCandidateSwept, leftState}
+use Rattle.sweep.specs.SweepRules.{stateOf, foundOf, hasEnded, CanSweepOn, IsSweptOn}
 use Rattle.sweep.specs.VerifyingRules.{TalliedBefore, lastOf}
 use Rattle.sweep.proofs.SweptByRules.{swept-by-rules}
 use Rattle.sweep.proofs.WindowsLeft.{left-from-le, left-start-le, left-scanned}
@@ -113,23 +112,22 @@ module _ {ring doubled table line : List ℕ} {k : ℕ} {book counts₀ area : L
           let c = on .candidate verified in
           let rises : at .start .0 ≤ on .stop = left-from-le ring line k (at .start .0) (on .left-to) in
           let left = left-scanned ring line k (at .start .0) (lastOf (at .last)) so-far (at .looks) (on .left-to) (h .scanning) in
-          let found-are : foundOf r ≡ foundAt ring line k (on .stop) = rw (le-leb _ _ (c .few)) at (c .swept .found-are) in
           record {
             keeps = record {
               scanning =
-                  rw (c .swept .start-is, c .swept .last-is, c .swept .looks-are, le-leb _ _ (c .few), found-are)
+                  rw (c .start-is, c .last-is, c .looks-are, c .found-are)
                   (scan-verified ring line k (on .stop) (lastOf (at .last)) so-far _ left (c .in-line) (c .few));
-              before = c .swept .before;
-              size = c .swept .size;
-              start-le = omega (arith, c .swept .start-is, c .in-line);
+              before = c .before;
+              size = c .size;
+              start-le = omega (arith, c .start-is, c .in-line);
             };
-            later = omega (arith, c .swept .start-is);
-            less = λ fits. omega (arith, c .swept .start-is, c .in-line);
+            later = omega (arith, c .start-is);
+            less = λ fits. omega (arith, c .start-is, c .in-line);
             found = λ f is.
-                let small = found-small ring line k (on .stop) f (can .admitted .some-edge) (sym found-are ∙ is) in
+                let small = found-small ring line k (on .stop) f (can .admitted .some-edge) (sym (c .found-are) ∙ is) in
                 record {
                   from-le = omega (arith, small .0);
-                  to-le = omega (arith, small .0, c .swept .start-is);
+                  to-le = omega (arith, small .0, c .start-is);
                   are-words = admitted-words ring line (can .admitted) (omega (arith, small .0, c .in-line)) (small .1) (small .2);
                 };
           }

@@ -1,4 +1,4 @@
--- Any two answers that meet the contract of `survey` are equal, and so are the words at exit: it is a search, and `search-unique` of the findings says so of any.
+-- Any two answers that meet the contract of `survey` are equal, and so are the words at exit: it is a search, and `search-unique` of crates/findings holds of every search.
 use Prim.Native.Nat.{ℕ}
 use mathlib.Core.Path.{_≡_}
 use mathlib.Core.List.{List}

@@ -34,7 +34,7 @@ module _ {ring doubled line : List ℕ} {k i : ℕ} {old : List ℕ} (can : CanV
         passed = λ j lo hi. absurd (omega arith);
       }
 
-  -- what the starts below i and those from i to j cost: so many steps more
+  -- the looks of the starts below i, and one step for each start from i to j
   steps-cost : (j : ℕ) → 0 < i → i ≤ j → FitsInLine ring line j
       → surveyLooksBelow ring line i + (j - (i - 1)) * stepLooks (length ring) ≡ surveyLooksBelow ring line (j + 1)
   steps-cost j after l in-line =

@@ -1,5 +1,5 @@
--- What the table and the looks say of any answer that meets the contract of `survey`: rows 1 to 4 hold of it, and an accepted one has found all findings with
--- "2·m·n − m·m looks for n ≥ m, else 0". What every search gives is SearchGives of the findings; only the looks are the survey's own.
+-- What follows for any answer that meets the contract of `survey`: rows 1 to 4 hold, and an accepted call has found all findings, with "2·m·n − m·m looks for n ≥ m, else
+-- 0". What holds of every search is in SearchGives of crates/findings; only the looks are the survey's own.
 use Prim.Native.Nat.{ℕ, _-_, _*_, _≤_, _<_}
 use mathlib.Core.Path.{_≡_, refl, _∙_}
 use mathlib.Core.List.{List}

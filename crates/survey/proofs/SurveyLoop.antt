@@ -1,5 +1,5 @@
--- The survey's loop over all starts: before start i the words of the findings below i are put, the looks are those of the starts below i, and the counts hold the tally of
--- the start before. A turn verifies the starts from i to the one reached, of which that one alone may be a finding; at the first place that is no start all is found.
+-- The survey's loop. Before start i the words of the findings below i are put, the looks are those of the starts below i, and the counts hold the tally of the start before.
+-- A turn verifies the starts from i to the one reached; only that one may be a finding. Where no window fits any more, all is found.
 use Prim.Native.Nat.{ℕ, _+_, _-_, _*_, _≤_, _<_}
 use mathlib.Core.Path.{_≡_, refl, sym, ap, _∙_}
 use mathlib.Core.List.{List, [], _∷_, _++_, append-nil}

@@ -16,8 +16,8 @@ ghost use lib.ListN.{length};
 ghost use Rattle.findings.specs.Admitting.{Admitted};
 ghost use Rattle.survey.specs.Survey.{CanVerifyOn, IsVerifiedOn, CanSurvey, LineSurveyed, IsSurveyed};
 
-// "the first afresh and each next by one step, at m = 1 too": rule 5's 2·s > m is not asked here. The tally is moved on
-// to the next finding, or to the last start, so that it is handed over once for a finding and not for each start.
+// "the first afresh and each next by one step, at m = 1 too": rule 5's test 2·s > m is not made here. The tally is moved on
+// to the next finding, or to the last start, so that it is copied once for a finding and not for each start.
 fn verify_on(
     counts: &mut [u16; MOST_COUNTS],
     ring: &[u8],
@@ -50,7 +50,7 @@ fn verify_on(
     }
 }
 
-// Finding after finding, while a start is left: its window fits in the line.
+// Finding after finding, while a window fits in the line.
 fn survey_starts(
     ring: &[u8],
     doubled: &[u8],

@@ -1,5 +1,4 @@
 -- Any two answers that meet the contract of `sweep_on` are equal, and the counts at exit too: it is one equation.
--- Assumes nothing.
 use Prim.Native.Nat.{ℕ}
 use mathlib.Core.Path.{_≡_, sym, ap, _∙_}
 use mathlib.Core.List.{List}

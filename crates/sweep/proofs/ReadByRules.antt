@@ -1,6 +1,6 @@
--- A window read with the ring's own vectors is read by rules 1 to 3. By induction on the edges left: the held vector's bits stand for the stretch (`WindowLoop` of
--- crates/meaning), and grown by an edge it has the bits that the grown stretch asks for (`grown-by-edge` of crates/vectors). So it has no bit left exactly at a
--- break, and nothing here looks at a word.
+-- A window read with the ring's own vectors is read by rules 1 to 3. By induction on the edges left: the bits of the held vector stand for the stretch (`WindowLoop` of
+-- crates/meaning), and grown by an edge the vector has the bits of the grown stretch (`grown-by-edge` of crates/vectors). So no bit is left exactly at a break. Nothing
+-- here looks at a word.
 use Prim.Native.Nat.{ℕ, zero, suc, _+_, _*_, _≤_, _<_}
 use mathlib.Core.Path.{_≡_, refl, sym, subst, _∙_}
 use mathlib.Core.Bool.{true, false, true≢false}

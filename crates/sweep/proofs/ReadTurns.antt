@@ -1,5 +1,5 @@
--- One window read with a table: what the loop keeps (what is still to be read gives the answer), and how far it goes: each edge read is one look, so looks and edges
--- left are m together, and at least one edge is read.
+-- One window read with a table. Before each turn of the loop, reading the edges that are left gives the result (`StillToRead`). Each edge read is one look, so looks and
+-- edges left sum to m. At least one edge is read.
 use Prim.Native.Nat.{ℕ, zero, suc, _+_, _-_, _*_, _≤_, _<_}
 use mathlib.Core.Path.{_≡_, refl, sym, ap, _∙_}
 use mathlib.Core.Bool.{true, false}
@@ -15,61 +15,62 @@ use Rattle.vectors.specs.ByValue.{vectorWords, grownWords}
 use Rattle.sweep.specs.declared.reading.WindowRead.{WindowRead}
 use Rattle.sweep.specs.Reads.{heldWith, readOn, readWith, readBy}
 
+-- Before a turn of the loop.
+pub record StillToRead (table window : List ℕ) (k words : ℕ) (held : List ℕ) (left breaks looks : ℕ) : Type 0 where
+  pub looks-are : looks + left ≡ length window
+  pub breaks-le : breaks ≤ looks
+  pub still : readOn table window k words left held breaks looks ≡ readWith table window k words
+
+-- Before the first.
+pub to-read-all : (table window : List ℕ) (k words : ℕ) → StillToRead table window k words (firstBits (length window) vectorWords) (length window) 0 0
+to-read-all table window k words = record { looks-are = omega arith; breaks-le = omega arith; still = refl }
+
+module _ {table window : List ℕ} {k words : ℕ} {held : List ℕ} {left breaks looks : ℕ} (known : StillToRead table window k words held left breaks looks) where
+  -- After the last.
+  pub to-read-none : left ≡ 0 → record { left = left; breaks = breaks; looks = looks } ≡ readWith table window k words
+  unfolding readOn
+  to-read-none none = rw none (rw none at (known .still))
+
+  -- One edge is read, and the held vector grown by its occurrence vector.
+  module _ (some-left : 0 < left) {occurs new : List ℕ} (of-edge : occurs ≡ vectorAt table (getD window (left - 1) 0 * vectorWords) vectorWords)
+      (is-grown : new ≡ grownWords (length window) words occurs held) where
+    new-is : heldWith table window words (left - 1) held ≡ new
+    new-is = sym (is-grown ∙ ap (λ (v : List ℕ). grownWords (length window) words v held) of-edge)
+
+    from-here : readOn table window k words (suc (left - 1)) held breaks looks ≡ readWith table window k words
+    from-here = let one : left ≡ suc (left - 1) = omega arith in ap (λ (n : ℕ). readOn table window k words n held breaks looks) (sym one) ∙ known .still
+
+    -- Break k + 1.
+    pub to-read-stops : noBit new words ≡ true → k < breaks + 1
+        → record { left = left - 1; breaks = breaks + 1; looks = looks + 1 } ≡ readWith table window k words
+    unfolding readOn
+    to-read-stops none many = rw (new-is, none, lt-ltb k (breaks + 1) many) at from-here
+
+    -- A break before it.
+    pub to-read-empties : noBit new words ≡ true → breaks + 1 ≤ k
+        → StillToRead table window k words (firstBits (length window) vectorWords) (left - 1) (breaks + 1) (looks + 1)
+    unfolding readOn
+    to-read-empties none few = record {
+      looks-are = omega (arith, known .looks-are);
+      breaks-le = omega (arith, known .breaks-le);
+      still = rw (new-is, none, le-ltb k (breaks + 1) few) at from-here;
+    }
+
+    -- The stretch has grown.
+    pub to-read-grows : noBit new words ≡ false → StillToRead table window k words new (left - 1) breaks (looks + 1)
+    unfolding readOn
+    to-read-grows some = record {
+      looks-are = omega (arith, known .looks-are);
+      breaks-le = omega (arith, known .breaks-le);
+      still = rw (new-is, some) at from-here;
+    }
+
 module _ (table window : List ℕ) (k words : ℕ) where
   abbrev m : ℕ
   m = length window
 
   abbrev full : List ℕ
   full = firstBits m vectorWords
-
-  -- Before a turn of the loop.
-  pub record StillToRead (held : List ℕ) (left breaks looks : ℕ) : Type 0 where
-    pub looks-are : looks + left ≡ m
-    pub breaks-le : breaks ≤ looks
-    pub still : readOn table window k words left held breaks looks ≡ readWith table window k words
-
-  -- Before the first.
-  pub to-read-all : StillToRead full m 0 0
-  to-read-all = record { looks-are = omega arith; breaks-le = omega arith; still = refl }
-
-  module _ (held : List ℕ) (left breaks looks : ℕ) (known : StillToRead held left breaks looks) where
-    -- After the last.
-    pub to-read-none : left ≡ 0 → record { left = left; breaks = breaks; looks = looks } ≡ readWith table window k words
-    unfolding readOn
-    to-read-none none = rw none (rw none at (known .still))
-
-    -- One edge is read, and the held vector grown by its occurrence vector.
-    module _ (some-left : 0 < left) (occurs new : List ℕ) (of-edge : occurs ≡ vectorAt table (getD window (left - 1) 0 * vectorWords) vectorWords)
-        (is-grown : new ≡ grownWords m words occurs held) where
-      new-is : heldWith table window words (left - 1) held ≡ new
-      new-is = sym (is-grown ∙ ap (λ (v : List ℕ). grownWords m words v held) of-edge)
-
-      from-here : readOn table window k words (suc (left - 1)) held breaks looks ≡ readWith table window k words
-      from-here = let one : left ≡ suc (left - 1) = omega arith in ap (λ (n : ℕ). readOn table window k words n held breaks looks) (sym one) ∙ known .still
-
-      -- Break k + 1.
-      pub to-read-stops : noBit new words ≡ true → k < breaks + 1
-          → record { left = left - 1; breaks = breaks + 1; looks = looks + 1 } ≡ readWith table window k words
-      unfolding readOn
-      to-read-stops none many = rw (new-is, none, lt-ltb k (breaks + 1) many) at from-here
-
-      -- A break before it.
-      pub to-read-empties : noBit new words ≡ true → breaks + 1 ≤ k → StillToRead full (left - 1) (breaks + 1) (looks + 1)
-      unfolding readOn
-      to-read-empties none few = record {
-        looks-are = omega (arith, known .looks-are);
-        breaks-le = omega (arith, known .breaks-le);
-        still = rw (new-is, none, le-ltb k (breaks + 1) few) at from-here;
-      }
-
-      -- The stretch has grown.
-      pub to-read-grows : noBit new words ≡ false → StillToRead new (left - 1) breaks (looks + 1)
-      unfolding readOn
-      to-read-grows some = record {
-        looks-are = omega (arith, known .looks-are);
-        breaks-le = omega (arith, known .breaks-le);
-        still = rw (new-is, some) at from-here;
-      }
 
   -- Where reading with `left` edges unread ends: each edge read is one look, and with an edge left one at least is read.
   record ReadGoes (left looks : ℕ) (r : WindowRead) : Type 0 where

@@ -1,6 +1,5 @@
--- Whether a sweep can go on: the test is a conjunction of comparisons, and `CanSweep` says the same (`can-sweep-iff`). So a sweep that passes meets what
--- `to_candidate` asks, and the two ways of `sweep_on` are the two cases of its contract.
--- Assumes nothing.
+-- Whether a sweep can go on: the test is a conjunction of comparisons, and `CanSweep` says the same (`can-sweep-iff`). So a sweep that passes meets the precondition of
+-- `to_candidate`, and the two returns of `sweep_on` are the two cases of its contract.
 use Prim.Native.Nat.{ℕ, _+_}
 use mathlib.Core.Path.{_≡_, refl}
 use mathlib.Core.Bool.{Bool, true, false}

@@ -1,5 +1,5 @@
--- The sweep to the next candidate, by its three ways: no candidate, no finding, a finding. Each is a case of `sweepBy`. The looks fit: those so far are within the
--- limit, a window costs at most 256, and so few windows and one verification are far below what a word holds.
+-- The three cases of the sweep to the next candidate: no candidate, no finding, a finding. Each is a case of `sweepBy`. The looks do not overflow: those so far are within
+-- the limit, a window costs at most 256, there are at most 2^32 windows, and one verification costs at most 65,536.
 use Prim.Native.Nat.{ℕ, _+_, _-_, _*_, _≤_, _<_}
 use mathlib.Core.Path.{_≡_, refl, ap}
 use mathlib.Core.Bool.{true, false}

@@ -1,16 +1,14 @@
--- With the ring's own vectors, its double and the last verified start's tally, what `sweep_on` answers is what rules 1 to 5 give. The windows up to the candidate are
--- left (`windows-by-rules`), and the candidate is verified by rule 5 (`tally-by-rules`); whether it is a finding, and which, its tally says (`TallyFinding` of
--- crates/tally). So each of the three ways of `sweepBy` is a sweep by the rules.
+-- With the ring's own vectors and double and the last verified start's tally, the answer of `sweep_on` is what rules 1 to 5 give. The windows up to the candidate are left
+-- (`windows-by-rules`), and the candidate is verified by rule 5 (`tally-by-rules`). Its tally decides whether it is a finding, and which (`TallyFinding` of crates/tally).
 use Prim.Native.Nat.{ℕ, _+_, _≤_, _<_}
 use mathlib.Core.Path.{_≡_, refl, sym, ap, subst, _∙_}
 use mathlib.Core.Bool.{true, false, true≢false}
 use mathlib.Core.List.{List}
 use native.Mathlib.Omega.{arith}
-use lib.Dec.{ltb, leb}
+use lib.Dec.{ltb}
 use lib.ListN.{length}
-use borrow.Author.Tests.{le-leb, ltb-true, ltb-false}
+use borrow.Author.Tests.{ltb-true, ltb-false}
 use Rattle.meaning.specs.Findings.{foundAt}
-use Rattle.meaning.specs.Rules.{readWindow}
 use Rattle.meaning.specs.Looks.{tallyLooks}
 use Rattle.lists.proofs.Cases.{by-test}
 use Rattle.meaning.proofs.Starts.{fits-is-start}
@@ -89,26 +87,22 @@ module _ (ring doubled table line : List ℕ) (k : ℕ) (old : List ℕ) (at : S
 
     -- What holds after the candidate, finding or not.
     after : (r : Swept) → stateOf r ≡ next → hasEnded r ≡ false → foundOf r ≡ foundAt ring line k i → IsSweptOn ring line k at r (tally .counts)
-    after r state goes-on found =
-        let few : leb (readWindow ring line k i .breaks) k ≡ true = le-leb (readWindow ring line k i .breaks) k (read-is .few) in
-        record {
-          stop = i;
-          looks = reads .looks;
-          left-to = reads .left-to;
-          ended = λ t. absurd (true≢false (sym t ∙ goes-on));
-          candidate = λ _. record {
-            in-line = read-is .in-line;
-            few = read-is .few;
-            swept = record {
-              start-is = rw state (read-is .next-is);
-              last-is = rw (state, few) refl;
-              looks-are = rw (state, few) (omega (arith, read-is .looks-are, verified .looks-are));
-              found-are = rw few found;
-              before = rw state (omega (arith, read-is .next-is), verified .tallied);
-              size = verified .tallied .size;
-            };
-          };
-        }
+    after r state goes-on found = record {
+      stop = i;
+      looks = reads .looks;
+      left-to = reads .left-to;
+      ended = λ t. absurd (true≢false (sym t ∙ goes-on));
+      candidate = λ _. record {
+        in-line = read-is .in-line;
+        few = read-is .few;
+        start-is = rw state (read-is .next-is);
+        last-is = rw state refl;
+        looks-are = rw state (omega (arith, read-is .looks-are, verified .looks-are));
+        found-are = found;
+        before = rw state (omega (arith, read-is .next-is), verified .tallied);
+        size = verified .tallied .size;
+      };
+    }
 
     -- Verified, and no finding.
     none : k < tally .least → IsSweptOn ring line k at (NoFinding next) (tally .counts)
@@ -123,7 +117,7 @@ module _ (ring doubled table line : List ℕ) (k : ℕ) (old : List ℕ) (at : S
         (sym (least-yes ring line k i (tally .counts) (tally .least) (windows .some-edge) (verified .tallied) (verified .least-is)
         (findingWith m (tally .counts) (read .start) (tally .least)) (windows .most) (record { is = refl }) (fits-is-start ring line i (read-is .in-line)) near))
 
-  -- What a sweep came to.
+  -- The sweep by the rules, of its answer and the counts.
   abbrev SweptOn : SweptTo → Type 0
   SweptOn s = IsSweptOn ring line k at (s .swept) (s .counts)
 

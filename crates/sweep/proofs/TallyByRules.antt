@@ -1,6 +1,6 @@
--- A start verified with the ring's own double and the last verified start's tally is verified by rule 5: it has its own tally then, its least count, and the looks that
--- the rule says. Counted afresh it has them by `counted-verified` of crates/tally; moved, by `moved-tallied` of crates/moves, and it moves all the steps, since
--- no least count is below 0.
+-- With the ring's own double and the last verified start's tally, `tallyBy` verifies a start by rule 5: the counts are its tally, with their least count and the looks of
+-- the rule. For a fresh count this is `counted-verified` of crates/tally, for a moved tally `moved-tallied` of crates/moves. It moves all the steps, since no least count
+-- is below 0.
 use Prim.Native.Nat.{ℕ, _+_, _-_, _*_, _≤_, _<_}
 use mathlib.Core.Path.{_≡_, refl}
 use mathlib.Core.List.{List}
@@ -32,7 +32,7 @@ module _ (ring doubled line : List ℕ) (i : ℕ) (old : List ℕ) where
   abbrev m : ℕ
   m = length ring
 
-  -- The start is verified, at so many looks.
+  -- The start is verified, with these looks.
   abbrev VerifiedAt : ℕ → TallyTo → Type 0
   VerifiedAt looks t = Verified ring line i looks (t .counts) (t .least) (t .looks)
 

@@ -1,6 +1,5 @@
--- A start verified, by its four ways: with no earlier tally, not beyond the last verified start, far beyond it, and moved. Each is a case of `tallyBy`; none takes
--- more looks than a fresh count of the longest ring.
--- Assumes nothing.
+-- The four cases of verifying a start: no earlier tally, not beyond the last verified start, far beyond it, and moved. Each is a case of `tallyBy`. None takes more looks
+-- than a fresh count of the longest ring.
 use Prim.Native.Nat.{ℕ, _-_, _*_, _≤_, _<_}
 use mathlib.Core.Path.{_≡_, ap, _∙_}
 use mathlib.Core.List.{List}
@@ -26,46 +25,41 @@ use Rattle.sweep.specs.Sweeps.{movedTo, tallyBy, IsTallied}
 abbrev pub mostTally : ℕ
 mostTally = mostCounts * mostCounts
 
+module _ (ring : List ℕ) {doubled line : List ℕ} {i : ℕ} {old : List ℕ} where
+  -- Counted afresh, as `count_afresh` returns it of the window that was handed out.
+  module _ {edges new : List ℕ} {z : Least} (handed : IsWindow line i (length ring) edges) (counted : IsCounted doubled edges old new z) where
+    afresh-is : record { counts = new; least = z .least; looks = z .looks } ≡ countedTo doubled (windowAt (length ring) line i) old
+    afresh-is =
+        (λ j. record { counts = counted .written j; least = counted .least-is j; looks = counted .looks-are j })
+        ∙ ap (λ (w : List ℕ). countedTo doubled w old) (handed .is)
+
+    -- With no earlier tally.
+    pub tallied-first : {last : LastVerified} → last ≡ Nothing → IsTallied ring doubled line i last old new z
+    unfolding tallyBy
+    tallied-first none = record { is = rw none afresh-is }
+
+    -- Not beyond the last verified start.
+    pub tallied-behind : {last : LastVerified} {from : LinePlace} → last ≡ At from → i ≤ from .0 → IsTallied ring doubled line i last old new z
+    unfolding tallyBy
+    tallied-behind {from = from} after behind = record { is = rw (after, le-leb i (from .0) behind) afresh-is }
+
+    -- Far beyond it.
+    pub tallied-far : {last : LastVerified} {from : LinePlace} → last ≡ At from → from .0 < i → length ring < 2 * (i - from .0) → IsTallied ring doubled line i last old new z
+    unfolding tallyBy
+    tallied-far {from = from} after beyond far = record { is = rw (after, lt-leb i (from .0) beyond, lt-ltb (length ring) (2 * (i - from .0)) far) afresh-is }
+
+  -- Moved.
+  pub tallied-moved : {last : LastVerified} {from : LinePlace} {new : List ℕ} {r : Reached} → last ≡ At from → from .0 < i → 2 * (i - from .0) ≤ length ring
+      → IsMoved ring line (from .0) (i - from .0) 0 old new r → IsTallied ring doubled line i last old new (record { least = r .least; looks = r .looks })
+  unfolding tallyBy movedTo
+  tallied-moved {from = from} after beyond near moved = record {
+    is = rw (after, lt-leb i (from .0) beyond, le-ltb (length ring) (2 * (i - from .0)) near)
+        (ap (λ (p : CountsAt). record { counts = p .counts; least = p .least; looks = p .looks }) (moved .is));
+  }
+
 module _ (ring doubled line : List ℕ) (i : ℕ) (old : List ℕ) where
   abbrev m : ℕ
   m = length ring
-
-  -- What `count_afresh` answers of the window that was handed out.
-  afresh-is : (edges new : List ℕ) (z : Least) → IsWindow line i m edges → IsCounted doubled edges old new z
-      → record { counts = new; least = z .least; looks = z .looks } ≡ countedTo doubled (windowAt m line i) old
-  afresh-is edges new z handed counted =
-      (λ j. record { counts = counted .written j; least = counted .least-is j; looks = counted .looks-are j })
-      ∙ ap (λ (w : List ℕ). countedTo doubled w old) (handed .is)
-
-  -- With no earlier tally.
-  pub tallied-first : (last : LastVerified) (edges new : List ℕ) (z : Least) → last ≡ Nothing → IsWindow line i m edges → IsCounted doubled edges old new z
-      → IsTallied ring doubled line i last old new z
-  unfolding tallyBy
-  tallied-first last edges new z none handed counted = record { is = rw none (afresh-is edges new z handed counted) }
-
-  module _ (last : LastVerified) (from : LinePlace) (after : last ≡ At from) where
-    -- Not beyond the last verified start.
-    pub tallied-behind : (edges new : List ℕ) (z : Least) → i ≤ from .0 → IsWindow line i m edges → IsCounted doubled edges old new z
-        → IsTallied ring doubled line i last old new z
-    unfolding tallyBy
-    tallied-behind edges new z behind handed counted = record { is = rw (after, le-leb i (from .0) behind) (afresh-is edges new z handed counted) }
-
-    -- Far beyond it.
-    pub tallied-far : (edges new : List ℕ) (z : Least) → from .0 < i → m < 2 * (i - from .0) → IsWindow line i m edges → IsCounted doubled edges old new z
-        → IsTallied ring doubled line i last old new z
-    unfolding tallyBy
-    tallied-far edges new z beyond far handed counted = record {
-      is = rw (after, lt-leb i (from .0) beyond, lt-ltb m (2 * (i - from .0)) far) (afresh-is edges new z handed counted);
-    }
-
-    -- Moved.
-    pub tallied-moved : (new : List ℕ) (r : Reached) → from .0 < i → 2 * (i - from .0) ≤ m → IsMoved ring line (from .0) (i - from .0) 0 old new r
-        → IsTallied ring doubled line i last old new (record { least = r .least; looks = r .looks })
-    unfolding tallyBy movedTo
-    tallied-moved new r beyond near moved = record {
-      is = rw (after, lt-leb i (from .0) beyond, le-ltb m (2 * (i - from .0)) near)
-          (ap (λ (p : CountsAt). record { counts = p .counts; least = p .least; looks = p .looks }) (moved .is));
-    }
 
   afresh-looks : (window : List ℕ) → countedTo doubled window old .looks ≤ mostTally
   unfolding countedTo

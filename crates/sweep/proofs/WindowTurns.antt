@@ -1,5 +1,5 @@
--- Window after window: what the loop keeps (what is still to be read gives the answer), and how far it goes: a window costs at most m looks, and each starts past the
--- one before.
+-- Window after window. Before each turn of the loop, reading the windows that are left gives the result (`StillWindows`). A window costs at most m looks, and each starts
+-- past the one before.
 use Prim.Native.Nat.{ℕ, zero, suc, _+_, _-_, _*_, _≤_, _<_}
 use mathlib.Core.Path.{_≡_, refl, sym, ap, _∙_}
 use mathlib.Core.Bool.{true}
@@ -97,7 +97,7 @@ module _ {ring table line : List ℕ} {k from i looks : ℕ} (known : StillWindo
       still = rw (fits-line-iff ring line i .1 fits, is-read, lt-leb (r .breaks) k many) at from-here;
     }
 
--- How far so many windows go: to a start in the line or just past it, at most 256 looks for each.
+-- How far `left` windows go: to a start in the line or just past it, with at most 256 looks for each.
 pub record WindowsGo (n looks left : ℕ) (to : WindowsRead) : Type 0 where
   pub start-le : to .start .0 ≤ n + 1
   pub looks-le : to .looks ≤ looks + mostCounts * left
@@ -119,6 +119,6 @@ module _ (ring table line : List ℕ) (k from : ℕ) (can : CanReadWindows (leng
       record { start-le = later .start-le; looks-le = omega (arith, later .looks-le, reads .0, can .most) }))
       (λ _. record { start-le = l; looks-le = omega arith })
 
-  -- From a start on there are no more windows than places up to just past the line, and reading them ends there at the latest, at most 256 looks for each.
+  -- From a start on there are no more windows than places up to just past the line. Reading them ends there at the latest, with at most 256 looks for each.
   pub windows-within : WindowsGo (length line) 0 (length line + 1 - from) (windowsBy ring table line k from)
   windows-within = windows-go (length line + 1 - from) from 0 (can .start-le)

@@ -1,6 +1,6 @@
--- Windows read with the ring's own vectors are read by the rules, to the next candidate. By induction on the windows that may still come: every window so far was left
--- (`LeftTo`). The window at i is read as a line of its own (`read-by-rules`, `alone-reading` of crates/meaning); it is left at break k + 1, and the next one
--- starts later, or it is the candidate, or none is in the line any more.
+-- Windows read with the ring's own vectors are read by the rules, to the next candidate. By induction on how many may still come: every window so far was left (`LeftTo`).
+-- The window at i is read as a line of its own (`read-by-rules`, `alone-reading` of crates/meaning). It is left at break k + 1, and the next one starts later; or it is the
+-- candidate; or it is not in the line.
 use Prim.Native.Nat.{ℕ, zero, suc, _+_, _-_, _≤_, _<_}
 use mathlib.Core.Path.{_≡_, refl, sym, ap, _∙_}
 use mathlib.Core.Bool.{true, true≢false}

@@ -1,5 +1,5 @@
--- Windows left at break k + 1, one after the other (`LeftTo`), by induction on them: starts never fall and stay in the line or just past it, and what a loop over windows
--- keeps (`ScanLoop` of crates/meaning) it keeps over all of them, since none of them finds anything.
+-- Windows left at break k + 1, one after the other (`LeftTo`), by induction on them. Their starts never fall and stay in the line or just past it. They find nothing, so
+-- what the loop over windows keeps (`ScanLoop` of crates/meaning) holds after them.
 use Prim.Native.Nat.{ℕ, _+_, _≤_}
 use mathlib.Core.List.{List}
 use mathlib.Core.Option.{Option}

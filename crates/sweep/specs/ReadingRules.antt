@@ -1,6 +1,6 @@
--- Rules 1 to 3 for one window, with the ring's own vectors. A window is handed out as a part of the line and read as a line of its own, at start 0; that this is the
--- same is `alone-reading` of crates/meaning. What reading computes with any table is `readBy` of Reads; that with the ring's own it is this, `read-by-rules` in
--- proofs/ReadByRules.
+-- Rules 1 to 3 for one window, with the ring's own vectors. A window is handed out as a part of the line and read as a line of its own, at start 0; `alone-reading` of
+-- crates/meaning says that this is the same. What is computed with any table is `readBy` of Reads; `read-by-rules` in proofs/ReadByRules says that with the ring's own
+-- table it is this.
 use Prim.Native.Nat.{ℕ, _+_, _≤_, _<_}
 use mathlib.Core.Path.{_≡_}
 use mathlib.Core.List.{List}
@@ -16,7 +16,7 @@ pub record OwnVectors (ring table : List ℕ) : Type 0 where
   pub most : length ring ≤ mostCounts
   pub occurs : Occurrences ring table
 
--- The window is read as rules 1 to 3 say: its edges read, each one look; those left; its breaks.
+-- The window is read by rules 1 to 3: one look for each edge read, the edges left, the breaks.
 pub record IsWindowRead (ring window : List ℕ) (k : ℕ) (r : WindowRead) : Type 0 where
   pub read-is : r .looks ≡ readWindow ring window k 0 .read
   pub left-is : r .looks + r .left ≡ length ring

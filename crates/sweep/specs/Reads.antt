@@ -1,9 +1,9 @@
--- What reading computes, on every input: rules 1 to 3 with the stretch held as a vector of bits (source document 003), read with whatever table is lent. With the ring's
--- own table this is what the rules give, `IsWindowRead` of ReadingRules and `IsWindowsRead` of SweepRules: `read-by-rules` and `windows-by-rules` in proofs/.
+-- What reading computes, on every input: rules 1 to 3 with the stretch held as a vector of bits (source document 003), and any table. With the ring's own table it is what
+-- the rules give, `IsWindowRead` of ReadingRules and `IsWindowsRead` of SweepRules: `read-by-rules` and `windows-by-rules` in proofs/.
 --
 --   readOn, readWith, readBy    one window
 --   windowsOn, windowsBy        window after window, to the next candidate
---   CanReadWindows              what reading windows asks
+--   CanReadWindows              the precondition of `read_windows`
 use Prim.Native.Nat.{ℕ, zero, suc, _+_, _-_, _*_, _≤_, _<_}
 use mathlib.Core.Bool.{true, false, cond}
 use mathlib.Core.List.{List}
@@ -64,9 +64,7 @@ windowsOn ring table line k (suc left) i looks =
 abbrev pub windowsBy : List ℕ → List ℕ → List ℕ → ℕ → ℕ → WindowsRead
 windowsBy ring table line k from = windowsOn ring table line k (length line + 1 - from) from 0
 
--- From here on: what private functions ask.
-
--- What reading windows asks: a ring within the limit, a line that has places for its starts, and a start of at most n + 1.
+-- Precondition of `read_windows`: a ring within the limit, a line whose starts are 32-bit numbers, and a start of at most n + 1.
 pub record CanReadWindows (m n from : ℕ) : Type 0 where
   pub some-edge : 0 < m
   pub most : m ≤ mostCounts

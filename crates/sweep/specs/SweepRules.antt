@@ -1,22 +1,20 @@
--- The sweep by rules 1 to 5, on to the next candidate: what it asks, and what it gives, in the words of crates/meaning. Scan and report are loops over it. What
--- `sweep_on` computes on every input is `sweepBy` of Sweeps; that it is this, `swept-by-rules` in proofs/.
+-- The sweep by rules 1 to 5, to the next candidate, in the words of crates/meaning. The loop of scan and report goes over it. What `sweep_on` computes on every input is
+-- `sweepBy` of Sweeps; `swept-by-rules` in proofs/ says that it is this.
 --
---   sweptStart, sweptLast, sweptLooks    where the sweep stands after a window
---   sweptFound                           what the window reports
---   stateOf, foundOf, hasEnded           of an answer: where the sweep stands, what it reported, whether it has ended
---   LeftTo                               windows left at break k + 1, one after the other
---   IsWindowsRead                        where reading windows came to
---   IsCandidateRead, IsCandidateSwept    a candidate read, and swept
---   HasEnded                             no window is in the line any more
---   CanSweepOn                           what sweeping by the rules asks
---   IsSwept                              one window swept
---   IsSweptOn                            the sweep to the next candidate
+--   sweptStart                   where the next window starts
+--   stateOf, foundOf, hasEnded   of an answer: where the sweep stands, what it reported, whether it has ended
+--   LeftTo                       windows left at break k + 1, one after the other
+--   IsCandidateRead              a candidate read
+--   IsWindowsRead                windows read, to the next candidate
+--   CanSweepOn                   the sweep can go on by the rules
+--   IsCandidateSwept             a candidate verified
+--   HasEnded                     no window is in the line any more
+--   IsSweptOn                    the sweep to the next candidate
 use Prim.Native.Nat.{ℕ, _+_, _-_, _≤_, _<_}
 use mathlib.Core.Path.{_≡_}
-use mathlib.Core.Bool.{Bool, true, false, cond}
+use mathlib.Core.Bool.{Bool, true, false}
 use mathlib.Core.List.{List, [], _∷_}
-use mathlib.Core.Option.{Option, some}
-use lib.Dec.{leb}
+use mathlib.Core.Option.{some}
 use lib.ListN.{length}
 use Rattle.meaning.specs.Meanings.{FitsInLine, IsPastLine}
 use Rattle.meaning.specs.Findings.{Finding, foundAt}
@@ -36,47 +34,32 @@ use Rattle.sweep.specs.VerifyingRules.{TalliedBefore, lastOf}
 abbrev pub sweptStart : List ℕ → List ℕ → ℕ → ℕ → ℕ
 sweptStart ring line k i = i + (length ring - readWindow ring line k i .read + 1)
 
--- Rule 4: "A window with all m edges read and at most k breaks is a candidate." One with at most k breaks has all its edges read, so the breaks tell. Every
--- candidate is verified, and is then the last verified start.
-abbrev pub sweptLast : List ℕ → List ℕ → ℕ → ℕ → Option ℕ → Option ℕ
-sweptLast ring line k i last = cond (leb (readWindow ring line k i .breaks) k) (some i) last
-
--- "Looks are the sum over rules 1 and 5": what the window costs, added to the looks so far.
-abbrev pub sweptLooks : List ℕ → List ℕ → ℕ → ℕ → Option ℕ → ℕ → ℕ
-sweptLooks ring line k i last looks =
-    looks + readWindow ring line k i .read + cond (leb (readWindow ring line k i .breaks) k) (tallyLooks (length ring) last i) 0
-
--- Rule 4: "Each candidate is verified, and reported if it is a finding."
-abbrev pub sweptFound : List ℕ → List ℕ → ℕ → ℕ → List Finding
-sweptFound ring line k i = cond (leb (readWindow ring line k i .breaks) k) (foundAt ring line k i) []
-
--- Where the sweep stands after it.
+-- Where the sweep stands, by its answer.
 abbrev pub stateOf : Swept → Sweep
 stateOf (Ended next) = next
 stateOf (NoFinding next) = next
 stateOf (Found next f) = next
 
--- What it reported.
+-- What it reported, by its answer.
 abbrev pub foundOf : Swept → List Finding
 foundOf (Ended next) = []
 foundOf (NoFinding next) = []
 foundOf (Found next f) = findingOf f ∷ []
 
--- Whether there was no candidate any more.
+-- Whether it has ended: there was no candidate any more.
 abbrev pub hasEnded : Swept → Bool
 hasEnded (Ended next) = true
 hasEnded (NoFinding next) = false
 hasEnded (Found next f) = false
 
--- Windows left at break k + 1, one after the other, from start `from` to start i: each is in the line, the next one starts as rule 3 says, and the looks are
--- the edges read.
+-- Windows left at break k + 1, one after the other, from start `from` to start i. Each fits in the line, the next one starts by rule 3, and the looks are the edges read.
 pub data LeftTo (ring line : List ℕ) (k from : ℕ) : ℕ → ℕ → Type 0 where
   none-left : LeftTo ring line k from from 0
   one-left : {i looks : ℕ} → LeftTo ring line k from i looks → FitsInLine ring line i → k < readWindow ring line k i .breaks
       → LeftTo ring line k from (sweptStart ring line k i) (looks + readWindow ring line k i .read)
 
--- Rule 4, "A window with all m edges read and at most k breaks is a candidate": the one at which reading stopped, the start after it, and its reads among
--- the looks.
+-- Rule 4: "A window with all m edges read and at most k breaks is a candidate." One with at most k breaks has all its edges read. `looks` are those of the windows before
+-- it.
 pub record IsCandidateRead (ring line : List ℕ) (k looks : ℕ) (r : WindowsRead) : Type 0 where
   pub in-line : FitsInLine ring line (r .start .0)
   pub few : readWindow ring line k (r .start .0) .breaks ≤ k
@@ -90,8 +73,8 @@ pub record IsWindowsRead (ring line : List ℕ) (k from : ℕ) (r : WindowsRead)
   pub candidate-is : r .candidate ≡ true → IsCandidateRead ring line k looks r
   pub ended : r .candidate ≡ false → IsPastLine ring line (r .start .0) × (r .next .0 ≡ r .start .0) × (r .looks ≡ looks)
 
--- What sweeping by the rules asks: a ring and a line within the limits, the ring's vectors and its double, a start of at most n + 1, the tally of the last verified
--- start, and room for more looks. The allowance may be any.
+-- The sweep can go on by the rules: ring, line, start and looks are within the limits, the ring's own vectors and double are lent, and the counts hold the tally of the
+-- last verified start. The allowance may be any.
 pub record CanSweepOn (ring doubled table line counts : List ℕ) (at : Sweep) : Type 0 where
   pub can-sweep : CanSweep (length ring) (length line) (at .start .0) (at .looks)
   pub size : length counts ≡ mostCounts
@@ -99,20 +82,17 @@ pub record CanSweepOn (ring doubled table line counts : List ℕ) (at : Sweep) :
   pub twice : IsDoubled ring doubled
   pub before : TalliedBefore ring line (at .start .0) counts (lastOf (at .last))
 
--- One window is swept by the rules, and the counts hold the tally of the start that was verified last.
-pub record IsSwept (ring line : List ℕ) (k : ℕ) (at : Sweep) (r : Swept) (counts : List ℕ) : Type 0 where
-  pub start-is : stateOf r .start .0 ≡ sweptStart ring line k (at .start .0)
-  pub last-is : lastOf (stateOf r .last) ≡ sweptLast ring line k (at .start .0) (lastOf (at .last))
-  pub looks-are : stateOf r .looks ≡ sweptLooks ring line k (at .start .0) (lastOf (at .last)) (at .looks)
-  pub found-are : foundOf r ≡ sweptFound ring line k (at .start .0)
-  pub before : TalliedBefore ring line (stateOf r .start .0) counts (lastOf (stateOf r .last))
-  pub size : length counts ≡ mostCounts
-
--- A candidate is swept: its window is in the line and has at most k breaks.
+-- Rule 4: "Each candidate is verified, and reported if it is a finding." It is then the last verified start. "Looks are the sum over rules 1 and 5": its reads and its
+-- verification are added. The counts hold its tally.
 pub record IsCandidateSwept (ring line : List ℕ) (k : ℕ) (at : Sweep) (r : Swept) (counts : List ℕ) : Type 0 where
   pub in-line : FitsInLine ring line (at .start .0)
   pub few : readWindow ring line k (at .start .0) .breaks ≤ k
-  pub swept : IsSwept ring line k at r counts
+  pub start-is : stateOf r .start .0 ≡ sweptStart ring line k (at .start .0)
+  pub last-is : lastOf (stateOf r .last) ≡ some (at .start .0)
+  pub looks-are : stateOf r .looks ≡ at .looks + readWindow ring line k (at .start .0) .read + tallyLooks (length ring) (lastOf (at .last)) (at .start .0)
+  pub found-are : foundOf r ≡ foundAt ring line k (at .start .0)
+  pub before : TalliedBefore ring line (stateOf r .start .0) counts (lastOf (stateOf r .last))
+  pub size : length counts ≡ mostCounts
 
 -- No window is in the line any more, and the counts still hold the tally of the start that was verified last.
 pub record HasEnded (ring line : List ℕ) (at next : Sweep) (counts : List ℕ) : Type 0 where

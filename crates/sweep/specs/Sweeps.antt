@@ -1,13 +1,12 @@
--- What `sweep_on` computes, on every input, with whatever vectors, doubled ring and counts it is lent. Where they are the ring's own and the last verified start's tally
--- this is what the rules give, `IsSweptOn` of SweepRules: `swept-by-rules` in proofs/.
+-- What `sweep_on` computes, on every input, whatever vectors, doubled ring and counts it is lent. Where they are the ring's own and the last verified start's tally, this is
+-- what the rules give, `IsSweptOn` of SweepRules: `swept-by-rules` in proofs/.
 --
 --   tallyBy                a start verified: counted afresh, or the tally moved (rule 5)
 --   sweepBy                the sweep to the next candidate, which is verified (rule 4)
---   canSweep               whether the sweep can go on
---   CanSweep               what `canSweep` tests, as facts
---   IsSweptBy              what `sweep_on` promises
---   IsTallied, IsSweptTo   what private functions promise
-use Prim.Native.Nat.{ℕ, _+_, _-_, _*_, _≤_}
+--   canSweep, CanSweep     whether the sweep can go on: the test, and the same as facts
+--   IsSweptBy              the contract of `sweep_on`
+--   IsTallied, IsSweptTo   the contracts of `verify` and `to_candidate`
+use Prim.Native.Nat.{ℕ, _+_, _-_, _*_, _^_, _≤_}
 use mathlib.Core.Path.{_≡_}
 use mathlib.Core.Bool.{Bool, cond, _&&_}
 use mathlib.Core.List.{List}
@@ -26,7 +25,7 @@ use Rattle.sweep.specs.declared.sweeping.Swept.the-variants.{Ended, NoFi
 use Rattle.sweep.specs.declared.sweeping.WindowsRead.{WindowsRead}
 use Rattle.sweep.specs.Reads.{windowsBy, CanReadWindows}
 
--- Moved s steps, as `move_counts` promises: no least count is below 0, so it moves all of them.
+-- The tally moved s steps by `move_counts`. No least count is below 0, so it moves all of them.
 unfoldable pub movedTo : List ℕ → List ℕ → ℕ → ℕ → List ℕ → TallyTo
 movedTo ring line from s old =
     let to : CountsAt = movedFrom ring line from s 0 old in
@@ -42,7 +41,7 @@ tallyBy ring doubled line i (At from) old =
     let beyond : TallyTo = cond (ltb (length ring) (2 * (i - from .0))) afresh moved in
     cond (leb i (from .0)) afresh beyond
 
--- What a sweep gives: its answer, and the counts.
+-- The result of a sweep: its answer, and the counts.
 pub record SweptTo : Type 0 where
   pub swept : Swept
   pub counts : List ℕ
@@ -63,30 +62,30 @@ sweepBy ring doubled table line k at old =
 
 -- More looks than any sweep takes: 2^62.
 abbrev pub mostLooks : ℕ
-mostLooks = 4611686018427387904
+mostLooks = 2 ^ 62
 
--- Whether a sweep can go on from a start with so many looks: a ring within the limit, a line that has places for its starts, a start of at most n + 1,
--- and room for more looks.
+-- Whether a sweep can go on from a start, with the looks so far: a ring within the limit, a line whose starts are 32-bit numbers, a start of at most n + 1, and no more
+-- looks than the limit.
 unfoldable pub canSweep : ℕ → ℕ → ℕ → ℕ → Bool
 canSweep m n start looks = (ltb 0 m && leb m mostCounts) && (ltb n mostPlaces && (leb start (n + 1) && leb looks mostLooks))
 
--- What `sweep_on` promises: of ring, doubled ring, table, line, allowance, where the sweep stands, the counts, the counts at exit and the answer. A sweep that cannot
--- go on stays where it is, and no count changes.
+-- The contract of `sweep_on`: `at` is the sweep at entry, `old` and `new` are the counts at entry and exit, `r` is the answer. A sweep that cannot go on stays where it is,
+-- and no count changes.
 pub record IsSweptBy (ring doubled table line : List ℕ) (k : ℕ) (at : Sweep) (old new : List ℕ) (r : Swept) : Type 0 where
   pub is : record { swept = r; counts = new }
       ≡ cond (canSweep (length ring) (length line) (at .start .0) (at .looks)) (sweepBy ring doubled table line k at old) (record { swept = Ended at; counts = old })
 
--- From here on: what private functions ask and promise.
+-- From here on: preconditions and contracts of private functions.
 
--- A start is verified: the counts, their least, and the looks.
+-- The contract of `verify`: the counts, their least, and the looks.
 pub record IsTallied (ring doubled line : List ℕ) (i : ℕ) (last : LastVerified) (old new : List ℕ) (z : Least) : Type 0 where
   pub is : record { counts = new; least = z .least; looks = z .looks } ≡ tallyBy ring doubled line i last old
 
--- What `canSweep` tests, as facts: windows can be read from the start on, and there is room for more looks.
+-- What `canSweep` tests, as facts; the precondition of `to_candidate`.
 pub record CanSweep (m n start looks : ℕ) : Type 0 where
   pub windows : CanReadWindows m n start
   pub looks-le : looks ≤ mostLooks
 
--- The sweep to the next candidate.
+-- The contract of `to_candidate`: the sweep to the next candidate.
 pub record IsSweptTo (ring doubled table line : List ℕ) (k : ℕ) (at : Sweep) (old new : List ℕ) (r : Swept) : Type 0 where
   pub is : record { swept = r; counts = new } ≡ sweepBy ring doubled table line k at old

@@ -1,10 +1,10 @@
--- What verifying by rule 5 asks: the ring's own double, and counts that hold the last verified start's tally. Whether it is then counted afresh or moved, and at how
--- many looks, is `tallyLooks` of crates/meaning; that `tallyBy` of Sweeps does that, `tally-by-rules` in proofs/.
+-- The conditions of rule 5: the ring's own double is lent, and the counts hold the last verified start's tally. Whether a start is then counted afresh or the tally moved,
+-- and at how many looks, is `tallyLooks` of crates/meaning; `tally-by-rules` in proofs/ says that `tallyBy` of Sweeps does that.
 --
 --   lastOf           the last verified start, if there is one
---   TalliedBefore    what the counts hold then
---   CanVerify        what verifying a start asks
-use Prim.Native.Nat.{ℕ, _+_, _≤_, _<_}
+--   TalliedBefore    the counts hold its tally
+--   CanVerify        a start can be verified by rule 5
+use Prim.Native.Nat.{ℕ, _<_}
 use mathlib.Core.List.{List}
 use mathlib.Core.Option.{Option, none, some}
 use lib.ListN.{length}
@@ -25,7 +25,7 @@ abbrev pub TalliedBefore : List ℕ → List ℕ → ℕ → List ℕ → Option
 TalliedBefore ring line i counts none = Unit {0}
 TalliedBefore ring line i counts (some last) = (last < i) × Tallied ring line last counts
 
--- What verifying start i asks: a window in the line, and the tally of the last verified start.
+-- Start i can be verified by rule 5: its window is in the line, and the counts hold the tally of the last verified start.
 pub record CanVerify (ring doubled line : List ℕ) (i : ℕ) (counts : List ℕ) (last : Option ℕ) : Type 0 where
   pub fits : TallyFits ring counts
   pub twice : IsDoubled ring doubled

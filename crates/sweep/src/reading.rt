@@ -55,7 +55,7 @@ fn read_words(window: &[u8], table: &[u64; TABLE_WORDS], k: usize, words: usize)
     }
 }
 
-// The window read with as few words as its m bits need: a literal count lets the compiler make straight code of each.
+// The window read with the fewest words for m bits. The counts are literals, so that the compiler makes straight code of each.
 pub fn read_window(window: &[u8], table: &[u64; TABLE_WORDS], k: usize) -> WindowRead
     requires { ⌜ (0 < length (now window)) × (length (now window) ≤ mostCounts) ⌝ }
     ensures { λ z. ⌜ z ≡ readBy (now (table .entry)) (now (window .entry)) k ⌝ }

@@ -1,5 +1,5 @@
-// The sweep goes on from candidate to candidate. Its state is small and goes by value; the counts and the ring's vectors
-// are lent beside it.
+// The sweep goes from candidate to candidate. Its state is small and goes by value; the counts and the ring's vectors are
+// lent beside it.
 use crate::reading::read_window;
 use crate::verifying::LastVerified;
 use crate::verifying::verify;
@@ -15,8 +15,8 @@ ghost use lib.ListN.{length};
 ghost use Rattle.sweep.specs.Reads.{CanReadWindows, windowsBy};
 ghost use Rattle.sweep.specs.Sweeps.{canSweep, CanSweep, IsSweptTo, IsSweptBy};
 
-// 2^62, more looks than any sweep takes: those of the next windows are added without a look being lost.
-const MOST_LOOKS: usize = 4611686018427387904;
+// More looks than any sweep takes. Up to here the looks of the next windows can be added without overflow.
+const MOST_LOOKS: usize = 1 << 62;
 
 // Where a sweep stands: the start of the window to be read next, the last verified start, the looks so far.
 pub struct Sweep {
@@ -25,16 +25,16 @@ pub struct Sweep {
     pub looks: usize,
 }
 
-// What the windows up to the next candidate gave, and where the sweep stands after it: there was none, and no window is
-// left to be read; it is verified and no finding; it is a finding.
+// The answer of `sweep_on`, each with the sweep after it: no candidate, and no window is left; a candidate that is no
+// finding; a candidate that is a finding.
 pub enum Swept {
     Ended(Sweep),
     NoFinding(Sweep),
     Found(Sweep, Finding),
 }
 
-// How far windows were read: the start of the candidate, the start after it, and the looks of all windows up to it; or,
-// where there is no candidate, the first start that has no window in the line, twice.
+// How far windows were read: the candidate's start, the start of the next window, and the looks of all windows up to the
+// candidate. Where there is no candidate, both places are the first that has no window in the line.
 pub struct WindowsRead {
     pub start: LinePlace,
     pub next: LinePlace,
@@ -80,7 +80,7 @@ fn read_windows(
     }
 }
 
-// On to the next candidate, which rule 4 verifies.
+// To the next candidate, which rule 4 verifies.
 fn to_candidate(
     at: Sweep,
     ring: &[u8],
@@ -114,8 +114,8 @@ fn to_candidate(
     Swept::Found(next, finding_at(counts, ring.len(), start, least))
 }
 
-// Whether a sweep can go on from a start with so many looks: a ring within the limit, a line that has places for its
-// starts, a start of at most n + 1, and room for more looks.
+// Whether a sweep can go on from a start, with the looks so far: a ring within the limit, a line whose starts are 32-bit
+// numbers, a start of at most n + 1, and no more looks than the limit.
 fn can_sweep(m: usize, n: usize, start: LinePlace, taken: usize) -> bool
     ensures { λ r. ⌜ r ≡ canSweep m n (start .0) taken ⌝ }
 {
@@ -134,7 +134,7 @@ fn can_sweep(m: usize, n: usize, start: LinePlace, taken: usize) -> bool
     taken <= MOST_LOOKS
 }
 
-// On to the next candidate, from anywhere; where the sweep cannot go on it stays where it is, and no count changes.
+// To the next candidate, on every input. A sweep that cannot go on stays where it is, and no count changes.
 pub fn sweep_on(
     at: Sweep,
     ring: &[u8],

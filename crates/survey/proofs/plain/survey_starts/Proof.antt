@@ -1,5 +1,4 @@
--- `survey::plain::survey_starts` meets its contract. The loop keeps `SurveyKeeps`; its two turns are that the start reached is a finding or not, and the places up to the
--- line's end fall.
+-- `survey::plain::survey_starts` meets its contract: the loop keeps `SurveyKeeps`. In a turn the start reached is a finding or not. The places up to the line's end fall.
 use Prim.Native.Nat.{_+_, _-_}
 use native.Mathlib.Omega.{arith}
 use borrow.Author.Needs.{needs}

@@ -1,5 +1,4 @@
 -- `sweep::reading::read_window` meets its contract: up to 64, 128, 192 and 256 bits need 1, 2, 3 and 4 words.
--- Assumes nothing.
 use native.Mathlib.Omega.{arith}
 use borrow.Author.Needs.{needs}
 use Rattle.sweep.proofs.ReadTurns.{fewest-words}

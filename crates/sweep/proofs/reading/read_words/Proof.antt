@@ -1,6 +1,5 @@
--- `sweep::reading::read_words` meets its contract: what is still to be read gives the answer (`StillToRead`). A turn grows the held vector, or empties it at a break, or
--- leaves the window; the edges left fall.
--- Assumes nothing.
+-- `sweep::reading::read_words` meets its contract: the loop keeps `StillToRead`. A turn grows the held vector, or empties it at a break, or leaves the window. The edges left
+-- fall.
 use mathlib.Core.Path.{_≡_, sym, _∙_}
 use native.Mathlib.Omega.{arith}
 use borrow.Author.Needs.{needs}
@@ -50,8 +49,7 @@ returns : tie.Need-returns Inv-loop μ-loop
 returns c =
     let tested = c .before .before in
     let turn = tested .before .before .before .before in
-    to-read-stops _ _ _ _ _ _ _ _ (turn .before .loop .inv .1) (turn .loop-test .taken) _ _
-    (tested .before .before .vector-of .ensures) (tested .before .grown .ensures) (sym (tested .no-bit .ensures) ∙ c .before .if1 .taken) (omega (arith, c .if2 .taken))
+    to-read-stops (turn .before .loop .inv .1) (turn .loop-test .taken) (tested .before .before .vector-of .ensures) (tested .before .grown .ensures) (sym (tested .no-bit .ensures) ∙ c .before .if1 .taken) (omega (arith, c .if2 .taken))
 
 loop-less : tie.Need-loop-less Inv-loop μ-loop
 loop-less c = omega arith
@@ -64,8 +62,7 @@ loop-again c =
     let full = turn .before .before .first-bits .ensures in (
       full,
       rw full
-          (to-read-empties _ _ _ _ _ _ _ _ (turn .before .loop .inv .1) (turn .loop-test .taken) _ _
-          (tested .before .before .vector-of .ensures) (tested .before .grown .ensures) (sym (tested .no-bit .ensures) ∙ c .before .if1 .taken) (omega (arith, c .if2 .left))),
+          (to-read-empties (turn .before .loop .inv .1) (turn .loop-test .taken) (tested .before .before .vector-of .ensures) (tested .before .grown .ensures) (sym (tested .no-bit .ensures) ∙ c .before .if1 .taken) (omega (arith, c .if2 .left))),
     )
 
 loop-less-2 : tie.Need-loop-less-2 Inv-loop μ-loop
@@ -77,12 +74,11 @@ loop-again-2 c =
     let tested = c .before in
     let turn = tested .before .before .before .before in (
       turn .before .before .first-bits .ensures,
-      to-read-grows _ _ _ _ _ _ _ _ (turn .before .loop .inv .1) (turn .loop-test .taken) _ _
-          (tested .before .before .vector-of .ensures) (tested .before .grown .ensures) (sym (tested .no-bit .ensures) ∙ c .if1 .left),
+      to-read-grows (turn .before .loop .inv .1) (turn .loop-test .taken) (tested .before .before .vector-of .ensures) (tested .before .grown .ensures) (sym (tested .no-bit .ensures) ∙ c .if1 .left),
     )
 
 returns-2 : tie.Need-returns-2 Inv-loop μ-loop
-returns-2 c = to-read-none _ _ _ _ _ _ _ _ (c .before .loop .inv .1) (omega (arith, c .loop-test .left))
+returns-2 c = to-read-none (c .before .loop .inv .1) (omega (arith, c .loop-test .left))
 
 pub read-words-spec : {M : Type 1} → statement M
 read-words-spec =

@@ -1,5 +1,4 @@
--- `sweep::sweeping::can_sweep` meets its contract: it answers false where one of the test's comparisons fails, and else the last of them (`SizesTested` of crates/lists).
--- Assumes nothing.
+-- `sweep::sweeping::can_sweep` meets its contract: it returns false where one of the comparisons fails, else the last comparison (`SizesTested` of crates/lists).
 use native.Mathlib.Omega.{arith}
 use borrow.Author.Needs.{needs}
 use Rattle.lists.proofs.SizesTested.{test-fails}

@@ -1,5 +1,4 @@
--- `sweep::sweeping::read_windows` meets its contract: what is still to be read gives the answer (`StillWindows`). A turn leaves a window, or stops at the candidate, and
--- the places up to the line's end fall.
+-- `sweep::sweeping::read_windows` meets its contract: the loop keeps `StillWindows`. A turn leaves a window, or stops at the candidate. The places up to the line's end fall.
 use Prim.Native.Nat.{_+_, _-_}
 use native.Mathlib.Omega.{arith}
 use borrow.Author.Needs.{needs}

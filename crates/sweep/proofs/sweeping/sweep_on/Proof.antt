@@ -1,5 +1,4 @@
--- `sweep::sweeping::sweep_on` meets its contract: its two ways are the two cases of the test (`SweepCases`).
--- Assumes nothing.
+-- `sweep::sweeping::sweep_on` meets its contract: its two returns are the two cases of the test (`SweepCases`).
 use mathlib.Core.Path.{_∙_, sym}
 use borrow.Author.Needs.{needs}
 use borrow.Author.Tests.{not-true, not-false}

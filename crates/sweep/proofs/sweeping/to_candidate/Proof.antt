@@ -1,5 +1,4 @@
--- `sweep::sweeping::to_candidate` meets its contract: its three returns are the three ways of `sweepBy` (`SweepWays`).
--- Assumes nothing.
+-- `sweep::sweeping::to_candidate` meets its contract: its three returns are the three cases of `sweepBy` (`SweepWays`).
 use native.Mathlib.Omega.{arith}
 use borrow.Author.Needs.{needs}
 use borrow.Author.Tests.{not-true, not-false}

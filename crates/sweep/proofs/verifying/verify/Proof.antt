@@ -1,5 +1,4 @@
--- `sweep::verifying::verify` meets its contract: each of its four ways is a case of `tallyBy` (`TallyWays`), with what the callee ensures.
--- Assumes nothing.
+-- `sweep::verifying::verify` meets its contract: its four returns are the four cases of `tallyBy` (`TallyWays`).
 use native.Mathlib.Omega.{arith}
 use borrow.Author.Needs.{needs}
 use Rattle.sweep.proofs.TallyWays.{tallied-first, tallied-behind, tallied-far, tallied-moved}
@@ -33,7 +32,7 @@ returns : tie.Need-returns
 returns c =
     let counted = c .before in
     let behind = counted .before .before in
-    tallied-behind _ _ _ _ _ _ _ (at-last (behind .before) .last .given .1) _ _ _ (omega (arith, behind .if1 .taken)) (counted .window2 .ensures) (c .count-afresh2 .ensures)
+    tallied-behind _ (counted .window2 .ensures) (c .count-afresh2 .ensures) (at-last (behind .before) .last .given .1) (omega (arith, behind .if1 .taken))
 
 sub-s : tie.Need-sub-s
 sub-s c = search needs
@@ -54,7 +53,7 @@ move-counts-requires c κs = search needs
 returns-2 : tie.Need-returns-2
 returns-2 c =
     let counted = c .before in
-    tallied-first _ _ _ _ _ _ _ _ _ (counted .before .before .enum-told .given .1) (counted .window .ensures) (c .count-afresh .ensures)
+    tallied-first _ (counted .window .ensures) (c .count-afresh .ensures) (counted .before .before .enum-told .given .1)
 
 -- 2·s > m.
 returns-3 : tie.Need-returns-3
@@ -62,15 +61,15 @@ returns-3 c =
     let counted = c .before in
     let far = counted .before .before in
     let beyond = far .before .before .before in
-    tallied-far _ _ _ _ _ _ _ (at-last (beyond .before) .last .given .1) _ _ _ (omega (arith, beyond .if1 .left)) (omega (arith, far .if2 .taken)) (counted .window3 .ensures)
-    (c .count-afresh3 .ensures)
+    tallied-far _ (counted .window3 .ensures) (c .count-afresh3 .ensures) (at-last (beyond .before) .last .given .1) (omega (arith, beyond .if1 .left))
+    (omega (arith, far .if2 .taken))
 
 -- Otherwise.
 returns-4 : tie.Need-returns-4
 returns-4 c =
     let near = c .before .before in
     let beyond = near .before .before .before in
-    tallied-moved _ _ _ _ _ _ _ (at-last (beyond .before) .last .given .1) _ _ (omega (arith, beyond .if1 .left)) (omega (arith, near .if2 .left)) (c .move-counts .ensures)
+    tallied-moved _ (at-last (beyond .before) .last .given .1) (omega (arith, beyond .if1 .left)) (omega (arith, near .if2 .left)) (c .move-counts .ensures)
 
 pub verify-spec : {M : Type 1} → statement M
 verify-spec =
