@@ -1,5 +1,4 @@
 -- Any two answers of an exported call that meet its contract are equal, and so are the lent areas at exit: the struct is its paper's five numbers.
--- Assumes nothing.
 use Prim.Native.Nat.{ℕ}
 use mathlib.Core.Path.{_≡_, sym, ap, _∙_}
 use mathlib.Core.List.{List}

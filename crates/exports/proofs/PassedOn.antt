@@ -1,6 +1,5 @@
 -- An exported call passes its call's answer on: for each call, that the place of any answer that meets its contract fits 32 bits; and for all of them, that the
 -- struct which holds that answer, with the lent area as the call left it, meets the exported contract.
--- Assumes nothing.
 use Prim.Native.Nat.{ℕ, _<_, _^_}
 use mathlib.Core.Path.{_≡_, ap, _∙_}
 use mathlib.Core.List.{List}

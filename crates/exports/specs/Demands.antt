@@ -93,8 +93,8 @@ packTable words room =
     ∷ rowOf 10 (room < length (layout (silencesOf words)))
     ∷ []
 
--- Demand 1, of a call with these rows, its answer, and its lent area before and after. "It answers, or refuses by a number of document 01 under exactly the
--- condition given there. A refusal reports zero counts and writes nothing into a lent area."
+-- Demand 1: every call answers, or refuses by a number of the table under exactly the condition given there; a refusal has zero in every count and writes nothing.
+-- `rows` are the call's rows, `area` its lent area at entry and `out` at exit.
 pub record Demand1 (rows : List Row) (r : Answer) (area out : List ℕ) : Type 0 where
   -- The answer has number 0 exactly when no row is given, and then place 0.
   pub accepted-iff : (r .refusal ≡ 0) ↔ NoRow rows
@@ -118,7 +118,7 @@ pub record BookNames (book : List ℕ) (cell ringNumber start : ℕ) : Type 0 wh
 abbrev pub NeverNamed : ℕ → Type 0
 NeverNamed start = ⊥
 
--- Demand 2, of an accepted survey, scan or report. `Named` says which starts the book names.
+-- Demand 2, of an accepted survey, scan or report: it writes exactly the findings that the book does not name. `Named` says which starts the book names.
 pub record Demand2 (Named : ℕ → Type 0) (ring line : List ℕ) (k : ℕ) (words : List ℕ) (r : Answer) (out : List ℕ) : Type 0 where
   pub shown : List Finding
   pub hidden : List Finding
@@ -153,7 +153,7 @@ pub record PackDemand2 (words area : List ℕ) (r : Answer) (out : List ℕ) : T
   pub book-is : r .refusal ≡ 0 → IsBook (silencesOf words) (layout (silencesOf words))
   pub bytes-are : r .refusal ≡ 0 → out ≡ written (layout (silencesOf words)) area
 
--- Demand 3, of an accepted scan or report: "Its looks equal the steps of the written rules".
+-- Demand 3, of an accepted scan or report: its looks are the steps of rules 1 to 5, and bounded.
 pub record Demand3 (ring line : List ℕ) (k : ℕ) (r : Answer) : Type 0 where
   -- "Looks are the sum over rules 1 and 5."
   pub looks-are : r .looks ≡ quickLooks ring line k
@@ -163,7 +163,7 @@ pub record Demand3 (ring line : List ℕ) (k : ℕ) (r : Answer) : Type 0 where
   -- "A line shorter than the ring is accepted: no start, no look, zero findings."
   pub no-looks : length line < length ring → r .looks ≡ 0
 
--- "Reading gives back what was written": of what the first of two calls was given, the answers of both, and the area of the second. The second accepts what the first
+-- Demand 2: reading gives back what was written. `given` is what the first of two calls was given, `out` the second's area at exit. The second accepts what the first
 -- wrote, counts as many records, and its area begins with what the first was given.
 pub record GivesBack (given : List ℕ) (first second : Answer) (out : List ℕ) : Type 0 where
   pub accepted : second .refusal ≡ 0
@@ -183,7 +183,7 @@ pub record ScanMeets (ring line : List ℕ) (k : ℕ) (words : List ℕ) (r : An
   pub demand-2 : r .refusal ≡ 0 → Demand2 NeverNamed ring line k words r out
   pub demand-3 : r .refusal ≡ 0 → Demand3 ring line k r
 
--- Demand 3: "The quick scan lists precisely those findings." The same ring, line, allowance and words, surveyed and scanned, differ in their looks alone.
+-- Demand 3: the quick scan lists precisely the survey's findings. The same ring, line, allowance and words, surveyed and scanned, differ in their looks alone.
 pub record SameWords (survey scan : Answer) (survey-out scan-out : List ℕ) : Type 0 where
   pub refusal-is : scan .refusal ≡ survey .refusal
   pub place-is : scan .place ≡ survey .place

@@ -1,6 +1,5 @@
 -- The shift down by one. In a word shifted with its carry (`x >> 1 | next << 63`) each bit but the top is the next higher one, and the top
 -- is the next word's lowest. So in the vector bit i is what bit i + 1 was, within a word, between two, and past the last.
--- Assumes nothing.
 use mathlib.Core.Path.{_≡_, refl, sym, _∙_}
 use mathlib.Core.List.{List}
 use mathlib.Core.Logic.{dite}

@@ -1,7 +1,6 @@
 -- The loop that makes every code's occurrence vector in one pass over the ring, in a table of vectors laid one behind the other by code: at place r,
 -- bit r of the vector of the code there is put in. For that code it is the turn of a place with the code; every other code's vector
 -- lies elsewhere in the table, since its first word is at least a whole vector away.
--- Assumes nothing.
 use mathlib.Core.Path.{_≡_, sym}
 use mathlib.Core.List.{List}
 use mathlib.Core.Logic.{dite}

@@ -1,6 +1,5 @@
 -- The vector of the first m bits. Word w has as many low bits set as are left of m from the word's first place on, at most a word: so bit j of it is set
 -- exactly when 64 · w + j is below m. Code makes such a word as `(1 << s) - 1` or as all ones, by how many bits are left.
--- Assumes nothing.
 use mathlib.Core.Path.{_≡_, refl, sym, _∙_}
 use mathlib.Core.List.{List}
 use mathlib.Core.Logic.{dite}

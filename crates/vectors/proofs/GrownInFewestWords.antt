@@ -1,6 +1,5 @@
 -- Where a vector of m bits is kept in as few words as hold them, growing word by word is growing: every word but the last is shifted with its carry; the
 -- last has no bit above it to take, so what comes into it is what was bit 0, at bit m − 1; and the words behind are 0 before and after.
--- Assumes nothing.
 use mathlib.Core.Path.{_≡_, refl, sym, _∙_}
 use mathlib.Core.List.{List}
 use mathlib.Core.Logic.{dite}

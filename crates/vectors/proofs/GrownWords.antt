@@ -1,6 +1,5 @@
 -- The words of the held vector grown by one edge, as the code makes them: those below the count are shifted with what comes in, AND the occurrence
 -- vector's; the others are 0. Each case of the definition is one equation, so that no proof past this file opens it.
--- Assumes nothing.
 use mathlib.Core.Path.{_≡_, refl, _∙_}
 use mathlib.Core.List.{List, [], _∷_}
 use mathlib.Core.Logic.{dite}

@@ -1,6 +1,5 @@
 -- The held vector grown by one edge: rotated, then AND. A bit of `x & y` is set where both are; so a bit below m is set exactly when the rotated
 -- one is and the edge occurs there, and from m on the rotated vector has none. Which machine word gives each word is said at the end.
--- Assumes nothing.
 use mathlib.Core.Path.{_≡_, refl, _∙_}
 use mathlib.Core.List.{List}
 use mathlib.Core.Logic.{dite}

@@ -1,7 +1,6 @@
 -- What a caller of this crate's functions cites: their answers are what `Bits` and `Holding` mean, for a vector of m bits in as few words as hold
 -- them. Such a vector (`HeldVector`) is what `first_bits` hands out and what `grown` hands on, so a loop keeps it. All is proved elsewhere
 -- and gathered here: nothing past this file looks at a word.
--- Assumes nothing.
 use mathlib.Core.Path.{_≡_, refl, _∙_}
 use mathlib.Core.Bool.{true, false, _&&_}
 use mathlib.Core.List.{List}

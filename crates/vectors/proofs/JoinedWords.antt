@@ -1,6 +1,5 @@
 -- The words of a vector joined by `|`, as the code joins them: four of them one by one, those from the count on as 0. A word that is 0 joins nothing, so the join is
 -- that of the first words, as many as are asked and the vector has; compared with 0 it is the test `noBit`.
--- Assumes nothing.
 use mathlib.Core.Path.{_≡_, refl, sym, _∙_}
 use mathlib.Core.Bool.{cond}
 use mathlib.Core.List.{List}

@@ -1,6 +1,5 @@
 -- No bit is set exactly when every word is 0, exactly when all words joined by `|` are 0. A word is 0 when none of its bits is set, and `a | b` is
 -- 0 only where a and b are (their sum is `a | b` + `a & b`). In a vector of m bits the words of m bits tell it (`noBit-iff`).
--- Assumes nothing.
 use mathlib.Core.Path.{_≡_, refl, sym, _∙_}
 use mathlib.Core.Bool.{Bool, true, false, true≢false}
 use mathlib.Core.List.{List}

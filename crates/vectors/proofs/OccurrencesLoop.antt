@@ -1,6 +1,5 @@
 -- The loop over a ring's first places that makes the table of its occurrence vectors, four words each, out of a table of zeros: before turn r each code's
 -- vector is right below r (`TableBelow`), and the table is still one of as many machine words.
--- Assumes nothing.
 use mathlib.Core.Path.{_≡_, refl, sym, _∙_}
 use mathlib.Core.List.{List}
 use mathlib.Core.Logic.{dite}

@@ -1,6 +1,5 @@
 -- Any two answers of a function on vectors are equal. Of those held by value each contract is one equation; a table of occurrence vectors is known by its bits, so only
 -- one is the ring's.
--- Assumes nothing.
 use mathlib.Core.Path.{_≡_, sym, _∙_}
 use mathlib.Core.Bool.{Bool}
 use mathlib.Core.List.{List}

@@ -1,6 +1,5 @@
 -- One bit put into a vector. In its word `b << j` is b at place j and 0 elsewhere, so `x | b << j` has that bit set if it was or if b is 1, and
 -- every other bit as it was; every other word is kept.
--- Assumes nothing.
 use mathlib.Core.Path.{_≡_, refl, sym, _∙_}
 use mathlib.Core.Bool.{_||_, or-false}
 use mathlib.Core.List.{List}

@@ -1,6 +1,5 @@
 -- The loop over the ring's places that makes an edge code's occurrence vector out of one with no bit set: before turn r the bits below r are right
 -- and no other is set. A place with the code has its bit put in, which was not set; any other place has its bit right already.
--- Assumes nothing.
 use mathlib.Core.Path.{_≡_, sym, _∙_}
 use mathlib.Core.Bool.{false}
 use mathlib.Core.List.{List}

@@ -1,6 +1,5 @@
 -- A vector that is a part of a longer list of words: its word w is the list's word base + w, its bit i the list's bit 64 · base + i. So a bit put into
 -- the list is put into the part that holds its place, and leaves every other part as it was.
--- Assumes nothing.
 use mathlib.Core.Path.{_≡_, refl, sym, _∙_}
 use mathlib.Core.Bool.{false}
 use mathlib.Core.List.{List, [], _∷_}

@@ -1,7 +1,6 @@
 -- The bits of a vector, from those of its words. A bit is found by its word and its place there (`isSet-word`); past the last word none is set.
 -- As tests, the lesser of two bits is `&&` and the greater is `||`. A vector is known by its bits and its word count.
 -- The width 64 stands in proofs only as `wordBits`, which `omega` reads for `/` and `%`.
--- Assumes nothing.
 use mathlib.Core.Path.{_≡_, refl, sym, _∙_}
 use mathlib.Core.Bool.{false, _&&_, _||_}
 use mathlib.Core.List.{List}

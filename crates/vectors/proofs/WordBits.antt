@@ -1,7 +1,6 @@
 -- The bits of one word under `&`, `|`, `>>`, `<<` and the cut to a width. A bit is the lowest digit of the word shifted down, so each law is the
 -- kit's law of that shift, and then one of lowest digits. A width is an argument everywhere: no number of bits is written here.
 -- At the end: a word is known by its bits, by induction on the digits of one of the two.
--- Assumes nothing.
 use mathlib.Core.Path.{_≡_, refl, sym, _∙_}
 use mathlib.Core.Logic.{dite}
 use Prim.Native.Nat.{ℕ, suc, _+_, _-_, _*_, _/_, _%_, _^_, _≤_, _<_, min, max}

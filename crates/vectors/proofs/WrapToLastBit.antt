@@ -1,6 +1,5 @@
 -- Shift and wrap together rotate. In the shifted vector bit m − 1 is what bit m was, and none was set there; so putting what was bit 0 in at
 -- bit m − 1 gives exactly that bit, every other bit below m comes from the next higher one, and from m on nothing comes in.
--- Assumes nothing.
 use mathlib.Core.Path.{_≡_, refl, sym, _∙_}
 use mathlib.Core.List.{List}
 use mathlib.Core.Logic.{dite}

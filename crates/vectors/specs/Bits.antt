@@ -10,7 +10,6 @@
 --     bit          bit j of a word, 0 or 1              isSet      whether bit i of a vector is set
 --     putBit, Put              one bit put in           orBelow, noBit, NoBit    no bit set
 --     firstBits, FirstBits     the first m bits set
--- Assumes nothing.
 use mathlib.Core.Path.{_≡_}
 use mathlib.Core.Bool.{Bool, true, false, _||_}
 use mathlib.Core.List.{List, [], _∷_}

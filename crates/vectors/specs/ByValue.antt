@@ -6,7 +6,6 @@
 --     lastBitPlace, carryInto, grownWord, grownWords     the held vector grown by one edge, word by word
 --     Occurrences     the occurrence vectors of a ring's edge codes, in one table
 -- `first_bits` answers `firstBits`, `no_bit` answers `noBit`, both of `Bits`, and `vector_of` answers `vectorAt` of `Holding`.
--- Assumes nothing.
 use mathlib.Core.Path.{_≡_}
 use mathlib.Core.Bool.{cond}
 use mathlib.Core.List.{List}

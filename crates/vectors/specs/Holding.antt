@@ -4,7 +4,6 @@
 --     Occurs     the occurrence vector of an edge code        vectorAt, OccurrenceTable     one for each code, in one list
 --     both, Both     AND, bit for bit
 --     grown, Grown     the held vector rotated, AND the read edge's occurrence vector
--- Assumes nothing.
 use mathlib.Core.Path.{_≡_}
 use mathlib.Core.Bool.{false, _&&_}
 use mathlib.Core.List.{List}

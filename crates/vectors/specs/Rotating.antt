@@ -2,7 +2,6 @@
 -- m need not be a multiple of the word's width; it is at most all the bits that the words have, and the bits from m on are 0.
 --     shiftedWord, shifted, Shifted      down by one        Within      no bit from m on
 --     rotated, Rotated                   the whole turn
--- Assumes nothing.
 use mathlib.Core.Path.{_≡_}
 use mathlib.Core.Bool.{false}
 use mathlib.Core.List.{List}

@@ -1,7 +1,6 @@
 -- Vectors of one to four words, worked out by hand: one table of named rows, and one claim that the checker computes; and calls with other counts.
 -- A row gives m, the held vector and an edge's occurrence vector; then the held vector rotated and the places of its set bits, the held vector
 -- grown and whether that leaves no bit set, and the vector of the first m bits in as many words.
--- Assumes nothing.
 use mathlib.Core.Path.{_≡_, refl}
 use mathlib.Core.Bool.{Bool, true, false, cond}
 use mathlib.Core.List.{List, [], _∷_, _++_, map}

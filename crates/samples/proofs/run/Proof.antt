@@ -1,5 +1,4 @@
 -- `samples::run` is safe and ends: the lines left fall.
--- Assumes nothing.
 use Prim.Native.Nat.{_-_}
 use native.Mathlib.Omega.{arith}
 use Rattle.samples.proofs.run.Statement.{statement}

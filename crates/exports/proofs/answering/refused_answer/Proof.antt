@@ -1,5 +1,4 @@
 -- `exports::answering::refused_answer` meets its contract: the refusal's number and place, both below 2^32.
--- Assumes nothing.
 use Prim.Native.Nat.{ℕ}
 use mathlib.Core.Path.{ap₂}
 use native.Mathlib.Omega.{arith}

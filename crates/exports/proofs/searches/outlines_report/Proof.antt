@@ -1,5 +1,4 @@
 -- `exports::searches::outlines_report` meets its contract: it passes the answer of `report` on.
--- Assumes nothing.
 use Rattle.outlines.specs.Report.{ReportCounts}
 use Rattle.exports.proofs.PassedOn.{report-place, passed-on}
 use borrow.Author.Needs.{needs}

@@ -1,5 +1,4 @@
 -- `exports::searches::outlines_scan` meets its contract: it passes the answer of `scan` on.
--- Assumes nothing.
 use Rattle.exports.specs.Exported.{searchCounts}
 use Rattle.exports.proofs.PassedOn.{search-place, passed-on}
 use borrow.Author.Needs.{needs}

@@ -1,5 +1,4 @@
 -- `samples::answer_rows::print_answer` is safe: what it writes lies within its array, since the answer's text does.
--- Assumes nothing.
 use mathlib.Core.Path.{sym}
 use lib.Seq.{length-take-le}
 use Rattle.request.proofs.AskedParts.{answer-within}

@@ -1,5 +1,4 @@
 -- `samples::filling::fill_words` is safe and ends: what is left of the words falls, and no store changes their number.
--- Assumes nothing.
 use Prim.Native.Nat.{_-_}
 use mathlib.Core.Path.{_≡_}
 use native.Mathlib.Omega.{arith}

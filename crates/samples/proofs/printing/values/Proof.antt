@@ -1,5 +1,4 @@
 -- `samples::printing::values` is safe and ends: the values left fall, and the sum stays below its modulus.
--- Assumes nothing.
 use Prim.Native.Nat.{_-_, _<_}
 use native.Mathlib.Omega.{arith}
 use lib.ListN.{length}

@@ -1,5 +1,4 @@
 -- `samples::table::decimal` is safe and ends: what is left of the text falls.
--- Assumes nothing.
 use Prim.Native.Nat.{_-_}
 use native.Mathlib.Omega.{arith}
 use lib.ListN.{length}

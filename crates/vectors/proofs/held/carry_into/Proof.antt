@@ -1,5 +1,4 @@
 -- `vectors::held::carry_into` meets its contract: the next word's lowest bit, or what was bit 0 (`GrownWords`).
--- Assumes nothing.
 use mathlib.Core.Path.{refl, sym, _∙_}
 use native.Mathlib.Omega.{arith}
 use Rattle.vectors.proofs.WordBits.{bit-first}

@@ -1,5 +1,4 @@
 -- `vectors::held::grown` meets its contract: its four words are those of the definition, one by one.
--- Assumes nothing.
 use Rattle.vectors.proofs.GrownWords.{grown-of-words}
 use borrow.Author.Needs.{needs}
 use Rattle.vectors.proofs.held.grown.Statement.{statement}

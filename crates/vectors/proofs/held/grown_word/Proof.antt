@@ -1,5 +1,4 @@
 -- `vectors::held::grown_word` meets its contract: a word below the count is shifted with what comes in, AND the occurrence vector's; the others are 0.
--- Assumes nothing.
 use mathlib.Core.Path.{sym}
 use native.Mathlib.Omega.{arith}
 use Rattle.vectors.proofs.GrownWords.{grown-word-below, grown-word-past}

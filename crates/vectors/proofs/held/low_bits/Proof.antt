@@ -1,5 +1,4 @@
 -- `vectors::held::low_bits` meets its contract: less than a word of bits is `(1 << count) - 1`, where the shift loses nothing; else all are set.
--- Assumes nothing.
 use lib.Pow.{pow-pos}
 use Rattle.vectors.proofs.FirstBitsAreSet.{shl-one, low-bits-some, low-bits-full}
 use borrow.Author.Needs.{needs}

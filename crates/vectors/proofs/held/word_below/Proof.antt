@@ -1,5 +1,4 @@
 -- `vectors::held::word_below` meets its contract, by its one test.
--- Assumes nothing.
 use mathlib.Core.Path.{refl}
 use native.Mathlib.Omega.{arith}
 use borrow.Author.Tests.{lt-ltb, le-ltb}

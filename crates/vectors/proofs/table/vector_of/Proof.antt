@@ -1,5 +1,4 @@
 -- `vectors::table::vector_of` meets its contract: it reads the four words one behind the other.
--- Assumes nothing.
 use Prim.Native.Nat.{_*_}
 use borrow.Author.Needs.{needs}
 use Rattle.vectors.specs.ByValue.{vectorWords}
