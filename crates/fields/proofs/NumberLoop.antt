@@ -50,7 +50,7 @@ module _ (bytes : List ℕ) (at count : ℕ) where
         }
 
     -- With fewer than four bytes read the number is below 2 ^ 24, so that one byte more fits 32 bits.
-    pub number-lt : done < 4 → number < 2 ^ 24
+    pub number-lt : done < mostNumberBytes → number < 2 ^ 24
     number-lt few = omega (arith, inv .lt, pow-le-pow-right {n = 256} (omega arith) {i = done} {j = 3} (omega arith))
 
     -- After the last byte it is the number of them all, where they are at most 4 and lie within.

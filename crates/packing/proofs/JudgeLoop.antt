@@ -18,7 +18,7 @@ use Rattle.answers.specs.declared.refusals.Refusal.the-variants.{NotAbove, Ring
 use Rattle.answers.specs.Paper.{Answer, accepted, refused}
 use Rattle.answers.specs.Rows.{firstGiven, answerBy}
 use Rattle.silences.specs.Silences.{Silence, isAbove}
-use Rattle.silences.specs.Layout.{fieldOf, layout}
+use Rattle.silences.specs.Layout.{fieldLength, fieldOf, layout}
 use Rattle.silences.specs.Packing.{silencesOf, recordWords, mostRingNumber, recordRows, recordFault}
 use Rattle.silences.specs.Rows.{AllRingNumbers}
 use Rattle.packing.specs.Judging.{Sizes, sized, sizes}
@@ -27,11 +27,11 @@ use Rattle.silences.proofs.WordsOfSilences.{silenceFrom, silencesOf-step, silen
 use Rattle.silences.proofs.AscendingAfter.{AscendingAfter, lastAfter, lastAfter-end, ascends-more}
 use Rattle.silences.proofs.RecordsPacked.{RecordStands, packed-all, stopped-ring, stopped-order, ring-numbers-more, packs-as-is}
 
--- What the loop keeps. The two bounds are for the sums to fit: a record has three words, and its field fewer than five bytes for each of them.
+-- What the loop keeps. The two bounds are for the sums to fit: there are no more records than words.
 pub record JudgedTo (words : List ℕ) (last : Option Silence) (records bytes at : ℕ) : Type 0 where
   pub at-le : at ≤ length words
   pub records-le : records ≤ at
-  pub bytes-le : bytes ≤ 5 * at
+  pub bytes-le : bytes ≤ fieldLength * at
   pub passed : List Silence
   pub all-are : silencesOf words ≡ passed ++ silencesOf (drop at words)
   pub ring-numbers : AllRingNumbers passed

@@ -8,7 +8,7 @@ use lib.ListN.{length, take, drop, length-append}
 use lib.Seq.{take-at}
 use Rattle.lists.specs.Bounds.{IsBytes}
 use Rattle.fields.specs.Numbers.{bytesOf, numberAt}
-use Rattle.fields.specs.Tagged.{headLength, field, fieldEnd}
+use Rattle.fields.specs.Tagged.{lengthBytes, headLength, field, fieldEnd}
 use Rattle.fields.proofs.NumberBytes.{bytesOf-length, numberAt-lt}
 use Rattle.fields.proofs.FieldLaid.{laid-number, laid-number-rest, laid-tag, laid-long, laid-value, laid-within, number-then, field-then}
 use Rattle.silences.specs.Silences.{Silence, cellBytes, ringNumberBytes, startBytes, InRange}
@@ -24,7 +24,7 @@ value-length s = simp (length-append, bytesOf-length)
 -- The field of a silence: 21 00 0A hex, and its value.
 pub fieldOf-is : (s : Silence) → fieldOf s ≡ 0x21 ∷ 0x00 ∷ 0x0a ∷ valueOf s
 unfolding fieldOf bytesOf
-fieldOf-is s = ap (λ (n : ℕ). 0x21 ∷ bytesOf 2 n ++ valueOf s) (value-length s)
+fieldOf-is s = ap (λ (n : ℕ). silenceTag ∷ bytesOf lengthBytes n ++ valueOf s) (value-length s)
 
 -- "Each silence is one field of 13 bytes."
 pub field-length : (s : Silence) → length (fieldOf s) ≡ fieldLength

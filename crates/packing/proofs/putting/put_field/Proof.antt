@@ -4,7 +4,9 @@ use Prim.Native.Nat.{_+_, _≤_}
 use native.Mathlib.Omega.{arith}
 use borrow.Author.Needs.{needs}
 use lib.ListN.{length}
-use Rattle.silences.specs.Silences.{Silence, silence}
+use Rattle.fields.specs.Tagged.{tagBytes, lengthBytes}
+use Rattle.silences.specs.Silences.{Silence, silence, cellBytes, ringNumberBytes, startBytes}
+use Rattle.silences.specs.Layout.{valueLength}
 use Rattle.silences.proofs.FieldBytes.{field-length}
 use Rattle.packing.proofs.FieldPut.{number-next, field-put}
 use Rattle.packing.proofs.putting.put_field.Statement.{statement}
@@ -14,20 +16,20 @@ use Rattle.packing.proofs.putting.put_field.Tie as tie
 here : tie.Start → Silence
 here c = silence (c .args .cell) (c .args .ring-number) (c .args .start)
 
--- behind the tag there is room for the 12 bytes left
-behind-tag : (c : tie.After-put-number) → c .put-number .result + 12 ≤ length (c .put-number .last .0)
+-- behind the tag there is room for the length and the value
+behind-tag : (c : tie.After-put-number) → c .put-number .result + lengthBytes + valueLength ≤ length (c .put-number .last .0)
 unfolding here
-behind-tag c = omega (arith, field-length (here (c .before .before .before)), number-next 1 _ (c .put-number .ensures))
+behind-tag c = omega (arith, field-length (here (c .before .before .before)), number-next tagBytes _ (c .put-number .ensures))
 
 -- behind each next number there is room for what was left but that number
-behind-length : (c : tie.After-put-number2) → c .put-number2 .result + 10 ≤ length (c .put-number2 .last .0)
-behind-length c = omega (arith, behind-tag (c .before .before .before .before), number-next 2 _ (c .put-number2 .ensures))
+behind-length : (c : tie.After-put-number2) → c .put-number2 .result + valueLength ≤ length (c .put-number2 .last .0)
+behind-length c = omega (arith, behind-tag (c .before .before .before .before), number-next lengthBytes _ (c .put-number2 .ensures))
 
-behind-cell : (c : tie.After-put-number3) → c .put-number3 .result + 6 ≤ length (c .put-number3 .last .0)
-behind-cell c = omega (arith, behind-length (c .before .before .before .before), number-next 4 _ (c .put-number3 .ensures))
+behind-cell : (c : tie.After-put-number3) → c .put-number3 .result + ringNumberBytes + startBytes ≤ length (c .put-number3 .last .0)
+behind-cell c = omega (arith, behind-length (c .before .before .before .before), number-next cellBytes _ (c .put-number3 .ensures))
 
-behind-ring-number : (c : tie.After-put-number4) → c .put-number4 .result + 4 ≤ length (c .put-number4 .last .0)
-behind-ring-number c = omega (arith, behind-cell (c .before .before .before .before), number-next 2 _ (c .put-number4 .ensures))
+behind-ring-number : (c : tie.After-put-number4) → c .put-number4 .result + startBytes ≤ length (c .put-number4 .last .0)
+behind-ring-number c = omega (arith, behind-cell (c .before .before .before .before), number-next ringNumberBytes _ (c .put-number4 .ensures))
 
 cast-put-number : tie.Need-cast-put-number
 cast-put-number c = search needs
