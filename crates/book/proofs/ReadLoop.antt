@@ -11,7 +11,7 @@ use Rattle.answers.specs.declared.refusals.Refusal.the-variants.{Field, NotAbov
 use Rattle.answers.specs.Paper.{Answer, accepted, refused}
 use Rattle.silences.specs.Silences.{Silence, isAbove}
 use Rattle.silences.specs.Reading.{whole, faulty, fieldAt, readFrom}
-use Rattle.book.specs.Calls.{recordsOf}
+use Rattle.book.specs.Calls.{recordCount}
 use Rattle.silences.proofs.FieldTest.{field-ends}
 use Rattle.silences.proofs.AscendingAfter.{lastAfter, lastAfter-end}
 use Rattle.silences.proofs.FieldsRead.{FieldsRead, none-read, ReadsAs, read-all, stopped-faulty, stopped-order, read-more, reads-as-is}
@@ -31,16 +31,16 @@ read-start book = record { at-le = omega arith; records-le = omega arith; silenc
 
 module _ {book : List ℕ} where
   -- where the walk stops, its answer is the whole one
-  stops-so : {a : Answer (List Silence)} → ReadsAs book none 0 a → recordsOf a ≡ recordsOf (readFrom book none 0)
-  stops-so w = ap recordsOf (sym (reads-as-is book w))
+  stops-so : {a : Answer (List Silence)} → ReadsAs book none 0 a → recordCount a ≡ recordCount (readFrom book none 0)
+  stops-so w = ap recordCount (sym (reads-as-is book w))
 
   module _ {at records : ℕ} {last : Option Silence} (inv : ReadOn book at records last) where
     -- At the book's end the records counted are the answer.
-    pub read-end : length book ≤ at → accepted records ≡ recordsOf (readFrom book none 0)
+    pub read-end : length book ≤ at → accepted records ≡ recordCount (readFrom book none 0)
     read-end done = ap accepted (inv .records-is) ∙ stops-so (read-all (inv .fields) done)
 
     -- Where no whole field stands, row 6 at its byte offset is the answer.
-    pub read-faulty : faulty ≡ fieldAt book at → at < length book → refused (Field at) ≡ recordsOf (readFrom book none 0)
+    pub read-faulty : faulty ≡ fieldAt book at → at < length book → refused (Field at) ≡ recordCount (readFrom book none 0)
     read-faulty is within = stops-so (stopped-faulty (inv .fields) within (sym is))
 
     module _ {s : Silence} {next : ℕ} (is : whole s next ≡ fieldAt book at) where
@@ -49,7 +49,7 @@ module _ {book : List ℕ} where
       same-order {t} e = subst (λ (l : Option Silence). isAbove l s ≡ t) (inv .last-is) e
 
       -- Where its record is not above the last, row 7 at its byte offset is.
-      pub read-not-above : isAbove last s ≡ false → refused (NotAbove at) ≡ recordsOf (readFrom book none 0)
+      pub read-not-above : isAbove last s ≡ false → refused (NotAbove at) ≡ recordCount (readFrom book none 0)
       read-not-above not-above = stops-so (stopped-order (inv .fields) (sym is) (same-order not-above))
 
       -- Where it is, one record more is counted.

@@ -18,7 +18,7 @@ use Rattle.silences.proofs.WordsOfSilences.{words-length}
 use Rattle.silences.proofs.BookRows.{book-refused-iff, book-accepted-iff, refusal-has}
 use Rattle.silences.proofs.UnpackRows.{unpack-row-iff, unpack-10-iff, unpacked-accepted-iff}
 use Rattle.book.specs.declared.answering.BookAnswer.the-variants.{Records, Refused}
-use Rattle.book.specs.Calls.{paperOf, recordsOf, recordsPaper, IsUnpacked}
+use Rattle.book.specs.Calls.{paperOf, recordCount, recordsPaper, IsUnpacked}
 use Rattle.book.proofs.AcceptedBook.{HasRecords, has-records, has-refusal}
 
 module _ (book area : List ℕ) where
@@ -30,13 +30,13 @@ module _ (book area : List ℕ) where
       record { paper = sym (ap recordsPaper is); written = sym (ap (λ (a : Answer (List Silence)). areaAtExit wordsOfSilences a area) is) }
 
   -- What reading refuses, unpacking refuses.
-  pub unpack-refused : (q : Refusal) → recordsOf (readBook book) ≡ refused q → IsUnpacked book area (Refused q) area
+  pub unpack-refused : (q : Refusal) → recordCount (readBook book) ≡ refused q → IsUnpacked book area (Refused q) area
   unpack-refused q e =
       let given : bookRefusal book ≡ some q = book-refused-iff book q .0 (has-refusal (readBook book) q e) in
       is-refused (unpack-row-iff book (length area) q
       (refusal-has book (λ (r : Refusal). numberOf OutputRoom ≡ numberOf r → ⊥) (λ h. omega arith) (λ at h. omega arith) (λ at h. omega arith) q given) .1 given)
 
-  module _ (records : ℕ) (read : recordsOf (readBook book) ≡ accepted records) where
+  module _ (records : ℕ) (read : recordCount (readBook book) ≡ accepted records) where
     -- the silences of these records
     has : HasRecords (readBook book) records
     has = has-records (readBook book) records read

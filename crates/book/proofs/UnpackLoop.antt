@@ -15,7 +15,7 @@ use Rattle.answers.specs.Paper.{Answer, accepted}
 use Rattle.silences.specs.Silences.{Silence}
 use Rattle.silences.specs.Reading.{whole, faulty, fieldAt, readBook}
 use Rattle.silences.specs.Packing.{silenceWords, wordsOfSilences, recordWords, areaAtExit}
-use Rattle.book.specs.Calls.{recordsOf}
+use Rattle.book.specs.Calls.{recordCount}
 use Rattle.silences.proofs.WordsOfSilences.{words-length}
 use Rattle.silences.proofs.FieldTest.{faulty-not-whole, whole-silence-unique, whole-next-unique}
 use Rattle.silences.proofs.FieldsRead.{FieldsRead, none-read, one-read}
@@ -58,7 +58,7 @@ pub record PutOn (book area : List ℕ) (records : ℕ) (words : List ℕ) (at d
 
 module _ {book area : List ℕ} {records : ℕ} where
   -- Before the first field.
-  pub put-start : recordsOf (readBook book) ≡ accepted records → recordWords * records ≤ length area → PutOn book area records area 0 0
+  pub put-start : recordCount (readBook book) ≡ accepted records → recordWords * records ≤ length area → PutOn book area records area 0 0
   unfolding written wordsOfEach
   put-start e room =
       let all : HasRecords (readBook book) records = has-records (readBook book) records e in

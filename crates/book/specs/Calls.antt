@@ -2,7 +2,7 @@
 -- exit (`written`), on every input, accepted or refused. "Packer and unpacker return the number of records"; so does reading.
 --
 --   answerOf, paperOf          the answer of a call, and its paper
---   recordsOf, recordsPaper    the number of records that a definition gives, and its paper
+--   recordCount, recordsPaper  the number of records that a definition gives, and its paper
 --   IsUnpacked, IsRead, IsSought, IsSoughtOn, IsAskedFor    the contracts of `unpack`, `read`, `seek`, `seek_on` and `is_for`
 use Prim.Native.Nat.{ℕ}
 use mathlib.Core.Path.{_≡_}
@@ -30,13 +30,13 @@ abbrev pub paperOf : BookAnswer → Paper ℕ
 paperOf r = answerPaper 0 (answerOf r)
 
 -- "the number of records": how many silences there are, or the refusal.
-abbrev pub recordsOf : Answer (List Silence) → Answer ℕ
-recordsOf (accepted ss) = accepted (length ss)
-recordsOf (refused refusal) = refused refusal
+abbrev pub recordCount : Answer (List Silence) → Answer ℕ
+recordCount (accepted ss) = accepted (length ss)
+recordCount (refused refusal) = refused refusal
 
 -- Document 01's number, place and number of records of what a definition gives.
 abbrev pub recordsPaper : Answer (List Silence) → Paper ℕ
-recordsPaper a = answerPaper 0 (recordsOf a)
+recordsPaper a = answerPaper 0 (recordCount a)
 
 -- The contract of `unpack`, which returns `r` and leaves the lent words `area` as `out`.
 pub record IsUnpacked (book area : List ℕ) (r : BookAnswer) (out : List ℕ) : Type 0 where

@@ -10,14 +10,14 @@ use silences::is_above;
 ghost use mathlib.Core.Path.{_≡_};
 ghost use mathlib.Core.Option.{none};
 ghost use Rattle.silences.specs.Reading.{readFrom};
-ghost use Rattle.book.specs.Calls.{answerOf, recordsOf, IsRead};
+ghost use Rattle.book.specs.Calls.{answerOf, recordCount, IsRead};
 
 // "book longer than 13,000 bytes": the most bytes that a book has.
 const MOST_BOOK_LENGTH: usize = FIELD_LENGTH * MOST_SILENCES;
 
 // The fields of a book one after the other. "Within a book the first faulty field decides, 6 before 7."
 fn read_fields(book: &[u8]) -> BookAnswer
-    ensures { λ r. ⌜ answerOf r ≡ recordsOf (readFrom (now (book .entry)) none 0) ⌝ }
+    ensures { λ r. ⌜ answerOf r ≡ recordCount (readFrom (now (book .entry)) none 0) ⌝ }
 {
     let mut at: usize = 0;
     let mut records: usize = 0;

@@ -14,7 +14,7 @@ ghost use Rattle.answers.specs.Paper.{accepted};
 ghost use Rattle.silences.specs.Reading.{readBook};
 ghost use Rattle.silences.specs.Packing.{silenceWords, wordsOfSilences, recordWords, areaAtExit};
 ghost use Rattle.silences.specs.Addresses.{silenceOf};
-ghost use Rattle.book.specs.Calls.{recordsOf, IsUnpacked};
+ghost use Rattle.book.specs.Calls.{recordCount, IsUnpacked};
 
 // The words of one record, from place `to` on.
 fn put_record(words: &mut [u32], to: usize, address: Address)
@@ -29,7 +29,7 @@ fn put_record(words: &mut [u32], to: usize, address: Address)
 // The words of all records of a book that is accepted and has room: nothing is refused here, so nothing is written
 // that a refusal would have to take back.
 fn put_records(book: &[u8], records: usize, words: &mut [u32])
-    requires { ⌜ (recordsOf (readBook (now book)) ≡ accepted records) × (recordWords * records ≤ length (now words)) ⌝ }
+    requires { ⌜ (recordCount (readBook (now book)) ≡ accepted records) × (recordWords * records ≤ length (now words)) ⌝ }
     ensures { λ _. ⌜ now (words .exit) ≡ areaAtExit wordsOfSilences (readBook (now (book .entry))) (now (words .entry)) ⌝ }
 {
     let mut at: usize = 0;

@@ -8,6 +8,7 @@ use mathlib.Core.Option.{none}
 use native.Mathlib.Omega.{arith}
 use lib.ListN.{length}
 use lib.Seq.{take-all}
+use Rattle.lists.proofs.Cases.{le-or-lt}
 use Rattle.answers.specs.Paper.{accepted}
 use Rattle.silences.specs.Silences.{Silence}
 use Rattle.silences.specs.Layout.{layout, mostBytes}
@@ -16,8 +17,8 @@ use Rattle.lists.specs.Bounds.{IsBytes}
 use Rattle.silences.specs.Books.{IsBook}
 use Rattle.silences.specs.Rows.{IsFineBefore}
 use Rattle.answers.proofs.AnswerCases.{accepted-not-refused}
-use Rattle.silences.proofs.ReadFrom.{readBook-fields}
-use Rattle.silences.proofs.FieldsRead.{FieldsRead, ReadsAs, read-all, reads-as-is, book-reads}
+use Rattle.silences.proofs.ReadFrom.{readBook-long, readBook-fields}
+use Rattle.silences.proofs.FieldsRead.{FieldsRead, ReadsAs, read-all, reads-as, reads-as-is}
 use Rattle.silences.proofs.BookRows.{book-accepted-iff}
 use Rattle.silences.proofs.LayoutRead.{layout-length, read-fine, fine-read}
 
@@ -35,7 +36,10 @@ whole-of-walk book ss h (read-all {stop = stop} f l) = record { book-le = h; sto
 -- A book is accepted exactly when its fields were read to its end.
 pub accepted-whole-iff : (book : List ℕ) (ss : List Silence) → (readBook book ≡ accepted ss) ↔ IsReadWhole ss book
 accepted-whole-iff book ss = (
-  λ e. ⊎-elim (λ long. absurd (accepted-not-refused refl (long .1))) (λ r. whole-of-walk book ss (r .0) (r .1)) (book-reads book (accepted ss) e),
+  λ e. ⊎-elim
+      (λ short. whole-of-walk book ss short (reads-as book none 0 (accepted ss) (sym (readBook-fields book short) ∙ e)))
+      (λ long. absurd (accepted-not-refused e (readBook-long book long)))
+      (le-or-lt (length book) mostBytes),
   λ w. readBook-fields book (w .book-le) ∙ reads-as-is book (read-all (w .fields) (w .stop-ge)),
 )
 

@@ -1,9 +1,8 @@
 -- Reading as a walk: from a byte offset whole fields are read, each above the one before it, as far as an offset where reading stops (`FieldsRead`). It
--- stops at the book's end, at a faulty field, or at a record that isn't above the last (`ReadsAs`), and these three fix what `readFrom` gives. So a whole book
--- gives row 5, or what the walk from its first byte gives (`book-reads`).
+-- stops at the book's end, at a faulty field, or at a record that isn't above the last (`ReadsAs`), and these three fix what `readFrom` gives.
 use Prim.Native.Nat.{ℕ, _+_, _≤_, _<_}
-use mathlib.Core.Logic.{_⊎_, inl, inr, ⊎-elim}
-use mathlib.Core.Path.{_≡_, refl, sym, ap, subst, _∙_}
+use mathlib.Core.Logic.{⊎-elim}
+use mathlib.Core.Path.{_≡_, refl, ap, subst, _∙_}
 use mathlib.Core.Bool.{Bool, true, false}
 use mathlib.Core.List.{List, [], _∷_, _++_}
 use mathlib.Core.Option.{Option, none, some}
@@ -11,14 +10,13 @@ use native.Mathlib.Omega.{arith}
 use lib.ListN.{length}
 use Rattle.lists.proofs.Cases.{le-or-lt}
 use Rattle.answers.specs.declared.refusals.Refusal.{Refusal}
-use Rattle.answers.specs.declared.refusals.Refusal.the-variants.{BookLength, Field, NotAbove}
+use Rattle.answers.specs.declared.refusals.Refusal.the-variants.{Field, NotAbove}
 use Rattle.answers.specs.Paper.{Answer, accepted, refused}
 use Rattle.silences.specs.Silences.{Silence, isAbove}
-use Rattle.silences.specs.Layout.{mostBytes}
-use Rattle.silences.specs.Reading.{FieldAt, whole, faulty, fieldAt, before, readFrom, readBook}
+use Rattle.silences.specs.Reading.{FieldAt, whole, faulty, fieldAt, before, readFrom}
 use Rattle.silences.proofs.FieldTest.{field-ends}
 use Rattle.silences.proofs.FieldInduction.{field-induction}
-use Rattle.silences.proofs.ReadFrom.{readFrom-end, readFrom-faulty, readFrom-not-above, readFrom-above, readBook-long, readBook-fields}
+use Rattle.silences.proofs.ReadFrom.{readFrom-end, readFrom-faulty, readFrom-not-above, readFrom-above}
 use Rattle.silences.proofs.AscendingAfter.{lastAfter}
 
 -- From `at` to `stop` whole fields of these silences are read, each above the one before it, the first above `last`.
@@ -35,18 +33,18 @@ pub data ReadsAs (book : List ℕ) (last : Option Silence) (at : ℕ) : Answer (
   stopped-order : {ss : List Silence} {stop : ℕ} {s : Silence} {next : ℕ} → FieldsRead book last at ss stop → fieldAt book stop ≡ whole s next
       → isAbove (lastAfter last ss) s ≡ false → ReadsAs book last at (refused (NotAbove stop))
 
--- Silences before those read, where they are accepted.
-abbrev pub beforeAll : List Silence → Answer (List Silence) → Answer (List Silence)
+-- silences before those read, where they are accepted
+abbrev beforeAll : List Silence → Answer (List Silence) → Answer (List Silence)
 beforeAll [] a = a
 beforeAll (s ∷ ss) a = before s (beforeAll ss a)
 
--- Where there is nothing more, they are the silences themselves.
-pub beforeAll-accepted : (ss : List Silence) → beforeAll ss (accepted []) ≡ accepted ss
+-- where there is nothing more, they are the silences themselves
+beforeAll-accepted : (ss : List Silence) → beforeAll ss (accepted []) ≡ accepted ss
 beforeAll-accepted [] = refl
 beforeAll-accepted (s ∷ ss) = ap (before s) (beforeAll-accepted ss)
 
--- A refusal stays.
-pub beforeAll-refused : (ss : List Silence) (r : Refusal) → beforeAll ss (refused r) ≡ refused r
+-- a refusal stays
+beforeAll-refused : (ss : List Silence) (r : Refusal) → beforeAll ss (refused r) ≡ refused r
 beforeAll-refused [] r = refl
 beforeAll-refused (s ∷ ss) r = ap (before s) (beforeAll-refused ss r)
 
@@ -111,12 +109,3 @@ module _ (book : List ℕ) where
   -- And what `readFrom` gives is what the walk gives.
   pub reads-as : (last : Option Silence) (at : ℕ) (a : Answer (List Silence)) → readFrom book last at ≡ a → ReadsAs book last at a
   reads-as last at a e = subst (ReadsAs book last at) e (walk at last)
-
-  -- What a book gives: row 5 where it is longer than 13,000 bytes, else what the walk from its first byte gives.
-  pub book-reads : (a : Answer (List Silence)) → readBook book ≡ a
-      → ((mostBytes < length book) × (a ≡ refused BookLength)) ⊎ ((length book ≤ mostBytes) × ReadsAs book none 0 a)
-  book-reads a e =
-      ⊎-elim
-      (λ h. inr (h, reads-as none 0 a (sym (readBook-fields book h) ∙ e)))
-      (λ h. inl (h, sym e ∙ readBook-long book h))
-      (le-or-lt (length book) mostBytes)

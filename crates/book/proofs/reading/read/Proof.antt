@@ -2,7 +2,7 @@
 use mathlib.Core.Path.{sym, ap, _∙_}
 use native.Mathlib.Omega.{arith}
 use Rattle.answers.specs.Paper.{answerPaper}
-use Rattle.book.specs.Calls.{recordsOf, recordsPaper}
+use Rattle.book.specs.Calls.{recordCount, recordsPaper}
 use Rattle.silences.proofs.ReadFrom.{readBook-long, readBook-fields}
 use Rattle.book.proofs.reading.read.Statement.{statement}
 use Rattle.book.proofs.reading.read.Tie as tie
@@ -16,7 +16,7 @@ read-fields-requires c κs = tt
 
 -- what the fields give
 returns-2 : tie.Need-returns-2
-returns-2 c = record { paper = ap (answerPaper 0) (c .read-fields .ensures ∙ sym (ap recordsOf (readBook-fields _ (omega arith)))) }
+returns-2 c = record { paper = ap (answerPaper 0) (c .read-fields .ensures ∙ sym (ap recordCount (readBook-fields _ (omega arith)))) }
 
 pub read-spec : {M : Type 1} → statement M
 read-spec = tie.close (tie.spec returns read-fields-requires returns-2)
