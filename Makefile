@@ -8,8 +8,8 @@ test:
 	@tools/gate
 
 demo:
-	@rt check report
-	@cat target/log/report.stdout
+	@rt check program
+	@cat target/log/program.stdout
 	@echo "The ring aa stands in the line aaa at starts 0 and 1; the book silences start 1 of cell 7, ring 2: one is shown, one hidden."
 
 compare:

@@ -1,15 +1,8 @@
--- Laws of the report program's text, and what the functions' proofs cite.
-pub mod DecimalDigits
-pub mod TextWritten
-pub mod PutLoop
-pub mod FormLoop
-pub mod WordsOfFindings
-pub mod LinesLoop
-pub mod RoomEnough
-pub mod TextRoom
-pub mod RequestAnswered
-pub mod AskedParts
-pub mod DecimalReadBack
-pub mod RowsNeverGiven
-pub mod OneText
-pub mod TextOfInput
+-- Laws of the report program's input, and what the functions' proofs cite.
+pub mod FieldStands
+pub mod PastFields
+pub mod RequestRead
+pub mod RowElevenIff
+pub mod LaidDownRead
+pub mod ReadIsLaidDown
+pub mod OneAnswer

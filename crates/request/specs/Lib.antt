@@ -1,6 +1,6 @@
--- The report program's text. Decimal to Answering state document 01; Writing has the contracts of private functions. Samples are computed.
-pub mod Decimal
-pub mod Lines
-pub mod Answering
-pub mod Writing
-pub mod Samples
+-- The report program's input. Fields to RowEleven state document 01; Asking is what `read_request` promises, Parsing what a private function does.
+pub mod Fields
+pub mod Input
+pub mod RowEleven
+pub mod Asking
+pub mod Parsing

@@ -4,7 +4,7 @@ use crate::area;
 use crate::edges;
 use crate::printing;
 use crate::table;
-use request::MOST_TEXT;
+use reply::MOST_TEXT;
 
 fn no_text() -> [u8; MOST_TEXT] {
     [0; MOST_TEXT]
@@ -13,7 +13,7 @@ fn no_text() -> [u8; MOST_TEXT] {
 // Writes the program's text for an input.
 fn print_answer(input: &[u8]) {
     let mut text = no_text();
-    let length = request::answer(input, &mut text);
+    let length = reply::answer(input, &mut text);
     printing::text(&text[..length]);
 }
 

@@ -1,8 +1,0 @@
--- Laws of the report program's input, and what the functions' proofs cite.
-pub mod FieldStands
-pub mod PastFields
-pub mod RequestRead
-pub mod RowElevenIff
-pub mod LaidDownRead
-pub mod ReadIsLaidDown
-pub mod OneAnswer

@@ -1,0 +1,35 @@
+-- The findings of words, as a walk through the words meets them: from a word on, the finding there and the findings after it; or, with too few words left, none.
+-- And the findings of the words of findings are those findings. All from the laws of records (`Records` of crates/lists).
+use Prim.Native.Nat.{ℕ, _+_, _≤_, _<_}
+use mathlib.Core.Path.{_≡_, refl, ap, _∙_}
+use mathlib.Core.List.{List, [], _∷_}
+use native.Mathlib.Nat.{add-zero}
+use native.Mathlib.Omega.{arith}
+use lib.ListN.{length, getD, drop}
+use Rattle.meaning.specs.Findings.{Finding, findingWords, wordsEach, wordsOf}
+use Rattle.lists.proofs.Records.{part-at, records-step, records-end, records-of-words}
+use Rattle.reply.specs.Writing.{findingOf, findingFrom, findingsOf}
+
+-- the finding of its words
+abbrev itsFinding : List ℕ → Finding
+itsFinding words = findingFrom words 0
+
+-- The findings of findings' words are those findings.
+pub findingsOf-words : (fs : List Finding) → findingsOf (wordsOf fs) ≡ fs
+unfolding findingsOf
+findingsOf-words = records-of-words wordsEach itsFinding (omega arith) findingWords (λ _. refl) (λ _. refl)
+
+module _ (words : List ℕ) (at : ℕ) where
+  -- Where the words of a finding are left, they are the next finding.
+  pub findingsOf-step : at + wordsEach ≤ length words → findingsOf (drop at words) ≡ findingFrom words at ∷ findingsOf (drop (at + wordsEach) words)
+  unfolding findingsOf
+  findingsOf-step h =
+      let word = part-at wordsEach words at in
+      records-step wordsEach itsFinding (omega arith) words at h
+      ∙ ap (λ (f : Finding). f ∷ findingsOf (drop (at + wordsEach) words))
+      (λ i. findingOf ((word 0 (omega arith) ∙ ap (λ (j : ℕ). getD words j 0) (add-zero at)) i) (word 1 (omega arith) i) (word 2 (omega arith) i))
+
+  -- Where fewer are left, there is none.
+  pub findingsOf-end : length words < at + wordsEach → findingsOf (drop at words) ≡ []
+  unfolding findingsOf
+  findingsOf-end = records-end wordsEach itsFinding (omega arith) words at

@@ -1,0 +1,45 @@
+-- The test of a field is true exactly where the field stands.
+use Prim.Native.Nat.{ℕ}
+use mathlib.Core.Path.{_≡_, sym, _∙_}
+use mathlib.Core.Bool.{true, false, false≢true}
+use mathlib.Core.List.{List}
+use mathlib.Core.Logic.{_↔_}
+use lib.Dec.{leb, eqb}
+use lib.ListN.{length, getD}
+use borrow.Author.Tests.{le-leb, eq-eqb, leb-true, eqb-true}
+use Rattle.lists.proofs.Cases.{and-true, not-passed}
+use Rattle.fields.specs.Tagged.{longAt}
+use Rattle.request.specs.declared.field.FieldKind.{FieldKind}
+use Rattle.request.specs.Fields.{nextAt, isField}
+use Rattle.request.specs.RowEleven.{IsFieldAt, NoFieldAt}
+
+module _ (kind : FieldKind) (input : List ℕ) (at : ℕ) where
+  -- A field of this kind stands.
+  pub field-iff : (isField kind input at ≡ true) ↔ IsFieldAt kind input at
+  unfolding isField
+  field-iff = (
+    passed,
+    λ f.
+        simp (
+          eq-eqb (getD input at 0) (kind .tag) (f .tag-is),
+          le-leb (kind .least) (longAt input at) (f .least-le),
+          le-leb (longAt input at) (kind .most) (f .most-le),
+          le-leb (nextAt input at) (length input) (f .not-cut),
+        ),
+  )
+    where
+      passed : isField kind input at ≡ true → IsFieldAt kind input at
+      passed h =
+          let tagged = and-true (eqb (getD input at 0) (kind .tag)) _ h in
+          let long = and-true (leb (kind .least) (longAt input at)) _ (tagged .1) in
+          let short = and-true (leb (longAt input at) (kind .most)) _ (long .1) in
+          record {
+            tag-is = eqb-true (getD input at 0) (kind .tag) (tagged .0);
+            least-le = leb-true (kind .least) (longAt input at) (long .0);
+            most-le = leb-true (longAt input at) (kind .most) (short .0);
+            not-cut = leb-true (nextAt input at) (length input) (short .1);
+          }
+
+  -- None stands.
+  pub no-field-iff : (isField kind input at ≡ false) ↔ NoFieldAt kind input at
+  no-field-iff = (λ e f. false≢true (sym e ∙ field-iff .1 f), λ none. sym (not-passed (isField kind input at) (λ e. none (field-iff .0 e))))

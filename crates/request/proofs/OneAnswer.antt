@@ -1,0 +1,77 @@
+-- Any two answers of `read_request` that meet its contract are equal. They say the same request; its book's length tells where the line ends, the line's length
+-- where it begins, the head before it where the ring ends, and the ring's length where that begins.
+use Prim.Native.Nat.{ℕ, _+_, _-_, _≤_}
+use mathlib.Core.Path.{_≡_, refl, sym, ap, _∙_}
+use mathlib.Core.List.{List}
+use native.Mathlib.Omega.{arith}
+use lib.ListN.{length, drop, length-drop}
+use lib.Seq.{length-take-le}
+use Rattle.answers.specs.Paper.{Answer, accepted, refused}
+use Rattle.fields.specs.Tagged.{headLength}
+use Rattle.request.specs.declared.asking.Asked.{Asked}
+use Rattle.request.specs.declared.asking.Asked.the-variants.{Parts as PartsCase, Refused}
+use Rattle.request.specs.Fields.{between}
+use Rattle.request.specs.Input.{Request}
+use Rattle.request.specs.Asking.{requestAt, askedOf, WithinBy, IsRequestRead}
+
+-- the byte offsets of a request in its input, each from the one behind it
+abbrev lineTo : List ℕ → Request → ℕ
+lineTo input q = length input - length (q .book)
+
+abbrev lineFrom : List ℕ → Request → ℕ
+lineFrom input q = lineTo input q - length (q .line)
+
+abbrev ringTo : List ℕ → Request → ℕ
+ringTo input q = lineFrom input q - headLength
+
+abbrev ringFrom : List ℕ → Request → ℕ
+ringFrom input q = ringTo input q - length (q .ring)
+
+-- a request by its numbers and its byte offsets
+abbrev partsOf : ℕ → ℕ → ℕ → ℕ → ℕ → ℕ → ℕ → Asked
+partsOf cell ring-number allowance ring-from ring-to line-from line-to =
+    PartsCase (record {
+      cell = cell;
+      «ring_number» = ring-number;
+      allowance = allowance;
+      «ring_from» = ring-from;
+      «ring_to» = ring-to;
+      «line_from» = line-from;
+      «line_to» = line-to;
+    })
+
+parts-same : {c n k a a′ b b′ d d′ e e′ : ℕ} → a ≡ a′ → b ≡ b′ → d ≡ d′ → e ≡ e′ → partsOf c n k a b d e ≡ partsOf c n k a′ b′ d′ e′
+parts-same a-is b-is d-is e-is = cc
+
+-- the case that a request, or a refusal, comes from
+abbrev askedBack : List ℕ → Answer Request → Asked
+askedBack input (accepted q) = partsOf (q .cell) (q .ringNumber) (q .allowance) (ringFrom input q) (ringTo input q) (lineFrom input q) (lineTo input q)
+askedBack input (refused refusal) = Refused refusal
+
+-- how long the bytes between two offsets are
+between-length : (input : List ℕ) (from to : ℕ) → to ≤ length input → length (between input from to) ≡ to - from
+between-length input from to h = length-take-le (to - from) (drop from input) (simp length-drop (omega arith))
+
+-- where a piece begins, by where it ends and how long it is
+begins-at : {from to long end : ℕ} → end ≡ to → long ≡ to - from → from ≤ to → end - long ≡ from
+begins-at ends long-is h = omega (arith, ends, long-is, h)
+
+-- and where the piece before a head ends
+head-before : {from to end : ℕ} → end ≡ from → from ≡ to + headLength → end - headLength ≡ to
+head-before begins behind = omega (arith, begins, behind)
+
+asked-back : (input : List ℕ) (r : Asked) → WithinBy input r → askedBack input (askedOf input r) ≡ r
+asked-back input (PartsCase p) within =
+    let line-to : lineTo input (requestAt input p) ≡ p .«line_to» = begins-at refl (length-drop (p .«line_to») input) (within .line-within) in
+    let line-from : lineFrom input (requestAt input p) ≡ p .«line_from» =
+    begins-at line-to (between-length input (p .«line_from») (p .«line_to») (within .line-within)) (within .line-le) in
+    let ring-to : ringTo input (requestAt input p) ≡ p .«ring_to» = head-before line-from (within .line-behind) in
+    let ring-from : ringFrom input (requestAt input p) ≡ p .«ring_from» =
+    begins-at ring-to (between-length input (p .«ring_from») (p .«ring_to») (within .ring-within)) (within .ring-le) in
+    parts-same ring-from ring-to line-from line-to
+asked-back input (Refused refusal) within = refl
+
+-- Any two answers of `read_request` are equal.
+pub asked-unique : (input : List ℕ) (r r′ : Asked) → IsRequestRead input r → IsRequestRead input r′ → r ≡ r′
+asked-unique input r r′ a b =
+    sym (asked-back input r (a .within)) ∙ ap (askedBack input) (a .is ∙ sym (b .is)) ∙ asked-back input r′ (b .within)
