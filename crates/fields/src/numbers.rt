@@ -6,7 +6,7 @@ ghost use Rattle.fields.specs.Numbers.{IsNumberRead};
 const MOST_NUMBER_BYTES: usize = 4;
 
 // A byte as a number of 32 bits.
-fn wide(x: u8) -> u32
+fn byte_value(x: u8) -> u32
     ensures { λ r. ⌜ r ≡ x ⌝ }
 {
     x as u32
@@ -29,7 +29,7 @@ pub fn number_at(bytes: &[u8], at: usize, count: usize) -> u32
     let mut number: u32 = 0;
     let mut done: usize = 0;
     while done < count {
-        number = number * 256 + wide(bytes[at + done]);
+        number = number * 256 + byte_value(bytes[at + done]);
         done += 1;
     }
     number

@@ -13,7 +13,7 @@ use Rattle.findings.specs.declared.admitting.Verdict.the-variants.{Accep
 use Rattle.findings.specs.declared.searching.Searched.{Searched}
 use Rattle.findings.specs.declared.searching.Searched.the-variants.{Counts as CountsCase, Refused}
 use Rattle.findings.specs.Admitting.{verdictOf, IsVerdict}
-use Rattle.findings.specs.Putting.{IsPut}
+use Rattle.findings.specs.Putting.{IsFindingPut}
 use Rattle.findings.specs.Searching.{Counts, noCounts, answerOf, paperOf, IsSearched}
 
 -- the verdict that a refusal comes from
@@ -30,7 +30,7 @@ pub one-verdict : (m k n room : ℕ) (r r′ : Verdict) → IsVerdict m k n room
 one-verdict m k n room r r′ a b = sym (verdict-back r) ∙ ap verdictBack (a .is ∙ sym (b .is)) ∙ verdict-back r′
 
 -- Any two areas at exit of `put_finding` are equal.
-pub one-put : (words : List ℕ) (before : ℕ) (f : Finding) (out out′ : List ℕ) → IsPut words before f out → IsPut words before f out′ → out ≡ out′
+pub one-put : (words : List ℕ) (before : ℕ) (f : Finding) (out out′ : List ℕ) → IsFindingPut words before f out → IsFindingPut words before f out′ → out ≡ out′
 one-put words before f out out′ a b = a .written ∙ sym (b .written)
 
 -- the case that an answer comes from

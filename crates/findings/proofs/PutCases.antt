@@ -12,7 +12,7 @@ use Rattle.lists.specs.Bounds.{IsWords}
 use Rattle.lists.proofs.Bounds.{below-none, below-more, all-below-iff}
 use Rattle.meaning.specs.Findings.{Finding, findingWords, wordsEach}
 use Rattle.lists.proofs.SizesTested.{le-iff, and-iff, test-same}
-use Rattle.findings.specs.Putting.{wordsPut, canPut, CanPut, IsPut}
+use Rattle.findings.specs.Putting.{wordsPut, canPut, CanPut, IsFindingPut}
 
 -- The three numbers of a finding are its words.
 pub finding-words : {f : Finding} → f .start < 2 ^ 32 → f .rotation < 2 ^ 32 → f .distance < 2 ^ 32 → IsWords (findingWords f)
@@ -37,13 +37,13 @@ can-put-last lent before f more start rotation =
 
 module _ (words : List ℕ) (before : ℕ) (f : Finding) where
   -- Words that can be put are put.
-  pub put-yes : (out : List ℕ) → canPut (length words) before f ≡ true → out ≡ wordsPut before f words → IsPut words before f out
+  pub put-yes : (out : List ℕ) → canPut (length words) before f ≡ true → out ≡ wordsPut before f words → IsFindingPut words before f out
   put-yes out passed put = record { written = rw passed put }
 
   -- Where they cannot, nothing is written.
-  pub put-no : canPut (length words) before f ≡ false → IsPut words before f words
+  pub put-no : canPut (length words) before f ≡ false → IsFindingPut words before f words
   put-no failed = record { written = rw failed refl }
 
   -- Where there is room for a finding's words, and each is a 32-bit word, they are put.
-  pub words-are-put : (out : List ℕ) → CanPut (length words) before f → IsPut words before f out → out ≡ wordsPut before f words
+  pub words-are-put : (out : List ℕ) → CanPut (length words) before f → IsFindingPut words before f out → out ≡ wordsPut before f words
   words-are-put out can put = rw (can-put-iff (length words) before f .1 can) at (put .written)

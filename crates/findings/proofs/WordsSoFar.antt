@@ -10,7 +10,7 @@ use Rattle.meaning.specs.Meanings.{IsStart}
 use Rattle.meaning.specs.Findings.{Finding, findingWords, wordsEach, wordsOf}
 use Rattle.lists.specs.Areas.{written}
 use Rattle.findings.specs.Admitting.{Admitted}
-use Rattle.findings.specs.Putting.{wordsPut, CanPut, IsPut}
+use Rattle.findings.specs.Putting.{wordsPut, CanPut, IsFindingPut}
 use Rattle.findings.proofs.WordsPut.{put-more, put-none, put-length}
 use Rattle.findings.proofs.PutCases.{finding-words, words-are-put}
 
@@ -43,7 +43,7 @@ module _ {area : List ℕ} {fs : List Finding} {count : ℕ} {words : List ℕ} 
   }
 
   -- One finding more, that `put_finding` put.
-  pub so-far-more : {f : Finding} {out : List ℕ} → wordsEach * count + wordsEach ≤ length area → IsWords (findingWords f) → IsPut words count f out
+  pub so-far-more : {f : Finding} {out : List ℕ} → wordsEach * count + wordsEach ≤ length area → IsWords (findingWords f) → IsFindingPut words count f out
       → WordsSoFar area (fs ++ f ∷ []) (count + 1) out
   so-far-more {f} {out} room fit put =
       let can : CanPut (length words) count f = record { room = omega (arith, so-far-length (omega arith)); words = fit } in

@@ -5,7 +5,7 @@
 --   wordsPut       the words with a finding's words put
 --   canPut         whether there is room for them, and each is a 32-bit word
 --   CanPut         the same as facts
---   IsPut          the contract of `put_finding`
+--   IsFindingPut          the contract of `put_finding`
 use Prim.Native.Nat.{ℕ, _+_, _*_, _≤_}
 use mathlib.Core.Path.{_≡_}
 use mathlib.Core.Bool.{Bool, cond, _&&_}
@@ -35,5 +35,5 @@ unfoldable pub canPut : ℕ → ℕ → Finding → Bool
 canPut lent before f = leb (wordsEach * before + wordsEach) lent && isWords (findingWords f)
 
 -- The contract of `put_finding`, which leaves the words at exit as `out`: where the finding's words cannot be put, nothing is written.
-pub record IsPut (words : List ℕ) (before : ℕ) (f : Finding) (out : List ℕ) : Type 0 where
+pub record IsFindingPut (words : List ℕ) (before : ℕ) (f : Finding) (out : List ℕ) : Type 0 where
   pub written : out ≡ cond (canPut (length words) before f) (wordsPut before f words) words

@@ -3,7 +3,7 @@ use crate::admitting::WORDS_EACH;
 use crate::searching::Finding;
 ghost use mathlib.Core.Path.{_≡_};
 ghost use lib.ListN.{length};
-ghost use Rattle.findings.specs.Putting.{findingOf, canPut, wordsPut, CanPut, IsPut};
+ghost use Rattle.findings.specs.Putting.{findingOf, canPut, wordsPut, CanPut, IsFindingPut};
 
 // The largest number that a 32-bit word holds.
 const LAST_WORD: usize = 4294967295;
@@ -42,7 +42,7 @@ fn put_words(words: &mut [u32], before: usize, finding: Finding)
 
 // A finding's words put, or nothing where they cannot be.
 pub fn put_finding(words: &mut [u32], before: usize, finding: Finding)
-    ensures { λ _. ⌜ IsPut (now (words .entry)) before (findingOf finding) (now (words .exit)) ⌝ }
+    ensures { λ _. ⌜ IsFindingPut (now (words .entry)) before (findingOf finding) (now (words .exit)) ⌝ }
 {
     if can_put(words.len(), before, finding) {
         put_words(words, before, finding);

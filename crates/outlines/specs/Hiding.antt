@@ -15,7 +15,7 @@ use Rattle.silences.specs.Reading.{FieldAt}
 use Rattle.silences.specs.Addresses.{soughtOf}
 use Rattle.book.specs.Seeking.{seekField, seekFrom, isFor}
 use Rattle.findings.specs.Admitting.{mostLine}
-use Rattle.findings.specs.Putting.{IsPut}
+use Rattle.findings.specs.Putting.{IsFindingPut}
 use Rattle.outlines.specs.declared.asking.BookAsked.{BookAsked}
 
 -- The address that names a finding: cell, ring number and the finding's start.
@@ -44,5 +44,5 @@ pub record IsHiddenOrShown (cell ringNumber : ℕ) (book : List ℕ) (so-far : B
 
 -- Contract of `put_shown`: if the finding was counted as shown, its words are put behind those of the ones before it; else no word changes.
 pub record IsShownPut (words : List ℕ) (before now-shown : ℕ) (f : Finding) (out : List ℕ) : Type 0 where
-  pub shown-put : before < now-shown → IsPut words before f out
+  pub shown-put : before < now-shown → IsFindingPut words before f out
   pub hidden-same : now-shown ≤ before → out ≡ words

@@ -11,13 +11,13 @@ use Rattle.fields.specs.Numbers.{bytesOf}
 use Rattle.fields.specs.Tagged.{tagBytes, lengthBytes}
 use Rattle.silences.specs.Silences.{Silence, cellBytes, ringNumberBytes, startBytes}
 use Rattle.silences.specs.Layout.{silenceTag, valueLength, valueOf, fieldOf}
-use Rattle.packing.specs.Putting.{IsPut}
+use Rattle.packing.specs.Putting.{AreBytesPut}
 use Rattle.fields.proofs.NumberBytes.{bytesOf-length}
 use Rattle.silences.proofs.FieldBytes.{fieldOf-is}
 
 -- Bytes are put, and then more just past them: both are put.
-pub put-append : {at next last : ℕ} {a b area mid out : List ℕ} → at + length a ≤ length area → IsPut at a area next mid → IsPut next b mid last out
-    → IsPut at (a ++ b) area last out
+pub put-append : {at next last : ℕ} {a b area mid out : List ℕ} → at + length a ≤ length area → AreBytesPut at a area next mid → AreBytesPut next b mid last out
+    → AreBytesPut at (a ++ b) area last out
 put-append {at} {next} {last} {a} {b} {area} {mid} {out} room first then =
     record {
       next-is = omega (arith, first .next-is, then .next-is, length-append a b);
@@ -27,7 +27,7 @@ put-append {at} {next} {last} {a} {b} {area} {mid} {out} room first then =
     }
 
 -- What comes behind a number begins as many bytes on as the number has.
-pub number-next : {at next : ℕ} {area out : List ℕ} (count number : ℕ) → IsPut at (bytesOf count number) area next out → next ≡ at + count
+pub number-next : {at next : ℕ} {area out : List ℕ} (count number : ℕ) → AreBytesPut at (bytesOf count number) area next out → next ≡ at + count
 number-next {at} count number is-put = is-put .next-is ∙ ap (λ (n : ℕ). at + n) (bytesOf-length count number)
 
 module _ (s : Silence) where
@@ -43,8 +43,8 @@ module _ (s : Silence) where
 
   -- Its numbers put one after the other, it is put.
   pub field-put : {at length-at value-at ring-at start-at next : ℕ} {area a b c d out : List ℕ} → at + length (fieldOf s) ≤ length area
-      → IsPut at (bytesOf tagBytes silenceTag) area length-at a → IsPut length-at (bytesOf lengthBytes valueLength) a value-at b → IsPut value-at (bytesOf cellBytes (s .cell)) b ring-at c
-      → IsPut ring-at (bytesOf ringNumberBytes (s .ringNumber)) c start-at d → IsPut start-at (bytesOf startBytes (s .start)) d next out → IsPut at (fieldOf s) area next out
+      → AreBytesPut at (bytesOf tagBytes silenceTag) area length-at a → AreBytesPut length-at (bytesOf lengthBytes valueLength) a value-at b → AreBytesPut value-at (bytesOf cellBytes (s .cell)) b ring-at c
+      → AreBytesPut ring-at (bytesOf ringNumberBytes (s .ringNumber)) c start-at d → AreBytesPut start-at (bytesOf startBytes (s .start)) d next out → AreBytesPut at (fieldOf s) area next out
   field-put {at} {area = area} {out = out} room tag long cell ring start =
       let head : List ℕ = bytesOf tagBytes silenceTag ++ bytesOf lengthBytes valueLength in
       let to-cell : List ℕ = head ++ bytesOf cellBytes (s .cell) in

@@ -14,7 +14,7 @@ use Rattle.lists.proofs.Areas.{writtenAt-zero, writtenAt-none, writtenAt-append
 use Rattle.silences.specs.Silences.{Silence}
 use Rattle.silences.specs.Layout.{fieldOf, layout}
 use Rattle.silences.specs.Packing.{silencesOf, recordWords}
-use Rattle.packing.specs.Putting.{IsPut}
+use Rattle.packing.specs.Putting.{AreBytesPut}
 use Rattle.silences.proofs.WordsOfSilences.{silenceFrom, silencesOf-step, silencesOf-end}
 
 -- The layout of the silences of the words from `at` on.
@@ -52,7 +52,7 @@ module _ {words area : List ℕ} where
 
     -- A turn puts the next field.
     pub fields-turn : {next : ℕ} {put : List ℕ} → at + recordWords ≤ length words → length put ≡ length out
-        → IsPut to (fieldOf (silenceFrom words at)) out next put → PutFields words area (at + recordWords) next put
+        → AreBytesPut to (fieldOf (silenceFrom words at)) out next put → PutFields words area (at + recordWords) next put
     fields-turn {next} {put} h same is-put =
         let here : List ℕ = fieldOf (silenceFrom words at) in
         let rest : List ℕ = layoutFrom words (at + recordWords) in

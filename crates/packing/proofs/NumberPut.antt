@@ -12,7 +12,7 @@ use lib.ListN.{length, set, length-set}
 use Rattle.lists.specs.Areas.{writtenAt}
 use Rattle.lists.proofs.Areas.{writtenAt-none, writtenAt-last}
 use Rattle.fields.specs.Numbers.{bytesOf}
-use Rattle.packing.specs.Putting.{IsPut}
+use Rattle.packing.specs.Putting.{AreBytesPut}
 use Rattle.fields.proofs.NumberBytes.{bytesOf-length}
 
 -- What the loop keeps.
@@ -50,7 +50,7 @@ module _ {at count number : ℕ} {area : List ℕ} where
       }
 
   -- At the end no byte is left: the number is written.
-  pub put-number-end : {rest left : ℕ} {out : List ℕ} → left ≤ 0 → PutNumber at count number area rest left out → IsPut at (bytesOf count number) area (at + count) out
+  pub put-number-end : {rest left : ℕ} {out : List ℕ} → left ≤ 0 → PutNumber at count number area rest left out → AreBytesPut at (bytesOf count number) area (at + count) out
   unfolding bytesOf
   put-number-end {rest} {left} {out} none-left now =
       let none : 0 ≡ left = omega arith in

@@ -6,6 +6,6 @@ use lib.ListN.{length}
 use Rattle.lists.specs.Areas.{writtenAt}
 
 -- These bytes are written from byte offset `at` on: `next` is the byte offset just past them, `out` the area at exit.
-pub record IsPut (at : ℕ) (bytes area : List ℕ) (next : ℕ) (out : List ℕ) : Type 0 where
+pub record AreBytesPut (at : ℕ) (bytes area : List ℕ) (next : ℕ) (out : List ℕ) : Type 0 where
   pub next-is : next ≡ at + length bytes
   pub area-is : out ≡ writtenAt at bytes area

@@ -15,13 +15,13 @@ ghost use Rattle.fields.specs.Numbers.{bytesOf};
 ghost use Rattle.silences.specs.Silences.{silence};
 ghost use Rattle.silences.specs.Layout.{fieldOf, layout};
 ghost use Rattle.silences.specs.Packing.{silencesOf};
-ghost use Rattle.packing.specs.Putting.{IsPut};
+ghost use Rattle.packing.specs.Putting.{AreBytesPut};
 
 // Writes a number into `count` bytes from `at` on, high byte first, and answers the byte offset just past them. It goes
 // from the last byte to the first: the last is the number mod 256, and the others are what is left of it.
 fn put_number(out: &mut [u8], at: usize, count: usize, number: u32) -> usize
     requires { ⌜ at + count ≤ length (now out) ⌝ }
-    ensures { λ r. ⌜ IsPut at (bytesOf count number) (now (out .entry)) r (now (out .exit)) ⌝ }
+    ensures { λ r. ⌜ AreBytesPut at (bytesOf count number) (now (out .entry)) r (now (out .exit)) ⌝ }
 {
     let mut rest = number;
     let mut left = count;
@@ -36,7 +36,7 @@ fn put_number(out: &mut [u8], at: usize, count: usize, number: u32) -> usize
 // Writes a silence's field from `at` on: "one-byte tag, two-byte length, value". Answers the byte offset just past it.
 fn put_field(out: &mut [u8], at: usize, cell: u32, ring_number: u32, start: u32) -> usize
     requires { ⌜ at + length (fieldOf (silence cell «ring_number» start)) ≤ length (now out) ⌝ }
-    ensures { λ r. ⌜ IsPut at (fieldOf (silence cell «ring_number» start)) (now (out .entry)) r (now (out .exit)) ⌝ }
+    ensures { λ r. ⌜ AreBytesPut at (fieldOf (silence cell «ring_number» start)) (now (out .entry)) r (now (out .exit)) ⌝ }
 {
     let length_at = put_number(out, at, TAG_BYTES, SILENCE_TAG as u32);
     let value_at = put_number(out, length_at, LENGTH_BYTES, SILENCE_LENGTH as u32);

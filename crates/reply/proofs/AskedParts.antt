@@ -13,7 +13,7 @@ use Rattle.request.specs.declared.asking.Asked.the-variants.{Parts as PartsCase
 use Rattle.request.specs.declared.asking.Parts.{Parts}
 use Rattle.request.specs.Fields.{between}
 use Rattle.request.specs.Input.{Request}
-use Rattle.request.specs.Asking.{askedOf, Within, WithinBy, IsRequestRead}
+use Rattle.request.specs.Asking.{askedOf, PartsWithin, PartsWithinBy, IsRequestRead}
 use Rattle.reply.specs.Lines.{refusalLine}
 use Rattle.reply.specs.Answering.{requestText, textBy, answerText, IsAnswered}
 use Rattle.reply.specs.Writing.{request, IsText}
@@ -33,8 +33,8 @@ answered-by {area = area} e is-text = record {
 
 module _ {input : List ℕ} {r : Asked} (asked : IsRequestRead input r) where
   -- Where the parts of a request lie.
-  pub parts-within : {p : Parts} → r ≡ PartsCase p → Within input p
-  parts-within e = subst (WithinBy input) e (asked .within)
+  pub parts-within : {p : Parts} → r ≡ PartsCase p → PartsWithin input p
+  parts-within e = subst (PartsWithinBy input) e (asked .within)
 
   -- The text of a request is the input's. (Code takes the book as the bytes up to the input's end.)
   pub parts-text : {p : Parts} → r ≡ PartsCase p

@@ -8,7 +8,7 @@ use native.Mathlib.Omega.{arith}
 use lib.ListN.{length, getD, drop}
 use Rattle.meaning.specs.Findings.{Finding, findingWords, wordsEach, wordsOf}
 use Rattle.lists.proofs.Records.{part-at, records-step, records-end, records-of-words}
-use Rattle.reply.specs.Writing.{findingOf, findingFrom, findingsOf}
+use Rattle.reply.specs.Writing.{findingOfNumbers, findingFrom, findingsOf}
 
 -- the finding of its words
 abbrev itsFinding : List ℕ → Finding
@@ -27,7 +27,7 @@ module _ (words : List ℕ) (at : ℕ) where
       let word = part-at wordsEach words at in
       records-step wordsEach itsFinding (omega arith) words at h
       ∙ ap (λ (f : Finding). f ∷ findingsOf (drop (at + wordsEach) words))
-      (λ i. findingOf ((word 0 (omega arith) ∙ ap (λ (j : ℕ). getD words j 0) (add-zero at)) i) (word 1 (omega arith) i) (word 2 (omega arith) i))
+      (λ i. findingOfNumbers ((word 0 (omega arith) ∙ ap (λ (j : ℕ). getD words j 0) (add-zero at)) i) (word 1 (omega arith) i) (word 2 (omega arith) i))
 
   -- Where fewer are left, there is none.
   pub findingsOf-end : length words < at + wordsEach → findingsOf (drop at words) ≡ []

@@ -63,12 +63,12 @@ filled (byte ∷ form) numbers =
     cond (eqb byte hole) number-here byte-here
 
 -- The finding of this start, rotation and distance.
-abbrev pub findingOf : ℕ → ℕ → ℕ → Finding
-findingOf start rotation distance = record { start = start; rotation = rotation; distance = distance }
+abbrev pub findingOfNumbers : ℕ → ℕ → ℕ → Finding
+findingOfNumbers start rotation distance = record { start = start; rotation = rotation; distance = distance }
 
 -- The finding whose words stand from word `at` on.
 abbrev pub findingFrom : List ℕ → ℕ → Finding
-findingFrom words at = findingOf (getD words at 0) (getD words (at + 1) 0) (getD words (at + 2) 0)
+findingFrom words at = findingOfNumbers (getD words at 0) (getD words (at + 1) 0) (getD words (at + 2) 0)
 
 -- The findings of words. Fewer words than a finding has, at the end, are none.
 unfoldable pub findingsOf : List ℕ → List Finding

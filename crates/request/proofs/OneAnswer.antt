@@ -12,7 +12,7 @@ use Rattle.request.specs.declared.asking.Asked.{Asked}
 use Rattle.request.specs.declared.asking.Asked.the-variants.{Parts as PartsCase, Refused}
 use Rattle.request.specs.Fields.{between}
 use Rattle.request.specs.Input.{Request}
-use Rattle.request.specs.Asking.{requestAt, askedOf, WithinBy, IsRequestRead}
+use Rattle.request.specs.Asking.{requestAt, askedOf, PartsWithinBy, IsRequestRead}
 
 -- the byte offsets of a request in its input, each from the one behind it
 abbrev lineTo : List ℕ → Request → ℕ
@@ -60,7 +60,7 @@ begins-at ends long-is h = omega (arith, ends, long-is, h)
 head-before : {from to end : ℕ} → end ≡ from → from ≡ to + headLength → end - headLength ≡ to
 head-before begins behind = omega (arith, begins, behind)
 
-asked-back : (input : List ℕ) (r : Asked) → WithinBy input r → askedBack input (askedOf input r) ≡ r
+asked-back : (input : List ℕ) (r : Asked) → PartsWithinBy input r → askedBack input (askedOf input r) ≡ r
 asked-back input (PartsCase p) within =
     let line-to : lineTo input (requestAt input p) ≡ p .«line_to» = begins-at refl (length-drop (p .«line_to») input) (within .line-within) in
     let line-from : lineFrom input (requestAt input p) ≡ p .«line_from» =

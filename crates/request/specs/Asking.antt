@@ -2,8 +2,8 @@
 --
 --   requestAt    the request whose numbers and byte offsets these are
 --   askedOf      the request, or the refusal, of an answer
---   Within       how the byte offsets lie
---   WithinBy     the same for either answer
+--   PartsWithin       how the byte offsets lie
+--   PartsWithinBy     the same for either answer
 --   IsRequestRead
 --                the contract of `read_request`
 use Prim.Native.Nat.{ℕ, _+_, _≤_}
@@ -36,7 +36,7 @@ askedOf input (Refused refusal) = refused refusal
 
 -- The byte offsets of a request lie one after the other in the input, the line a head behind the ring, and the line is not too long. With the request they
 -- are fixed: the book tells where the line ends, the line where it begins, and so where the ring ends and begins (`asked-unique` of proofs/OneAnswer.antt).
-pub record Within (input : List ℕ) (p : Parts) : Type 0 where
+pub record PartsWithin (input : List ℕ) (p : Parts) : Type 0 where
   pub ring-le : p .«ring_from» ≤ p .«ring_to»
   pub line-behind : p .«line_from» ≡ p .«ring_to» + headLength
   pub line-le : p .«line_from» ≤ p .«line_to»
@@ -45,11 +45,11 @@ pub record Within (input : List ℕ) (p : Parts) : Type 0 where
   pub line-most : p .«line_to» ≤ p .«line_from» + lineField .most
 
 -- The same for either answer.
-abbrev pub WithinBy : List ℕ → Asked → Type 0
-WithinBy input (PartsCase p) = Within input p
-WithinBy input (Refused refusal) = Unit {0}
+abbrev pub PartsWithinBy : List ℕ → Asked → Type 0
+PartsWithinBy input (PartsCase p) = PartsWithin input p
+PartsWithinBy input (Refused refusal) = Unit {0}
 
 -- The contract of `read_request`.
 pub record IsRequestRead (input : List ℕ) (r : Asked) : Type 0 where
   pub is : askedOf input r ≡ requestOf input
-  pub within : WithinBy input r
+  pub within : PartsWithinBy input r

@@ -8,7 +8,7 @@ use crate::table;
 ghost use Prim.Native.Nat.{_<_};
 
 // The words of the most records of a row: 1,001 of them.
-pub const MOST_WORDS: usize = 3003;
+pub const MOST_ROW_WORDS: usize = 3003;
 
 // The bytes of their book. No book has a byte there to put a fault at.
 const MOST_BOOK: usize = 13013;
@@ -39,7 +39,7 @@ pub fn word_of(field: &[u8], at: usize) -> u32 {
 // How many words a field gives.
 fn count(field: &[u8]) -> usize {
     if table::begins(field, b'*') {
-        MOST_WORDS
+        MOST_ROW_WORDS
     } else {
         table::numbers(field)
     }

@@ -3,7 +3,7 @@
 use crate::area;
 use crate::area::AMPLE;
 use crate::books;
-use crate::books::MOST_WORDS;
+use crate::books::MOST_ROW_WORDS;
 use crate::paper;
 use crate::printing;
 use crate::table;
@@ -17,7 +17,7 @@ fn pack_words(words: &[u32], room: usize) {
 }
 
 pub fn pack_row(row: &[u8]) {
-    let mut words = [0u32; MOST_WORDS];
+    let mut words = [0u32; MOST_ROW_WORDS];
     let given = books::words(table::field(row, 1), &mut words).len();
     let count = table::number_or(row, 2, given);
     pack_words(

@@ -22,7 +22,7 @@ use Rattle.tally.specs.Counts.{mostCounts, IsFindingAt}
 use Rattle.tally.specs.Tallied.{Tallied}
 use Rattle.tally.proofs.TallyFinding.{least-no, least-yes}
 use Rattle.findings.specs.declared.searching.Finding.{Finding as FindingStruct}
-use Rattle.findings.specs.Putting.{findingOf, IsPut}
+use Rattle.findings.specs.Putting.{findingOf, IsFindingPut}
 use Rattle.survey.specs.Survey.{CanVerifyOn, IsVerifiedOn, CanSurvey, LineSurveyed}
 use Rattle.findings.proofs.WordsSoFar.{admitted-words, WordsSoFar, so-far-none, so-far-length, so-far-more}
 
@@ -144,7 +144,7 @@ module _ {ring doubled line : List ℕ} {k : ℕ} {area : List ℕ} {i found loo
 
       -- The start reached is a finding, whose words are put behind the others.
       pub survey-found : {f : FindingStruct} {out : List ℕ} → reached .least ≤ k → IsFindingAt (length ring) counts′ (reached .start) (reached .least) f
-          → IsPut words found (findingOf f) out → SurveyKeeps ring doubled line k area (start + 1) (found + 1) (looks + reached .looks) counts′ out
+          → IsFindingPut words found (findingOf f) out → SurveyKeeps ring doubled line k area (start + 1) (found + 1) (looks + reached .looks) counts′ out
       survey-found {f} near carried put =
           let is-start = fits-is-start ring line start (verified .in-line) in
           let here : foundAt ring line k start ≡ findingOf f ∷ [] =

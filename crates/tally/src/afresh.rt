@@ -4,7 +4,7 @@ use crate::counts::MOST_COUNTS;
 use crate::counts::clear;
 use crate::counts::differing;
 use crate::counts::least_of;
-use crate::counts::wide;
+use crate::counts::count_value;
 use answers::LinePlace;
 use answers::RingPlace;
 use answers::to_ring;
@@ -75,7 +75,7 @@ fn count_edges(counts: &mut [u16; MOST_COUNTS], doubled: &[u8], window: &[u8]) -
         looks += count_edge(counts, doubled, m, place, window[q]);
         q += 1;
     }
-    let least = wide(least_of(counts, m));
+    let least = count_value(least_of(counts, m));
     Least { least, looks }
 }
 

@@ -26,7 +26,7 @@ pub fn differing(a: u8, b: u8) -> u16
 }
 
 // A count as a distance: it is compared with the allowance and goes into a finding.
-pub fn wide(count: u16) -> usize
+pub fn count_value(count: u16) -> usize
     ensures { λ r. ⌜ r ≡ count ⌝ }
 {
     count as usize
@@ -75,7 +75,7 @@ fn lowest_rotation(counts: &[u16; MOST_COUNTS], m: usize, least: usize) -> RingP
     let all = rotations(m);
     let mut rotation = 0;
     while rotation < all {
-        if wide(counts[rotation]) == least {
+        if count_value(counts[rotation]) == least {
             return RingPlace(rotation);
         }
         rotation += 1;

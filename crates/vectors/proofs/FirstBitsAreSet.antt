@@ -10,7 +10,7 @@ use native.Mathlib.Omega.{arith}
 use lib.ListN.{length, getD}
 use lib.Pow.{shl-exact, pow-mono, ones-lt}
 use Rattle.vectors.specs.Bits.{wordBits, Vector, bit, firstWord, firstBits, FirstBits}
-use Rattle.vectors.specs.Rotating.{Within}
+use Rattle.vectors.specs.Rotating.{WithinBits}
 use Rattle.vectors.proofs.WordBits.{bit-ones, bit-ones-past}
 use Rattle.vectors.proofs.WordByWord.{vectorOf-vector, vectorOf-isSet, vectorOf-isSet-past}
 use Rattle.lists.proofs.ByPlace.{listOf-length}
@@ -48,7 +48,7 @@ first-bits-vector m count = vectorOf-vector count (firstWord m) (λ w h. lt-of-l
     (ones-lt (min wordBits (m - wordBits * w))) (pow-mono {i = min wordBits (m - wordBits * w)} {j = wordBits} (omega arith)))
 
 -- Its first m bits are all that it has.
-pub first-bits-within : (m : ℕ) (ws : List ℕ) → FirstBits m ws → Within m ws
+pub first-bits-within : (m : ℕ) (ws : List ℕ) → FirstBits m ws → WithinBits m ws
 first-bits-within m ws first = record { rest = first .rest }
 
 -- Word w has as many low bits set as are left of m.

@@ -9,7 +9,7 @@ use native.Mathlib.Omega.{arith}
 use lib.ListN.{length, getD}
 use lib.Bits.{bitAnd}
 use Rattle.vectors.specs.Bits.{wordBits, Vector, bit, putWord}
-use Rattle.vectors.specs.Rotating.{shiftedWord, Within, rotated, Rotated}
+use Rattle.vectors.specs.Rotating.{shiftedWord, WithinBits, rotated, Rotated}
 use Rattle.vectors.specs.Holding.{both, Both, grown, Grown}
 use Rattle.vectors.proofs.VectorBits.{isSet-word, isSet-past, test-and}
 use Rattle.vectors.proofs.WordByWord.{vectorOf-isSet, vectorOf-isSet-past}
@@ -48,13 +48,13 @@ grown-of m occurs old mid new turn and = record {
 
 module _ (m : ℕ) (occurs held : List ℕ) where
   -- The grown vector is grown.
-  pub grown-is : Vector held → 0 < m → m ≤ wordBits * length held → Within m held → Grown m occurs held (grown m occurs held)
+  pub grown-is : Vector held → 0 < m → m ≤ wordBits * length held → WithinBits m held → Grown m occurs held (grown m occurs held)
   unfolding grown
   grown-is vector some room within =
       grown-of m occurs held (rotated m held) (both (rotated m held) occurs) (rotated-is m held vector some room within) (both-is (rotated m held) occurs)
 
   -- What has grown still has m bits.
-  pub grown-within : (new : List ℕ) → Grown m occurs held new → Within m new
+  pub grown-within : (new : List ℕ) → Grown m occurs held new → WithinBits m new
   grown-within new g = record { rest = g .rest }
 
   -- The grown vector has as many words.

@@ -11,7 +11,7 @@ use lib.ListN.{getD}
 use lib.Bits.{bitOr, or-add-and, and-le-l, and-le-r}
 use borrow.Author.Tests.{eqb-true, eq-eqb}
 use Rattle.vectors.specs.Bits.{wordBits, wordCount, Vector, isSet, NoBit, orBelow, noBit}
-use Rattle.vectors.specs.Rotating.{Within}
+use Rattle.vectors.specs.Rotating.{WithinBits}
 use Rattle.vectors.proofs.WordBits.{bit-zero, bit-high, bits-none}
 use Rattle.vectors.proofs.VectorBits.{isSet-at, isSet-zero, bit-of-test}
 
@@ -30,11 +30,11 @@ no-bit-words : (ws : List ℕ) → Vector ws → NoBit ws → (w : ℕ) → getD
 no-bit-words ws vector no-bit w = word-none ws vector w (λ j l. no-bit .none (wordBits * w + j))
 
 -- In a vector of m bits the words past those of m bits are 0.
-pub within-spare : (m : ℕ) (ws : List ℕ) → Vector ws → Within m ws → (w : ℕ) → wordCount m ≤ w → getD ws w 0 ≡ 0
+pub within-spare : (m : ℕ) (ws : List ℕ) → Vector ws → WithinBits m ws → (w : ℕ) → wordCount m ≤ w → getD ws w 0 ≡ 0
 within-spare m ws vector within w h = word-none ws vector w (λ j l. within .rest (wordBits * w + j) (omega arith))
 
 -- In a vector of m bits it is enough to know the first m.
-no-bit-below : (m : ℕ) (ws : List ℕ) → Within m ws → ((r : ℕ) → r < m → isSet ws r ≡ false) → NoBit ws
+no-bit-below : (m : ℕ) (ws : List ℕ) → WithinBits m ws → ((r : ℕ) → r < m → isSet ws r ≡ false) → NoBit ws
 no-bit-below m ws within below = record { none = λ i. dite (decLt i m) (below i) (λ l. within .rest i (omega (arith, l))) }
 
 -- `a | b` is 0 only where both are.
@@ -56,7 +56,7 @@ or-below-zero ws zero zeros = refl
 or-below-zero ws (suc count) zeros = rw (or-below-zero ws count (λ w h. zeros w (omega arith)), zeros count (omega arith)) refl
 
 -- In a vector of m bits the words of m bits are 0 exactly when none of the first m bits is set.
-pub noBit-iff : (m : ℕ) (ws : List ℕ) → Vector ws → Within m ws → (noBit ws (wordCount m) ≡ true) ↔ ((r : ℕ) → r < m → isSet ws r ≡ false)
+pub noBit-iff : (m : ℕ) (ws : List ℕ) → Vector ws → WithinBits m ws → (noBit ws (wordCount m) ≡ true) ↔ ((r : ℕ) → r < m → isSet ws r ≡ false)
 unfolding noBit
 noBit-iff m ws vector within = (
   λ e r h. isSet-zero ws r (or-below-words ws (wordCount m) (eqb-true (orBelow ws (wordCount m)) 0 e) (r / wordBits) (omega arith)),
@@ -76,5 +76,5 @@ none-or-one ws (suc m) = go (isSet ws m) refl (none-or-one ws m)
     go false e (inl none) = inl (λ r h. dite (ℕ-discrete r m) (λ same. rw same e) (λ other. none r (omega (arith, other))))
 
 -- Where the test says no, one of the first m bits is set.
-pub noBit-no : (m : ℕ) (ws : List ℕ) → Vector ws → Within m ws → noBit ws (wordCount m) ≡ false → (r : ℕ) × (r < m) × (isSet ws r ≡ true)
+pub noBit-no : (m : ℕ) (ws : List ℕ) → Vector ws → WithinBits m ws → noBit ws (wordCount m) ≡ false → (r : ℕ) × (r < m) × (isSet ws r ≡ true)
 noBit-no m ws vector within e = ⊎-elim (λ none. absurd (true≢false (sym (noBit-iff m ws vector within .1 none) ∙ e))) (λ one. one) (none-or-one ws m)

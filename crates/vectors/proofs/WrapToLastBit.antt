@@ -11,13 +11,13 @@ use lib.ListN.{length, getD, length-set}
 use lib.Seq.{getD-set-same, getD-set-other}
 use lib.Dec.{eqb}
 use Rattle.vectors.specs.Bits.{wordBits, Vector, bit, isSet, putWord, putBit, Put}
-use Rattle.vectors.specs.Rotating.{shiftedWord, shifted, Shifted, Within, rotated, Rotated}
+use Rattle.vectors.specs.Rotating.{shiftedWord, shifted, Shifted, WithinBits, rotated, Rotated}
 use Rattle.vectors.proofs.WordBits.{bit-lt}
 use Rattle.vectors.proofs.VectorBits.{isSet-word}
 use Rattle.vectors.proofs.CarryBetweenWords.{shifted-is, shifted-length, shifted-word}
 use Rattle.vectors.proofs.OneBitPut.{put-is}
 
-module _ (m b : ℕ) (old mid new : List ℕ) (some : 0 < m) (within : Within m old) (shift : Shifted old mid) (wrap : Put mid (m - 1) b new)
+module _ (m b : ℕ) (old mid new : List ℕ) (some : 0 < m) (within : WithinBits m old) (shift : Shifted old mid) (wrap : Put mid (m - 1) b new)
     (first : eqb b 1 ≡ isSet old 0) where
   -- A bit below m − 1 comes from the next higher one.
   below-last : (r : ℕ) → r + 1 < m → isSet new r ≡ isSet old ((r + 1) % m)
@@ -44,7 +44,7 @@ unfolding rotated putBit
 rotated-length m ws = simp length-set (shifted-length ws)
 
 -- The rotated vector is rotated.
-pub rotated-is : (m : ℕ) (ws : List ℕ) → Vector ws → 0 < m → m ≤ wordBits * length ws → Within m ws → Rotated m ws (rotated m ws)
+pub rotated-is : (m : ℕ) (ws : List ℕ) → Vector ws → 0 < m → m ≤ wordBits * length ws → WithinBits m ws → Rotated m ws (rotated m ws)
 unfolding rotated
 rotated-is m ws vector some room within =
     rotated-of m (bit (getD ws 0 0) 0) ws (shifted ws) (putBit (shifted ws) (m - 1) (bit (getD ws 0 0) 0)) some within (shifted-is ws vector)

@@ -15,7 +15,7 @@ use lib.Bits.{bitAnd, bitOr}
 use lib.Dec.{ltb}
 use Rattle.vectors.specs.Bits.{wordBits, Vector, bit}
 use Rattle.lists.specs.ByPlace.{listOf}
-use Rattle.vectors.specs.Rotating.{Within}
+use Rattle.vectors.specs.Rotating.{WithinBits}
 use Rattle.vectors.specs.Holding.{OccurrenceTable}
 
 -- How many words a vector held by value has.
@@ -30,7 +30,7 @@ vectorBits = wordBits * vectorWords
 pub record HeldVector (m : ℕ) (ws : List ℕ) : Type 0 where
   pub size : length ws ≡ vectorWords
   pub words : Vector ws
-  pub within : Within m ws
+  pub within : WithinBits m ws
 
 -- How many edge codes there are.
 abbrev pub edgeCodes : ℕ

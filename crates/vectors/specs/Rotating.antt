@@ -1,6 +1,6 @@
 -- A vector of m bits rotated by one place, in words: shifted down by one with the carry between words, and what was bit 0 put in at bit m − 1.
 -- m need not be a multiple of the word's width; it is at most all the bits that the words have, and the bits from m on are 0.
---     shiftedWord, shifted, Shifted      down by one        Within      no bit from m on
+--     shiftedWord, shifted, Shifted      down by one        WithinBits      no bit from m on
 --     rotated, Rotated                   the whole turn
 use mathlib.Core.Path.{_≡_}
 use mathlib.Core.Bool.{false}
@@ -24,7 +24,7 @@ pub record Shifted (old new : List ℕ) : Type 0 where
   pub each : (i : ℕ) → isSet new i ≡ isSet old (i + 1)
 
 -- No bit from m on is set: the vector has m bits.
-pub record Within (m : ℕ) (ws : List ℕ) : Type 0 where
+pub record WithinBits (m : ℕ) (ws : List ℕ) : Type 0 where
   pub rest : (i : ℕ) → m ≤ i → isSet ws i ≡ false
 
 -- A vector of m bits rotated by one place: shifted down by one, and what was bit 0 put in at bit m − 1.

@@ -13,7 +13,7 @@ use Rattle.vectors.specs.Holding.{both, grown}
 use Rattle.vectors.specs.ByValue.{carryInto, grownWord, grownWords}
 
 -- What a row gives.
-pub record Sample : Type 0 where
+pub record VectorSample : Type 0 where
   pub m : ℕ
   pub held : List ℕ
   pub occurs : List ℕ
@@ -29,7 +29,7 @@ placesBelow ws zero = []
 placesBelow ws (suc n) = placesBelow ws n ++ cond (isSet ws n) (n ∷ []) []
 
 -- A row as the definitions have it.
-unfoldable pub computed : Sample → Sample
+unfoldable pub computed : VectorSample → VectorSample
 computed s = record {
   m = s .m;
   held = s .held;
@@ -42,11 +42,11 @@ computed s = record {
 }
 
 -- One bit: it stays where it is.
-abbrev one-bit : Sample
+abbrev one-bit : VectorSample
 one-bit = record { m = 1; held = 1 ∷ []; occurs = 0 ∷ []; rotated = 1 ∷ []; places = 0 ∷ []; grown = 0 ∷ []; noBit = true; firstBits = 1 ∷ [] }
 
 -- Five bits in one word: bits 0, 1 and 4 come to 4, 0 and 3.
-abbrev part-of-a-word : Sample
+abbrev part-of-a-word : VectorSample
 part-of-a-word = record {
   m = 5;
   held = 0b10011 ∷ [];
@@ -59,7 +59,7 @@ part-of-a-word = record {
 }
 
 -- A whole word: bit 0 comes to its top.
-abbrev whole-word : Sample
+abbrev whole-word : VectorSample
 whole-word = record {
   m = 64;
   held = 1 ∷ [];
@@ -72,7 +72,7 @@ whole-word = record {
 }
 
 -- Seventy bits in two words: bits 0, 64 and 69 come to 69, 63 and 68, the second across the words.
-abbrev carry-between-words : Sample
+abbrev carry-between-words : VectorSample
 carry-between-words = record {
   m = 70;
   held = 1 ∷ 0x21 ∷ [];
@@ -85,7 +85,7 @@ carry-between-words = record {
 }
 
 -- 130 bits in three words: bits 64, 128 and 129 come to 63, 127 and 128.
-abbrev three-words : Sample
+abbrev three-words : VectorSample
 three-words = record {
   m = 130;
   held = 0 ∷ 1 ∷ 3 ∷ [];
@@ -98,7 +98,7 @@ three-words = record {
 }
 
 -- Seventy bits with two words to spare, which stay 0.
-abbrev words-to-spare : Sample
+abbrev words-to-spare : VectorSample
 words-to-spare = record {
   m = 70;
   held = 3 ∷ 0 ∷ 0 ∷ 0 ∷ [];
@@ -111,7 +111,7 @@ words-to-spare = record {
 }
 
 -- The table.
-abbrev pub samples : List Sample
+abbrev pub samples : List VectorSample
 samples = one-bit ∷ part-of-a-word ∷ whole-word ∷ carry-between-words ∷ three-words ∷ words-to-spare ∷ []
 
 -- Every row is as the definitions have it.

@@ -9,7 +9,7 @@ ghost use Rattle.vectors.specs.Holding.{vectorAt};
 ghost use Rattle.vectors.specs.ByValue.{vectorWords, edgeCodes, Occurrences};
 
 // An edge code as the number of its vector.
-fn wide(code: u8) -> usize
+fn code_index(code: u8) -> usize
     ensures { λ r. ⌜ (r ≡ code) × (r < edgeCodes) ⌝ }
 {
     code as usize
@@ -22,7 +22,7 @@ pub fn occurrences(ring: &[u8], table: &mut [u64; TABLE_WORDS])
     *table = [0u64; TABLE_WORDS];
     let mut r = 0;
     while r < ring.len() && r < VECTOR_BITS {
-        let at = wide(ring[r]) * VECTOR_WORDS + r / WORD_BITS;
+        let at = code_index(ring[r]) * VECTOR_WORDS + r / WORD_BITS;
         table[at] = table[at] | (1u64 << (r % WORD_BITS));
         r += 1;
     }
@@ -32,7 +32,7 @@ pub fn occurrences(ring: &[u8], table: &mut [u64; TABLE_WORDS])
 pub fn vector_of(table: &[u64; TABLE_WORDS], code: u8) -> [u64; VECTOR_WORDS]
     ensures { λ r. ⌜ r ≡ vectorAt (now (table .entry)) (code * vectorWords) vectorWords ⌝ }
 {
-    let base = wide(code) * VECTOR_WORDS;
+    let base = code_index(code) * VECTOR_WORDS;
     [
         table[base],
         table[base + 1],

@@ -33,14 +33,14 @@ loop-holds c = number-start _ _ _
 mul-number : tie.Need-mul-number Inv-loop μ-loop
 mul-number c = omega (arith, number-lt _ _ _ _ _ (c .before .loop .inv) (omega arith))
 
-add-wide : tie.Need-add-wide Inv-loop μ-loop
-add-wide c = omega arith
+add-byte-value : tie.Need-add-byte-value Inv-loop μ-loop
+add-byte-value c = omega arith
 
-shared-slice-read-wide : tie.Need-shared-slice-read-wide Inv-loop μ-loop
-shared-slice-read-wide c = omega arith
+shared-slice-read-byte-value : tie.Need-shared-slice-read-byte-value Inv-loop μ-loop
+shared-slice-read-byte-value c = omega arith
 
-wide-requires : tie.Need-wide-requires Inv-loop μ-loop
-wide-requires c κs = tt
+byte-value-requires : tie.Need-byte-value-requires Inv-loop μ-loop
+byte-value-requires c κs = tt
 
 add-number : tie.Need-add-number Inv-loop μ-loop
 add-number c =
@@ -60,7 +60,7 @@ loop-less c = omega arith
 loop-again : tie.Need-loop-again Inv-loop μ-loop
 loop-again c =
     let at-loop = c .before .before .before .loop in
-    number-turn _ _ _ _ _ (at-loop .inv) _ (omega arith) (c .wide .ensures)
+    number-turn _ _ _ _ _ (at-loop .inv) _ (omega arith) (c .byte-value .ensures)
     (omega (arith, c .before .shared-slice-known2 .given (c .before .before .before .before .before .before .before .before .args .at + at-loop .done)))
 
 -- their number
@@ -79,9 +79,9 @@ number-at-spec =
     returns-3
     loop-holds
     mul-number
-    add-wide
-    shared-slice-read-wide
-    wide-requires
+    add-byte-value
+    shared-slice-read-byte-value
+    byte-value-requires
     add-number
     add-done
     loop-less

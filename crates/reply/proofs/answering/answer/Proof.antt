@@ -1,7 +1,7 @@
 -- `reply::answering::answer` meets its contract: the line of refusal 11, or the text of the request, whose parts lie in the input.
 use native.Mathlib.Omega.{arith}
 use lib.ListN.{length-take, length-drop}
-use Rattle.request.specs.Asking.{Within}
+use Rattle.request.specs.Asking.{PartsWithin}
 use Rattle.reply.proofs.AskedParts.{answered-by, parts-within, parts-text, refused-line}
 use borrow.Author.Needs.{needs}
 use Rattle.reply.proofs.answering.answer.Statement.{statement}
@@ -20,7 +20,7 @@ enum-known-parts : tie.Need-enum-known-parts
 enum-known-parts c = search needs
 
 -- the parts of the request lie in the input
-parts-lie : (c : tie.After-known-told2) → Within (c .before .before .before .before .before .args .input .now) (c .before .parts .given .0 .0)
+parts-lie : (c : tie.After-known-told2) → PartsWithin (c .before .before .before .before .before .args .input .now) (c .before .parts .given .0 .0)
 parts-lie c = parts-within (c .before .before .before .read-request .ensures) (c .before .parts .given .1)
 
 sub-answer-request : tie.Need-sub-answer-request

@@ -5,7 +5,7 @@ use native.Mathlib.Omega.{arith}
 use lib.ListN.{length}
 use borrow.Author.Needs.{needs}
 use Rattle.reply.specs.Lines.{findingLine}
-use Rattle.reply.specs.Writing.{filled, findingOf}
+use Rattle.reply.specs.Writing.{filled, findingOfNumbers}
 use Rattle.reply.proofs.LinesLoop.{PuttingLines, lines-start, lines-turn, lines-end}
 use Rattle.reply.proofs.lines.put_finding_lines.Statement.{statement}
 use Rattle.reply.proofs.lines.put_finding_lines.Tie as tie
@@ -60,7 +60,7 @@ loop-again c =
     let second = third .before in
     let first = second .before in
     lines-turn (first .before .before .loop .inv) (omega arith)
-    (λ i. findingOf (sym (first .word-at .ensures) i) (sym (second .word-at2 .ensures) i) (sym (third .word-at3 .ensures) i))
+    (λ i. findingOfNumbers (sym (first .word-at .ensures) i) (sym (second .word-at2 .ensures) i) (sym (third .word-at3 .ensures) i))
     (at-line .put-line .kept .0) (at-line .put-line .ensures)
 
 same-length : tie.Need-same-length Inv-loop μ-loop

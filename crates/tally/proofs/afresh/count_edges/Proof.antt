@@ -65,15 +65,15 @@ least-of-requires c κs =
     let pre = cleared .before .before .before .before .pre in
     counting-afresh-can _ _ _ _ pre (cleared .clear .ensures) (at-loop .loop .inv) .fits
 
-wide-requires : tie.Need-wide-requires Inv-loop μ-loop
-wide-requires c κs = search needs
+count-value-requires : tie.Need-count-value-requires Inv-loop μ-loop
+count-value-requires c κs = search needs
 
 returns : tie.Need-returns Inv-loop μ-loop
 returns c =
     let done = c .before .before .before in
     let cleared = done .before .before in
     let pre = cleared .before .before .before .before .pre in
-    counting-afresh-end _ _ _ _ pre (cleared .clear .ensures) (done .before .loop .inv) (done .loop-test .left) (rw (c .wide .ensures) (c .before .least-of .ensures))
+    counting-afresh-end _ _ _ _ pre (cleared .clear .ensures) (done .before .loop .inv) (done .loop-test .left) (rw (c .count-value .ensures) (c .before .least-of .ensures))
 
 pub count-edges-spec : {M : Type 1} → statement M
 count-edges-spec =
@@ -91,5 +91,5 @@ count-edges-spec =
     loop-less
     loop-again
     least-of-requires
-    wide-requires
+    count-value-requires
     returns)

@@ -22,20 +22,20 @@ rotations-requires c κs = search needs
 loop-holds : tie.Need-loop-holds Inv-loop μ-loop
 loop-holds c = (omega arith, λ s l. absurd (omega arith))
 
-mul-wide : tie.Need-mul-wide Inv-loop μ-loop
-mul-wide c = search needs
+mul-count-value : tie.Need-mul-count-value Inv-loop μ-loop
+mul-count-value c = search needs
 
-element-copy-out-wide : tie.Need-element-copy-out-wide Inv-loop μ-loop
-element-copy-out-wide c = search needs
+element-copy-out-count-value : tie.Need-element-copy-out-count-value Inv-loop μ-loop
+element-copy-out-count-value c = search needs
 
-wide-requires : tie.Need-wide-requires Inv-loop μ-loop
-wide-requires c κs = search needs
+count-value-requires : tie.Need-count-value-requires Inv-loop μ-loop
+count-value-requires c κs = search needs
 
 returns : tie.Need-returns Inv-loop μ-loop
 returns c =
     let turn = c .before .before .before in
     let at-loop = turn .before in
-    seeking-ends _ _ (at-loop .before .rotations .ensures) (omega arith) (at-loop .loop .inv .1) (λ _. sym (c .before .wide .ensures) ∙ c .if1 .taken)
+    seeking-ends _ _ (at-loop .before .rotations .ensures) (omega arith) (at-loop .loop .inv .1) (λ _. sym (c .before .count-value .ensures) ∙ c .if1 .taken)
 
 add-rotation : tie.Need-add-rotation Inv-loop μ-loop
 add-rotation c = search needs
@@ -46,7 +46,7 @@ loop-less c = search needs
 loop-again : tie.Need-loop-again Inv-loop μ-loop
 loop-again c =
     let at-loop = c .before .before .before .before in
-    (omega arith, below-more _ _ (at-loop .loop .inv .1) (λ same. c .if1 .left (c .before .wide .ensures ∙ same)))
+    (omega arith, below-more _ _ (at-loop .loop .inv .1) (λ same. c .if1 .left (c .before .count-value .ensures ∙ same)))
 
 returns-2 : tie.Need-returns-2 Inv-loop μ-loop
 returns-2 c = seeking-ends _ _ (c .before .before .rotations .ensures) (omega arith) (c .before .loop .inv .1) (λ l. absurd (omega (arith, c .loop-test .left)))
@@ -59,9 +59,9 @@ lowest-rotation-spec =
     μ-loop
     rotations-requires
     loop-holds
-    mul-wide
-    element-copy-out-wide
-    wide-requires
+    mul-count-value
+    element-copy-out-count-value
+    count-value-requires
     returns
     add-rotation
     loop-less

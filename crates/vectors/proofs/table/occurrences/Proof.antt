@@ -19,11 +19,11 @@ abbrev μ-loop : tie.MeasureT-loop
 loop-holds : tie.Need-loop-holds Inv-loop μ-loop
 loop-holds c = occurrences-start _
 
-shared-slice-read-wide : tie.Need-shared-slice-read-wide Inv-loop μ-loop
-shared-slice-read-wide c = search needs
+shared-slice-read-code-index : tie.Need-shared-slice-read-code-index Inv-loop μ-loop
+shared-slice-read-code-index c = search needs
 
-wide-requires : tie.Need-wide-requires Inv-loop μ-loop
-wide-requires c κs = search needs
+code-index-requires : tie.Need-code-index-requires Inv-loop μ-loop
+code-index-requires c κs = search needs
 
 mul-at : tie.Need-mul-at Inv-loop μ-loop
 mul-at c = search needs
@@ -56,7 +56,7 @@ loop-again : tie.Need-loop-again Inv-loop μ-loop
 loop-again c =
     let at-place = c .before .before .before in
     occurrences-turn _ _ _ _ _ (at-place .before .before .loop .inv) (at-place .before .loop-test .taken) (ltb-true _ _ (at-place .if1 .taken))
-    (c .before .wide .ensures .0) (c .before .wide .ensures .1) refl
+    (c .before .code-index .ensures .0) (c .before .code-index .ensures .1) refl
 
 returns : tie.Need-returns Inv-loop μ-loop
 returns c = occurrences-end _ _ _ (c .before .before .loop .inv) (simp length-take (omega (arith, ltb-false)))
@@ -71,8 +71,8 @@ occurrences-spec =
     Inv-loop
     μ-loop
     loop-holds
-    shared-slice-read-wide
-    wide-requires
+    shared-slice-read-code-index
+    code-index-requires
     mul-at
     add-at
     mul-table

@@ -6,8 +6,8 @@ use Rattle.vectors.proofs.PartOfTable.{part-words}
 use Rattle.vectors.proofs.table.vector_of.Statement.{statement}
 use Rattle.vectors.proofs.table.vector_of.Tie as tie
 
-wide-requires : tie.Need-wide-requires
-wide-requires c κs = search needs
+code-index-requires : tie.Need-code-index-requires
+code-index-requires c κs = search needs
 
 mul-base : tie.Need-mul-base
 mul-base c = search needs
@@ -48,13 +48,13 @@ element-copy-out-t22 c = search needs
 returns : tie.Need-returns
 returns c =
     let at-code = c .before .before .before .before in
-    rw (at-code .wide .ensures .0) (part-words (at-code .before .args .table .now) (at-code .before .args .code * vectorWords))
+    rw (at-code .code-index .ensures .0) (part-words (at-code .before .args .table .now) (at-code .before .args .code * vectorWords))
 
 pub vector-of-spec : {M : Type 1} → statement M
 vector-of-spec =
     tie.close
     (tie.spec
-    wide-requires
+    code-index-requires
     mul-base
     mul-t4
     element-copy-out-t7
