@@ -2,9 +2,9 @@
 use crate::counts::Least;
 use crate::counts::MOST_COUNTS;
 use crate::counts::clear;
+use crate::counts::count_value;
 use crate::counts::differing;
 use crate::counts::least_of;
-use crate::counts::count_value;
 use answers::LinePlace;
 use answers::RingPlace;
 use answers::to_ring;
