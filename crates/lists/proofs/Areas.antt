@@ -1,6 +1,6 @@
--- What an area holds after numbers are written at its beginning: they stand at its front, the rest is as it was, and more can be stored behind them.
--- The same from any place on: numbers that come one after the other are written one after the other (`writtenAt-append`), and the last of them can be stored
--- first (`writtenAt-last`), so a writer may go either way.
+-- An area after numbers are written into it. Written at its beginning, they stand at the front, the rest is as it was, and more can be stored behind them.
+-- Written from any place on, two parts may be written one after the other (`writtenAt-append`), or the last number may be stored first (`writtenAt-last`): so a
+-- writer may go forwards or backwards.
 use Prim.Native.Nat.{ℕ, suc, _+_, _≤_, _<_}
 use mathlib.Core.Path.{_≡_, refl, sym, ap, _∙_}
 use mathlib.Core.List.{List, [], _∷_, _++_, append-assoc}
@@ -10,7 +10,7 @@ use lib.Seq.{sets, sets-eq, take-at, drop-at, getD-append-add, getD-drop, take-a
 use Rattle.lists.specs.Areas.{written, writtenAt}
 
 module _ (numbers area : List ℕ) where
-  -- Where there is room, the area keeps its length.
+  -- If the numbers fit, the area keeps its length.
   pub written-length : length numbers ≤ length area → length (written numbers area) ≡ length area
   unfolding written
   written-length h = simp (length-append, length-drop) (omega arith)
@@ -20,35 +20,35 @@ module _ (numbers area : List ℕ) where
   unfolding written
   written-rest j = getD-append-add numbers (drop (length numbers) area) j 0 ∙ getD-drop (length numbers) area j 0
 
-  -- As many elements from the beginning are what was written.
+  -- The first `length numbers` elements of the area are the numbers written.
   pub written-front : {out : List ℕ} → out ≡ written numbers area → (n : ℕ) → length numbers ≡ n → take n out ≡ numbers
   unfolding written
   written-front is n long = ap (take n) is ∙ take-at numbers (drop (length numbers) area) n long
 
-  -- What was written is no longer than the area.
+  -- The area after writing has at least as many elements as were written.
   pub written-le : {out : List ℕ} → out ≡ written numbers area → length numbers ≤ length out
   unfolding written
   written-le is = omega (arith, ap length is, length-append numbers (drop (length numbers) area))
 
--- What is written, and more stored behind it where there is room: both are written.
+-- With a written at the beginning, storing b right behind it gives the area with a ++ b written, if both fit.
 pub written-more : (a b area : List ℕ) → length a + length b ≤ length area → sets (written a area) (length a) b ≡ written (a ++ b) area
 unfolding written
 written-more a b area room =
     sets-eq b (a ++ drop (length a) area) (length a) (simp (length-append, length-drop) (omega arith))
     ∙ simp (take-append-seam, drop-append-add, drop-drop, length-append)
 
--- At place 0 numbers are written at the area's beginning.
+-- Writing from place 0 on is writing at the area's beginning.
 pub writtenAt-zero : (numbers area : List ℕ) → writtenAt 0 numbers area ≡ written numbers area
 unfolding writtenAt
 writtenAt-zero numbers area = refl
 
 module _ (at : ℕ) where
-  -- No numbers change nothing.
+  -- Writing no numbers changes nothing.
   pub writtenAt-none : (area : List ℕ) → writtenAt at [] area ≡ area
   unfolding writtenAt written
   writtenAt-none area = take-append-drop at area
 
-  -- Numbers and then more just past them: both at once.
+  -- Writing a from a place on, and then b right behind it, is writing a ++ b from that place on.
   pub writtenAt-append : (a b area : List ℕ) → at + length a ≤ length area → writtenAt (at + length a) b (writtenAt at a area) ≡ writtenAt at (a ++ b) area
   unfolding writtenAt written
   writtenAt-append a b area h =
@@ -61,7 +61,7 @@ module _ (at : ℕ) where
       ∙ ap (λ (l : List ℕ). take at area ++ l) (sym (append-assoc a b (drop (length b) behind)))
       ∙ ap (λ (l : List ℕ). take at area ++ (a ++ b ++ l)) (drop-drop (length b) (length a) (drop at area) ∙ ap (λ (n : ℕ). drop n (drop at area)) (sym (length-append a b)))
 
-  -- Numbers and one more after them: the last one can be stored first.
+  -- The last number may be stored first: storing it, and then writing the others before it, is writing them all.
   pub writtenAt-last : (numbers : List ℕ) (number : ℕ) (area : List ℕ) → at + length numbers < length area
       → writtenAt at numbers (set area (at + length numbers) number) ≡ writtenAt at (numbers ++ number ∷ []) area
   unfolding writtenAt written

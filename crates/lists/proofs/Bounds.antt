@@ -1,4 +1,4 @@
--- Lists whose numbers are all below a bound: number by number, and that the test decides it.
+-- Lists whose numbers are all below a bound: the fact is built up number by number, and the test decides it.
 use Prim.Native.Nat.{ℕ, zero, suc, _<_}
 use mathlib.Core.Path.{_≡_, refl}
 use mathlib.Core.Bool.{true}
@@ -10,11 +10,11 @@ use Rattle.lists.specs.Bounds.{AllBelow, allBelow}
 use Rattle.lists.proofs.SizesTested.{lt-iff, and-iff}
 
 module _ {bound : ℕ} where
-  -- No number.
+  -- The empty list is below every bound above 0.
   pub below-none : 0 < bound → AllBelow bound []
   below-none some = record { each-lt = λ i. some }
 
-  -- One number more, at the front.
+  -- A number below the bound can be added at the front.
   pub below-more : {number : ℕ} {numbers : List ℕ} → number < bound → AllBelow bound numbers → AllBelow bound (number ∷ numbers)
   below-more {number} {numbers} first others = record { each-lt = each }
     where
@@ -22,7 +22,7 @@ module _ {bound : ℕ} where
       each zero = first
       each (suc i) = others .each-lt i
 
--- The test passes exactly where each is below the bound.
+-- For a bound above 0, the test `allBelow` passes exactly when every number of the list is below the bound.
 pub all-below-iff : (bound : ℕ) → 0 < bound → (numbers : List ℕ) → (allBelow bound numbers ≡ true) ↔ AllBelow bound numbers
 all-below-iff bound some [] = (λ e. below-none some, λ h. refl)
 all-below-iff bound some (number ∷ numbers) =

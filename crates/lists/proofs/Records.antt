@@ -1,5 +1,5 @@
--- Records laid out as numbers, one after the other, and read back: how many numbers they are, that two lists of records are laid out one after the other, and that
--- laying out and reading back undo each other. Whatever a record is and however many numbers it has; findings, silences and fields cite these.
+-- Records laid out as numbers, one after the other, and read back: how many numbers there are, that two lists of records are laid out one after the other, and
+-- that laying out and reading back undo each other. The laws hold for any kind of record and any width; findings, silences and fields cite them.
 use Prim.Native.Nat.{ℕ, zero, suc, _+_, _-_, _*_, _/_, _%_, _≤_, _<_}
 use mathlib.Core.Path.{_≡_, refl, sym, ap, ap₂, _∙_}
 use mathlib.Core.List.{List, [], _∷_, _++_, append-nil, append-assoc}
@@ -13,7 +13,7 @@ use Rattle.lists.proofs.ByPlace.{listOf-is}
 use Rattle.lists.specs.Records.{wordsOfEach, firstRecords, recordsOf}
 
 module _ {A : Type 0} (numbers : A → List ℕ) where
-  -- As many numbers as records, each of `width` numbers.
+  -- If each record has `width` numbers, a list of records has `width` times as many numbers as records.
   pub each-length : (width : ℕ) → ((x : A) → length (numbers x) ≡ width) → (xs : List A) → length (wordsOfEach numbers xs) ≡ width * length xs
   unfolding wordsOfEach
   each-length width each [] = sym (mul-zero width)
@@ -22,30 +22,30 @@ module _ {A : Type 0} (numbers : A → List ℕ) where
       ∙ ap₂ (λ (a b : ℕ). a + b) (each x) (each-length width each xs)
       ∙ omega (arith, mul-suc width (length xs))
 
-  -- Two lists of records, one after the other.
+  -- The numbers of two lists of records joined are the numbers of the first, then those of the second.
   pub each-append : (a b : List A) → wordsOfEach numbers (a ++ b) ≡ wordsOfEach numbers a ++ wordsOfEach numbers b
   unfolding wordsOfEach
   each-append [] b = refl
   each-append (x ∷ a) b =
       ap (λ (l : List ℕ). numbers x ++ l) (each-append a b) ∙ sym (append-assoc (numbers x) (wordsOfEach numbers a) (wordsOfEach numbers b))
 
-  -- One record more stands behind the others.
+  -- The numbers of a record added at the end stand at the end.
   pub each-more : (xs : List A) (x : A) → wordsOfEach numbers (xs ++ x ∷ []) ≡ wordsOfEach numbers xs ++ numbers x
   unfolding wordsOfEach
   each-more xs x = each-append xs (x ∷ []) ∙ ap (λ (l : List ℕ). wordsOfEach numbers xs ++ l) (append-nil (numbers x))
 
--- The `width` numbers from place `at` on, number by number.
+-- Of the `width` numbers from place `at` on, number j is the list's number at place `at` + j.
 pub part-at : (width : ℕ) (numbers : List ℕ) (at j : ℕ) → j < width → getD (take width (drop at numbers)) j 0 ≡ getD numbers (at + j) 0
 part-at width numbers at j l = getD-take width (drop at numbers) j 0 l ∙ getD-drop at numbers j 0
 
--- The same as a list given place by place.
+-- The `width` numbers from place `at` on, as a list given place by place.
 pub part-places : (numbers : List ℕ) (at width : ℕ) → at + width ≤ length numbers → take width (drop at numbers) ≡ listOf width (λ j. getD numbers (at + j) 0)
 part-places numbers at width within =
     listOf-is (take width (drop at numbers)) width (λ j. getD numbers (at + j) 0) (length-take-le width (drop at numbers) (simp length-drop (omega arith)))
     (part-at width numbers at)
 
 module _ {A : Type 0} (width : ℕ) (of : List ℕ → A) (some-number : 0 < width) where
-  -- A whole record at the front of the list, and those of the rest.
+  -- If the list has a whole record at its front, its records are that one and those of the rest.
   records-cons : (numbers : List ℕ) → width ≤ length numbers → recordsOf width of numbers ≡ of (take width numbers) ∷ recordsOf width of (drop width numbers)
   unfolding recordsOf firstRecords
   records-cons numbers h =
@@ -54,21 +54,21 @@ module _ {A : Type 0} (width : ℕ) (of : List ℕ → A) (some-number : 0 < wid
       div-eq-sub-div some-number h ∙ ap (λ (n : ℕ). n / width + 1) rest ∙ add-one (length (drop width numbers) / width) in
       ap (λ (count : ℕ). firstRecords count width of numbers) one-more
 
-  -- A whole record from place `at` on: it is the next, and the others come from place `at` + `width` on.
+  -- If a whole record stands from place `at` on, it is the next one, and the others come from place `at` + `width` on.
   pub records-step : (numbers : List ℕ) (at : ℕ) → at + width ≤ length numbers
       → recordsOf width of (drop at numbers) ≡ of (take width (drop at numbers)) ∷ recordsOf width of (drop (at + width) numbers)
   records-step numbers at h =
       records-cons (drop at numbers) (simp length-drop (omega arith))
       ∙ ap (λ (l : List ℕ). of (take width (drop at numbers)) ∷ recordsOf width of l) (drop-drop width at numbers)
 
-  -- Fewer than `width` numbers from place `at` on: no record.
+  -- If fewer than `width` numbers stand from place `at` on, there is no record.
   pub records-end : (numbers : List ℕ) (at : ℕ) → length numbers < at + width → recordsOf width of (drop at numbers) ≡ []
   unfolding recordsOf firstRecords
   records-end numbers at h =
       let few : length (drop at numbers) < width = simp length-drop (omega arith) in
       ap (λ (count : ℕ). firstRecords count width of (drop at numbers)) (div-eq-of-lt few)
 
-  -- As many records as whole ones.
+  -- The number of records is the number of numbers divided by `width`, rounded down.
   pub records-length : (numbers : List ℕ) → length (recordsOf width of numbers) ≡ length numbers / width
   unfolding recordsOf firstRecords
   records-length numbers = first-length (length numbers / width) numbers
@@ -78,7 +78,7 @@ module _ {A : Type 0} (width : ℕ) (of : List ℕ → A) (some-number : 0 < wid
       first-length (suc count) numbers = ap suc (first-length count (drop width numbers))
 
   module _ (numbers : A → List ℕ) where
-    -- Records that are laid out are read back.
+    -- Records laid out and read back are the same records, if each has `width` numbers and is read back as itself.
     pub records-of-words : ((x : A) → length (numbers x) ≡ width) → ((x : A) → of (numbers x) ≡ x) → (xs : List A) → recordsOf width of (wordsOfEach numbers xs) ≡ xs
     unfolding wordsOfEach
     records-of-words each back [] = records-end [] 0 (omega arith)
@@ -88,7 +88,7 @@ module _ {A : Type 0} (width : ℕ) (of : List ℕ → A) (some-number : 0 < wid
         ∙ ap₂ (λ (y : A) (ys : List A). y ∷ ys) (ap of (take-at (numbers x) rest width (each x)) ∙ back x)
         (ap (recordsOf width of) (drop-at (numbers x) rest width (each x)) ∙ records-of-words each back xs)
 
-    -- Numbers that are whole records, read and laid out again.
+    -- Numbers read as records and laid out again are the same numbers, if their count is a multiple of `width` and each `width` of them come back as they were.
     pub words-of-records : ((l : List ℕ) → length l ≡ width → numbers (of l) ≡ l) → (l : List ℕ) → length l % width ≡ 0 → wordsOfEach numbers (recordsOf width of l) ≡ l
     unfolding recordsOf firstRecords wordsOfEach
     words-of-records back l whole = first-words (length l / width) l (omega (arith, mod-add-div (length l) width))

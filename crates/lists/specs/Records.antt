@@ -13,6 +13,6 @@ unfoldable pub firstRecords : {A : Type 0} → ℕ → ℕ → (List ℕ → A) 
 firstRecords zero width of numbers = []
 firstRecords (suc count) width of numbers = of (take width numbers) ∷ firstRecords count width of (drop width numbers)
 
--- The records of a list of numbers. Fewer than `width` numbers at its end are none. (Laws: `records-step`, `records-end`.)
+-- The records of a list of numbers. If fewer than `width` numbers are left over at its end, they are dropped. (Laws: `records-step`, `records-end`.)
 unfoldable pub recordsOf : {A : Type 0} → ℕ → (List ℕ → A) → List ℕ → List A
 recordsOf width of numbers = firstRecords (length numbers / width) width of numbers

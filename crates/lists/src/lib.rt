@@ -1,1 +1,1 @@
-// Lists of numbers and what every crate says of them. There are no functions: specs/ has the definitions, proofs/ the laws.
+// Lists of numbers and lent areas. The crate has no functions: specs/ has the definitions, proofs/ the laws.
