@@ -1,5 +1,5 @@
--- What is known of an accepted search, of survey or scan, from its paper alone: an answer is accepted where its number is 0, since every row has a number
--- of 1 or more. Then no row is given, its counts are the search's, and the call is within all limits.
+-- An accepted survey or scan, read off its paper: a search is accepted exactly when its number is 0, because every row has a number of 1 or more. Then no row is
+-- given, so the counts are those of the search and the call is within all limits.
 use Prim.Native.Nat.{ℕ}
 use mathlib.Core.Path.{_≡_, ap}
 use mathlib.Core.List.{List}
@@ -12,13 +12,13 @@ use Rattle.findings.specs.Admitting.{refusalOf, Admitted}
 use Rattle.findings.specs.Searching.{Counts, noCounts, searched, searchPaper}
 use Rattle.findings.proofs.AdmitRows.{no-row-iff}
 
--- What is known of an accepted search: its found, its looks, and that it is within the limits.
+-- An accepted search with paper p has counted all findings, has taken `looks` looks, and is within the limits.
 pub record AcceptedSearch (ring line : List ℕ) (k room looks : ℕ) (p : Paper Counts) : Type 0 where
   pub found-is : p .counts .found ≡ length (findings ring line k)
   pub looks-are : p .counts .looks ≡ looks
   pub admitted : Admitted (length ring) k (length line) room
 
--- A search with number 0 is accepted.
+-- A search whose paper has number 0 is an accepted search.
 pub search-counts : (ring line : List ℕ) (k room looks : ℕ) (p : Paper Counts) → p ≡ searchPaper ring line k room looks → p .number ≡ 0
     → AcceptedSearch ring line k room looks p
 unfolding searched

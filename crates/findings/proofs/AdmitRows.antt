@@ -1,5 +1,5 @@
--- Which of rows 1 to 4 is given, if one is: what each row says (`is-row-1` to `is-row-4`), and from these each row as the table has it, by `RowsExactly` of
--- the answers: given exactly when, and no row before it.
+-- When each of rows 1 to 4 is the first that is given. `is-row-1` to `is-row-4` state when each row is given and when it is not. From these, `RowsExactly` of
+-- crates/answers gives for each row: it is the first exactly when its condition holds and no row before it is given.
 use Prim.Native.Nat.{ℕ, _≤_, _<_}
 use mathlib.Core.Path.{_≡_, refl}
 use mathlib.Core.Logic.{_↔_, _⊎_, inl, inr, ⊎-elim, Iff·trans}
@@ -14,7 +14,7 @@ use Rattle.answers.proofs.RowsExactly.{IsRow, is-row, end, row-has, first-has, 
 use Rattle.findings.specs.Admitting.{mostRing, mostLine, roomAsked, isRow1, isRow2, isRow3, isRow4, admitRows, refusalOf, IsRing, Admitted}
 
 module _ (m k n room : ℕ) where
-  -- "m = 0 or m > 256"
+  -- Row 1 is given exactly when "m = 0 or m > 256", and not given exactly when m is 1 to 256.
   pub is-row-1 : IsRow (row (isRow1 m) Ring) Ring ((m ≡ 0) ⊎ (mostRing < m)) (IsRing m)
   is-row-1 =
       is-row (or-iff (eq-iff m 0) (lt-iff mostRing m))
@@ -24,15 +24,15 @@ module _ (m k n room : ℕ) where
       let not-long : mostRing < m → ⊥ = λ l. not (inr l) in
       record { some-edge = omega arith; most = omega arith })
 
-  -- "k ≥ m"
+  -- Row 2 is given exactly when "k ≥ m", and not given exactly when k < m.
   pub is-row-2 : IsRow (row (isRow2 m k) Allowance) Allowance (m ≤ k) (k < m)
   is-row-2 = is-row (le-iff m k) (λ allowed h. omega arith) (λ not. omega arith)
 
-  -- "n > 65,536"
+  -- Row 3 is given exactly when "n > 65,536", and not given exactly when n ≤ 65,536.
   pub is-row-3 : IsRow (row (isRow3 n) Line) Line (mostLine < n) (n ≤ mostLine)
   is-row-3 = is-row (lt-iff mostLine n) (λ in-limit h. omega arith) (λ not. omega arith)
 
-  -- "n ≥ m and fewer than 3·(n − m + 1) words are lent for findings"
+  -- Row 4 is given exactly when "n ≥ m and fewer than 3·(n − m + 1) words are lent for findings", and not given exactly when n ≥ m implies enough words.
   pub is-row-4 : IsRow (row (isRow4 m n room) FindingsRoom) FindingsRoom ((m ≤ n) × (room < roomAsked m n)) (m ≤ n → roomAsked m n ≤ room)
   is-row-4 =
       is-row (and-iff (le-iff m n) (lt-iff room (roomAsked m n))) (λ enough h. omega (arith, enough (h .0)))
@@ -40,34 +40,34 @@ module _ (m k n room : ℕ) where
       let not-short : room < roomAsked m n → ⊥ = λ short. not (starts, short) in
       omega arith)
 
-  -- Row 1: "m = 0 or m > 256".
+  -- Row 1 is the first exactly when "m = 0 or m > 256".
   pub row-1-iff : (refusalOf m k n room ≡ some Ring) ↔ ((m ≡ 0) ⊎ (mostRing < m))
   unfolding admitRows
   row-1-iff = at-row is-row-1 (row-has is-row-2 (omega arith) (row-has is-row-3 (omega arith) (row-has is-row-4 (omega arith) end))) .exactly
 
-  -- Row 2: "k ≥ m", row 1 not given.
+  -- Row 2 is the first exactly when "k ≥ m" and row 1 is not given.
   pub row-2-iff : (refusalOf m k n room ≡ some Allowance) ↔ (IsRing m × (m ≤ k))
   unfolding admitRows
   row-2-iff = past-row is-row-1 (omega arith) (at-row is-row-2 (row-has is-row-3 (omega arith) (row-has is-row-4 (omega arith) end))) .exactly
 
-  -- Row 3: "n > 65,536", rows 1 and 2 not given.
+  -- Row 3 is the first exactly when "n > 65,536" and rows 1 and 2 are not given.
   pub row-3-iff : (refusalOf m k n room ≡ some Line) ↔ (IsRing m × ((k < m) × (mostLine < n)))
   unfolding admitRows
   row-3-iff =
       past-row is-row-1 (omega arith) (past-row is-row-2 (omega arith) (at-row is-row-3 (row-has is-row-4 (omega arith) end))) .exactly
 
-  -- Row 4: "n ≥ m and fewer than 3·(n − m + 1) words are lent for findings", rows 1 to 3 not given.
+  -- Row 4 is the first exactly when "n ≥ m and fewer than 3·(n − m + 1) words are lent for findings" and rows 1 to 3 are not given.
   pub row-4-iff : (refusalOf m k n room ≡ some FindingsRoom) ↔ (IsRing m × ((k < m) × ((n ≤ mostLine) × ((m ≤ n) × (room < roomAsked m n)))))
   unfolding admitRows
   row-4-iff =
       past-row is-row-1 (omega arith) (past-row is-row-2 (omega arith) (past-row is-row-3 (omega arith) (at-row is-row-4 end))) .exactly
 
-  -- None of them is given exactly when each is not.
+  -- No row is given exactly when m is 1 to 256, k < m, n ≤ 65,536, and n ≥ m implies enough words.
   pub none-iff : (refusalOf m k n room ≡ none) ↔ (IsRing m × ((k < m) × ((n ≤ mostLine) × (m ≤ n → roomAsked m n ≤ room))))
   unfolding admitRows
   none-iff = no-row is-row-1 (no-row is-row-2 (no-row is-row-3 (no-last-row is-row-4))) .exactly
 
-  -- The same as one record.
+  -- No row is given exactly when the call is admitted: the same conditions as one record.
   pub no-row-iff : (refusalOf m k n room ≡ none) ↔ Admitted m k n room
   no-row-iff =
       Iff·trans none-iff (
@@ -75,7 +75,7 @@ module _ (m k n room : ℕ) where
         λ a. (record { some-edge = a .some-edge; most = a .most-ring }, (a .allowed, (a .most-line, a .room-for))),
       )
 
-  -- What holds of each row where it is the first holds of the one that is given.
+  -- If P holds for each row's refusal under the condition that makes this row the first, then P holds for the refusal of the first row that is given.
   pub by-row : (P : Refusal → Type 0) → ((m ≡ 0) ⊎ (mostRing < m) → P Ring) → (IsRing m × (m ≤ k) → P Allowance)
       → (IsRing m × ((k < m) × (mostLine < n)) → P Line)
       → (IsRing m × ((k < m) × ((n ≤ mostLine) × ((m ≤ n) × (room < roomAsked m n)))) → P FindingsRoom)
@@ -86,10 +86,10 @@ module _ (m k n room : ℕ) where
       (row-has is-row-1 (λ f. one (row-1-iff .0 f))
       (row-has is-row-2 (λ f. two (row-2-iff .0 f)) (row-has is-row-3 (λ f. three (row-3-iff .0 f)) (row-has is-row-4 (λ f. four (row-4-iff .0 f)) end)))) q e e
 
-  -- The first row that is given is one of rows 1 to 4.
+  -- The first row that is given has a number of at most 4.
   pub row-numbers : (q : Refusal) → refusalOf m k n room ≡ some q → numberOf q ≤ 4
   row-numbers = by-row (λ q. numberOf q ≤ 4) (λ _. omega arith) (λ _. omega arith) (λ _. omega arith) (λ _. omega arith)
 
-  -- Its place is 0.
+  -- The first row that is given has place 0.
   pub row-places : (q : Refusal) → refusalOf m k n room ≡ some q → placeOf q ≡ 0
   row-places = by-row (λ q. placeOf q ≡ 0) (λ _. refl) (λ _. refl) (λ _. refl) (λ _. refl)

@@ -1,11 +1,13 @@
--- Laws behind what the calls share, one module for each idea; the functions' proofs cite them. In the order in which they build on each other.
--- Rows 1 to 4.
+-- The laws of this crate, one module for each idea, in the order in which they build on each other. The proofs that the functions meet their contracts cite
+-- them; each stands in a folder with the function's name: admitting/admit, putting/can_put, putting/put_words, putting/put_finding.
+--
+-- Rows 1 to 4: when each is the first that is given.
 pub mod AdmitRows
--- A finding's words.
+-- A finding's words in the lent words.
 pub mod WordsPut
 pub mod PutCases
 pub mod WordsSoFar
--- What holds of both searches.
+-- Laws of both searches, survey and scan.
 pub mod SearchAnswers
 pub mod RowsOfSearching
 pub mod AcceptedSearches

@@ -1,5 +1,5 @@
--- Any two answers that meet a contract of this crate are equal, and the words at exit too: each contract is an equation for the whole answer. And the paper of a
--- search determines its answer: the answer by `answer-unique` of the answers, and then its case.
+-- Any two answers that meet a contract of this crate are equal, and so are the words at exit, because each contract is an equation for the whole answer. For a
+-- search the equation is one for its paper: the paper determines the answer (`answer-unique` of crates/answers), and the answer determines the enum's case.
 use Prim.Native.Nat.{ℕ}
 use mathlib.Core.Path.{_≡_, refl, sym, ap, _∙_}
 use mathlib.Core.List.{List}
@@ -16,7 +16,7 @@ use Rattle.findings.specs.Admitting.{verdictOf, IsVerdict}
 use Rattle.findings.specs.Putting.{IsFindingPut}
 use Rattle.findings.specs.Searching.{Counts, noCounts, answerOf, paperOf, IsSearched}
 
--- the verdict that a refusal comes from
+-- the verdict that holds this refusal; the accepting one for none
 abbrev verdictBack : Option Refusal → Verdict
 verdictBack none = Accepted
 verdictBack (some refusal) = RefusedBy refusal
@@ -25,15 +25,15 @@ verdict-back : (r : Verdict) → verdictBack (verdictOf r) ≡ r
 verdict-back Accepted = refl
 verdict-back (RefusedBy refusal) = refl
 
--- Any two verdicts of `admit` are equal.
+-- Any two verdicts that meet the contract of `admit` are equal.
 pub one-verdict : (m k n room : ℕ) (r r′ : Verdict) → IsVerdict m k n room r → IsVerdict m k n room r′ → r ≡ r′
 one-verdict m k n room r r′ a b = sym (verdict-back r) ∙ ap verdictBack (a .is ∙ sym (b .is)) ∙ verdict-back r′
 
--- Any two areas at exit of `put_finding` are equal.
+-- Any two lists of words at exit that meet the contract of `put_finding` are equal.
 pub one-put : (words : List ℕ) (before : ℕ) (f : Finding) (out out′ : List ℕ) → IsFindingPut words before f out → IsFindingPut words before f out′ → out ≡ out′
 one-put words before f out out′ a b = a .written ∙ sym (b .written)
 
--- the case that an answer comes from
+-- the enum's case for an answer
 abbrev answerBack : Answer Counts → Searched
 answerBack (accepted counts) = CountsCase (counts .found) (counts .looks)
 answerBack (refused refusal) = Refused refusal
@@ -42,11 +42,11 @@ answer-back : (r : Searched) → answerBack (answerOf r) ≡ r
 answer-back (CountsCase found looks) = refl
 answer-back (Refused refusal) = refl
 
--- The paper of a search determines its answer.
+-- Two returned enums with equal papers are equal.
 pub paper-unique : (r r′ : Searched) → paperOf r ≡ paperOf r′ → r ≡ r′
 paper-unique r r′ e = sym (answer-back r) ∙ ap answerBack (answer-unique noCounts (answerOf r) (answerOf r′) e) ∙ answer-back r′
 
--- Any two answers that meet a search's contract are equal, and any two areas at exit.
-pub search-unique : {ring line : List ℕ} {k asked : ℕ} {words : List ℕ} {r r′ : Searched} {out out′ : List ℕ} → IsSearched ring line k asked words r out
-    → IsSearched ring line k asked words r′ out′ → (r ≡ r′) × (out ≡ out′)
+-- Any two answers that meet the contract of a search are equal, and so are the words at exit.
+pub search-unique : {ring line : List ℕ} {k expected : ℕ} {words : List ℕ} {r r′ : Searched} {out out′ : List ℕ} → IsSearched ring line k expected words r out
+    → IsSearched ring line k expected words r′ out′ → (r ≡ r′) × (out ≡ out′)
 search-unique {r = r} {r′ = r′} p p′ = (paper-unique r r′ (p .paper ∙ sym (p′ .paper)), p .written ∙ sym (p′ .written))

@@ -1,5 +1,5 @@
--- Whether a finding's words can be put: the test is a conjunction of comparisons, and `CanPut` says the same (`can-put-iff`). So the two ways of `put_finding` are the
--- two cases of its contract; and callers that know `CanPut` know that the words are put (`words-are-put`).
+-- Whether a finding can be put. The test `canPut` is a conjunction of comparisons, and the record `CanPut` states the same (`can-put-iff`). So the two ends of
+-- `put_finding` are the two cases of its contract, and a caller that has `CanPut` knows that the words are put (`words-are-put`).
 use Prim.Native.Nat.{ℕ, _+_, _*_, _/_, _^_, _<_}
 use mathlib.Core.Path.{_≡_, refl}
 use mathlib.Core.Bool.{true, false}
@@ -14,11 +14,11 @@ use Rattle.meaning.specs.Findings.{Finding, findingWords, wordsEach}
 use Rattle.lists.proofs.SizesTested.{le-iff, and-iff, test-same}
 use Rattle.findings.specs.Putting.{wordsPut, canPut, CanPut, IsFindingPut}
 
--- The three numbers of a finding are its words.
+-- If the three numbers of a finding are below 2^32, its words are 32-bit words.
 pub finding-words : {f : Finding} → f .start < 2 ^ 32 → f .rotation < 2 ^ 32 → f .distance < 2 ^ 32 → IsWords (findingWords f)
 finding-words start rotation distance = below-more start (below-more rotation (below-more distance (below-none (omega arith))))
 
--- The test passes exactly where the words can be put.
+-- The test passes exactly when the finding can be put.
 pub can-put-iff : (lent before : ℕ) (f : Finding) → (canPut lent before f ≡ true) ↔ CanPut lent before f
 unfolding canPut
 can-put-iff lent before f =
@@ -27,7 +27,7 @@ can-put-iff lent before f =
       λ can. all .1 (can .room, can .words),
     )
 
--- Where nothing else lacks, the test is whether the distance is a 32-bit word.
+-- If there is room, and start and rotation are 32-bit words, the test passes exactly when the distance is a 32-bit word.
 pub can-put-last : (lent before : ℕ) (f : Finding) → before < lent / wordsEach → f .start < 2 ^ 32 → f .rotation < 2 ^ 32 → leb (f .distance) 4294967295 ≡ canPut lent before f
 can-put-last lent before f more start rotation =
     test-same (le-iff (f .distance) 4294967295) (can-put-iff lent before f) (
@@ -36,14 +36,14 @@ can-put-last lent before f more start rotation =
     )
 
 module _ (words : List ℕ) (before : ℕ) (f : Finding) where
-  -- Words that can be put are put.
+  -- If the test passes and the finding's words are put, the contract is met.
   pub put-yes : (out : List ℕ) → canPut (length words) before f ≡ true → out ≡ wordsPut before f words → IsFindingPut words before f out
   put-yes out passed put = record { written = rw passed put }
 
-  -- Where they cannot, nothing is written.
+  -- If the test fails and the words stay as they were, the contract is met.
   pub put-no : canPut (length words) before f ≡ false → IsFindingPut words before f words
   put-no failed = record { written = rw failed refl }
 
-  -- Where there is room for a finding's words, and each is a 32-bit word, they are put.
+  -- If the finding can be put, `put_finding` puts it.
   pub words-are-put : (out : List ℕ) → CanPut (length words) before f → IsFindingPut words before f out → out ≡ wordsPut before f words
   words-are-put out can put = rw (can-put-iff (length words) before f .1 can) at (put .written)

@@ -1,5 +1,5 @@
--- The table's rows 1 to 4 hold of any answer that is a search's, of survey or scan: its paper and its words go by the first row that is given (`refusalOf`). The
--- paper's number is that of a refusal exactly when that row is the first (`AnswerByRows` of the answers), and AdmitRows says when it is.
+-- Rows 1 to 4 of the table hold for every answer of survey and scan that meets the contract. The first row that is given (`refusalOf`) decides the paper and the
+-- words. So the paper has a row's number exactly when that row is the first (`AnswerByRows` of crates/answers), and AdmitRows states when it is.
 use Prim.Native.Nat.{ℕ, _≤_}
 use mathlib.Core.Path.{ap}
 use mathlib.Core.Logic.{Iff·trans}
@@ -18,16 +18,16 @@ use Rattle.findings.specs.Searching.{Counts, noCounts, searched, searche
 use Rattle.findings.specs.SearchRows.{SearchRows}
 use Rattle.findings.proofs.AdmitRows.{row-1-iff, row-2-iff, row-3-iff, row-4-iff, none-iff, row-numbers, row-places}
 
--- The rows of a search, whatever its looks.
-pub rows-of-search : {ring line : List ℕ} {k asked : ℕ} {words : List ℕ} {r : Searched} {out : List ℕ} → IsSearched ring line k asked words r out
+-- Every answer that meets the contract of a search, whatever its looks, obeys the table `SearchRows`.
+pub rows-of-search : {ring line : List ℕ} {k expected : ℕ} {words : List ℕ} {r : Searched} {out : List ℕ} → IsSearched ring line k expected words r out
     → SearchRows (length ring) k (length line) words (paperOf r) out
 unfolding searched searchedWords
-rows-of-search {ring} {line} {k} {asked} {words} meets =
+rows-of-search {ring} {line} {k} {expected} {words} meets =
     let m = length ring in
     let n = length line in
     let room = length words in
     let row : Option Refusal = refusalOf m k n room in
-    let counts : Counts = record { found = length (findings ring line k); looks = asked } in
+    let counts : Counts = record { found = length (findings ring line k); looks = expected } in
     let paper = meets .paper in
     record {
       row-1 = Iff·trans (row-number-iff noCounts counts row paper Ring (omega arith)) (row-1-iff m k n room);

@@ -1,5 +1,5 @@
--- What follows of any answer that meets a search's contract, of survey or scan, beside the table's rows (RowsOfSearching): where it is accepted, which its number 0
--- says, it has found all findings and its looks are the search's; and a refusal has no looks, so that what holds of 0 and of the search's looks holds of its.
+-- What follows for every answer of survey and scan that meets the contract, beside the table's rows (RowsOfSearching). If its number is 0 it is accepted, has
+-- counted all findings, and has the search's looks. If it is refused its looks are 0. So a property of 0 and of the search's looks is one of the answer's looks.
 use Prim.Native.Nat.{ℕ, _<_}
 use mathlib.Core.Path.{_≡_}
 use mathlib.Core.Logic.{⊎-elim}
@@ -12,17 +12,17 @@ use Rattle.findings.specs.Searching.{paperOf, IsSearched}
 use Rattle.findings.proofs.RowsOfSearching.{rows-of-search}
 use Rattle.findings.proofs.AcceptedSearches.{AcceptedSearch, search-counts}
 
-module _ {ring line : List ℕ} {k asked : ℕ} {words : List ℕ} {r : Searched} {out : List ℕ} (meets : IsSearched ring line k asked words r out) where
-  -- Accepted: found, looks, and that the call is within the limits.
-  pub accepted-gives : paperOf r .number ≡ 0 → AcceptedSearch ring line k (length words) asked (paperOf r)
-  accepted-gives = search-counts ring line k (length words) asked (paperOf r) (meets .paper)
+module _ {ring line : List ℕ} {k expected : ℕ} {words : List ℕ} {r : Searched} {out : List ℕ} (meets : IsSearched ring line k expected words r out) where
+  -- An answer with number 0 is an accepted search: found, looks, and the call within the limits.
+  pub accepted-gives : paperOf r .number ≡ 0 → AcceptedSearch ring line k (length words) expected (paperOf r)
+  accepted-gives = search-counts ring line k (length words) expected (paperOf r) (meets .paper)
 
-  -- What holds of no looks, and of the search's looks with a ring of some edge, holds of the looks of any answer, accepted or refused.
-  pub looks-of-search : (P : ℕ → Type 0) → P 0 → (0 < length ring → P asked) → P (paperOf r .counts .looks)
+  -- If P holds for 0, and for the search's looks if the ring has at least one edge, then P holds for the looks of the answer, accepted or refused.
+  pub looks-of-search : (P : ℕ → Type 0) → P 0 → (0 < length ring → P expected) → P (paperOf r .counts .looks)
   looks-of-search P none searched =
       ⊎-elim
       (λ zero-le.
-      let accepted : AcceptedSearch ring line k (length words) asked (paperOf r) = accepted-gives (omega arith) in
+      let accepted : AcceptedSearch ring line k (length words) expected (paperOf r) = accepted-gives (omega arith) in
       rw (accepted .looks-are) (searched (accepted .admitted .some-edge)))
       (λ refused. rw (rows-of-search meets .no-looks refused) none)
       (le-or-lt (paperOf r .number) 0)

@@ -1,4 +1,4 @@
--- The words of one finding put behind those of the findings before it: what the area then holds is what `written` says of one finding more.
+-- Putting one finding more: if the lent area has the words of the findings fs at its front, then after f is put behind them it has the words of fs and f there.
 use Prim.Native.Nat.{ℕ, _+_, _*_, _≤_}
 use mathlib.Core.Path.{_≡_, refl, sym, ap, _∙_}
 use mathlib.Core.List.{List, [], _∷_, _++_}
@@ -12,7 +12,7 @@ use Rattle.meaning.proofs.Words.{words-length, words-append}
 use Rattle.lists.proofs.Areas.{written-length, written-more}
 use Rattle.findings.specs.Putting.{wordsPut}
 
--- One finding more.
+-- Putting f into an area that has the words of the `found` findings fs at its front gives the area with the words of fs and f at its front.
 pub put-more : (fs : List Finding) (f : Finding) (found : ℕ) (area : List ℕ) → found ≡ length fs → wordsEach * found + wordsEach ≤ length area
     → wordsPut found f (written (wordsOf fs) area) ≡ written (wordsOf (fs ++ f ∷ [])) area
 unfolding wordsOfEach
@@ -22,11 +22,11 @@ put-more fs f found area e room =
     ∙ written-more (wordsOf fs) (findingWords f) area (omega (arith, words-length fs))
     ∙ ap (λ (w : List ℕ). written w area) (sym (words-append fs (f ∷ [])))
 
--- Nothing found, nothing written.
+-- Writing the words of no finding leaves the area as it was.
 pub put-none : (area : List ℕ) → area ≡ written (wordsOf []) area
 unfolding wordsOfEach written
 put-none area = refl
 
--- The area keeps its length, where there is room.
+-- An area that has room for the words of fs keeps its length when they are written.
 pub put-length : (fs : List Finding) (found : ℕ) (area : List ℕ) → found ≡ length fs → wordsEach * found ≤ length area → length (written (wordsOf fs) area) ≡ length area
 put-length fs found area e room = written-length (wordsOf fs) area (omega (arith, words-length fs))

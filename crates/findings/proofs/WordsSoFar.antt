@@ -1,5 +1,5 @@
--- The words of the findings so far, as the loop of a search keeps them: how many findings, and the area with their words at its front. `put_finding` puts one more
--- behind them, where there is room and its words are 32-bit words. What the findings are is the loop's own.
+-- The part of a search loop's invariant that concerns the lent words: the number of findings so far, and the area with their words at its front. `put_finding`
+-- puts one more behind them, if there is room and its words are 32-bit words. Which findings these are is up to the loop.
 use Prim.Native.Nat.{ℕ, _+_, _*_, _≤_, _<_}
 use mathlib.Core.Path.{_≡_, refl, ap, _∙_}
 use mathlib.Core.List.{List, [], _∷_, _++_}
@@ -14,37 +14,37 @@ use Rattle.findings.specs.Putting.{wordsPut, CanPut, IsFindingPut}
 use Rattle.findings.proofs.WordsPut.{put-more, put-none, put-length}
 use Rattle.findings.proofs.PutCases.{finding-words, words-are-put}
 
--- A finding's words are 32-bit words where the call is accepted.
+-- In an accepted call, a finding with a start, a rotation below m and a distance of at most k has 32-bit words.
 pub admitted-words : (ring line : List ℕ) {k room : ℕ} {f : Finding} → Admitted (length ring) k (length line) room → IsStart ring line (f .start)
     → f .rotation < length ring → f .distance ≤ k → IsWords (findingWords f)
 admitted-words ring line admitted is-start is-rotation near =
     finding-words (omega (arith, admitted .most-line, is-start .fits)) (omega (arith, admitted .most-ring))
     (omega (arith, admitted .allowed, admitted .most-ring))
 
--- So many findings, and their words at the front of the area as it was lent.
+-- The findings so far are fs, `count` of them, and `words` is the lent area with their words at its front.
 pub record WordsSoFar (area : List ℕ) (fs : List Finding) (count : ℕ) (words : List ℕ) : Type 0 where
   pub count-is : count ≡ length fs
   pub words-are : words ≡ written (wordsOf fs) area
 
--- Before the first finding the words are as they were lent.
+-- At first there is no finding, and the words are the lent area.
 pub so-far-none : (area : List ℕ) → WordsSoFar area [] 0 area
 so-far-none area = record { count-is = refl; words-are = put-none area }
 
 module _ {area : List ℕ} {fs : List Finding} {count : ℕ} {words : List ℕ} (so-far : WordsSoFar area fs count words) where
-  -- The words keep their length.
+  -- If there is room for the words of all findings so far, `words` is as long as the lent area.
   pub so-far-length : wordsEach * count ≤ length area → length words ≡ length area
   so-far-length room = ap (λ (w : List ℕ). length w) (so-far .words-are) ∙ put-length fs count area (so-far .count-is) room
 
-  -- one finding more, whose words are put behind those before it
+  -- with f put, the findings so far are fs and f
   so-far-put : (f : Finding) → wordsEach * count + wordsEach ≤ length area → WordsSoFar area (fs ++ f ∷ []) (count + 1) (wordsPut count f words)
   so-far-put f room = record {
     count-is = omega (arith, so-far .count-is, length-append fs (f ∷ []));
     words-are = ap (wordsPut count f) (so-far .words-are) ∙ put-more fs f count area (so-far .count-is) room;
   }
 
-  -- One finding more, that `put_finding` put.
+  -- If there is room for f and its words are 32-bit words, then after `put_finding` the findings so far are fs and f.
   pub so-far-more : {f : Finding} {out : List ℕ} → wordsEach * count + wordsEach ≤ length area → IsWords (findingWords f) → IsFindingPut words count f out
       → WordsSoFar area (fs ++ f ∷ []) (count + 1) out
-  so-far-more {f} {out} room fit put =
-      let can : CanPut (length words) count f = record { room = omega (arith, so-far-length (omega arith)); words = fit } in
+  so-far-more {f} {out} room are-words put =
+      let can : CanPut (length words) count f = record { room = omega (arith, so-far-length (omega arith)); words = are-words } in
       rw (words-are-put words count f out can put) (so-far-put f room)

@@ -1,13 +1,13 @@
--- Document 01, "What each call returns", rows 1 to 4: when survey, scan and report are refused before they look at anything.
+-- Document 01, "What each call returns", rows 1 to 4: when survey, scan and report are refused before they read any edge.
 --
 --   mostRing, mostLine    the document's limits
 --   roomAsked             the words that row 4 requires
---   isRow1 to isRow4      when each row is given
+--   isRow1 to isRow4      the tests: whether each row is given
 --   admitRows             "Order: survey and scan 1 to 4"
---   refusalOf             the first of these rows that is given, if one is
+--   refusalOf             the refusal of the first of these rows that is given, if one is
 --   IsRing                row 1 is not given
 --   Admitted              none of these rows is given
---   verdictOf             the refusal of a verdict, if it is one
+--   verdictOf             the refusal that a verdict holds, if it holds one
 --   IsVerdict             the contract of `admit`
 use Prim.Native.Nat.{ℕ, _+_, _-_, _*_, _≤_, _<_}
 use mathlib.Core.Path.{_≡_}
@@ -50,12 +50,12 @@ isRow3 n = ltb mostLine n
 abbrev pub isRow4 : ℕ → ℕ → ℕ → Bool
 isRow4 m n room = leb m n && ltb room (roomAsked m n)
 
--- "Order: survey and scan 1 to 4"
+-- "Order: survey and scan 1 to 4": the rows for m, k, n and the number of words lent, each with its refusal if it is given.
 unfoldable pub admitRows : ℕ → ℕ → ℕ → ℕ → List (Option Refusal)
 admitRows m k n room =
     row (isRow1 m) Ring ∷ row (isRow2 m k) Allowance ∷ row (isRow3 n) Line ∷ row (isRow4 m n room) FindingsRoom ∷ []
 
--- The first of these rows that is given, if one is.
+-- The refusal of the first of these rows that is given; none if no row is.
 abbrev pub refusalOf : ℕ → ℕ → ℕ → ℕ → Option Refusal
 refusalOf m k n room = firstGiven (admitRows m k n room)
 
@@ -72,11 +72,12 @@ pub record Admitted (m k n room : ℕ) : Type 0 where
   pub most-line : n ≤ mostLine
   pub room-for : m ≤ n → roomAsked m n ≤ room
 
--- The refusal of a verdict, if it is one.
+-- The refusal that a verdict holds; none if the call is accepted.
 abbrev pub verdictOf : Verdict → Option Refusal
 verdictOf Accepted = none
 verdictOf (Refused refusal) = some refusal
 
--- The contract of `admit`, which returns r: the first row that is given, if one is. `room` is how many words are lent for findings.
+-- The contract of `admit`, which returns the verdict r: r holds the refusal of the first row that is given, and accepts if no row is. `room` is the number of
+-- words lent for findings.
 pub record IsVerdict (m k n room : ℕ) (r : Verdict) : Type 0 where
   pub is : verdictOf r ≡ refusalOf m k n room

@@ -1,6 +1,10 @@
--- What survey, scan and report share. Admitting, Searching and SearchRows state rows 1 to 4 of document 01's table and the result of a search; Putting states
--- what the lent words hold after a finding is put.
+-- What survey, scan and report share: the refusals 1 to 4, the answer of a search, and the words of a finding. Read them in this order:
+--
+--   Admitting     rows 1 to 4 of document 01's table: when a call is refused, and by which row
+--   Searching     the answer of survey and scan, and the lent words at exit: their contract `IsSearched`
+--   SearchRows    rows 1 to 4 once more, in plain comparisons over an answer's number, place and counts
+--   Putting       what the lent words hold after one finding is put
 pub mod Admitting
-pub mod Putting
 pub mod Searching
 pub mod SearchRows
+pub mod Putting

@@ -1,11 +1,11 @@
--- Document 01, "What each call returns": "Findings go as three 32-bit words each (start, rotation, distance) into the lent words". The lent words after one
--- is put behind those before it, whatever the finding and the room.
+-- Document 01, "What each call returns": "Findings go as three 32-bit words each (start, rotation, distance) into the lent words". This file states what the
+-- lent words hold after one finding is put behind those already there. It covers every finding and every number of lent words.
 --
---   findingOf      the finding of a struct
---   wordsPut       the words with a finding's words put
---   canPut         whether there is room for them, and each is a 32-bit word
---   CanPut         the same as facts
---   IsFindingPut          the contract of `put_finding`
+--   findingOf       the finding that a struct of src/ stands for
+--   wordsPut        the lent words after a finding is put
+--   CanPut          there is room for the finding, and its three numbers are 32-bit words
+--   canPut          the same as a test
+--   IsFindingPut    the contract of `put_finding`
 use Prim.Native.Nat.{ℕ, _+_, _*_, _≤_}
 use mathlib.Core.Path.{_≡_}
 use mathlib.Core.Bool.{Bool, cond, _&&_}
@@ -17,15 +17,15 @@ use Rattle.lists.specs.Bounds.{IsWords, isWords}
 use Rattle.meaning.specs.Findings.{Finding, findingWords, wordsEach}
 use Rattle.findings.specs.declared.searching.Finding.{Finding as FindingStruct}
 
--- The finding of a struct: a line place, a ring place and a distance.
+-- The finding that a struct of src/ stands for: its line place and its ring place as plain numbers, and its distance.
 abbrev pub findingOf : FindingStruct → Finding
 findingOf f = record { start = f .start .0; rotation = f .rotation .0; distance = f .distance }
 
--- A finding's words put behind those of the findings `before` it.
+-- The lent words after a finding's words are put behind those of `before` findings, from word 3·before on.
 abbrev pub wordsPut : ℕ → Finding → List ℕ → List ℕ
 wordsPut before f words = sets words (wordsEach * before) (findingWords f)
 
--- A finding's words can be put: the `lent` words have room for them behind those of the findings before, and each is a 32-bit word.
+-- A finding can be put behind `before` others: `lent` words have room for it, and its start, rotation and distance are 32-bit words.
 pub record CanPut (lent before : ℕ) (f : Finding) : Type 0 where
   pub room : wordsEach * before + wordsEach ≤ lent
   pub words : IsWords (findingWords f)
@@ -34,6 +34,6 @@ pub record CanPut (lent before : ℕ) (f : Finding) : Type 0 where
 unfoldable pub canPut : ℕ → ℕ → Finding → Bool
 canPut lent before f = leb (wordsEach * before + wordsEach) lent && isWords (findingWords f)
 
--- The contract of `put_finding`, which leaves the words at exit as `out`: where the finding's words cannot be put, nothing is written.
+-- The contract of `put_finding`; `out` are the words at exit. If the finding can be put, its words are put; if not, nothing is written.
 pub record IsFindingPut (words : List ℕ) (before : ℕ) (f : Finding) (out : List ℕ) : Type 0 where
   pub written : out ≡ cond (canPut (length words) before f) (wordsPut before f words) words

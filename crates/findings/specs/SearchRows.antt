@@ -1,6 +1,6 @@
--- Document 01, "What each call returns", the table's rows 1 to 4 as they read for survey and scan: "Given exactly when", number and place written out, in
--- their order. The contracts go by `refusalOf` of specs/Admitting.antt; this is the same table once more in plain comparisons, and
--- proofs/RowsOfSearching.antt proves it for every answer that meets the contract. The number is one of 0 to 4, so exactly one of the five conditions holds.
+-- Document 01, "What each call returns": rows 1 to 4 of the table as they read for survey and scan, with "Given exactly when", number and place written out, in
+-- their order. The contracts use `refusalOf` of specs/Admitting.antt. This is the same table in plain comparisons, and proofs/RowsOfSearching.antt proves it
+-- for every answer that meets the contract. The number is one of 0 to 4, so exactly one of the five conditions holds.
 --
 --   SearchRows    the table, for an answer's paper and the words at exit
 use Prim.Native.Nat.{ℕ, _+_, _-_, _*_, _≤_, _<_}
@@ -12,7 +12,7 @@ use Rattle.answers.specs.Paper.{Paper}
 use Rattle.findings.specs.Admitting.{IsRing}
 use Rattle.findings.specs.Searching.{Counts}
 
--- The rows of a search with m, k, n and the lent words; p is the paper of its answer, out the words at exit.
+-- The table for a search with m, k, n and the lent words. p is the paper of its answer, `out` are the words at exit.
 pub record SearchRows (m k n : ℕ) (words : List ℕ) (p : Paper Counts) (out : List ℕ) : Type 0 where
   -- "m = 0 or m > 256"
   pub row-1 : (p .number ≡ 1) ↔ ((m ≡ 0) ⊎ (256 < m))
@@ -24,9 +24,9 @@ pub record SearchRows (m k n : ℕ) (words : List ℕ) (p : Paper Counts) (out :
   pub row-4 : (p .number ≡ 4) ↔ (IsRing m × ((k < m) × ((n ≤ 65536) × ((m ≤ n) × (length words < 3 * (n - m + 1))))))
   -- Accepted exactly when none of these rows is given.
   pub accepted : (p .number ≡ 0) ↔ (IsRing m × ((k < m) × ((n ≤ 65536) × (m ≤ n → 3 * (n - m + 1) ≤ length words))))
-  -- No other row.
+  -- No other number is given.
   pub number-le : p .number ≤ 4
-  -- The table's place of each: 0.
+  -- Each of these rows has place 0, and so has an accepted answer.
   pub place-is : p .place ≡ 0
   -- A refusal carries "zero in every count".
   pub no-found : 0 < p .number → p .counts .found ≡ 0

@@ -1,21 +1,19 @@
--- Document 01, "What each call returns", what the plain survey and the quick scan share: "Survey and scan return found and looks"; findings go into the lent
--- words. They differ in their looks alone, so both are stated over the looks.
+-- Document 01, "What each call returns", for the plain survey and the quick scan: "Survey and scan return found and looks", and the findings go into the lent
+-- words. The two differ only in how many looks they take, so every definition here takes the looks as an argument.
 --
---   Counts               found and looks
---   searched             the result of a search: its counts, or a refusal
+--   Counts, noCounts     found and looks; both zero
+--   searched             the answer that a search must give: its counts, or a refusal
 --   searchedWords        the lent words at exit
---   LineSearched         the contract of searching a line, once the call is accepted
---   paperOf              document 01's number, place and counts of an answer
---   searchPaper          the same of the result of a search
+--   LineSearched         the contract of the search itself, once the call is accepted
+--   answerOf, paperOf    a returned enum as an answer, and as document 01's number, place and counts
+--   searchPaper          number, place and counts that a search must give
 --   IsSearched           the contract of survey and scan, each with its own looks
 use Prim.Native.Nat.{ℕ}
 use mathlib.Core.Path.{_≡_}
 use mathlib.Core.List.{List}
-use mathlib.Core.Option.{Option, none, some}
 use lib.ListN.{length}
 use Rattle.meaning.specs.Findings.{findings, wordsOf}
 use Rattle.lists.specs.Areas.{written}
-use Rattle.answers.specs.declared.refusals.Refusal.{Refusal}
 use Rattle.answers.specs.Paper.{Answer, accepted, refused, Paper, answerPaper}
 use Rattle.answers.specs.Rows.{answerBy, areaBy}
 use Rattle.findings.specs.declared.searching.Searched.{Searched}
@@ -31,37 +29,38 @@ pub record Counts : Type 0 where
 abbrev pub noCounts : Counts
 noCounts = record { found = 0; looks = 0 }
 
--- The result of a search that takes `looks` looks and is lent `room` words: refusals 1 to 4, or the number of findings and the looks.
+-- The answer of a search that takes `looks` looks and is lent `room` words: the first of refusals 1 to 4 that is given, else the number of findings and the
+-- looks.
 unfoldable pub searched : List ℕ → List ℕ → ℕ → ℕ → ℕ → Answer Counts
 searched ring line k room looks =
     answerBy (refusalOf (length ring) k (length line) room) (record { found = length (findings ring line k); looks = looks })
 
--- The lent words after a search: the words of the findings "by rising start", and then as they were.
+-- The lent words after a search: the words of the findings "by rising start", then the rest as it was. If the call is refused, all as it was.
 unfoldable pub searchedWords : List ℕ → List ℕ → ℕ → List ℕ → List ℕ
 searchedWords ring line k words =
     areaBy (refusalOf (length ring) k (length line) (length words)) (written (wordsOf (findings ring line k)) words) words
 
--- The contract of searching a line with `asked` looks, where the call is accepted: found, looks and the words at exit.
-pub record LineSearched (ring line : List ℕ) (k asked : ℕ) (words : List ℕ) (found looks : ℕ) (out : List ℕ) : Type 0 where
+-- The contract of the search itself, once the call is accepted: all findings are counted, the looks are `expected`, and the findings' words are written.
+pub record LineSearched (ring line : List ℕ) (k expected : ℕ) (words : List ℕ) (found looks : ℕ) (out : List ℕ) : Type 0 where
   pub found-is : found ≡ length (findings ring line k)
-  pub looks-are : looks ≡ asked
+  pub looks-are : looks ≡ expected
   pub written : out ≡ written (wordsOf (findings ring line k)) words
 
--- The answer of the returned enum.
+-- The returned enum as an answer.
 abbrev pub answerOf : Searched → Answer Counts
 answerOf (CountsCase found looks) = accepted (record { found = found; looks = looks })
 answerOf (Refused refusal) = refused refusal
 
--- Document 01's number, place and counts of an answer.
+-- Document 01's number, place and counts for the returned enum.
 abbrev pub paperOf : Searched → Paper Counts
 paperOf r = answerPaper noCounts (answerOf r)
 
--- Document 01's number, place and counts of the result of a search.
+-- The number, place and counts that a search must give if it takes `looks` looks and is lent `room` words.
 abbrev pub searchPaper : List ℕ → List ℕ → ℕ → ℕ → ℕ → Paper Counts
 searchPaper ring line k room looks = answerPaper noCounts (searched ring line k room looks)
 
--- The contract of survey and scan; `asked`, the looks, is the only difference. It fixes number, place and counts of the answer r and the words at exit `out`,
--- on every input, accepted or refused.
-pub record IsSearched (ring line : List ℕ) (k asked : ℕ) (words : List ℕ) (r : Searched) (out : List ℕ) : Type 0 where
-  pub paper : paperOf r ≡ searchPaper ring line k (length words) asked
+-- The contract of survey and scan; the looks, `expected`, are the only difference. It fixes number, place and counts of the answer r and the words at exit
+-- `out`, on every input, accepted or refused.
+pub record IsSearched (ring line : List ℕ) (k expected : ℕ) (words : List ℕ) (r : Searched) (out : List ℕ) : Type 0 where
+  pub paper : paperOf r ≡ searchPaper ring line k (length words) expected
   pub written : out ≡ searchedWords ring line k words

@@ -1,4 +1,4 @@
-// Rows 1 to 4 of document 01's table: what is refused before anything is looked at.
+// Rows 1 to 4 of document 01's table: the calls that are refused before any edge is read.
 use answers::Refusal;
 ghost use Rattle.findings.specs.Admitting.{IsVerdict};
 
@@ -9,13 +9,13 @@ const MOST_LINE: usize = 65536;
 // "three 32-bit words each"
 pub const WORDS_EACH: usize = 3;
 
-// Whether a call goes on, or the first refusal that is given.
+// Whether a call is accepted; if not, the refusal of the first row that is given.
 pub enum Verdict {
     Accepted,
     Refused(Refusal),
 }
 
-// The first of rows 1 to 4 that is given, in their order.
+// Tests rows 1 to 4 in their order and returns the first that is given. `room` is the number of words lent for findings.
 pub fn admit(m: usize, k: usize, n: usize, room: usize) -> Verdict
     ensures { λ r. ⌜ IsVerdict m k n room r ⌝ }
 {

@@ -1,8 +1,8 @@
-// What survey, scan and report share: rows 1 to 4 of document 01's table, the result of a search, and a finding's words.
+// What survey, scan and report share: rows 1 to 4 of document 01's table, the answer of a search, and a finding's words.
 //
-// `admit` says whether a call goes on or by which row it is refused: specs/Admitting.antt. `put_finding` puts a finding's
-// words behind those of the findings before it: specs/Putting.antt. No public function has a `requires`: each takes every
-// input.
+// `admit` accepts a call or returns the refusal of the first row that is given; its contract is in specs/Admitting.antt.
+// `put_finding` writes a finding's words behind those of the findings before it; its contract is in specs/Putting.antt.
+// No public function has a `requires`: each takes every input.
 mod admitting;
 mod putting;
 mod searching;

@@ -8,8 +8,8 @@ ghost use Rattle.findings.specs.Putting.{findingOf, canPut, wordsPut, Ca
 // The largest number that a 32-bit word holds.
 const LAST_WORD: usize = 4294967295;
 
-// Whether a finding's words can go behind those of the findings before it: there is room for one finding more, and each
-// of its numbers is a 32-bit word. The room is divided, and nothing multiplied, so nothing overflows.
+// Whether a finding's words can be put behind those of `before` findings: there is room for three more words, and each of
+// its numbers is a 32-bit word. The room is divided by 3; 3 * before could overflow.
 fn can_put(room: usize, before: usize, finding: Finding) -> bool
     ensures { λ r. ⌜ r ≡ canPut room before (findingOf finding) ⌝ }
 {
@@ -27,7 +27,7 @@ fn can_put(room: usize, before: usize, finding: Finding) -> bool
     finding.distance <= LAST_WORD
 }
 
-// A finding's words, behind those of the findings before it.
+// Writes a finding's three words behind those of `before` findings.
 fn put_words(words: &mut [u32], before: usize, finding: Finding)
     requires { ⌜ CanPut (length (now words)) before (findingOf finding) ⌝ }
     ensures { λ _. ⌜ now (words .exit) ≡ wordsPut before (findingOf finding) (now (words .entry)) ⌝ }
@@ -40,7 +40,7 @@ fn put_words(words: &mut [u32], before: usize, finding: Finding)
     words[at + 2] = finding.distance as u32;
 }
 
-// A finding's words put, or nothing where they cannot be.
+// Puts a finding's words behind those of `before` findings. If they cannot be put, nothing is written.
 pub fn put_finding(words: &mut [u32], before: usize, finding: Finding)
     ensures { λ _. ⌜ IsFindingPut (now (words .entry)) before (findingOf finding) (now (words .exit)) ⌝ }
 {

@@ -1,10 +1,10 @@
-// The result of a search.
+// A finding, and the answer of a search.
 use answers::LinePlace;
 use answers::Refusal;
 use answers::RingPlace;
 
-// A finding "carries start, rotation, distance". The distance is a usize as the allowance is: it is compared with k,
-// and goes out as one word beside the two places, by the same cast.
+// A finding "carries start, rotation, distance". The distance is a usize, as the allowance k is, because the two are
+// compared. It is written as one word beside the two places, by the same cast.
 pub struct Finding {
     pub start: LinePlace,
     pub rotation: RingPlace,

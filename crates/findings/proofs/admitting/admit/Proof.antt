@@ -1,4 +1,4 @@
--- `findings::admitting::admit` meets its contract: each return is one case of rows 1 to 4.
+-- `findings::admitting::admit` meets its contract: at each return the tests so far decide which of rows 1 to 4 is the first, or that none is given (`AdmitRows`).
 use mathlib.Core.Path.{sym}
 use mathlib.Core.Logic.{inl, inr}
 use native.Mathlib.Omega.{arith}

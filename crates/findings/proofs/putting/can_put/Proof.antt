@@ -1,4 +1,4 @@
--- `findings::putting::can_put` meets its contract: it answers false where one of the test's comparisons fails, and else the last of them (`SizesTested` of crates/lists).
+-- `findings::putting::can_put` meets its contract: it returns false at the first comparison that fails, else the result of the last (`SizesTested` of crates/lists).
 use native.Mathlib.Omega.{arith}
 use Rattle.lists.proofs.SizesTested.{test-fails}
 use Rattle.findings.proofs.PutCases.{can-put-iff, can-put-last}
@@ -9,15 +9,15 @@ use Rattle.findings.proofs.putting.can_put.Tie as tie
 returns : tie.Need-returns
 returns c = test-fails (can-put-iff _ _ _) (λ can. omega (arith, can .room, c .if1 .taken))
 
--- A start that is no 32-bit word.
+-- The start is not a 32-bit word.
 returns-2 : tie.Need-returns-2
 returns-2 c = test-fails (can-put-iff _ _ _) (λ can. omega (arith, can .words .each-lt 0, c .if2 .taken))
 
--- A rotation that is none.
+-- The rotation is not a 32-bit word.
 returns-3 : tie.Need-returns-3
 returns-3 c = test-fails (can-put-iff _ _ _) (λ can. omega (arith, can .words .each-lt 1, c .if3 .taken))
 
--- All that is left is the distance.
+-- Only the distance is left to test.
 returns-4 : tie.Need-returns-4
 returns-4 c =
     let rotation = c .before in

@@ -1,4 +1,4 @@
--- `findings::putting::put_finding` meets its contract: its two ways are the two cases of the test (`PutCases`).
+-- `findings::putting::put_finding` meets its contract: its two ends are the two cases of the test (`PutCases`).
 use mathlib.Core.Path.{_∙_, sym}
 use borrow.Author.Needs.{needs}
 use Rattle.findings.proofs.PutCases.{can-put-iff, put-yes, put-no}
@@ -16,14 +16,14 @@ put-words-requires c κs =
 same-length : tie.Need-same-length
 same-length c = search needs
 
--- They are put.
+-- The finding can be put.
 returns : tie.Need-returns
 returns c =
     let put = c .before .before in
     let passed = put .before .before in
     put-yes _ _ _ _ (sym (passed .before .can-put .ensures) ∙ passed .if1 .taken) (put .put-words .ensures)
 
--- They cannot be put.
+-- The finding cannot be put.
 returns-2 : tie.Need-returns-2
 returns-2 c = put-no _ _ _ (sym (c .before .can-put .ensures) ∙ c .if1 .left)
 

@@ -1,4 +1,4 @@
--- `findings::putting::put_words` meets its contract: its stores, one after the other, are `sets` of the finding's words.
+-- `findings::putting::put_words` meets its contract: its three stores, one after the other, are `sets` of the finding's words.
 use native.Mathlib.Numerals.{towards-suc}
 use native.Mathlib.Omega.{arith}
 use borrow.Author.Needs.{needs}
@@ -10,7 +10,7 @@ mul-at : tie.Need-mul-at
 mul-at c = search needs
 
 cast-words : tie.Need-cast-words
-cast-words c = let fits = c .before .before .before .pre .words .each-lt in omega (arith, fits 0, fits 1, fits 2)
+cast-words c = let below = c .before .before .before .pre .words .each-lt in omega (arith, below 0, below 1, below 2)
 
 mul-words : tie.Need-mul-words
 mul-words c = search needs
@@ -19,7 +19,7 @@ slice-write-words : tie.Need-slice-write-words
 slice-write-words c = search needs
 
 cast-words-2 : tie.Need-cast-words-2
-cast-words-2 c = let fits = c .before .before .before .before .pre .words .each-lt in omega (arith, fits 0, fits 1, fits 2)
+cast-words-2 c = let below = c .before .before .before .before .pre .words .each-lt in omega (arith, below 0, below 1, below 2)
 
 add-words : tie.Need-add-words
 add-words c = search needs
@@ -31,7 +31,7 @@ slice-write-words-2 : tie.Need-slice-write-words-2
 slice-write-words-2 c = simp length-set (omega arith)
 
 cast-words-3 : tie.Need-cast-words-3
-cast-words-3 c = let fits = c .before .before .before .before .before .pre .words .each-lt in omega (arith, fits 0, fits 1, fits 2)
+cast-words-3 c = let below = c .before .before .before .before .before .pre .words .each-lt in omega (arith, below 0, below 1, below 2)
 
 add-words-2 : tie.Need-add-words-2
 add-words-2 c = search needs
