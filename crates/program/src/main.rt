@@ -1,10 +1,11 @@
 // The report program of document 01: standard input to standard output, by `reply::answer`.
+use reply::MOST_INPUT;
 use reply::MOST_TEXT;
 ghost use Prim.Native.Nat.{_≤_};
 ghost use lib.ListN.{length};
 
-// One byte more than the longest input: if all come, the input is longer.
-const ASKED: usize = 32769;
+// One byte more than the longest input. If all of these bytes come, the input is too long.
+const MOST_READ: usize = MOST_INPUT + 1;
 
 // Reads standard input to its end, or until `input` is full, and returns how many bytes came. A read that fails leaves an unknown
 // rest: then this returns 0, and the empty input is refused by 11 at place 0. (A short count does not tell a failure from the end,
@@ -28,7 +29,7 @@ fn read_input(input: &mut [u8]) -> usize
 }
 
 fn main() {
-    let mut input = [0u8; ASKED];
+    let mut input = [0u8; MOST_READ];
     let got = read_input(&mut input);
     let mut text = [0u8; MOST_TEXT];
     let long = reply::answer(&input[..got], &mut text);

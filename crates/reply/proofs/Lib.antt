@@ -8,7 +8,7 @@ pub mod LinesLoop
 pub mod RoomEnough
 pub mod TextRoom
 pub mod RequestAnswered
-pub mod AskedParts
+pub mod RequestCases
 pub mod DecimalReadBack
 pub mod RowsNeverGiven
 pub mod OneText

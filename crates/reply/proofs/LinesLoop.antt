@@ -9,9 +9,9 @@ use native.Mathlib.Omega.{arith}
 use lib.ListN.{length, drop}
 use Rattle.meaning.specs.Findings.{Finding, wordsEach}
 use Rattle.reply.specs.Lines.{findingLine, findingLines}
-use Rattle.reply.specs.Writing.{findingFrom, findingsOf, IsWritten}
+use Rattle.reply.specs.Writing.{findingsOf, IsWritten}
 use Rattle.reply.proofs.PutLoop.{StillToPut, put-start, put-turn, put-end}
-use Rattle.reply.proofs.WordsOfFindings.{findingsOf-step, findingsOf-end}
+use Rattle.reply.proofs.WordsOfFindings.{findingFrom, findingsOf-step, findingsOf-end}
 
 -- What the loop keeps.
 pub record PuttingLines (words area : List ℕ) (at done : ℕ) (out : List ℕ) (next : ℕ) : Type 0 where

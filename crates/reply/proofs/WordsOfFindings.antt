@@ -8,16 +8,16 @@ use native.Mathlib.Omega.{arith}
 use lib.ListN.{length, getD, drop}
 use Rattle.meaning.specs.Findings.{Finding, findingWords, wordsEach, wordsOf}
 use Rattle.lists.proofs.Records.{part-at, records-step, records-end, records-of-words}
-use Rattle.reply.specs.Writing.{findingOfNumbers, findingFrom, findingsOf}
+use Rattle.reply.specs.Writing.{findingOfNumbers, findingOfWords, findingsOf}
 
--- the finding of its words
-abbrev itsFinding : List ℕ → Finding
-itsFinding words = findingFrom words 0
+-- The finding whose words stand from word `at` on.
+abbrev pub findingFrom : List ℕ → ℕ → Finding
+findingFrom words at = findingOfNumbers (getD words at 0) (getD words (at + 1) 0) (getD words (at + 2) 0)
 
 -- The findings of findings' words are those findings.
 pub findingsOf-words : (fs : List Finding) → findingsOf (wordsOf fs) ≡ fs
 unfolding findingsOf
-findingsOf-words = records-of-words wordsEach itsFinding (omega arith) findingWords (λ _. refl) (λ _. refl)
+findingsOf-words = records-of-words wordsEach findingOfWords (omega arith) findingWords (λ _. refl) (λ _. refl)
 
 module _ (words : List ℕ) (at : ℕ) where
   -- Where the words of a finding are left, they are the next finding.
@@ -25,11 +25,11 @@ module _ (words : List ℕ) (at : ℕ) where
   unfolding findingsOf
   findingsOf-step h =
       let word = part-at wordsEach words at in
-      records-step wordsEach itsFinding (omega arith) words at h
+      records-step wordsEach findingOfWords (omega arith) words at h
       ∙ ap (λ (f : Finding). f ∷ findingsOf (drop (at + wordsEach) words))
       (λ i. findingOfNumbers ((word 0 (omega arith) ∙ ap (λ (j : ℕ). getD words j 0) (add-zero at)) i) (word 1 (omega arith) i) (word 2 (omega arith) i))
 
   -- Where fewer are left, there is none.
   pub findingsOf-end : length words < at + wordsEach → findingsOf (drop at words) ≡ []
   unfolding findingsOf
-  findingsOf-end = records-end wordsEach itsFinding (omega arith) words at
+  findingsOf-end = records-end wordsEach findingOfWords (omega arith) words at

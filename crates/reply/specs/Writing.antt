@@ -66,13 +66,13 @@ filled (byte ∷ form) numbers =
 abbrev pub findingOfNumbers : ℕ → ℕ → ℕ → Finding
 findingOfNumbers start rotation distance = record { start = start; rotation = rotation; distance = distance }
 
--- The finding whose words stand from word `at` on.
-abbrev pub findingFrom : List ℕ → ℕ → Finding
-findingFrom words at = findingOfNumbers (getD words at 0) (getD words (at + 1) 0) (getD words (at + 2) 0)
+-- The finding of its words: start, rotation, distance.
+abbrev pub findingOfWords : List ℕ → Finding
+findingOfWords words = findingOfNumbers (getD words 0 0) (getD words 1 0) (getD words 2 0)
 
--- The findings of words. Fewer words than a finding has, at the end, are none.
+-- The findings of words, three words each. One or two words left over at the end are no finding.
 unfoldable pub findingsOf : List ℕ → List Finding
-findingsOf words = recordsOf wordsEach (λ (its-words : List ℕ). findingFrom its-words 0) words
+findingsOf words = recordsOf wordsEach findingOfWords words
 
 -- These three counts.
 abbrev pub countsOf : ℕ → ℕ → ℕ → ReportCounts

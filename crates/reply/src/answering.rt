@@ -5,8 +5,8 @@ use crate::refusing::put_refusal;
 use findings::WORDS_EACH;
 use outlines::Reported;
 use outlines::report;
-use request::Asked;
 use request::MOST_LINE_BYTES;
+use request::Requested;
 use request::read_request;
 ghost use lib.ListN.{length};
 ghost use Rattle.reply.specs.Answering.{requestText, IsAnswered};
@@ -63,8 +63,8 @@ pub fn answer(input: &[u8], text: &mut [u8; MOST_TEXT]) -> usize
     ensures { λ r. ⌜ IsAnswered (now (input .entry)) (now (text .entry)) r (now (text .exit)) ⌝ }
 {
     match read_request(input) {
-        Asked::Refused(refusal) => put_refusal(text, refusal),
-        Asked::Parts(parts) => {
+        Requested::Refused(refusal) => put_refusal(text, refusal),
+        Requested::Parts(parts) => {
             // The kit takes a part of a slice between locals, not between fields.
             let ring_from = parts.ring_from;
             let ring_to = parts.ring_to;

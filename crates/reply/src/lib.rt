@@ -8,3 +8,4 @@ mod refusing;
 
 pub use answering::MOST_TEXT;
 pub use answering::answer;
+pub use request::MOST_INPUT;

@@ -8,11 +8,11 @@ use lib.ListN.{length, drop, length-drop}
 use lib.Seq.{length-take-le}
 use Rattle.answers.specs.Paper.{Answer, accepted, refused}
 use Rattle.fields.specs.Tagged.{headLength}
-use Rattle.request.specs.declared.asking.Asked.{Asked}
-use Rattle.request.specs.declared.asking.Asked.the-variants.{Parts as PartsCase, Refused}
+use Rattle.request.specs.declared.reading.Requested.{Requested}
+use Rattle.request.specs.declared.reading.Requested.the-variants.{Parts as PartsCase, Refused}
 use Rattle.request.specs.Fields.{between}
 use Rattle.request.specs.Input.{Request}
-use Rattle.request.specs.Asking.{requestAt, askedOf, PartsWithinBy, IsRequestRead}
+use Rattle.request.specs.RequestReading.{requestAt, requestedOf, PartsWithinBy, IsRequestRead}
 
 -- the byte offsets of a request in its input, each from the one behind it
 abbrev lineTo : List ℕ → Request → ℕ
@@ -28,7 +28,7 @@ abbrev ringFrom : List ℕ → Request → ℕ
 ringFrom input q = ringTo input q - length (q .ring)
 
 -- a request by its numbers and its byte offsets
-abbrev partsOf : ℕ → ℕ → ℕ → ℕ → ℕ → ℕ → ℕ → Asked
+abbrev partsOf : ℕ → ℕ → ℕ → ℕ → ℕ → ℕ → ℕ → Requested
 partsOf cell ring-number allowance ring-from ring-to line-from line-to =
     PartsCase (record {
       cell = cell;
@@ -44,9 +44,9 @@ parts-same : {c n k a a′ b b′ d d′ e e′ : ℕ} → a ≡ a′ → b ≡ 
 parts-same a-is b-is d-is e-is = cc
 
 -- the case that a request, or a refusal, comes from
-abbrev askedBack : List ℕ → Answer Request → Asked
-askedBack input (accepted q) = partsOf (q .cell) (q .ringNumber) (q .allowance) (ringFrom input q) (ringTo input q) (lineFrom input q) (lineTo input q)
-askedBack input (refused refusal) = Refused refusal
+abbrev requestedBack : List ℕ → Answer Request → Requested
+requestedBack input (accepted q) = partsOf (q .cell) (q .ringNumber) (q .allowance) (ringFrom input q) (ringTo input q) (lineFrom input q) (lineTo input q)
+requestedBack input (refused refusal) = Refused refusal
 
 -- how long the bytes between two offsets are
 between-length : (input : List ℕ) (from to : ℕ) → to ≤ length input → length (between input from to) ≡ to - from
@@ -60,8 +60,8 @@ begins-at ends long-is h = omega (arith, ends, long-is, h)
 head-before : {from to end : ℕ} → end ≡ from → from ≡ to + headLength → end - headLength ≡ to
 head-before begins behind = omega (arith, begins, behind)
 
-asked-back : (input : List ℕ) (r : Asked) → PartsWithinBy input r → askedBack input (askedOf input r) ≡ r
-asked-back input (PartsCase p) within =
+requested-back : (input : List ℕ) (r : Requested) → PartsWithinBy input r → requestedBack input (requestedOf input r) ≡ r
+requested-back input (PartsCase p) within =
     let line-to : lineTo input (requestAt input p) ≡ p .«line_to» = begins-at refl (length-drop (p .«line_to») input) (within .line-within) in
     let line-from : lineFrom input (requestAt input p) ≡ p .«line_from» =
     begins-at line-to (between-length input (p .«line_from») (p .«line_to») (within .line-within)) (within .line-le) in
@@ -69,9 +69,9 @@ asked-back input (PartsCase p) within =
     let ring-from : ringFrom input (requestAt input p) ≡ p .«ring_from» =
     begins-at ring-to (between-length input (p .«ring_from») (p .«ring_to») (within .ring-within)) (within .ring-le) in
     parts-same ring-from ring-to line-from line-to
-asked-back input (Refused refusal) within = refl
+requested-back input (Refused refusal) within = refl
 
 -- Any two answers of `read_request` are equal.
-pub asked-unique : (input : List ℕ) (r r′ : Asked) → IsRequestRead input r → IsRequestRead input r′ → r ≡ r′
-asked-unique input r r′ a b =
-    sym (asked-back input r (a .within)) ∙ ap (askedBack input) (a .is ∙ sym (b .is)) ∙ asked-back input r′ (b .within)
+pub requested-unique : (input : List ℕ) (r r′ : Requested) → IsRequestRead input r → IsRequestRead input r′ → r ≡ r′
+requested-unique input r r′ a b =
+    sym (requested-back input r (a .within)) ∙ ap (requestedBack input) (a .is ∙ sym (b .is)) ∙ requested-back input r′ (b .within)

@@ -14,15 +14,15 @@ use Rattle.answers.specs.declared.refusals.Refusal.the-variants.{Input}
 use Rattle.answers.specs.Paper.{Answer, accepted}
 use Rattle.fields.specs.Numbers.{numberAt}
 use Rattle.fields.specs.Tagged.{headLength}
-use Rattle.request.specs.declared.asking.Asked.the-variants.{Parts as PartsCase, Refused}
-use Rattle.request.specs.declared.asking.Parts.{Parts}
+use Rattle.request.specs.declared.reading.Requested.the-variants.{Parts as PartsCase, Refused}
+use Rattle.request.specs.declared.reading.Parts.{Parts}
 use Rattle.request.specs.declared.field.FieldKind.{FieldKind}
 use Rattle.request.specs.declared.field.ReadTo.{ReadTo}
 use Rattle.request.specs.Fields.{cellField, ringNumberField, allowanceField, ringField, lineField, inputFields, between, nextAt, valueAt}
 use Rattle.request.specs.Input.{Request, mostInput, firstFault, inputFault, numberIn, partsFrom, requestBy, requestOf}
 use Rattle.request.specs.RowEleven.{IsFieldAt}
 use Rattle.request.specs.Parsing.{IsPast}
-use Rattle.request.specs.Asking.{requestAt, IsRequestRead}
+use Rattle.request.specs.RequestReading.{requestAt, IsRequestRead}
 use Rattle.request.proofs.PastFields.{faultBy, FieldRead, past-fault, past-stands}
 
 -- The five fields are read one after the other, and a longer input is faulty before the first.
@@ -75,9 +75,9 @@ module _ {input : List ℕ} {cell ringNumber allowance ring line : ReadTo} (read
       ∙ past-fault (read .line-read) []
 
   -- A fault: refusal 11 there.
-  pub asked-fault : line .faulty ≡ true → IsRequestRead input (Refused (Input (line .next)))
+  pub request-refused : line .faulty ≡ true → IsRequestRead input (Refused (Input (line .next)))
   unfolding requestOf
-  asked-fault fault = record { is = sym (ap (requestBy input) fault-is ∙ simp fault); within = tt }
+  request-refused fault = record { is = sym (ap (requestBy input) fault-is ∙ simp fault); within = tt }
 
   module _ (whole : line .faulty ≡ false) where
     line-field : FieldRead lineField input ring line
@@ -108,7 +108,7 @@ module _ {input : List ℕ} {cell ringNumber allowance ring line : ReadTo} (read
     }
 
     -- And their numbers and offsets are the request.
-    pub asked-parts : {c r k : ℕ} → c ≡ numberAt 4 input headLength → r ≡ numberAt 2 input (cell .next + headLength)
+    pub request-parts : {c r k : ℕ} → c ≡ numberAt 4 input headLength → r ≡ numberAt 2 input (cell .next + headLength)
         → k ≡ numberAt 1 input (ringNumber .next + headLength)
         → IsRequestRead input (PartsCase (record {
           cell = c;
@@ -120,7 +120,7 @@ module _ {input : List ℕ} {cell ringNumber allowance ring line : ReadTo} (read
           «line_to» = line .next;
         }))
     unfolding requestOf partsFrom firstFault
-    asked-parts cell-is ring-number-is allowance-is =
+    request-parts cell-is ring-number-is allowance-is =
         let order = in-order in
         let ends-1 = cell-field .ends in
         let ends-2 = ring-number-field .ends ∙ ap (nextAt input) ends-1 in

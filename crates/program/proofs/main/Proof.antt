@@ -1,7 +1,7 @@
 -- `report::main`, which has no contract, is safe: what it hands on lies within its arrays, the input read (`read_input`) and the answer's text (`answer-within`).
 use mathlib.Core.Path.{sym}
 use lib.Seq.{length-take-le}
-use Rattle.reply.proofs.AskedParts.{answer-within}
+use Rattle.reply.proofs.RequestCases.{answer-within}
 use borrow.Author.Needs.{needs}
 use Rattle.program.proofs.main.Statement.{statement}
 use Rattle.program.proofs.main.Tie as tie

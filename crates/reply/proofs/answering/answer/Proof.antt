@@ -1,8 +1,8 @@
 -- `reply::answering::answer` meets its contract: the line of refusal 11, or the text of the request, whose parts lie in the input.
 use native.Mathlib.Omega.{arith}
 use lib.ListN.{length-take, length-drop}
-use Rattle.request.specs.Asking.{PartsWithin}
-use Rattle.reply.proofs.AskedParts.{answered-by, parts-within, parts-text, refused-line}
+use Rattle.request.specs.RequestReading.{PartsWithin}
+use Rattle.reply.proofs.RequestCases.{answered-by, parts-within, parts-text, refused-line}
 use borrow.Author.Needs.{needs}
 use Rattle.reply.proofs.answering.answer.Statement.{statement}
 use Rattle.reply.proofs.answering.answer.Tie as tie

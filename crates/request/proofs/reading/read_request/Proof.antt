@@ -1,10 +1,10 @@
--- `request::asking::read_request` meets its contract: its five fields are read one after the other (`AllRead`), and the last tells whether one is faulty.
+-- `request::reading::read_request` meets its contract: its five fields are read one after the other (`AllRead`), and the last tells whether one is faulty.
 use native.Mathlib.Omega.{arith}
 use borrow.Author.Needs.{needs}
 use Rattle.fields.proofs.NumberWithin.{number-read}
-use Rattle.request.proofs.RequestRead.{AllRead, asked-fault, in-order, asked-parts}
-use Rattle.request.proofs.asking.read_request.Statement.{statement}
-use Rattle.request.proofs.asking.read_request.Tie as tie
+use Rattle.request.proofs.RequestRead.{AllRead, request-refused, in-order, request-parts}
+use Rattle.request.proofs.reading.read_request.Statement.{statement}
+use Rattle.request.proofs.reading.read_request.Tie as tie
 
 past-field-requires : tie.Need-past-field-requires
 past-field-requires c κs = tt
@@ -39,7 +39,7 @@ all-read c = record {
 
 -- a fault
 returns : tie.Need-returns
-returns c = asked-fault (all-read (c .before)) (c .if1 .taken)
+returns c = request-refused (all-read (c .before)) (c .if1 .taken)
 
 number-at-requires : tie.Need-number-at-requires
 number-at-requires c κs = tt
@@ -89,7 +89,7 @@ returns-2 c =
     let at-whole = at-number .before in
     let read = all-read (at-whole .before) in
     let order = in-order read (at-whole .if1 .left) in
-    asked-parts read (at-whole .if1 .left)
+    request-parts read (at-whole .if1 .left)
     (number-read (at-number .number-at .ensures) (omega arith) (omega arith))
     (number-read (at-ring-number .number-at2 .ensures) (omega arith) (omega arith))
     (number-read (at-allowance .number-at3 .ensures) (omega arith) (omega arith))

@@ -5,10 +5,10 @@ use crate::field::past_field;
 use answers::Refusal;
 use fields::HEAD_LENGTH;
 use fields::number_at;
-ghost use Rattle.request.specs.Asking.{IsRequestRead};
+ghost use Rattle.request.specs.RequestReading.{IsRequestRead};
 
 // "It reads at most 32,768 bytes of standard input".
-const MOST_INPUT: usize = 32768;
+pub const MOST_INPUT: usize = 32768;
 
 // How many bytes the number of a cell has, of a ring number, and of an allowance.
 const CELL_BYTES: usize = 4;
@@ -68,14 +68,14 @@ pub struct Parts {
 }
 
 // A request, or refusal 11.
-pub enum Asked {
+pub enum Requested {
     Parts(Parts),
     Refused(Refusal),
 }
 
 // "a longer input is refusal 11, place 0, and is tested first"; then each field, or refusal 11 where it begins or should
 // begin.
-pub fn read_request(input: &[u8]) -> Asked
+pub fn read_request(input: &[u8]) -> Requested
     ensures { λ r. ⌜ IsRequestRead (now (input .entry)) r ⌝ }
 {
     let start = ReadTo {
@@ -88,9 +88,9 @@ pub fn read_request(input: &[u8]) -> Asked
     let ring = past_field(input, allowance, RING);
     let line = past_field(input, ring, LINE);
     if line.faulty {
-        return Asked::Refused(Refusal::Input(line.next));
+        return Requested::Refused(Refusal::Input(line.next));
     }
-    Asked::Parts(Parts {
+    Requested::Parts(Parts {
         cell: number_at(input, HEAD_LENGTH, CELL_BYTES),
         ring_number: number_at(input, cell.next + HEAD_LENGTH, RING_NUMBER_BYTES) as u16,
         allowance: number_at(input, ring_number.next + HEAD_LENGTH, ALLOWANCE_BYTES) as usize,

@@ -8,12 +8,12 @@ use lib.ListN.{length, drop, length-drop}
 use lib.Seq.{take-all}
 use Rattle.lists.specs.Areas.{written}
 use Rattle.answers.specs.declared.refusals.Refusal.{Refusal}
-use Rattle.request.specs.declared.asking.Asked.{Asked}
-use Rattle.request.specs.declared.asking.Asked.the-variants.{Parts as PartsCase, Refused}
-use Rattle.request.specs.declared.asking.Parts.{Parts}
+use Rattle.request.specs.declared.reading.Requested.{Requested}
+use Rattle.request.specs.declared.reading.Requested.the-variants.{Parts as PartsCase, Refused}
+use Rattle.request.specs.declared.reading.Parts.{Parts}
 use Rattle.request.specs.Fields.{between}
 use Rattle.request.specs.Input.{Request}
-use Rattle.request.specs.Asking.{askedOf, PartsWithin, PartsWithinBy, IsRequestRead}
+use Rattle.request.specs.RequestReading.{requestedOf, PartsWithin, PartsWithinBy, IsRequestRead}
 use Rattle.reply.specs.Lines.{refusalLine}
 use Rattle.reply.specs.Answering.{requestText, textBy, answerText, IsAnswered}
 use Rattle.reply.specs.Writing.{request, IsText}
@@ -31,10 +31,10 @@ answered-by {area = area} e is-text = record {
   written = is-text .written ∙ ap (λ (l : List ℕ). written l area) e;
 }
 
-module _ {input : List ℕ} {r : Asked} (asked : IsRequestRead input r) where
+module _ {input : List ℕ} {r : Requested} (read : IsRequestRead input r) where
   -- Where the parts of a request lie.
   pub parts-within : {p : Parts} → r ≡ PartsCase p → PartsWithin input p
-  parts-within e = subst (PartsWithinBy input) e (asked .within)
+  parts-within e = subst (PartsWithinBy input) e (read .within)
 
   -- The text of a request is the input's. (Code takes the book as the bytes up to the input's end.)
   pub parts-text : {p : Parts} → r ≡ PartsCase p
@@ -44,13 +44,13 @@ module _ {input : List ℕ} {r : Asked} (asked : IsRequestRead input r) where
       let to-end : between input (p .«line_to») (length input) ≡ drop (p .«line_to») input =
       take-all (length input - p .«line_to») (drop (p .«line_to») input) (simp length-drop (omega arith)) in
       ap (λ (book : List ℕ). requestText (withBook input p book)) to-end
-      ∙ ap (λ (x : Asked). textBy (askedOf input x)) (sym e)
-      ∙ ap textBy (asked .is)
+      ∙ ap (λ (x : Requested). textBy (requestedOf input x)) (sym e)
+      ∙ ap textBy (read .is)
 
   -- The line of refusal 11 is the input's.
   pub refused-line : {refusal : Refusal} → r ≡ Refused refusal → refusalLine refusal ≡ answerText input
   unfolding answerText
-  refused-line e = ap (λ (x : Asked). textBy (askedOf input x)) (sym e) ∙ ap textBy (asked .is)
+  refused-line e = ap (λ (x : Requested). textBy (requestedOf input x)) (sym e) ∙ ap textBy (read .is)
 
 -- The text lies within the array.
 pub answer-within : {input area out : List ℕ} {long : ℕ} → IsAnswered input area long out → long ≤ length out
