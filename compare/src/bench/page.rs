@@ -10,6 +10,9 @@ use std::fmt::Write;
 /// How the times were taken and how each peer reads its source: words that no run changes.
 const METHOD: &str = include_str!("method.md");
 
+/// Trials that were timed by hand, behind choices of docs/DECISIONS.md: no run changes these either.
+const TRIALS: &str = include_str!("trials.md");
+
 /// Some of the main rows, by their number of codes.
 type Part = (&'static str, fn(usize) -> bool);
 
@@ -113,5 +116,7 @@ pub fn page(results: &Results, loads: [&str; 2], picture: &str) -> String {
         results.compared
     );
     page.push_str(METHOD);
+    page.push_str("\n## Trials\n\n");
+    page.push_str(TRIALS);
     page
 }
