@@ -1,16 +1,17 @@
-# make test: every proof, every must-fail edit and every test; its last line is 'N passed, 0 failed'.
-# make demo: proves what the report program needs, builds it, runs it on document 01's example and says what came out.
-# make compare: every call, the program and the samples' stored output compared with the second program; SEED=S for other cases.
-# make compare LONG=1: 20,000 long rings and lines and nothing else, some 25 minutes of one core; SEED=S for others. The gate has the first 200 of them.
-# make bench: times beside the same rules in C and Rust and what a user would pick instead; writes docs/BENCH.md and docs/bench.svg.
-.PHONY: test demo compare bench
-test:
-	@tools/gate
+# Every target is described in `help`, which is what a bare `make` prints.
+.PHONY: help demo test compare bench
+help:
+	@echo 'make demo            prove the library and the report program, build both, run the example: about 3 minutes from nothing'
+	@echo "make test            the gate: every proof, must-fail edit and test; about 16 minutes; the last line is 'N passed, 0 failed'"
+	@echo 'make compare         compare the built library and program with the second program; SEED=S for other cases'
+	@echo 'make compare LONG=1  compare 20,000 long rings and lines: about 25 minutes of one core; SEED=S for others'
+	@echo 'make bench           time the library beside the same rules in C and Rust; writes docs/BENCH.md and docs/bench.svg'
 
 demo:
-	@rt check program
-	@cat target/log/program.stdout
-	@echo "The ring aa stands in the line aaa at starts 0 and 1; the book silences start 1 of cell 7, ring 2: one is shown, one hidden."
+	@tools/demo
+
+test:
+	@tools/gate
 
 compare:
 	@tools/native

@@ -1,0 +1,14 @@
+"""Writes the report program's input: ask.py CELL RING_NUMBER ALLOWANCE RING_FILE LINE_FILE [SILENCE..], a silence as CELL:RING_NUMBER:START."""
+import sys
+
+def field(tag, *parts):
+    value = b"".join(parts)
+    return bytes([tag]) + len(value).to_bytes(2, "big") + value
+
+def number(text, length):
+    return int(text).to_bytes(length, "big")
+
+cell, ring_number, allowance, ring, line, *silences = sys.argv[1:]
+asked = [field(0x34, number(cell, 4)), field(0x35, number(ring_number, 2)), field(0x33, number(allowance, 1)), field(0x31, open(ring, "rb").read()), field(0x32, open(line, "rb").read())]
+book = sorted(field(0x21, number(c, 4), number(r, 2), number(s, 4)) for c, r, s in (silence.split(":") for silence in silences))
+sys.stdout.buffer.write(b"".join(asked + book))
