@@ -1,6 +1,6 @@
--- The line's place p is compared with the ring's place (c + p) mod m, for an alignment c. Start i under rotation r is the alignment
--- r + i·(m − 1), which has ring place r over line place i; so what holds in every alignment holds at every start under every rotation, and no
--- place is ever subtracted from another.
+-- An alignment c compares each line place p with the ring place (c + p) mod m. Start i under rotation r is the alignment c = r + i·(m − 1), because then
+-- c + i = r + i·m, which is r mod m. So what holds in every alignment holds at every start under every rotation, and no proof subtracts one place from
+-- another.
 use Prim.Native.Nat.{ℕ, suc, pred, _+_, _*_, _%_, _≤_, _<_}
 use mathlib.Core.Path.{_≡_, sym, ap, _∙_}
 use mathlib.Core.Bool.{Bool, true, false, not, _&&_, true≢false}
@@ -15,11 +15,11 @@ use Rattle.meaning.specs.Stretch.{begins}
 use Rattle.meaning.proofs.Count.{count-shift}
 
 module _ (ring line : List ℕ) where
-  -- The line's place p is unlike the ring's place under it, in the alignment c.
+  -- In the alignment c, the line's edge at place p differs from the ring's edge that it is compared with.
   unfoldable pub unlike : ℕ → ℕ → Bool
   unlike c p = not (eqb (getD line p 0) (getD ring ((c + p) % length ring) 0))
 
-  -- A start's distance under a rotation is a count of an alignment's unlike places.
+  -- The distance of start i under rotation r is the number of unlike places in their alignment, among the m places from i on.
   pub distance-aligned : 0 < length ring → (i r : ℕ) → distance ring line i r ≡ count (unlike (r + i * pred (length ring))) i (length ring)
   unfolding distance differs unlike
   distance-aligned pos i r =
@@ -36,7 +36,7 @@ module _ (ring line : List ℕ) where
   FromLine a [] = Unit {0}
   FromLine a (x ∷ s) = (x ≡ getD line a 0) × FromLine (suc a) s
 
-  -- A stretch of the line that is not the beginning of its rotation has an unlike place.
+  -- If a stretch of the line from place a on is not the beginning of rotation c + a, it has an unlike place in the alignment c.
   pub unlike-in-stretch : (c a : ℕ) (s : List ℕ) → FromLine a s → begins ring (c + a) s ≡ false → 1 ≤ count (unlike c) a (length s)
   unfolding begins count unlike
   unlike-in-stretch c a [] h e = absurd (true≢false e)

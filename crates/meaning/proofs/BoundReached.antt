@@ -9,7 +9,7 @@ use Rattle.meaning.specs.Rules.{readEdge, readLeft, readWindow, windowsF
 use Rattle.meaning.specs.Looks.{readLooks, tallyLooks, verifyLooks, quickLooks}
 use Rattle.lists.specs.Texts.{ascii}
 
--- The looks are as many as the bound allows.
+-- The looks of the quick scan equal the bound.
 abbrev ReachesBound : List ℕ → List ℕ → ℕ → Type 0
 ReachesBound ring line k =
     quickLooks ring line k ≡ 3 * length ring * length line - 2 * length ring * length ring + length ring

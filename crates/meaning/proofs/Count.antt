@@ -1,4 +1,4 @@
--- Laws of `count`: a range is split, moved along, and bounded by its length. Induction on the length.
+-- Laws of `count`: a range can be split and shifted, and the count is at most its length. Induction on the length.
 use Prim.Native.Nat.{ℕ, zero, suc, _+_, _≤_, _<_}
 use mathlib.Core.Path.{_≡_, refl, sym, ap, _∙_}
 use mathlib.Core.Bool.{Bool, true, false}
@@ -7,7 +7,7 @@ use native.Mathlib.Numerals.{add-one}
 use native.Mathlib.Omega.{arith}
 use Rattle.meaning.specs.Numbers.{oneIf, count}
 
--- A count over x + y numbers is that over the first x and that over the other y.
+-- The count over x + y numbers is the count over the first x plus the count over the other y.
 pub count-split : (p : ℕ → Bool) (a x y : ℕ) → count p a (x + y) ≡ count p a x + count p (a + x) y
 unfolding count
 count-split p a zero y = rw (zero-add y, add-zero a, zero-add)
@@ -15,18 +15,18 @@ count-split p a (suc x) y =
     ap (count p a) (suc-add x y) ∙ ap (λ (n : ℕ). oneIf (p a) + n) (count-split p (suc a) x y)
     ∙ rw (suc-add a x, ← add-suc a x) (omega arith)
 
--- One number more at the end.
+-- The count over n + 1 numbers is the count over the first n, plus 1 if the last one passes.
 pub count-last : (p : ℕ → Bool) (a n : ℕ) → count p a (suc n) ≡ count p a n + oneIf (p (a + n))
 unfolding count
 count-last p a n = ap (count p a) (sym (add-one n)) ∙ count-split p a n 1 ∙ omega arith
 
--- The same test, moved along by d.
+-- If p at x is p′ at d + x, the count of p over a range is the count of p′ over the range d further on.
 pub count-shift : (p p′ : ℕ → Bool) (d : ℕ) → ((x : ℕ) → p x ≡ p′ (d + x)) → (a n : ℕ) → count p a n ≡ count p′ (d + a) n
 unfolding count
 count-shift p p′ d h a zero = refl
 count-shift p p′ d h a (suc n) = rw (h a, count-shift p p′ d h (suc a) n, add-suc d a)
 
--- One or none.
+-- `oneIf` is at most 1.
 pub oneIf-le : (t : Bool) → oneIf t ≤ 1
 oneIf-le true = omega arith
 oneIf-le false = omega arith
@@ -37,11 +37,11 @@ unfolding count
 count-le p a zero = omega arith
 count-le p a (suc n) = omega (arith, oneIf-le (p a), count-le p (suc a) n)
 
--- Part of a range counts no more than the whole.
+-- The count over a part of a range is at most the count over the whole.
 pub count-part-le : (p : ℕ → Bool) (a x v y : ℕ) → count p (a + x) v ≤ count p a (x + v + y)
 count-part-le p a x v y = omega (arith, count-split p a (x + v) y, count-split p a x v)
 
--- Tests that agree on the range count alike.
+-- Two tests that agree on a range have the same count over it.
 pub count-same : (p p′ : ℕ → Bool) (a n : ℕ) → ((x : ℕ) → a ≤ x → x < a + n → p x ≡ p′ x) → count p a n ≡ count p′ a n
 unfolding count
 count-same p p′ a zero h = refl

@@ -1,5 +1,5 @@
--- The findings below a place. Each place adds at most one, and one that has no finding adds none; so those of all places below one from which on none is a start are all of
--- them. There are at most n − m + 1, one for each start, and none in a line shorter than the ring.
+-- The findings at places below i. Each place adds at most one, and a place without a finding adds none. So if no place from s on is a start, the findings
+-- below s are all findings. There are at most n − m + 1, one for each start, and none in a line shorter than the ring.
 use Prim.Native.Nat.{ℕ, zero, suc, _+_, _-_, _≤_, _<_}
 use mathlib.Core.Path.{_≡_, sym, ap, ap₂, _∙_}
 use mathlib.Core.Bool.{_&&_}
@@ -20,7 +20,7 @@ unfolding foundAt
 found-length-le ring line k i =
     by-test (λ (l : List Finding). length l ≤ 1) (isStart ring line i && leb (leastDistance ring line i) k) (λ _. omega arith) (λ _. omega arith)
 
--- So i places have at most i.
+-- There are at most i findings below place i.
 pub below-length-le : (ring line : List ℕ) (k i : ℕ) → length (findingsBelow ring line k i) ≤ i
 unfolding findingsBelow
 below-length-le ring line k zero = omega arith
@@ -33,7 +33,7 @@ below-length-le ring line k (suc i) =
     )
 
 module _ (ring line : List ℕ) (k : ℕ) where
-  -- Places without a finding add nothing to the findings below.
+  -- If the d places from i on have no finding, the findings below i + d are the findings below i.
   pub below-same : (i d : ℕ) → ((j : ℕ) → i ≤ j → j < i + d → foundAt ring line k j ≡ []) → findingsBelow ring line k (i + d) ≡ findingsBelow ring line k i
   unfolding findingsBelow
   below-same i zero h = rw add-zero
@@ -42,7 +42,7 @@ module _ (ring line : List ℕ) (k : ℕ) where
       ∙ ap₂ (λ (a b : List Finding). a ++ b) (below-same i d (λ j lo hi. h j lo (omega arith))) (h (i + d) (omega arith) (omega arith))
       ∙ append-nil _
 
-  -- The findings are those below any place from which on none is a start.
+  -- If a window at s would reach past the line's end, all findings are below s.
   pub findings-below : (s : ℕ) → s ≤ length line → IsPastLine ring line s → findings ring line k ≡ findingsBelow ring line k s
   findings-below s in-line past =
       let all : s + (length line - s) ≡ length line = omega arith in

@@ -1,5 +1,5 @@
--- The test decides the fit: `fits ring s` is true exactly where `Fits ring s` holds. The test `begins` is peeled off edge by edge; a rotation
--- that the test finds is the rotation of the meaning.
+-- The test `fits ring s` is true exactly when `Fits ring s` holds. `begins` and its meaning `Begins` agree by induction on the stretch, edge by edge. The
+-- rotation that the test finds is the rotation that the meaning requires.
 use Prim.Native.Nat.{ℕ, zero, suc, _%_, _≤_, _<_}
 use mathlib.Core.Path.{_≡_, refl, sym, ap, ap₂, _∙_}
 use mathlib.Core.Bool.{Bool, true, false, _&&_}
@@ -15,15 +15,15 @@ use Rattle.meaning.specs.Stretch.{Fits, begins, fits}
 use Rattle.lists.proofs.Cases.{and-true, and-yes}
 use Rattle.meaning.proofs.Some.{some-yes, some-by, some-no}
 
--- The stretch is the beginning of rotation r, edge for edge.
+-- The stretch is the beginning of rotation r: at each of its places q it has the rotation's edge at q.
 pub Begins : List ℕ → ℕ → List ℕ → Type 0
 Begins ring r s = (q : ℕ) → q < length s → getD s q 0 ≡ rotationEdge ring r q
 
--- The ring's edge at a place that is written in two ways.
+-- Equal numbers give the same ring edge.
 edge-at : (ring : List ℕ) {a b : ℕ} → a ≡ b → getD ring (a % length ring) 0 ≡ getD ring (b % length ring) 0
 edge-at ring e = ap (λ (n : ℕ). getD ring (n % length ring) 0) e
 
--- What the test finds a beginning is one.
+-- If the test `begins` is true, the stretch is the beginning of rotation r.
 begins-yes : (ring : List ℕ) (r : ℕ) (s : List ℕ) → begins ring r s ≡ true → Begins ring r s
 unfolding begins Begins
 begins-yes ring r [] e q l = absurd (omega arith)
@@ -33,7 +33,7 @@ begins-yes ring r (x ∷ s) e (suc q) l =
     begins-yes ring (suc r) s (and-true (eqb x (getD ring (r % length ring) 0)) (begins ring (suc r) s) e .1) q (omega arith)
     ∙ edge-at ring (omega arith)
 
--- And what is one, the test finds.
+-- If the stretch is the beginning of rotation r, the test `begins` is true.
 begins-by : (ring : List ℕ) (r : ℕ) (s : List ℕ) → Begins ring r s → begins ring r s ≡ true
 unfolding begins Begins
 begins-by ring r [] h = refl
@@ -41,11 +41,11 @@ begins-by ring r (x ∷ s) h =
     rw (eq-eqb x _ (h 0 (omega arith) ∙ edge-at ring (add-zero r)))
     (begins-by ring (suc r) s (λ q l. h (suc q) (omega arith) ∙ edge-at ring (omega arith)))
 
--- The test decides the beginning of rotation r.
+-- The test `begins` is true exactly when the stretch is the beginning of rotation r.
 pub begins-iff : (ring : List ℕ) (r : ℕ) (s : List ℕ) → (begins ring r s ≡ true) ↔ Begins ring r s
 begins-iff ring r s = (begins-yes ring r s, begins-by ring r s)
 
--- The test decides the fit.
+-- The test `fits` is true exactly when the stretch fits the ring.
 pub fits-iff : (ring s : List ℕ) → (fits ring s ≡ true) ↔ Fits ring s
 unfolding fits Begins
 fits-iff ring s = (
@@ -63,7 +63,7 @@ fits-iff ring s = (
       ∙ some-by (λ r. begins ring r s) (length ring) (h .rotation) (h .is-rotation) (begins-by ring (h .rotation) s (h .begins-it)),
 )
 
--- Rotations whose numbers agree mod m begin alike.
+-- Two rotations whose numbers are equal mod m begin with the same stretches.
 pub begins-mod : (ring s : List ℕ) (r r′ : ℕ) → r % length ring ≡ r′ % length ring → begins ring r s ≡ begins ring r′ s
 unfolding begins
 begins-mod ring [] r r′ e = refl
@@ -71,7 +71,7 @@ begins-mod ring (x ∷ s) r r′ e =
     ap₂ (λ (n : ℕ) (b : Bool). eqb x (getD ring n 0) && b) e
     (begins-mod ring s (suc r) (suc r′) (suc-mod r _ ∙ ap (λ (n : ℕ). suc n % length ring) e ∙ sym (suc-mod r′ _)))
 
--- A stretch of at most m edges that does not fit is the beginning of no rotation, at whatever number.
+-- A stretch of at most m edges that does not fit is the beginning of no rotation r, also for r ≥ m.
 pub fits-no : (ring s : List ℕ) → 0 < length ring → length s ≤ length ring → fits ring s ≡ false → (r : ℕ) → begins ring r s ≡ false
 unfolding fits
 fits-no ring s pos short e r =

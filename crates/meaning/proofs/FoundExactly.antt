@@ -1,6 +1,6 @@
--- The list of findings has them all and nothing else: a finding is in it exactly when `IsFinding` says so, and a start has one exactly when some rotation
--- differs in at most k places. The list is a run of `foundAt` over the places, so membership comes from one of them; the lowest rotation is
--- unique, so what `IsFinding` describes is what `findingAt` computes.
+-- The list `findings` has every finding and nothing else: f is in it exactly when `IsFinding` holds for f, and it has a finding at a start exactly when some
+-- rotation differs from the window in at most k places. The list joins the lists `foundAt` of all places, so a member comes from one place. The lowest
+-- rotation is unique, so what `IsFinding` describes is what `findingAt` computes.
 use Prim.Native.Nat.{ℕ, zero, suc, _≤_, _<_}
 use mathlib.Core.Path.{_≡_, refl, sym, ap, _∙_, subst}
 use mathlib.Core.Logic.{_↔_, ⊎-elim}
@@ -14,7 +14,7 @@ use Rattle.meaning.proofs.Lowest.{lowest-unique}
 use Rattle.meaning.proofs.Places.{lowestRotation-is, found-yes, found-mem}
 
 module _ (ring line : List ℕ) (k : ℕ) where
-  -- What is in the list below n is its own start's finding, and near enough.
+  -- A finding in the list below n is the finding of its own start, and the least distance there is at most k.
   below-mem : (n : ℕ) (f : Finding) → List·Memᴰ f (findingsBelow ring line k n)
       → (f ≡ findingAt ring line (f .start)) × IsStart ring line (f .start) × (leastDistance ring line (f .start) ≤ k)
   unfolding findingsBelow
@@ -28,7 +28,7 @@ module _ (ring line : List ℕ) (k : ℕ) where
       subst (λ (i : ℕ). (f ≡ findingAt ring line i) × IsStart ring line i × (leastDistance ring line i ≤ k)) at r)
       (List·Memᴰ·append-cases (findingsBelow ring line k n) h)
 
-  -- A place below n that is a start and near enough has its finding in the list.
+  -- A start below n whose least distance is at most k has its finding in the list.
   mem-below : (n i : ℕ) → i < n → IsStart ring line i → leastDistance ring line i ≤ k
       → List·Memᴰ (findingAt ring line i) (findingsBelow ring line k n)
   unfolding findingsBelow
@@ -44,7 +44,7 @@ module _ (ring line : List ℕ) (k : ℕ) where
       (eq-or-lt-of-le (le-of-suc-le-suc l))
 
   module _ (pos : 0 < length ring) where
-    -- What is in the list is a finding.
+    -- Every member of the list is a finding.
     findings-yes : (f : Finding) → List·Memᴰ f (findings ring line k) → IsFinding ring line k f
     findings-yes f h =
         let r = below-mem (length line) f h in
@@ -61,7 +61,7 @@ module _ (ring line : List ℕ) (k : ℕ) where
           lowest = λ s l. omega (arith, low .first s (omega arith));
         }
 
-    -- The finding's rotation is the lowest at which the distance is least.
+    -- The rotation of a finding is the lowest at which the distance is least.
     rotation-is : (f : Finding) → IsFinding ring line k f → f .rotation ≡ lowestRotation ring line (f .start)
     rotation-is f h =
         lowest-unique (distance ring line (f .start)) (length ring) (f .rotation) (lowestRotation ring line (f .start))
@@ -72,7 +72,7 @@ module _ (ring line : List ℕ) (k : ℕ) where
         })
         (lowestRotation-is ring line pos (f .start))
 
-    -- A finding is in the list.
+    -- Every finding is in the list.
     findings-by : (f : Finding) → IsFinding ring line k f → List·Memᴰ f (findings ring line k)
     findings-by f h =
         let i : ℕ = f .start in
@@ -82,12 +82,12 @@ module _ (ring line : List ℕ) (k : ℕ) where
         Memᴰ·cast whole
         (mem-below (length line) i (omega (arith, h .is-start .fits)) (h .is-start) (omega (arith, h .at-most-k)))
 
-    -- A finding is in the list exactly when it is a start, its distance is the one under its rotation and at most k, no rotation has less,
-    -- and no lower rotation reaches it.
+    -- f is in the list of findings exactly when it is a finding: its start is a start, its distance is the one under its rotation and at most k, no rotation
+    -- has a smaller distance, and no lower rotation has the same.
     pub findings-iff : (f : Finding) → List·Memᴰ f (findings ring line k) ↔ IsFinding ring line k f
     findings-iff f = (findings-yes f, findings-by f)
 
-    -- A start is found exactly when some rotation differs in at most k places.
+    -- The list has a finding at i exactly when i is a start and some rotation differs from its window in at most k places.
     pub found-iff : (i : ℕ)
         → ((f : Finding) × (f .start ≡ i) × List·Memᴰ f (findings ring line k))
         ↔ (IsStart ring line i × ((r : ℕ) × (r < length ring) × (distance ring line i r ≤ k)))

@@ -1,11 +1,20 @@
--- What follows from the meanings. Other crates cite these laws as Rattle.meaning.proofs.NAME. Read FoundExactly, Rising, FitDecided, NothingLost, QuickFindsAll, LookBound and
--- SurveyLooks first: they are the theorems, and their heads name what they rest on. Below each group stands on those before it.
+-- Theorems about the meanings and rules. Other crates cite them as Rattle.meaning.proofs.NAME. Read the statements of these seven modules first:
+--
+--   FoundExactly    `findings-iff`, `found-iff`            the list `findings` has exactly the findings
+--   Rising          `findings-rising`, `findings-unique`   they are listed by strictly rising start, at most one for each start
+--   FitDecided      `fits-iff`                             the test for a stretch that fits is right
+--   NothingLost     `nothing-lost`                         a jump passes over no finding
+--   QuickFindsAll   `quick-finds-all`                      the rules report exactly the findings
+--   LookBound       `quickLooks-le`                        the quick scan takes at most 3·m·n − 2·m·m + m looks
+--   SurveyLooks     `surveyLooks-is`                       the plain survey takes 2·m·n − m·m looks
+--
+-- The other modules are their lemmas, and what the proofs of code cite. Each group below uses only itself and the groups above it.
 
--- counts, the lowest of the least, and "some": they know no ring
+-- counts, the lowest number at which a function is least, and "some number": they mention no ring
 pub mod Count
 pub mod Lowest
 pub mod Some
--- the meanings: place by place, the findings as a list and how many they are, the stretch that fits, and a start under a rotation as an alignment
+-- the meanings: starts, what a place gives, the list of findings, the stretch that fits, and a start under a rotation as an alignment
 pub mod Starts
 pub mod Places
 pub mod FindingsBelow
@@ -13,7 +22,7 @@ pub mod FoundExactly
 pub mod Rising
 pub mod FitDecided
 pub mod Alignment
--- the rules: one window read, the windows one after the other, that a jump loses nothing, and that they find all
+-- the rules: one window, the windows one after the other, that a jump loses nothing, and that all findings are reported
 pub mod WindowRead
 pub mod WindowSteps
 pub mod NothingLost
@@ -22,9 +31,9 @@ pub mod QuickFindsAll
 pub mod LookBound
 pub mod BoundReached
 pub mod SurveyLooks
--- the words of findings, and the area that they are written to
+-- how many words findings have
 pub mod Words
--- what the proofs of code cite: a window by itself, a step of the tally, and the two loops
+-- what the proofs of code cite: a window as a list of its own, a step of the tally, and the invariants of the two loops
 pub mod WindowAlone
 pub mod TallyStep
 pub mod WindowLoop

@@ -1,6 +1,6 @@
--- The quick scan's looks are at most 3·m·n − 2·m·m + m for n ≥ m, and so at most 3·m·n; for n < m there is none. Over the windows from
--- place i on, with g places left to start at: reading costs at most m for each, verifying at most 2·m for each place beyond the last
--- verified start (`tallyLooks-le`: a fresh count is never dearer than the steps it spares), and one fresh count at first.
+-- The quick scan's looks are at most 3·m·n − 2·m·m + m for n ≥ m, and so at most 3·m·n; for n < m they are 0. Reading costs at most m looks for each of the
+-- n − m + 1 starts. Verifying costs m·m looks for the first candidate, and from then on at most 2·m for each place beyond it, because a fresh count is never
+-- dearer than the steps it replaces (`tallyLooks-le`). The sum of (n − m + 1)·m, m·m and (n − m)·2·m is the bound.
 use Prim.Native.Nat.{ℕ, suc, _+_, _-_, _*_, _≤_, _<_}
 use mathlib.Core.Path.{_≡_, sym, ap, subst}
 use mathlib.Core.Logic.{⊎-elim}
@@ -31,11 +31,11 @@ module _ (ring line : List ℕ) (k : ℕ) where
   abbrev m : ℕ
   m = length ring
 
-  -- Reading: g places from i on, and no window starts after them.
+  -- Reading these windows costs at most g·m looks, if every start from i on is among the g places from i on.
   abbrev ReadsAtMost : ℕ → List Reading → Type 0
   ReadsAtMost i ws = (g : ℕ) → length line + 1 ≤ i + g + m → readLooks ws ≤ g * m
 
-  -- So many windows, at most m looks each.
+  -- There is at most one window for each place, and each costs at most m looks.
   reads-le : (i : ℕ) → ReadsAtMost i (windowsAt ring line k i)
   unfolding readLooks
   reads-le =
@@ -48,11 +48,11 @@ module _ (ring line : List ℕ) (k : ℕ) where
       one-window : (a b g : ℕ) → 0 < g → a ≤ m → b ≤ (g - 1) * m → a + b ≤ g * m
       one-window a b g left ha hb = let q : g ≡ suc (g - 1) = omega arith in omega (arith, ap (λ (x : ℕ). x * m) q)
 
-  -- Verifying after a verified start: g places beyond it, and no window starts after them.
+  -- Verifying the candidates among these windows, after the verified start `last`, costs at most g steps, if no start is more than g places beyond `last`.
   abbrev StepsAtMost : ℕ → List Reading → Type 0
   StepsAtMost i ws = (last g : ℕ) → last < i → length line ≤ last + g + m → verifyLooks m (some last) (candidatesOf ring k ws) ≤ g * stepLooks m
 
-  -- s steps, and then what is left of g, are at most g.
+  -- Verifying i costs at most s steps, s = i − last; with a rest of at most g − s steps this is at most g steps.
   steps-add : (last i g rest : ℕ) → last < i → i ≤ last + g → rest ≤ (g - (i - last)) * stepLooks m
       → tallyLooks m (some last) i + rest ≤ g * stepLooks m
   steps-add last i g rest l h r =
@@ -65,11 +65,11 @@ module _ (ring line : List ℕ) (k : ℕ) where
   abbrev later : ℕ → List ℕ
   later i = candidatesOf ring k (windowsAt ring line k (nextAfter ring line k i))
 
-  -- A candidate's start is where its window was.
+  -- The start that a window's reading carries is the place where it was read.
   start-at : (i : ℕ) (P : ℕ → Type 0) → P i → P (readWindow ring line k i .start)
   start-at i P h = subst P (sym (window-read ring line k i .start-is)) h
 
-  -- Each candidate is verified by at most its steps from the last.
+  -- Each candidate costs at most the steps from the one verified before it.
   steps-le : (i : ℕ) → StepsAtMost i (windowsAt ring line k i)
   unfolding verifyLooks candidatesOf
   steps-le =
@@ -81,7 +81,7 @@ module _ (ring line : List ℕ) (k : ℕ) where
       (steps-add last i g _ l (omega arith) (rest i (g - (i - last)) (next-above ring line k i) (omega arith))))
       (λ _. rest last g (omega (arith, next-above ring line k i)) h))
 
-  -- Verifying before any start is verified: one fresh count more.
+  -- Verifying with no start verified before costs at most one fresh count, and g steps, if no start is more than g places beyond i.
   abbrev FirstAtMost : ℕ → List Reading → Type 0
   FirstAtMost i ws = (g : ℕ) → length line ≤ i + g + m → verifyLooks m none (candidatesOf ring k ws) ≤ m * m + g * stepLooks m
 
@@ -97,7 +97,7 @@ module _ (ring line : List ℕ) (k : ℕ) where
       (omega (arith, steps-le (nextAfter ring line k i) i g (next-above ring line k i) h)))
       (λ _. rest g (omega (arith, next-above ring line k i))))
 
-  -- "For n ≥ m they are never above 3·m·n − 2·m·m + m".
+  -- The looks of the quick scan: "For n ≥ m they are never above 3·m·n − 2·m·m + m".
   pub quickLooks-le : m ≤ length line → quickLooks ring line k ≤ 3 * m * length line - 2 * m * m + m
   quickLooks-le h =
       let g : ℕ = length line - m in
@@ -110,7 +110,7 @@ module _ (ring line : List ℕ) (k : ℕ) where
         ap (λ (x : ℕ). m * x) n,
       ))
 
-  -- "which is at most 3·m·n."
+  -- The bound is "at most 3·m·n".
   pub look-bound-le : 0 < m → m ≤ length line → 3 * m * length line - 2 * m * m + m ≤ 3 * m * length line
   look-bound-le pos h = omega (arith, mul-le-mul-left m pos, mul-le-mul-left m h)
 

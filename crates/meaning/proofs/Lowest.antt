@@ -1,4 +1,4 @@
--- `lowest f n` is what it is called: the lowest number below n at which f is least. Induction on n; of two such numbers neither is lower.
+-- For n > 0, `lowest f n` is the lowest number below n at which f is least. Induction on n. There is only one such number: of two, neither can be lower.
 use Prim.Native.Nat.{ℕ, zero, suc, _≤_, _<_}
 use mathlib.Core.Path.{_≡_, refl}
 use mathlib.Core.Bool.{Bool, true, false, cond}
@@ -8,14 +8,14 @@ use borrow.Author.Tests.{ltb-true, ltb-false}
 use Rattle.meaning.specs.Numbers.{lowest}
 use Rattle.lists.proofs.Cases.{below-suc}
 
--- r is below n, no number has less, and no lower number has as little.
+-- r is the lowest number below n at which f is least: f is nowhere less below n, and greater at every number lower than r.
 pub record IsLowest (f : ℕ → ℕ) (n r : ℕ) : Type 0 where
   pub below : r < n
   pub least : (s : ℕ) → s < n → f r ≤ f s
   pub first : (s : ℕ) → s < r → f r < f s
 
 module _ (f : ℕ → ℕ) where
-  -- Of one number it is that one.
+  -- Below 1 there is only 0.
   lowest-one : IsLowest f 1 0
   lowest-one = record {
     below = omega arith;
@@ -23,7 +23,7 @@ module _ (f : ℕ → ℕ) where
     first = λ s l. omega arith;
   }
 
-  -- One number more takes its place only where f is less there.
+  -- With one number more, the lowest is the new one if f is less there, and else as before.
   lowest-more : (n b : ℕ) → IsLowest f n b → (t : Bool) → ltb (f n) (f b) ≡ t → IsLowest f (suc n) (cond t n b)
   lowest-more n b h true e = record {
     below = omega arith;
@@ -41,7 +41,7 @@ module _ (f : ℕ → ℕ) where
   cond-same true = refl
   cond-same false = refl
 
-  -- What is computed is the lowest.
+  -- `lowest f n` is the lowest number below n at which f is least.
   pub lowest-is : (n : ℕ) → 0 < n → IsLowest f n (lowest f n)
   unfolding lowest
   lowest-is zero h = omega arith
@@ -49,7 +49,7 @@ module _ (f : ℕ → ℕ) where
   lowest-is (suc (suc n)) h =
       lowest-more (suc n) (lowest f (suc n)) (lowest-is (suc n) (omega arith)) (ltb (f (suc n)) (f (lowest f (suc n)))) refl
 
-  -- There is one lowest only.
+  -- There is only one lowest number at which f is least.
   pub lowest-unique : (n r s : ℕ) → IsLowest f n r → IsLowest f n s → r ≡ s
   lowest-unique n r s h g =
       let a : ¬ (s < r) = λ l. omega (arith, h .first s l, g .least r (h .below)) in

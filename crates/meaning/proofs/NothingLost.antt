@@ -1,6 +1,6 @@
--- Nothing is lost at a jump: where a window is left at break k + 1 with j edges read, no start from its own to the last one jumped over is
--- a finding. Each break stands for a stretch that is the beginning of no rotation, so in every alignment one of its edges is unlike
--- (`unlike-in-stretch`). The stretches of the breaks lie apart, within the edges read; and all starts up to the break's place hold those.
+-- Nothing is lost at a jump: if a window is stopped at break k + 1, no start from its own to the last one jumped over is a finding. Each break comes from a
+-- stretch that is the beginning of no rotation, so in every alignment one of its edges is unlike (`unlike-in-stretch`). These stretches do not overlap and lie
+-- within the edges read. The windows of all those starts contain the edges read, so each start has a distance above k under every rotation.
 use Prim.Native.Nat.{ℕ, zero, suc, pred, _+_, _-_, _*_, _≤_, _<_}
 use mathlib.Core.Path.{_≡_, refl, ap, subst}
 use mathlib.Core.List.{List, [], _∷_}
@@ -21,11 +21,12 @@ use Rattle.meaning.proofs.WindowRead.{window-read}
 use Rattle.meaning.proofs.Places.{found-no}
 
 module _ (ring line : List ℕ) (pos : 0 < length ring) (k i : ℕ) where
-  -- Each break counted is an unlike place among the edges read, in every alignment.
+  -- In every alignment the edges read have at least as many unlike places as there are breaks.
   abbrev Costs : Reading → Type 0
   Costs w = (c : ℕ) → w .breaks ≤ count (unlike ring line c) (i + (length ring - w .read)) (w .read)
 
-  -- While the window is read: the held stretch is the line's, and each break counted is an unlike place among the `past` edges behind it.
+  -- The invariant while the window is read: the held stretch is the line's, and the `past` edges that were read before it have, in every alignment, at least as
+  -- many unlike places as there are breaks.
   record Counting (left : ℕ) (w : Reading) : Type 0 where
     past : ℕ
     all : w .read + left ≡ length ring
@@ -37,7 +38,7 @@ module _ (ring line : List ℕ) (pos : 0 < length ring) (k i : ℕ) where
   counting-start : Counting (length ring) (unread i)
   counting-start = record { past = 0; all = omega arith; parts = omega arith; from-line = tt; cost = λ c. omega arith }
 
-  -- Wherever reading ends, the breaks are unlike places among all edges read.
+  -- Wherever reading ends, all edges read have at least as many unlike places as there are breaks.
   counting-end : (left : ℕ) (w : Reading) → Counting left w → Costs w
   counting-end left w h c =
       let at : i + (length ring - w .read) ≡ i + left = omega (arith, h .all) in
@@ -53,17 +54,17 @@ module _ (ring line : List ℕ) (pos : 0 < length ring) (k i : ℕ) where
     abbrev grown : List ℕ
     grown = windowEdge line i left ∷ w .held
 
-    -- The grown stretch is the line's too,
+    -- The grown stretch is the line's too.
     grown-from-line : FromLine ring line (i + left) grown
     grown-from-line = (refl, subst (λ (n : ℕ). FromLine ring line n (w .held)) (add-suc i left) (h .from-line))
 
-    -- and what was past it is past it still.
+    -- The edges past it are the same as before.
     grown-cost : (c : ℕ) → w .breaks ≤ count (unlike ring line c) (i + left + length grown) (h .past)
     grown-cost c =
         let at : i + suc left + length (w .held) ≡ i + left + length grown = omega arith in
         subst (λ (n : ℕ). w .breaks ≤ count (unlike ring line c) n (h .past)) at (h .cost c)
 
-    -- The grown stretch fits, and is held; or it does not, and one unlike place more is past.
+    -- If the grown stretch fits, it is held. If not, its edges join those past, which then have one unlike place more, for the new break.
     counting-turn : Counting left (readEdge ring (windowEdge line i left) w)
     unfolding readEdge
     counting-turn =
@@ -90,7 +91,7 @@ module _ (ring line : List ℕ) (pos : 0 < length ring) (k i : ℕ) where
               ));
         })
 
-  -- So of the edges that are left, as far as they are read,
+  -- `Costs` holds after the edges left are read, until reading stops.
   left-costs : (left : ℕ) (w : Reading) → Counting left w → Costs (readLeft ring line k i left w)
   unfolding readLeft
   left-costs zero w h = counting-end zero w h
@@ -99,12 +100,12 @@ module _ (ring line : List ℕ) (pos : 0 < length ring) (k i : ℕ) where
       (λ _. counting-end (suc left) w h)
       (λ _. left-costs left (readEdge ring (windowEdge line i left) w) (counting-turn left w h))
 
-  -- and of the whole window.
+  -- `Costs` holds for the whole window.
   window-costs : Costs (readWindow ring line k i)
   unfolding readWindow
   window-costs = left-costs (length ring) (unread i) counting-start
 
-  -- every start from the window's own on, before the next window, is at least as far from the ring as there were breaks, under every rotation
+  -- Every start from the window's own to the last one before the next window has a distance, under every rotation, of at least the number of breaks.
   breaks-le : (i′ r : ℕ) → i ≤ i′ → i′ < nextStart ring (readWindow ring line k i) → readWindow ring line k i .breaks ≤ distance ring line i′ r
   breaks-le i′ r lo hi =
       let w : Reading = readWindow ring line k i in
@@ -124,12 +125,12 @@ module _ (ring line : List ℕ) (pos : 0 < length ring) (k i : ℕ) where
         count-part-le (unlike ring line c) i′ before (w .read) after,
       )
 
-  -- A window left at break k + 1 loses no finding: neither at its own start nor at one jumped over.
+  -- If the window at i is stopped at break k + 1, no finding is at i, nor at any place jumped over.
   pub nothing-lost : k < readWindow ring line k i .breaks
       → (i′ : ℕ) → i ≤ i′ → i′ < nextStart ring (readWindow ring line k i) → foundAt ring line k i′ ≡ []
   nothing-lost h i′ lo hi = found-no ring line k i′ (omega (arith, breaks-le i′ (lowestRotation ring line i′) lo hi))
 
-  -- The same in the words of the meaning: no finding starts there.
+  -- The same in the words of the meaning: if the window at i is stopped at break k + 1, no finding starts at i or at a place jumped over.
   pub no-finding-jumped : k < readWindow ring line k i .breaks
       → (f : Finding) → i ≤ f .start → f .start < nextStart ring (readWindow ring line k i) → IsFinding ring line k f → ⊥
   no-finding-jumped h f lo hi is = omega (arith, breaks-le (f .start) (f .rotation) lo hi, is .distance-is, is .at-most-k)

@@ -1,4 +1,4 @@
--- The meanings place by place: the edges of a window, and what `foundAt` gives in each case.
+-- What the meanings give at one place: the edges of its window, its lowest rotation, and `foundAt` in each case.
 use Prim.Native.Nat.{ℕ, _≤_, _<_}
 use mathlib.Core.Path.{_≡_, refl, ap}
 use mathlib.Core.Bool.{Bool, true, false, cond, _&&_}
@@ -14,29 +14,29 @@ use Rattle.lists.proofs.Records.{part-at}
 use Rattle.meaning.proofs.Lowest.{IsLowest, lowest-is}
 use Rattle.meaning.proofs.Starts.{start-iff}
 
--- The window, as a list, has the window's edges.
+-- The window as a list has at place q the line's edge at i + q.
 pub window-edge-is : (m : ℕ) (line : List ℕ) (i q : ℕ) → q < m → getD (window m line i) q 0 ≡ windowEdge line i q
 unfolding window
 window-edge-is m line i q = part-at m line i q
 
--- The lowest rotation is the lowest at which the distance is least.
+-- `lowestRotation` is the lowest rotation at which the distance is least, for a ring that is not empty.
 pub lowestRotation-is : (ring line : List ℕ) → 0 < length ring → (i : ℕ)
     → IsLowest (distance ring line i) (length ring) (lowestRotation ring line i)
 unfolding lowestRotation
 lowestRotation-is ring line pos i = lowest-is (distance ring line i) (length ring) pos
 
 module _ (ring line : List ℕ) (k i : ℕ) where
-  -- A start whose least distance is at most k: its finding.
+  -- At a start whose least distance is at most k, `foundAt` gives the finding of that start.
   pub found-yes : IsStart ring line i → leastDistance ring line i ≤ k → foundAt ring line k i ≡ findingAt ring line i ∷ []
   unfolding foundAt
   found-yes s h = rw (start-iff ring line i .1 s, le-leb (leastDistance ring line i) k h)
 
-  -- A place that is no start: nothing.
+  -- At a place that is not a start, `foundAt` gives nothing.
   pub found-no-start : isStart ring line i ≡ false → foundAt ring line k i ≡ []
   unfolding foundAt
   found-no-start no-start = rw no-start
 
-  -- A place whose least distance is above k: nothing.
+  -- At a place whose least distance is above k, `foundAt` gives nothing.
   pub found-no : k < leastDistance ring line i → foundAt ring line k i ≡ []
   unfolding foundAt
   found-no h = rw (lt-leb (leastDistance ring line i) k h) (neither (isStart ring line i))
@@ -45,7 +45,7 @@ module _ (ring line : List ℕ) (k i : ℕ) where
       neither true = refl
       neither false = refl
 
-  -- What stands in it is the place's finding, the place is a start, and the distance is at most k.
+  -- What `foundAt` gives is the finding of that place; the place is then a start, and its least distance at most k.
   pub found-mem : (f : Finding) → List·Memᴰ f (foundAt ring line k i)
       → (f ≡ findingAt ring line i) × IsStart ring line i × (leastDistance ring line i ≤ k)
   unfolding foundAt
@@ -57,7 +57,7 @@ module _ (ring line : List ℕ) (k i : ℕ) where
       (List·Memᴰ·eq-of-singleton h, start-iff ring line i .0 (both .0), leb-true _ _ (both .1)))
       (λ _ h. absurd (List·Memᴰ·not-nil h))
 
-  -- A start's one finding starts there, has a rotation of the ring, and a distance of at most k.
+  -- If `foundAt` gives a finding, it starts at i, its rotation is below m, and its distance is at most k.
   pub found-small : (f : Finding) → 0 < length ring → foundAt ring line k i ≡ f ∷ []
       → (f .start ≡ i) × (f .rotation < length ring) × (f .distance ≤ k)
   found-small f pos e =

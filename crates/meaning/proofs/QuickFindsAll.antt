@@ -1,7 +1,7 @@
--- The findings by the rules are the findings: rules 1 to 4 decide them. (Rule 5 decides none; that a tally moved by it holds the distances is shown
--- in crates/moves, from `distance-step` of TallyStep.) Over the windows from place i on: the findings below i, followed by what these windows
--- report, are all of them. A candidate reports its own place; a window left at break k + 1 jumps over places that have none
--- (`nothing-lost`); past the last window no place is a start (`findings-below`).
+-- Rules 1 to 4 report exactly the findings. (Rule 5 decides no finding; that a tally moved by it holds the distances is proved in crates/moves, from
+-- `distance-step` of TallyStep.) Induction over the windows from place i on: the findings below i, followed by what these windows report, are all findings. A
+-- candidate reports its own place; a window stopped at break k + 1 jumps over places without a finding (`nothing-lost`); past the last window no place is a
+-- start (`findings-below`).
 use Prim.Native.Nat.{ℕ, suc, _+_, _-_, _≤_, _<_, min}
 use mathlib.Core.Path.{_≡_, sym, _∙_}
 use mathlib.Core.Logic.{⊎-elim}
@@ -17,7 +17,7 @@ use Rattle.meaning.proofs.NothingLost.{nothing-lost}
 use Rattle.meaning.proofs.WindowSteps.{windows-start, windows-induct}
 
 module _ (ring line : List ℕ) (k : ℕ) where
-  -- The findings below i, followed by what the windows report, are all of them.
+  -- The findings below i, followed by what the windows report, are all findings.
   abbrev Rest : ℕ → List Reading → Type 0
   Rest i ws = findingsBelow ring line k (min i (length line)) ++ reported ring line k (candidatesOf ring k ws) ≡ findings ring line k
 
@@ -27,7 +27,7 @@ module _ (ring line : List ℕ) (k : ℕ) where
     unfolding candidatesOf reported
     rest-end i h = append-nil _ ∙ sym (findings-below ring line k (min i (length line)) (omega arith) (omega arith))
 
-    -- A candidate reports its own place; a window that was left jumps over places that have no finding.
+    -- A candidate reports its own place; a window that was stopped jumps over places without a finding.
     rest-step : (i : ℕ) (ws : List Reading) → FitsInLine ring line i → Rest (nextStart ring (readWindow ring line k i)) ws
         → Rest i (readWindow ring line k i ∷ ws)
     unfolding candidatesOf reported findingsBelow
@@ -48,7 +48,7 @@ module _ (ring line : List ℕ) (k : ℕ) where
         rw (candidate-no ring k w many, here) (rw (there, jumped) at h))
         (was .ended)
 
-    -- What the rules report are the findings, all of them and nothing else.
+    -- For a ring that is not empty, the rules of the quick scan report exactly the findings.
     pub quick-finds-all : quickFindings ring line k ≡ findings ring line k
     unfolding findingsBelow
     quick-finds-all =

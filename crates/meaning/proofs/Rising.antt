@@ -1,5 +1,5 @@
--- The findings stand by strictly rising start, so each start has at most one. A list that rises from lo to mid and one from mid to hi
--- rise together; each place adds at most its own start.
+-- The findings are listed by strictly rising start, so each start has at most one. A list that rises from lo to mid and a list that rises from mid to hi,
+-- joined, rise from lo to hi; and each place adds at most its own start.
 use Prim.Native.Nat.{ℕ, zero, suc, _≤_}
 use mathlib.Core.Path.{_≡_, ap, _∙_, sym}
 use mathlib.Core.Bool.{_&&_}
@@ -12,12 +12,12 @@ use Rattle.meaning.specs.Meanings.{isStart, leastDistance}
 use Rattle.meaning.specs.Findings.{Rising, Finding, foundAt, findingsBelow, findings}
 use Rattle.lists.proofs.Cases.{by-test}
 
--- What rises from a place on rises from any lower one on.
+-- A list that rises from lo′ on rises from every lower number on.
 rising-lower : (lo lo′ hi : ℕ) (l : List Finding) → lo ≤ lo′ → Rising lo′ hi l → Rising lo hi l
 rising-lower lo lo′ hi [] h r = omega arith
 rising-lower lo lo′ hi (f ∷ fs) h r = (omega arith, r .1)
 
--- A list that rises to mid, and one that rises from there on.
+-- A list that rises to mid, joined with one that rises from mid on, rises.
 rising-join : (lo mid hi : ℕ) (a b : List Finding) → Rising lo mid a → Rising mid hi b → Rising lo hi (a ++ b)
 rising-join lo mid hi [] b ra rb = rising-lower lo mid hi b ra rb
 rising-join lo mid hi (f ∷ a) b ra rb = (ra .0, rising-join (suc (f .start)) mid hi a b (ra .1) rb)
@@ -35,7 +35,7 @@ module _ (ring line : List ℕ) (k : ℕ) where
   below-rising zero = omega arith
   below-rising (suc i) = rising-join 0 i (suc i) (findingsBelow ring line k i) (foundAt ring line k i) (below-rising i) (at-rising i)
 
-  -- The findings' starts rise strictly.
+  -- The starts of the findings rise strictly, and all are below n.
   pub findings-rising : Rising 0 (length line) (findings ring line k)
   findings-rising = below-rising (length line)
 
@@ -64,7 +64,7 @@ rising-unique lo hi (x ∷ l) r f g hf hg e =
     (List·Memᴰ·cases-cons hg))
     (List·Memᴰ·cases-cons hf)
 
--- Each start has at most one finding.
+-- Each start has at most one finding: two findings of the list with the same start are equal.
 pub findings-unique : (ring line : List ℕ) (k : ℕ) (f g : Finding) → List·Memᴰ f (findings ring line k) → List·Memᴰ g (findings ring line k)
     → f .start ≡ g .start → f ≡ g
 findings-unique ring line k f g hf hg e = rising-unique 0 (length line) (findings ring line k) (findings-rising ring line k) f g hf hg e

@@ -1,5 +1,5 @@
--- A loop over the windows of a line: what it keeps before the window at i, and its turns. What is found so far, followed by what the windows
--- from i on report, are the findings; the looks so far, with what these windows still cost, are all looks.
+-- The loop over the windows of a line: its invariant before the window at i, and its turns. What is found so far, followed by what the windows from i on
+-- report, is the list of findings; the looks so far, plus what these windows still cost, are all looks.
 use Prim.Native.Nat.{ℕ, _+_, _-_, _≤_, _<_}
 use mathlib.Core.Path.{_≡_, sym, ap, _∙_}
 use mathlib.Core.Logic.{⊎-elim}
@@ -19,13 +19,13 @@ module _ (ring line : List ℕ) (k : ℕ) where
   abbrev m : ℕ
   m = length ring
 
-  -- What holds before the window at i, with the last verified start, what is found and the looks so far.
+  -- The invariant before the window at i: `last` is the last verified start, `found` and `looks` are the findings and the looks so far.
   pub record ScanLoop (i : ℕ) (last : Option ℕ) (found : List Finding) (looks : ℕ) : Type 0 where
     pub found-are : found ++ reported ring line k (candidatesOf ring k (windowsAt ring line k i)) ≡ findings ring line k
     pub looks-are : looks + (readLooks (windowsAt ring line k i) + verifyLooks m last (candidatesOf ring k (windowsAt ring line k i)))
         ≡ quickLooks ring line k
 
-  -- Before the first window nothing is found, and nothing looked at.
+  -- The invariant holds before the first window, with nothing found and no looks.
   pub scan-start : 0 < m → ScanLoop 0 none [] 0
   scan-start pos = record { found-are = rw windows-start at (quick-finds-all ring line k pos); looks-are = rw windows-start (omega arith) }
 
@@ -34,12 +34,12 @@ module _ (ring line : List ℕ) (k : ℕ) where
     pub scan-so-far-le : looks ≤ quickLooks ring line k
     scan-so-far-le = omega (arith, h .looks-are)
 
-    -- What is found so far is never more than all findings.
+    -- The findings so far are never more than all findings.
     pub scan-found-le : length found ≤ length (findings ring line k)
     scan-found-le =
         omega (arith, ap (λ (l : List Finding). length l) (h .found-are), length-append found (reported ring line k (candidatesOf ring k (windowsAt ring line k i))))
 
-    -- Past the last window all is found, and all is looked at.
+    -- Past the last window, `found` is the list of findings, and `looks` are the looks of the quick scan.
     pub scan-end : IsPastLine ring line i → (found ≡ findings ring line k) × (looks ≡ quickLooks ring line k)
     unfolding candidatesOf reported readLooks verifyLooks
     scan-end over = (
@@ -51,11 +51,11 @@ module _ (ring line : List ℕ) (k : ℕ) where
       abbrev w : Reading
       w = readWindow ring line k i
 
-      -- The next window, m − j + 1 further on.
+      -- Where the next window starts, m − j + 1 further on.
       abbrev pub nextPlace : ℕ
       nextPlace = i + (m - w .read + 1)
 
-      -- A candidate is verified: its finding, if it is one, comes behind, and its start is the last verified one.
+      -- A candidate is verified: its finding, if it is one, is added at the end, and its start is now the last verified one.
       pub scan-verified : w .breaks ≤ k → ScanLoop nextPlace (some i) (found ++ foundAt ring line k i) (looks + w .read + tallyLooks m last i)
       unfolding candidatesOf reported readLooks verifyLooks
       scan-verified few =
@@ -67,7 +67,7 @@ module _ (ring line : List ℕ) (k : ℕ) where
             looks-are = omega (arith, rw (windows-step ring line k i in-line, yes, was .start-is) at (h .looks-are));
           }
 
-      -- A window left at break k + 1 finds nothing.
+      -- A window stopped at break k + 1 adds no finding; only its edges read are added to the looks.
       pub scan-left : k < w .breaks → ScanLoop nextPlace last found (looks + w .read)
       unfolding candidatesOf reported readLooks
       scan-left many =

@@ -1,5 +1,5 @@
--- The plain survey's looks: 2·m·n − m·m for n ≥ m, else none. After the windows below place s + 1 they are m·m + s·2·m; the places past the last
--- window add none.
+-- The plain survey's looks: 2·m·n − m·m for n ≥ m, else 0. The windows at places 0 to s cost m·m + s·2·m; the places past the last window cost nothing. For
+-- n ≥ m the last window is at s = n − m.
 use Prim.Native.Nat.{ℕ, zero, suc, _+_, _-_, _*_, _≤_, _<_}
 use mathlib.Core.Path.{_≡_, refl, sym, ap, _∙_}
 use mathlib.Core.Bool.{cond}
@@ -17,18 +17,18 @@ module _ (ring line : List ℕ) where
   abbrev m : ℕ
   m = length ring
 
-  -- One place more: what it costs, where a window fits.
+  -- Place i adds its cost if a window fits there, else nothing.
   one-place : (i : ℕ) → surveyLooksBelow ring line (suc i)
       ≡ surveyLooksBelow ring line i + cond (fitsInLine ring line i) (cond (eqb i 0) (afreshLooks m) (stepLooks m)) 0
   unfolding surveyLooksBelow
   one-place i = refl
 
-  -- The first window is counted afresh.
+  -- The first window is counted afresh: m·m looks.
   pub surveyLooks-first : FitsInLine ring line 0 → surveyLooksBelow ring line 1 ≡ afreshLooks m
   unfolding surveyLooksBelow
   surveyLooks-first h = rw (fits-line-iff ring line 0 .1 h) (omega arith)
 
-  -- Each next window is one step more.
+  -- Each next window costs one step: 2·m looks.
   surveyLooks-step : (i : ℕ) → FitsInLine ring line (suc i) → surveyLooksBelow ring line (suc (suc i)) ≡ surveyLooksBelow ring line (suc i) + stepLooks m
   surveyLooks-step i h = one-place (suc i) ∙ rw (fits-line-iff ring line (suc i) .1 h, ne-eqb (suc i) 0 (λ z. omega arith))
 
@@ -39,25 +39,25 @@ module _ (ring line : List ℕ) where
       ap (surveyLooksBelow ring line) (add-suc i d) ∙ one-place (i + d)
       ∙ rw (past-line-iff ring line (i + d) .1 (omega arith)) (add-zero _) ∙ below-past i d h
 
-  -- What the windows below place s + 1 cost.
+  -- The windows at places 0 to s cost m·m + s·2·m looks.
   pub surveyLooks-below : (s : ℕ) → FitsInLine ring line s → surveyLooksBelow ring line (suc s) ≡ afreshLooks m + s * stepLooks m
   surveyLooks-below zero h = surveyLooks-first (omega arith) ∙ omega arith
   surveyLooks-below (suc s) h = surveyLooks-step s h ∙ omega (arith, surveyLooks-below s (omega arith))
 
-  -- All looks are those of the places below any from which on no window fits.
+  -- If a window at i would reach past the line's end, all looks are those for the places below i.
   pub surveyLooks-end : (i : ℕ) → i ≤ length line → IsPastLine ring line i → surveyLooks ring line ≡ surveyLooksBelow ring line i
   surveyLooks-end i in-line past =
       let all : i + (length line - i) ≡ length line = omega arith in
       sym (ap (surveyLooksBelow ring line) all) ∙ below-past i (length line - i) past
 
-  -- "2·m·n − m·m looks for n ≥ m".
+  -- The plain survey takes "2·m·n − m·m looks for n ≥ m".
   pub surveyLooks-is : 0 < m → m ≤ length line → surveyLooks ring line ≡ 2 * m * length line - m * m
   surveyLooks-is pos h =
       let s : ℕ = length line - m in
       let n : length line ≡ m + s = omega arith in
       surveyLooks-end (suc s) (omega arith) (omega arith) ∙ surveyLooks-below s (omega arith) ∙ omega (arith, ap (λ (x : ℕ). m * x) n)
 
-  -- "else 0".
+  -- For n < m the plain survey takes no look: "else 0".
   pub surveyLooks-short : length line < m → surveyLooks ring line ≡ 0
   unfolding surveyLooksBelow
   surveyLooks-short h = surveyLooks-end 0 (omega arith) (omega arith)

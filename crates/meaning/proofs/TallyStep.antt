@@ -1,5 +1,5 @@
--- One step of the tally, in the layout by rotation: rotation r at start i stands over the ring as rotation r + 1 does at start i + 1. So the
--- leaving and the entering edge are compared with one and the same ring edge, the ring's at r, and the count moves on by one rotation.
+-- One step of the tally. Start i under rotation r and start i + 1 under rotation (r + 1) mod m compare the same line places with the same ring places. So the
+-- two distances differ only by the leaving edge and the entering edge, and both are compared with the same ring edge, the one at r.
 use Prim.Native.Nat.{ℕ, suc, _+_, _-_, _%_, _<_}
 use mathlib.Core.Path.{_≡_, ap, ap₂, _∙_}
 use mathlib.Core.List.{List}
@@ -15,6 +15,7 @@ module _ (ring line : List ℕ) (i : ℕ) where
   m = length ring
 
   module _ (r : ℕ) (l : r < m) where
+    -- The rotation after r.
     abbrev next : ℕ
     next = (r + 1) % m
 
@@ -40,7 +41,7 @@ module _ (ring line : List ℕ) (i : ℕ) where
         ap (λ (p : ℕ). oneIf (unequal (windowEdge line (i + 1) (m - 1)) (getD ring p 0)))
         (mod-add-mod (r + 1) m (m - 1) ∙ ap (λ (p : ℕ). p % m) whole ∙ add-mod-right r m ∙ mod-eq-of-lt l)
 
-    -- A step: the distance at the next start with the leaving edge's comparison is the distance at this start with the entering edge's.
+    -- The leaving edge's comparison plus the distance of start i + 1 under (r + 1) mod m is the distance of start i under r plus the entering edge's comparison.
     pub distance-step :
         oneIf (unequal (windowEdge line i 0) (getD ring r 0)) + distance ring line (i + 1) next
         ≡ distance ring line i r + oneIf (unequal (windowEdge line (i + 1) (m - 1)) (getD ring r 0))

@@ -1,5 +1,5 @@
--- A window read by itself: handed out as a list, it has at start 0 the distances and the reading that it has in the line at its start. Both
--- look at its m edges only.
+-- A window taken out of the line as a list of its own. At start 0 it has the same distances and the same reading as at its start in the line, because both
+-- depend on its m edges only.
 use Prim.Native.Nat.{ℕ, zero, suc, _≤_, _<_}
 use mathlib.Core.Path.{_≡_, refl, ap}
 use mathlib.Core.Bool.{Bool, true, false, not, cond, true≢false, false≢true}
@@ -14,13 +14,13 @@ use Rattle.meaning.specs.Rules.{Reading, unread, readEdge, readLeft, rea
 use Rattle.meaning.proofs.Count.{count-same}
 use Rattle.meaning.proofs.Places.{window-edge-is}
 
--- The same reading, wherever the window starts.
+-- Two readings that agree in all but their starts.
 pub record SameReading (v w : Reading) : Type 0 where
   pub read-is : v .read ≡ w .read
   pub breaks-is : v .breaks ≡ w .breaks
   pub held-is : v .held ≡ w .held
 
--- Tests that agree pick readings that are the same.
+-- Equal tests pick readings that agree.
 same-cond : (t t′ : Bool) → t ≡ t′ → {v w v′ w′ : Reading} → SameReading v w → SameReading v′ w′ → SameReading (cond t v v′) (cond t′ w w′)
 same-cond true true e a b = a
 same-cond true false e a b = absurd (true≢false e)
@@ -31,18 +31,18 @@ module _ (ring line : List ℕ) (i : ℕ) where
   abbrev m : ℕ
   m = length ring
 
-  -- Its edges are the line's.
+  -- The edges of the window taken out are the line's.
   pub alone-edge : (q : ℕ) → q < m → windowEdge (window m line i) 0 q ≡ windowEdge line i q
   alone-edge q l = rw (zero-add q) (window-edge-is m line i q l)
 
-  -- Its distances are those of the start.
+  -- The distances of the window taken out are those of its start in the line.
   pub alone-distance : (r : ℕ) → distance ring (window m line i) 0 r ≡ distance ring line i r
   unfolding distance differs
   alone-distance r =
       count-same (differs ring (window m line i) 0 r) (differs ring line i r) 0 m
       (λ q _ l. ap (λ (x : ℕ). not (eqb x (rotationEdge ring r q))) (alone-edge q (omega arith)))
 
-  -- An edge read keeps two readings the same: by the held stretch both fit, or neither does.
+  -- Two readings that agree still do after one edge more: the held stretches are equal, so both fit or neither does.
   same-edge : (x : ℕ) (v w : Reading) → SameReading v w → SameReading (readEdge ring x v) (readEdge ring x w)
   unfolding readEdge
   same-edge x v w s =
@@ -50,7 +50,7 @@ module _ (ring line : List ℕ) (i : ℕ) where
       (record { read-is = ap suc (s .read-is); breaks-is = s .breaks-is; held-is = ap (λ (held : List ℕ). x ∷ held) (s .held-is) })
       (record { read-is = ap suc (s .read-is); breaks-is = ap suc (s .breaks-is); held-is = refl })
 
-  -- And so do the edges that are left: by their breaks both stop, or neither does.
+  -- They still agree after all edges left: the breaks are equal, so both stop or neither does.
   same-left : (k left : ℕ) (v w : Reading) → left ≤ m → SameReading v w
       → SameReading (readLeft ring (window m line i) k 0 left v) (readLeft ring line k i left w)
   unfolding readLeft
@@ -59,7 +59,7 @@ module _ (ring line : List ℕ) (i : ℕ) where
       same-cond _ _ (ap (ltb k) (s .breaks-is)) s
       (rw (alone-edge left (omega arith)) (same-left k left _ _ (omega arith) (same-edge (windowEdge line i left) v w s)))
 
-  -- It is read as the line's window at i.
+  -- The window taken out is read as the line's window at i.
   pub alone-reading : (k : ℕ) → SameReading (readWindow ring (window m line i) k 0) (readWindow ring line k i)
   unfolding readWindow
   alone-reading k = same-left k m (unread 0) (unread i) (omega arith) (record { read-is = refl; breaks-is = refl; held-is = refl })

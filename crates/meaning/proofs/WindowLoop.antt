@@ -1,6 +1,6 @@
--- A loop that reads one window with a vector of bits, one for each rotation, in place of the stretch: what it keeps, and its turns. Bit r says
--- that the held stretch is the beginning of rotation r. Rotated by one place and met with the places where the read edge occurs (`GrownBy`,
--- source 003), the bits say so of the grown stretch; so some bit is left exactly when the grown stretch fits.
+-- The loop that reads one window and keeps a vector of m bits in place of the stretch: its invariant and its turns. Bit r says whether the held stretch is the
+-- beginning of rotation r. When an edge is read, the bits are rotated by one place and kept only at the places where the ring has that edge (`GrownBy`, source
+-- document 003). They then say the same about the grown stretch, so the grown stretch fits exactly when some bit is still set.
 use Prim.Native.Nat.{ℕ, zero, suc, _+_, _%_, _≤_, _<_}
 use mathlib.Core.Path.{_≡_, refl, sym, ap, ap₂, _∙_}
 use mathlib.Core.Bool.{Bool, true, false, _&&_, and-comm}
@@ -20,19 +20,19 @@ use Rattle.meaning.proofs.Some.{some-same}
 use Rattle.meaning.proofs.FitDecided.{begins-mod}
 
 module _ (ring : List ℕ) where
-  -- Bit r says that the stretch is the beginning of rotation r.
+  -- Bit r says whether the stretch is the beginning of rotation r, for every r below m.
   unfoldable pub Bits : (ℕ → Bool) → List ℕ → Type 0
   Bits bits s = (r : ℕ) → r < length ring → bits r ≡ begins ring r s
 
-  -- Every bit is set.
+  -- Every bit below m is set.
   unfoldable pub AllSet : (ℕ → Bool) → Type 0
   AllSet bits = (r : ℕ) → r < length ring → bits r ≡ true
 
-  -- The bits rotated by one place, and kept where the edge x occurs.
+  -- `bits′` is `bits` rotated by one place, and kept only where the ring has the edge x.
   unfoldable pub GrownBy : ℕ → (ℕ → Bool) → (ℕ → Bool) → Type 0
   GrownBy x bits bits′ = (r : ℕ) → r < length ring → bits′ r ≡ (bits ((r + 1) % length ring) && eqb (getD ring r 0) x)
 
-  -- Bits that stand for a stretch, grown by an edge, stand for the grown stretch.
+  -- If bits stand for a stretch, the bits grown by an edge stand for the grown stretch.
   bits-grown : (x : ℕ) (bits bits′ : ℕ → Bool) (s : List ℕ) → Bits bits s → GrownBy x bits bits′ → Bits bits′ (x ∷ s)
   unfolding Bits GrownBy begins
   bits-grown x bits bits′ s h g r l =
@@ -45,7 +45,7 @@ module _ (ring : List ℕ) where
       in
       g r l ∙ and-comm (bits ((r + 1) % m)) (eqb (getD ring r 0) x) ∙ ap₂ (λ (a b : Bool). a && b) here rest
 
-  -- Some bit is set exactly when the stretch fits.
+  -- A stretch of at most m edges fits exactly when some bit is set.
   bits-fit : (bits : ℕ → Bool) (s : List ℕ) → length s ≤ length ring → Bits bits s → fits ring s ≡ someBelow bits (length ring)
   unfolding Bits fits
   bits-fit bits s short h =
@@ -55,7 +55,8 @@ module _ (ring line : List ℕ) (k i : ℕ) where
   abbrev m : ℕ
   m = length ring
 
-  -- What holds with `left` edges unread and `breaks` breaks: the reading so far, whose stretch the bits stand for.
+  -- The invariant, with `left` edges unread and `breaks` breaks: there is a reading so far with these numbers, the bits stand for its stretch, and reading on
+  -- from it gives the reading of the whole window.
   pub record WindowLoop (left breaks : ℕ) (bits : ℕ → Bool) : Type 0 where
     pub so-far : Reading
     pub left-is : so-far .read + left ≡ m
@@ -64,7 +65,7 @@ module _ (ring line : List ℕ) (k i : ℕ) where
     pub bits-are : Bits ring bits (so-far .held)
     pub goes-on : readLeft ring line k i left so-far ≡ readWindow ring line k i
 
-  -- Before the first edge every bit is set.
+  -- The invariant holds before the first edge, with every bit set.
   pub window-start : (bits : ℕ → Bool) → AllSet ring bits → WindowLoop m 0 bits
   unfolding Bits AllSet begins readWindow
   window-start bits all = record {
@@ -76,11 +77,11 @@ module _ (ring line : List ℕ) (k i : ℕ) where
     goes-on = refl;
   }
 
-  -- The window is read as far as it goes: its edges read, and its breaks.
+  -- Reading the window ends with `left` edges unread and `breaks` breaks.
   abbrev pub ReadTo : ℕ → ℕ → Type 0
   ReadTo left breaks = (readWindow ring line k i .read + left ≡ m) × (readWindow ring line k i .breaks ≡ breaks)
 
-  -- With no edge left, it is read.
+  -- With no edge left, the window is read.
   pub window-end : (breaks : ℕ) (bits : ℕ → Bool) → WindowLoop 0 breaks bits → ReadTo 0 breaks
   unfolding readLeft
   window-end breaks bits h =
@@ -99,12 +100,12 @@ module _ (ring line : List ℕ) (k i : ℕ) where
     grown-fits : fits ring (x ∷ h .so-far .held) ≡ someBelow bits′ m
     grown-fits = bits-fit ring bits′ (x ∷ h .so-far .held) (omega (arith, h .left-is, h .held-le)) grown-bits
 
-    -- The next edge is read: there is no break k + 1 yet.
+    -- The next edge is read, because there are at most k breaks so far.
     goes-on-read : readLeft ring line k i left (readEdge ring x (h .so-far)) ≡ readWindow ring line k i
     unfolding readLeft
     goes-on-read = rw (le-ltb k (h .so-far .breaks) (omega (arith, h .breaks-is))) at (h .goes-on)
 
-    -- A bit is left: the stretch has grown.
+    -- If a bit is still set, the grown stretch is held.
     pub window-grows : someBelow bits′ m ≡ true → WindowLoop left breaks bits′
     unfolding readEdge
     window-grows e = record {
@@ -116,7 +117,7 @@ module _ (ring line : List ℕ) (k i : ℕ) where
       goes-on = rw (grown-fits, e) at goes-on-read;
     }
 
-    -- No bit is left: a break, and every bit is set again.
+    -- If no bit is set, the edge is a break: one break more, and every bit is set again.
     pub window-breaks : someBelow bits′ m ≡ false → (all : ℕ → Bool) → AllSet ring all → WindowLoop left (suc breaks) all
     unfolding readEdge Bits AllSet begins
     window-breaks e all all-set = record {
@@ -128,7 +129,7 @@ module _ (ring line : List ℕ) (k i : ℕ) where
       goes-on = rw (grown-fits, e) at goes-on-read;
     }
 
-  -- At break k + 1 the window is left.
+  -- At break k + 1 reading stops.
   pub window-left : (left breaks : ℕ) (bits : ℕ → Bool) → k < breaks → WindowLoop left breaks bits → ReadTo left breaks
   unfolding readLeft
   window-left zero breaks bits many h = window-end breaks bits h

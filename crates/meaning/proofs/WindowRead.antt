@@ -1,5 +1,5 @@
--- What is known of every window that is read: it kept its start, it read at most m edges, and it ended with all of them read and at most k
--- breaks, or at break k + 1. Induction on the edges left.
+-- What holds for every window that was read: it has its start, at most m edges were read, and reading ended with all of them read and at most k breaks, or at
+-- break k + 1. Induction on the edges left.
 use Prim.Native.Nat.{ℕ, zero, suc, _+_, _≤_, _<_}
 use mathlib.Core.Path.{_≡_, refl, _∙_}
 use mathlib.Core.Bool.{true, false, and-false}
@@ -14,12 +14,12 @@ use Rattle.meaning.specs.Stretch.{fits}
 use Rattle.meaning.specs.Rules.{Reading, unread, readEdge, readLeft, readWindow, isCandidate}
 use Rattle.lists.proofs.Cases.{by-test, le-or-lt}
 
--- An edge read keeps the window's start.
+-- Reading an edge keeps the window's start.
 edge-start : (ring : List ℕ) (x : ℕ) (w : Reading) → readEdge ring x w .start ≡ w .start
 unfolding readEdge
 edge-start ring x w = by-test (λ (v : Reading). v .start ≡ w .start) (fits ring (x ∷ w .held)) (λ _. refl) (λ _. refl)
 
--- An edge read is one edge more.
+-- Reading an edge adds one to the edges read.
 pub edge-read : (ring : List ℕ) (x : ℕ) (w : Reading) → readEdge ring x w .read ≡ suc (w .read)
 unfolding readEdge
 edge-read ring x w = by-test (λ (v : Reading). v .read ≡ suc (w .read)) (fits ring (x ∷ w .held)) (λ _. refl) (λ _. refl)
@@ -28,18 +28,18 @@ edge-read ring x w = by-test (λ (v : Reading). v .read ≡ suc (w .read)) (fits
 abbrev pub Ended : List ℕ → ℕ → Reading → Type 0
 Ended ring k w = ((w .read ≡ length ring) × (w .breaks ≤ k)) ⊎ (k < w .breaks)
 
--- What is known of the window at i once it is read.
+-- What holds for the window at i once it is read: its start, how many edges were read at most, and how reading ended.
 pub record WasRead (ring : List ℕ) (k i : ℕ) (w : Reading) : Type 0 where
   pub start-is : w .start ≡ i
   pub read-le : w .read ≤ length ring
   pub ended : Ended ring k w
 
 module _ (ring line : List ℕ) (k i : ℕ) where
-  -- All edges are read: by the breaks it is one or the other.
+  -- Once all edges are read, the number of breaks decides which of the two it is.
   all-read : (w : Reading) → w .read ≡ length ring → Ended ring k w
   all-read w e = ⊎-elim (λ l. inl (e, l)) (λ l. inr l) (le-or-lt (w .breaks) k)
 
-  -- However many edges are left, reading them ends so.
+  -- The same for a window with `left` edges unread.
   left-read : (left : ℕ) (w : Reading) → w .start ≡ i → w .read + left ≡ length ring → WasRead ring k i (readLeft ring line k i left w)
   unfolding readLeft
   left-read zero w s e = record { start-is = s; read-le = omega arith; ended = all-read w (omega arith) }
@@ -49,15 +49,15 @@ module _ (ring line : List ℕ) (k i : ℕ) where
       (λ stop. record { start-is = s; read-le = omega arith; ended = inr (ltb-true k (w .breaks) stop) })
       (λ _. left-read left (readEdge ring x w) (edge-start ring x w ∙ s) (omega (arith, edge-read ring x w)))
 
-  -- Every window is read so.
+  -- `WasRead` holds for the window at every place i.
   pub window-read : WasRead ring k i (readWindow ring line k i)
   unfolding readWindow
   window-read = left-read (length ring) (unread i) refl (omega arith)
 
--- All m edges read and at most k breaks: a candidate.
+-- A window with all m edges read and at most k breaks is a candidate.
 pub candidate-yes : (ring : List ℕ) (k : ℕ) (w : Reading) → w .read ≡ length ring → w .breaks ≤ k → isCandidate ring k w ≡ true
 candidate-yes ring k w e h = rw (eq-eqb (w .read) (length ring) e, le-leb (w .breaks) k h)
 
--- Break k + 1: no candidate.
+-- A window that was stopped at break k + 1 is not a candidate.
 pub candidate-no : (ring : List ℕ) (k : ℕ) (w : Reading) → k < w .breaks → isCandidate ring k w ≡ false
 candidate-no ring k w h = rw (lt-leb (w .breaks) k h) (and-false (eqb (w .read) (length ring)))

@@ -1,5 +1,6 @@
--- The windows from place i on, without the number that bounds the recursion of `windowsFrom`: any number above n − i gives the same list
--- (`windowsFrom-enough`), so a window in the line is read and followed by those from the next one on, and past the line there is none.
+-- The windows from place i on, without the number that bounds the recursion of `windowsFrom`: every number above n − i gives the same list
+-- (`windowsFrom-enough`). So a window that fits in the line is read and followed by the windows from the next start on (`windows-step`), and where no window
+-- fits none is read (`windows-end`).
 use Prim.Native.Nat.{ℕ, zero, suc, _+_, _<_}
 use mathlib.Core.Path.{_≡_, refl, sym, ap, _∙_, subst}
 use mathlib.Core.Bool.{cond}
@@ -22,7 +23,7 @@ module _ (ring line : List ℕ) (k : ℕ) where
   pub next-above : (i : ℕ) → i < nextAfter i
   next-above i = omega (arith, window-read ring line k i .start-is)
 
-  -- Two numbers that are large enough give the same windows.
+  -- Two numbers above n − i give the same windows.
   windowsFrom-enough : (f g i : ℕ) → length line < i + f → length line < i + g → windowsFrom ring line k f i ≡ windowsFrom ring line k g i
   unfolding windowsFrom
   windowsFrom-enough zero zero i hf hg = refl
@@ -41,7 +42,7 @@ module _ (ring line : List ℕ) (k : ℕ) where
   unfolding windowsAt
   windows-start = refl
 
-  -- A window in the line is read, and followed by those from the next one on.
+  -- A window that fits in the line is read, and followed by the windows from the next start on.
   pub windows-step : (i : ℕ) → FitsInLine ring line i → windowsAt i ≡ readWindow ring line k i ∷ windowsAt (nextAfter i)
   unfolding windowsAt windowsFrom
   windows-step i h =
@@ -55,8 +56,8 @@ module _ (ring line : List ℕ) (k : ℕ) where
   unfolding windowsAt windowsFrom
   windows-end i h = ap (λ (f : ℕ). windowsFrom ring line k f i) (add-one (length line)) ∙ rw (past-line-iff ring line i .1 h)
 
-  -- Induction over the windows. What holds where none fits in the line, and holds of a window in the line once it holds from the next one on,
-  -- holds of the windows from every place on.
+  -- Induction over the windows. P holds for the windows from every place on if it holds where no window fits in the line, and if, at a window in the line, it
+  -- holds whenever it holds for the windows from the next start on.
   pub windows-induct : (P : ℕ → List Reading → Type 0)
       → ((i : ℕ) → IsPastLine ring line i → P i [])
       → ((i : ℕ) → FitsInLine ring line i → P (nextAfter i) (windowsAt (nextAfter i)) → P i (readWindow ring line k i ∷ windowsAt (nextAfter i)))

@@ -1,5 +1,5 @@
--- Document 01, "Meanings", the finding; and of "What each call returns" the words of findings.
--- `IsFinding` is the sentence to believe; `findings` is the list that survey and scan write, and `findings-iff` of proofs/ joins them.
+-- Document 01, "Meanings": the finding; and from "What each call returns" how findings are laid out as words.
+-- `IsFinding` is the sentence to believe. `findings` is the list that survey and scan write. `findings-iff` of proofs/ joins them.
 use Prim.Native.Nat.{ℕ, zero, suc, _≤_, _<_}
 use mathlib.Core.Path.{_≡_}
 use mathlib.Core.Bool.{cond, _&&_}
@@ -25,11 +25,11 @@ pub record IsFinding (ring line : List ℕ) (k : ℕ) (f : Finding) : Type 0 whe
   pub least : (r : ℕ) → r < length ring → f .distance ≤ distance ring line (f .start) r
   pub lowest : (r : ℕ) → r < f .rotation → f .distance < distance ring line (f .start) r
 
--- What place i carries: the least distance, and the lowest rotation that reaches it.
+-- What a finding at place i carries: the least distance, and the lowest rotation that reaches it.
 abbrev pub findingAt : List ℕ → List ℕ → ℕ → Finding
 findingAt ring line i = record { start = i; rotation = lowestRotation ring line i; distance = leastDistance ring line i }
 
--- The finding at place i, if i is a start whose least distance is at most k.
+-- The list with the finding at place i if i is a start whose least distance is at most k, and else the empty list.
 unfoldable pub foundAt : List ℕ → List ℕ → ℕ → ℕ → List Finding
 foundAt ring line k i =
     let found : List Finding = findingAt ring line i ∷ [] in
@@ -40,21 +40,21 @@ unfoldable pub findingsBelow : List ℕ → List ℕ → ℕ → ℕ → List Fi
 findingsBelow ring line k zero = []
 findingsBelow ring line k (suc i) = findingsBelow ring line k i ++ foundAt ring line k i
 
--- The findings of a ring, a line and an allowance: those at the line's places. The plain survey "gives the same findings" as the quick scan.
+-- All findings of a ring, a line and an allowance: those at the line's places. The plain survey "gives the same findings" as the quick scan.
 abbrev pub findings : List ℕ → List ℕ → ℕ → List Finding
 findings ring line k = findingsBelow ring line k (length line)
 
--- "by rising start": the starts of a list rise strictly, the first at least lo, all below hi.
+-- "by rising start": the starts of a list rise strictly, the first is at least lo, and all are below hi. For the empty list: lo ≤ hi.
 abbrev pub Rising : ℕ → ℕ → List Finding → Type 0
 Rising lo hi [] = lo ≤ hi
 Rising lo hi (f ∷ fs) = (lo ≤ f .start) × Rising (suc (f .start)) hi fs
 
--- "Findings go as three 32-bit words each (start, rotation, distance) into the lent words, by rising start". (That each is below 2^32 follows
--- from the limits of ring and line.)
+-- "Findings go as three 32-bit words each (start, rotation, distance) into the lent words, by rising start": the number of words of a finding.
+-- (That each word is below 2^32 follows from the limits of ring and line.)
 abbrev pub wordsEach : ℕ
 wordsEach = 3
 
--- The words of one finding.
+-- The words of one finding, in this order.
 abbrev pub findingWords : Finding → List ℕ
 findingWords f = f .start ∷ f .rotation ∷ f .distance ∷ []
 

@@ -1,7 +1,8 @@
--- The meanings and rules of document 01, in its order and its words. Nothing here is code: a ring, a line and a stretch are lists of edge
--- codes, and places, starts, rotations, distances and looks are numbers. "Here every byte value 0 to 255 is an edge code like any other, and
--- a cell is one unbroken line of them": definitions only compare two edge codes. Ring places and line places,
--- which "are never added or compared directly", and the refusals are of crates/answers, the silence book of crates/silences.
+-- The meanings and rules of document 01, in its order and its words. Read the modules in the order of the list at the end.
+-- Nothing here is code. A ring, a line and a stretch are lists of edge codes; places, starts, rotations, distances and looks are numbers.
+-- "Here every byte value 0 to 255 is an edge code like any other": the definitions only ask whether two edge codes are equal.
+-- Elsewhere: the refusals, and ring places and line places as two types ("never added or compared directly"), in crates/answers; the silence book
+-- in crates/silences.
 --
 -- | the document's word       | here                                    | module   |
 -- |---------------------------|-----------------------------------------|----------|
@@ -13,7 +14,7 @@
 -- | distance                  | `distance ring line i r`                | Meanings |
 -- | least distance, lowest r  | `leastDistance`, `lowestRotation`       | Meanings |
 -- | finding                   | `IsFinding`; the list `findings`        | Findings |
--- | words written             | `wordsOf`, `written`                    | Findings |
+-- | words of findings         | `wordsOf`                               | Findings |
 -- | stretch that fits         | `Fits`; the test `fits`                 | Stretch  |
 -- | rules 1 to 3              | `windows`, `readWindow`, `readEdge`     | Rules    |
 -- | candidate (rule 4)        | `isCandidate`, `candidates`             | Rules    |
@@ -22,9 +23,10 @@
 -- | looks of the plain survey | `surveyLooks`                           | Looks    |
 -- | samples P1 to P12         | `samples`, `samples-right`              | Samples  |
 -- | readings that look right  | each refuted                            | Misread  |
+-- | (helpers)                 | `count`, `lowest`, `someBelow`          | Numbers  |
 --
--- Where a word has two forms, the one in lower case computes, and the one in upper case says the same as a fact: start, finding, fit. The laws
--- that join the two are in proofs/.
+-- Where a word has two forms, the lower-case one computes, and the upper-case one states the same as a fact: start, finding, fit. proofs/ has the
+-- laws that join the two: `start-iff`, `findings-iff`, `fits-iff`.
 pub mod Numbers
 pub mod Meanings
 pub mod Findings

@@ -1,5 +1,5 @@
--- Document 01: looks. "Looks are the sum over rules 1 and 5"; and the looks of the plain survey. Rule 5, "Verifying works on a tally: the tally of
--- one count per rotation is kept and moved along the line", is stated here by what it costs; what the counts hold is `Tallied` of crates/tally.
+-- Document 01: the looks of the quick scan ("Looks are the sum over rules 1 and 5") and of the plain survey. Rule 5, "Verifying works on a tally: the
+-- tally of one count per rotation is kept and moved along the line", is stated here by its cost; what the counts hold is `Tallied` of crates/tally.
 use Prim.Native.Nat.{ℕ, zero, suc, _+_, _-_, _*_}
 use mathlib.Core.Bool.{cond}
 use mathlib.Core.List.{List, [], _∷_}
@@ -23,12 +23,12 @@ abbrev pub stepLooks : ℕ → ℕ
 stepLooks m = 2 * m
 
 -- Rule 5. "With no earlier tally, or if the new start is s beyond the last verified one and 2·s > m, it is counted afresh: m·m looks. Otherwise
--- it moves s steps, each 2·m looks". What verifying start i costs, after the last verified start, if there is one.
+-- it moves s steps, each 2·m looks". The looks of verifying start i, given the last verified start if there is one.
 unfoldable pub tallyLooks : ℕ → Option ℕ → ℕ → ℕ
 tallyLooks m none i = afreshLooks m
 tallyLooks m (some last) i = cond (ltb m (2 * (i - last))) (afreshLooks m) ((i - last) * stepLooks m)
 
--- Rules 4 and 5. Each candidate is verified, and is then the last verified one.
+-- Rules 4 and 5. The looks of verifying a list of candidates. Each is verified in turn, and is then the last verified one.
 unfoldable pub verifyLooks : ℕ → Option ℕ → List ℕ → ℕ
 verifyLooks m last [] = 0
 verifyLooks m last (i ∷ starts) = tallyLooks m last i + verifyLooks m (some i) starts
@@ -37,14 +37,14 @@ verifyLooks m last (i ∷ starts) = tallyLooks m last i + verifyLooks m (some i)
 abbrev pub quickLooks : List ℕ → List ℕ → ℕ → ℕ
 quickLooks ring line k = readLooks (windows ring line k) + verifyLooks (length ring) none (candidates ring line k)
 
--- "The plain survey verifies every start, the first afresh and each next by one step, at m = 1 too": its looks once the tally is
--- counted at the places below i where a window fits. Place 0 is the first of these where there is one.
+-- "The plain survey verifies every start, the first afresh and each next by one step, at m = 1 too": its looks for the places below i where a
+-- window fits in the line, afresh at place 0 and one step at every other.
 unfoldable pub surveyLooksBelow : List ℕ → List ℕ → ℕ → ℕ
 surveyLooksBelow ring line zero = 0
 surveyLooksBelow ring line (suc i) =
     let verifying : ℕ = cond (eqb i 0) (afreshLooks (length ring)) (stepLooks (length ring)) in
     surveyLooksBelow ring line i + cond (fitsInLine ring line i) verifying 0
 
--- The plain survey's looks: a window fits at the line's places only.
+-- The plain survey's looks: those for all of the line's places.
 abbrev pub surveyLooks : List ℕ → List ℕ → ℕ
 surveyLooks ring line = surveyLooksBelow ring line (length line)

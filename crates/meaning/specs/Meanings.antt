@@ -1,7 +1,7 @@
 -- Document 01, "Meanings", up to the distance: rotation, start, window, distance, the least distance and the lowest rotation that reaches it.
--- The document's limits (m 1 to 256, n at most 65,536, k below m) are refusals of the calls and stand with them. Here every list has a value;
--- for an empty ring it has no meaning, and the laws require 0 < m. `getD` gives 0 past a list's end: at a start no definition looks there, neither in
--- the line, by i + m ≤ n, nor in the ring, by mod m.
+-- The document's limits (m 1 to 256, n at most 65,536, k below m) are refusals of the calls and are stated there. Here every definition gives a value
+-- for all lists. For an empty ring the value means nothing, and the laws require 0 < m. `getD` gives 0 past a list's end. At a start no definition reads
+-- there: line places stay below n because i + m ≤ n, and ring places are taken mod m.
 use Prim.Native.Nat.{ℕ, _+_, _%_, _≤_, _<_}
 use mathlib.Core.Bool.{Bool, not}
 use mathlib.Core.List.{List}
@@ -21,7 +21,7 @@ pub record FitsInLine (ring line : List ℕ) (i : ℕ) : Type 0 where
 pub record IsPastLine (ring line : List ℕ) (i : ℕ) : Type 0 where
   pub past : length line < i + length ring
 
--- Whether a window fits in the line at place i. Rule 1's windows and the survey's tally go by this test.
+-- Whether a window fits in the line at place i. This test decides which windows rule 1 reads, and at which places the survey counts its tally.
 abbrev pub fitsInLine : List ℕ → List ℕ → ℕ → Bool
 fitsInLine ring line i = leb (i + length ring) (length line)
 
@@ -29,7 +29,7 @@ fitsInLine ring line i = leb (i + length ring) (length line)
 pub record IsStart (ring line : List ℕ) (i : ℕ) : Type 0 where
   pub fits : FitsInLine ring line i
 
--- Whether place i is a start. The findings go by this test.
+-- Whether place i is a start. `foundAt` uses this test.
 abbrev pub isStart : List ℕ → List ℕ → ℕ → Bool
 isStart ring line i = fitsInLine ring line i
 
@@ -41,11 +41,11 @@ window m line i = take m (drop i line)
 abbrev pub windowEdge : List ℕ → ℕ → ℕ → ℕ
 windowEdge line i q = getD line (i + q) 0
 
--- Two edges differ: one comparison.
+-- Whether two edges differ: one comparison.
 abbrev pub unequal : ℕ → ℕ → Bool
 unequal a b = not (eqb a b)
 
--- Window and rotation r differ at place q.
+-- Whether window and rotation r differ at place q.
 unfoldable pub differs : List ℕ → List ℕ → ℕ → ℕ → ℕ → Bool
 differs ring line i r q = unequal (windowEdge line i q) (rotationEdge ring r q)
 
@@ -57,6 +57,6 @@ distance ring line i r = count (differs ring line i r) 0 (length ring)
 unfoldable pub lowestRotation : List ℕ → List ℕ → ℕ → ℕ
 lowestRotation ring line i = lowest (distance ring line i) (length ring)
 
--- The "least distance over all r": that of the lowest rotation at which it is least.
+-- The "least distance over all r": the distance under that rotation.
 abbrev pub leastDistance : List ℕ → List ℕ → ℕ → ℕ
 leastDistance ring line i = distance ring line i (lowestRotation ring line i)

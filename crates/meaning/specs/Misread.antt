@@ -1,5 +1,5 @@
--- Document 01, "Readings that look right", those that speak of the search: each is written down as it would be read, and refuted by a
--- sample, which antt computes. (Cell 0 as all cells speaks of the silence book and is refuted there.)
+-- Document 01, "Readings that look right", those about the search. Each wrong reading is written out as a definition and refuted by a sample, which
+-- antt computes. (The reading of cell 0 as all cells is about silences, and is refuted in ReportSamples of crates/outlines.)
 use Prim.Native.Nat.{ℕ, zero, suc, _+_, _-_, _*_, _/_, min}
 use mathlib.Core.Path.{_≡_, refl}
 use mathlib.Core.Bool.{Bool, true, false, cond, _&&_, _||_}
@@ -26,7 +26,7 @@ record Fragment : Type 0 where
   place : ℕ
   size : ℕ
 
--- So many near-equal fragments of the edges that are left from a place on, "longer fragments first".
+-- The `edges` edges from `place` on, cut into near-equal fragments, "longer fragments first". The first number is how many fragments.
 unfoldable cut : ℕ → ℕ → ℕ → List Fragment
 cut zero place edges = []
 cut (suc fragments) place edges =
@@ -37,24 +37,25 @@ cut (suc fragments) place edges =
 abbrev fragmentsOf : List ℕ → ℕ → List Fragment
 fragmentsOf ring k = cut (2 * k + 4) 0 (length (doubled ring))
 
--- How many of the fragments lie whole in the doubled ring's m edges from r on, that is in rotation r: counted at their own places, as the
--- lemma's proof counts them. (As words more of them may occur there.)
+-- How many of the fragments lie whole in rotation r, that is in the m edges of the doubled ring from r on. A fragment is counted at its own place, as
+-- the lemma's proof counts it. (Its edges may also occur there at another place.)
 unfoldable wholeIn : ℕ → ℕ → List Fragment → ℕ
 wholeIn m r [] = 0
 wholeIn m r (f ∷ fs) = cond (leb r (f .place) && leb (f .place + f .size) (r + m)) 1 0 + wholeIn m r fs
 
--- A hit of the fragment at its own place in the doubled ring: its edges are the line's from place p on.
+-- Whether a fragment hits the line at p: the doubled ring's edges from the fragment's place on are the line's edges from p on. The last number is the
+-- fragment's size.
 unfoldable hits : List ℕ → List ℕ → ℕ → ℕ → ℕ → Bool
 hits ring line place p zero = true
 hits ring line place p (suc size) =
     eqb (getD (doubled ring) place 0) (getD line p 0) && (leb (suc p) (length line) && hits ring line (suc place) (suc p) size)
 
--- A hit at line place p, extended to both sides as far as line and doubled ring reach, whatever differs there, has at least m edges.
+-- Whether a hit at line place p has at least m edges once it is extended to both sides as far as line and doubled ring reach, whatever differs there.
 abbrev extends : List ℕ → List ℕ → Fragment → ℕ → Bool
 extends ring line f p =
     leb (length ring) (min (f .place) p + min (length (doubled ring) - f .place) (length line - p))
 
--- Some hit of some fragment can be extended to m edges: without one, 000 reports nothing.
+-- Whether some hit of some fragment can be extended to m edges. If none can, 000 reports nothing.
 unfoldable someExtends : List ℕ → List ℕ → List Fragment → Bool
 someExtends ring line [] = false
 someExtends ring line (f ∷ fs) =
@@ -83,7 +84,7 @@ example-3-lacks-9 = refl
 
 -- ---- "Stopping at k breaks, or moving onto the break edge instead of past it."
 
--- Stopping at k breaks is reading each window as if one fewer were allowed. With P2's ring, line and allowance only one finding is left.
+-- Stopping at k breaks is reading each window with an allowance of k − 1. Then P2 (k = 1) has one finding instead of three.
 stopping-at-k-loses-P2 :
     reported (ascii "GGGTCTA") (ascii "GATACGATACCTAGGGTGATAGAATAG") 1
     (candidatesOf (ascii "GGGTCTA") 1 (windows (ascii "GGGTCTA") (ascii "GATACGATACCTAGGGTGATAGAATAG") 0))
@@ -91,7 +92,7 @@ stopping-at-k-loses-P2 :
 unfolding ascii count lowest someBelow differs distance lowestRotation foundAt begins fits readEdge readLeft readWindow windowsFrom candidatesOf reported
 stopping-at-k-loses-P2 = refl
 
--- The windows where each next one starts at the break edge, m − j further on.
+-- The windows if each next one starts at the break edge, m − j further on. The number before i is how many windows may still come.
 unfoldable ontoTheBreak : List ℕ → List ℕ → ℕ → ℕ → ℕ → List Reading
 ontoTheBreak ring line k zero i = []
 ontoTheBreak ring line k (suc more) i =
@@ -99,7 +100,7 @@ ontoTheBreak ring line k (suc more) i =
     let onward : List Reading = w ∷ ontoTheBreak ring line k more (i + (length ring - w .read)) in
     cond (fitsInLine ring line i) onward []
 
--- On P7 it costs 8 looks where the rules take 6 (and past a window with all edges read it never comes: the next one is the same).
+-- On P7 this reading costs 8 looks instead of 6. (It never gets past a window with all m edges read: the next window would be the same one.)
 onto-the-break-costs-P7 :
     (readLooks (ontoTheBreak (ascii "abcd") (ascii "zzzzzzzzzz") 1 11 0) ≡ 8)
     × (readLooks (windows (ascii "abcd") (ascii "zzzzzzzzzz") 1) ≡ 6)
@@ -108,7 +109,7 @@ onto-the-break-costs-P7 = (refl, refl)
 
 -- ---- "Reporting every candidate."
 
--- "P11 is a candidate at distance 3", with an allowance of 1.
+-- "P11 is a candidate at distance 3"; its allowance is 1, so it is not a finding.
 candidate-P11-is-no-finding :
     (candidates (ascii "abcdef") (ascii "bcdfab") 1 ≡ 0 ∷ [])
     × (findings (ascii "abcdef") (ascii "bcdfab") 1 ≡ [])
@@ -118,12 +119,12 @@ candidate-P11-is-no-finding = (refl, refl, refl)
 
 -- ---- "Using a linear stretch test, which cuts a good match at the ring's seam."
 
--- A linear test takes the stretch only where it ends with the ring's last edge at the latest.
+-- The linear test: the stretch occurs in the ring from some place on, without crossing the seam.
 unfoldable linearFits : List ℕ → List ℕ → Bool
 linearFits ring stretch =
     someBelow (λ r. leb (r + length stretch) (length ring) && begins ring r stretch) (length ring)
 
--- P9's window is the ring from its last edge on: it fits, and the linear test cuts it.
+-- P9's window `cab` is rotation 2 of the ring `abc`: it fits the ring, and the linear test rejects it.
 linear-test-cuts-P9 : (fits (ascii "abc") (ascii "cab") ≡ true) × (linearFits (ascii "abc") (ascii "cab") ≡ false)
 unfolding ascii begins someBelow fits linearFits
 linear-test-cuts-P9 = (refl, refl)

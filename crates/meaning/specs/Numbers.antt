@@ -1,9 +1,9 @@
--- Counting, the lowest of the least, and "some": the helpers of the meanings that know no ring and no line.
+-- The helpers of the meanings, which mention no ring and no line: counting, the lowest number at which a function is least, and "some number".
 use Prim.Native.Nat.{ℕ, zero, suc, _+_}
 use mathlib.Core.Bool.{Bool, true, false, cond, _||_}
 use lib.Dec.{ltb}
 
--- One where the test is true, else nothing: what it adds to a count.
+-- 1 if the test is true, else 0: what it adds to a count.
 abbrev pub oneIf : Bool → ℕ
 oneIf true = 1
 oneIf false = 0
@@ -13,12 +13,12 @@ unfoldable pub count : (ℕ → Bool) → ℕ → ℕ → ℕ
 count p a zero = 0
 count p a (suc n) = oneIf (p a) + count p (suc a) n
 
--- The lowest of the numbers below n at which f is least (0 where n is 0). A later number takes its place only where f is less there.
+-- The lowest of the numbers below n at which f is least (0 where n is 0). A later number is taken only if f is less there.
 unfoldable pub lowest : (ℕ → ℕ) → ℕ → ℕ
 lowest f zero = 0
 lowest f (suc n) = let before : ℕ = lowest f n in cond (ltb (f n) (f before)) n before
 
--- Some number below n passes the test.
+-- Whether some number below n passes the test.
 unfoldable pub someBelow : (ℕ → Bool) → ℕ → Bool
 someBelow p zero = false
 someBelow p (suc n) = someBelow p n || p n

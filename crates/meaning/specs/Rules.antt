@@ -1,8 +1,8 @@
--- Document 01, "Rules of the quick scan", rules 1 to 4. (Rule 5 decides no finding: what verifying costs stands in Looks, and what a tally holds
--- with the counts themselves, in crates/tally.) The stretch and the count of breaks begin anew at each window.
--- The recursion `windowsFrom` carries a number that only bounds how many windows there can be. Read in its place the two equations of
--- proofs/WindowSteps over `windowsAt`, the windows from a place on (`windows-start`): `windows-step`, that a window in the line is read and
--- followed by those from the next one on, and `windows-end`.
+-- Document 01, "Rules of the quick scan", rules 1 to 4. Rule 5 decides no finding: what verifying costs is in Looks, and what a tally holds is in
+-- crates/tally. Each window begins with an empty stretch and no breaks.
+-- `windowsFrom` takes a number that only bounds its recursion. To read the rules without it, take the two equations of proofs/WindowSteps for
+-- `windowsAt i`, the windows from place i on: `windows-step` (a window that fits in the line is read, then come the windows from the next start on)
+-- and `windows-end` (where no window fits, none is read).
 use Prim.Native.Nat.{ℕ, zero, suc, _+_, _-_}
 use mathlib.Core.Bool.{Bool, cond, _&&_}
 use mathlib.Core.List.{List, [], _∷_, _++_}
@@ -32,15 +32,15 @@ readEdge ring x w =
     let broken : Reading = record { start = w .start; read = suc (w .read); breaks = suc (w .breaks); held = [] } in
     cond (fits ring grown) kept broken
 
--- Rules 1 and 3. "read its edges from the last towards the first"; "Stop at break k+1, or when all m edges are read." The third number is
--- how many edges of the window at i are left.
+-- Rules 1 and 3. "read its edges from the last towards the first"; "Stop at break k+1, or when all m edges are read." The number before w is how
+-- many edges of the window at i are still unread.
 unfoldable pub readLeft : List ℕ → List ℕ → ℕ → ℕ → ℕ → Reading → Reading
 readLeft ring line k i zero w = w
 readLeft ring line k i (suc left) w =
     let further : Reading = readLeft ring line k i left (readEdge ring (windowEdge line i left) w) in
     cond (ltb k (w .breaks)) w further
 
--- The window at i, read until it is left or all of it is read.
+-- The window at i, read until break k + 1 or until all m edges are read.
 unfoldable pub readWindow : List ℕ → List ℕ → ℕ → ℕ → Reading
 readWindow ring line k i = readLeft ring line k i (length ring) (unread i)
 
@@ -48,8 +48,8 @@ readWindow ring line k i = readLeft ring line k i (length ring) (unread i)
 abbrev pub nextStart : List ℕ → Reading → ℕ
 nextStart ring w = w .start + (length ring - w .read + 1)
 
--- Rule 1. The windows read from place i on, "While a window fits in the line". Each starts after the one before, at 0 to n at most, so more
--- than n + 1 there cannot be; the number before the last is how many may still come.
+-- Rule 1. The windows read from place i on, "While a window fits in the line". The number before i is how many windows may still come. n + 1 is enough,
+-- because each window starts after the one before it, at a place from 0 to n.
 unfoldable pub windowsFrom : List ℕ → List ℕ → ℕ → ℕ → ℕ → List Reading
 windowsFrom ring line k zero i = []
 windowsFrom ring line k (suc more) i =
@@ -65,7 +65,7 @@ windows ring line k = windowsFrom ring line k (length line + 1) 0
 abbrev pub isCandidate : List ℕ → ℕ → Reading → Bool
 isCandidate ring k w = eqb (w .read) (length ring) && leb (w .breaks) k
 
--- The starts of those windows that are candidates.
+-- The starts of the windows that are candidates.
 unfoldable pub candidatesOf : List ℕ → ℕ → List Reading → List ℕ
 candidatesOf ring k [] = []
 candidatesOf ring k (w ∷ ws) = cond (isCandidate ring k w) (w .start ∷ candidatesOf ring k ws) (candidatesOf ring k ws)
@@ -79,6 +79,6 @@ unfoldable pub reported : List ℕ → List ℕ → ℕ → List ℕ → List Fi
 reported ring line k [] = []
 reported ring line k (i ∷ starts) = foundAt ring line k i ++ reported ring line k starts
 
--- What the rules report.
+-- What rules 1 to 4 report.
 abbrev pub quickFindings : List ℕ → List ℕ → ℕ → List Finding
 quickFindings ring line k = reported ring line k (candidates ring line k)

@@ -1,6 +1,6 @@
--- Document 01, "Sample rings": P1 to P12 as one table under one claim, which antt computes. Beside it a second table of the same form
--- that pins what no row of the first does: rule 5's choice between a fresh count and steps, the plain survey's looks, and the codes 0 and
--- 255. A number that the document leaves out of a row is left out here.
+-- Document 01, "Sample rings": P1 to P12 as one table under one claim, which antt computes. A second table of the same form pins what no row of the
+-- first does: rule 5's choice between a fresh count and steps, the plain survey's looks, and the codes 0 and 255. A number that the document leaves
+-- out of a row is left out here.
 use Prim.Native.Nat.{ℕ}
 use Prim.Native.String.{String}
 use mathlib.Core.Path.{_≡_, refl}
@@ -19,8 +19,8 @@ use Rattle.meaning.specs.Looks.{readLooks, tallyLooks, verifyLooks, quic
 abbrev pub finding : ℕ → ℕ → ℕ → Finding
 finding i r d = record { start = i; rotation = r; distance = d }
 
--- A row: its name; ring, line and k; the findings, and what the rules report; quick looks, how many candidates and the plain survey's
--- looks, each where it is given.
+-- A row: its name; ring, line and k; the findings (`found`); what the rules report (`quick-found`); and, where the row gives them, the quick looks,
+-- the number of candidates and the plain survey's looks.
 pub record Sample : Type 0 where
   pub name : String
   pub ring : List ℕ
@@ -32,7 +32,7 @@ pub record Sample : Type 0 where
   pub candidate-count : Option ℕ
   pub survey-looks : Option ℕ
 
--- A row as the tables below give it: the rules report the findings.
+-- A row as the tables below write it. The findings are given once: the rules are to report the same.
 abbrev row : String → List ℕ → List ℕ → ℕ → List Finding → Option ℕ → Option ℕ → Option ℕ → Sample
 row name ring line k found looks cands survey =
     record {
@@ -47,12 +47,12 @@ row name ring line k found looks cands survey =
       survey-looks = survey;
     }
 
--- A number where the row gives one.
+-- The number n if the row gives a number there, else none.
 abbrev given : Option ℕ → ℕ → Option ℕ
 given none n = none
 given (some _) n = some n
 
--- The row as the meanings and rules have it.
+-- The row with its answers computed from the meanings and rules. A number that the row leaves out is left out again.
 abbrev pub answered : Sample → Sample
 answered s =
     record {
@@ -67,7 +67,7 @@ answered s =
       survey-looks = given (s .survey-looks) (surveyLooks (s .ring) (s .line));
     }
 
--- The document's table; of P11 it gives the findings as "none, one candidate".
+-- The document's table. For P11 it gives "none, one candidate".
 unfoldable pub samples : List Sample
 samples =
     row "P1" (ascii "GGGTCTA") (ascii "GATACGATACCTAGGGTGATAGAATAG") 0 (finding 10 4 0 ∷ []) none none none
@@ -84,14 +84,14 @@ samples =
     ∷ row "P12" (ascii "abcdef") (ascii "bcdfab") 3 (finding 0 1 3 ∷ []) (some 42) none none
     ∷ []
 
--- The meanings and rules give what the document's table gives, row for row.
+-- Computed from the meanings and rules, every row has the answers of the document's table.
 pub samples-right : map answered samples ≡ samples
 unfolding samples ascii count lowest someBelow differs distance lowestRotation foundAt findingsBelow begins fits readEdge readLeft readWindow windowsFrom candidatesOf reported readLooks tallyLooks verifyLooks surveyLooksBelow
 samples-right = refl
 
--- Rows of our own. Of the first three the last candidate is s beyond the one before it: m = 3, s = 2, afresh by 2·s > m; m = 3, s = 1, one
--- step; m = 5, s = 2, two steps although 3·s > m. Then m = 1, where the scan counts afresh and the survey steps; a break edge that fits by
--- itself and yet begins no stretch; a candidate that is no finding and yet the last verified one; steps over a window that was left; and
+-- Rows of our own. In the first three the last candidate is s beyond the one before it: m = 3, s = 2, afresh because 2·s > m; m = 3, s = 1, one
+-- step; m = 5, s = 2, two steps although 3·s > m. Then: m = 1, where the scan counts afresh and the survey steps; a break edge that fits by itself
+-- and still begins no stretch; a candidate that is not a finding and still is the last verified one; steps across a window that was stopped; and
 -- the codes 0 and 255.
 unfoldable pub own-samples : List Sample
 own-samples =
@@ -105,7 +105,7 @@ own-samples =
     ∷ row "codes 0 and 255" (0 ∷ 255 ∷ []) (255 ∷ 0 ∷ 255 ∷ 255 ∷ []) 0 (finding 0 1 0 ∷ finding 1 0 0 ∷ []) (some 14) (some 2) (some 12)
     ∷ []
 
--- The meanings and rules give these rows too.
+-- Computed from the meanings and rules, our own rows are right too.
 pub own-samples-right : map answered own-samples ≡ own-samples
 unfolding own-samples ascii count lowest someBelow differs distance lowestRotation foundAt findingsBelow begins fits readEdge readLeft readWindow windowsFrom candidatesOf reported readLooks tallyLooks verifyLooks surveyLooksBelow
 own-samples-right = refl

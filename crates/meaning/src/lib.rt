@@ -1,1 +1,1 @@
-// No function: document 01's meanings and rules stand in specs/, and what follows from them in proofs/.
+// Document 01's meanings and rules (specs/), and the theorems about them (proofs/). The crate has no functions.
