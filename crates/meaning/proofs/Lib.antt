@@ -38,3 +38,5 @@ pub mod WindowAlone
 pub mod TallyStep
 pub mod WindowLoop
 pub mod ScanLoop
+-- how many findings one stored copy gives
+pub mod AroundCopy
