@@ -1,4 +1,5 @@
-"""Spoilt copies of the tree, for tools/looks --try. Each is spoilt in one way, and must be noticed for that reason; the tree itself must have no fault.
+"""Spoilt copies of the tree, for tools/looks --try, and for tools/statements --try, which has its own. Each is spoilt in one way, and must be noticed for that
+reason; the tree itself must have no fault.
 
 The places to spoil are looked up in the tree at hand: the first look, the first count that starts or is added, a public function that has the line, a function
 that reads an edge. So no other line of the source is known here by its text.
@@ -87,7 +88,7 @@ def copies(tree, check):
     yield "a word of a function that is gone", with_text(page, tree[page] + "`gone_from_here`\n"), "is no function"
 
 
-def main(tree, Check):
+def main(tree, Check, copies=copies):
     whole = Check(tree)
     passed, failed = (0, len(whole.faults)) if whole.faults else (1, 0)
     for fault in whole.faults:

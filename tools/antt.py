@@ -1,0 +1,188 @@
+"""antt source read as text: what a file of specs/ or proofs/ defines, with its comment, its type and the parameters of the modules that it stands in; and how the
+docs cite it. For tools/names and tools/statements."""
+import functools, os, re
+
+COMMENT = re.compile(r"\{-.*?-\}|(?:(?<=\s)|^)--(?=\s|$)[^\n]*|(\"[^\"\n]*\")", re.S | re.M)
+HEAD = re.compile(r"((?:(?:abbrev|unfoldable|opaque|pub) )*)((?:record|data) )?([^\s(){}:=,]+)(?=\s)(.*)$", re.S)
+NOT_NAMES = {"use", "mod", "module", "unfolding", "open", "mutual", "infix", "infixl", "infixr"}
+CITED = re.compile(r"(?:(\w+)/)?([A-Z]\w*)\.([^\s./`]+)")
+ATOM = re.compile(r"\"[^\"]*\"|[(){}]|[^\s(){}\"]+|\s+")
+
+
+def without_comments(text):
+    """the same text on the same lines"""
+    return COMMENT.sub(lambda m: m[1] or re.sub(r"[^\n]", " ", m[0]), text)
+
+
+def flat(text):
+    """the text on one line, without comments"""
+    return " ".join(without_comments(text).split())
+
+
+def depth_of(line):
+    return len(line) - len(line.lstrip())
+
+
+def outside(text):
+    """the atoms that stand in no bracket, with the brackets themselves: [(place, atom)]"""
+    found, depth = [], 0
+    for m in ATOM.finditer(text):
+        depth -= m[0] in (")", "}")
+        if depth == 0:
+            found.append((m.start(), m[0]))
+        depth += m[0] in ("(", "{")
+    return found
+
+
+def parted(text, sign):
+    """the text cut at each such sign that stands in no bracket; behind a `λ` or `let` that stands in none all is one part"""
+    parts, begun = [], 0
+    for at, atom in outside(text):
+        if atom in ("λ", "let"):
+            break
+        if atom == sign:
+            parts.append(text[begun:at].strip())
+            begun = at + len(sign)
+    return parts + [text[begun:].strip()]
+
+
+def words_of(text):
+    """the names, numbers and signs of a text, and not the fields behind a dot"""
+    return re.findall(r"(?<![^\s(){}])[^\s(){}.\"]+", text)
+
+
+def groups(text):
+    """the bracketed parts that the text is made of, or None where there is anything else"""
+    found, begun = [], None
+    for at, atom in outside(text):
+        if atom in ("(", "{"):
+            begun = at
+        elif atom in (")", "}"):
+            found.append(text[begun:at + 1])
+        elif atom.strip():
+            return None
+    return found
+
+
+class Given:
+    """one thing that a theorem is given: names, [] where it has none, and its type; hidden, where it stands in braces; text, as it stands in the source"""
+
+    def __init__(self, text, names, type, hidden):
+        self.text, self.names, self.type, self.hidden = text, names, type, hidden
+
+
+def binders(text):
+    """the parts `(names : type)` and `{names : type}` that the text is made of, or None where there is anything else"""
+    found = []
+    for group in groups(text) or []:
+        names, colon, type = group[1:-1].partition(" : ")
+        if not colon or not re.fullmatch(r"[^\s(){}]+(?: [^\s(){}]+)*", names.strip()):
+            return None
+        found.append(Given(group, names.split(), type.strip(), group[0] == "{"))
+    return found or None
+
+
+def telescope(type):
+    """what a type takes, one after the other, and what it ends in"""
+    *taken, end = parted(type, "→")
+    found = []
+    for part in taken:
+        found += binders(part) or [Given(part, [], part, False)]
+    return found, end
+
+
+class Definition:
+    """name; before, the words that stand before it (`pub`, `abbrev`); kind, record, data or nothing; path and line; comment, that above it as one text, or nothing;
+    modules, the heads of those that it stands in, outermost first; takes, what its own head takes before the colon; type; text, all of it with its body,
+    its own depth taken off; depth."""
+
+    def given(self):
+        """what the modules around it take"""
+        return [given for head in self.modules for given in binders(head) or []]
+
+    def names(self):
+        """the names that its modules' heads, its own and its type bind, also inside"""
+        whole = " ".join(self.modules + [self.takes, self.type])
+        return {name for names in re.findall(r"[({]([^(){}:]+?) : ", whole) + re.findall(r"λ ([^.]+)\.", whole) for name in names.split()}
+
+
+@functools.lru_cache(maxsize=None)
+def definitions(text, path=""):
+    """what a file defines, also within its modules; the fields of a record and what a body defines for itself are left out"""
+    bare, kept = without_comments(text).split("\n"), text.split("\n")
+    found, modules, at = [], [], 0
+    while at < len(bare):
+        line, begun = bare[at], at
+        at += 1
+        if not line.strip():
+            continue
+        depth = depth_of(line)
+        while modules and depth <= modules[-1][0]:
+            modules.pop()
+        if line.split()[0] == "module":
+            while not re.search(r"\bwhere\s*$", bare[at - 1]) and at < len(bare):
+                at += 1
+            modules.append((depth, re.sub(r"^module \S+ ?| ?where$", "", flat("\n".join(bare[begun:at])))))
+            continue
+        if depth != (modules[-1][0] + 2 if modules else 0):
+            continue
+        while at < len(bare) and (not bare[at].strip() or depth_of(bare[at]) > depth):
+            at += 1
+        m = HEAD.match(flat("\n".join(bare[begun:at])))
+        if not m or m[3] in NOT_NAMES:
+            continue
+        cut = next((i for i, atom in outside(m[4]) if atom in (":", "=")), None)
+        if not m[2] and (cut is None or m[4][cut] != ":"):
+            continue
+        takes, type = (m[4][:cut].strip(), m[4][cut + 1:].strip()) if cut is not None else (m[4].strip(), "")
+        above = begun
+        while above and kept[above - 1].strip().startswith("--") and depth_of(kept[above - 1]) == depth:
+            above -= 1
+        end = at
+        if not m[2]:  # its body: the clauses that follow
+            while end < len(bare) and (depth_of(bare[end]) > depth or not bare[end].strip() or re.split(r"[\s(){}]", bare[end].strip())[0] in ("unfolding", m[3])):
+                end += 1
+        names = [m[3]] if m[2] or not re.fullmatch(r"[^(){}]+", takes) else [m[3]] + takes.split()
+        for name in names:
+            d = Definition()
+            d.name, d.before, d.kind, d.path, d.line, d.depth = name, m[1].split(), (m[2] or "").strip(), path, begun + 1, depth
+            d.comment = " ".join(part.strip().lstrip("-").strip() for part in kept[above:begun])
+            d.modules, d.takes, d.type = [head for _, head in modules], "" if len(names) > 1 else takes, type
+            d.text = "\n".join(part[depth:].rstrip() for part in kept[begun:end]).rstrip()
+            found.append(d)
+    return found
+
+
+def modules_of(tree):
+    """{module: {crate: {name: definition}}} of a tree {path: text}, from what stands in specs/ and proofs/ of its crates"""
+    found = {}
+    for path in sorted(tree, reverse=True):  # a name that stands in both is that of specs/
+        if m := re.fullmatch(r"crates/(\w+)/(specs|proofs)/(\w+)\.antt", path):
+            names = found.setdefault(m[3], {}).setdefault(m[1], {})
+            for d in definitions(tree[path], path):
+                names[d.name] = d
+    return found
+
+
+def cited(span, modules):
+    """(the definition, None) of `Module.name` or `crate/Module.name`, or (None, why there is none)"""
+    crate, module, name = CITED.fullmatch(span).groups()
+    having = {c: names[name] for c, names in modules.get(module, {}).items() if name in names and crate in (None, c)}
+    if len(having) > 1:
+        return None, f"defined in {' and '.join(sorted(having))}: name the crate"
+    return (next(iter(having.values())), None) if having else (None, "no such definition" + (" in that crate" if crate else ""))
+
+
+def tree_of(root, more=()):
+    """{path: text} of specs/ and proofs/ of every crate, and of the files named"""
+    tree = {}
+    for crate in sorted(os.listdir(os.path.join(root, "crates"))):
+        for part in ("specs", "proofs"):
+            folder = os.path.join(root, "crates", crate, part)
+            for name in sorted(os.listdir(folder)) if os.path.isdir(folder) else []:
+                if name.endswith(".antt"):
+                    tree[f"crates/{crate}/{part}/{name}"] = open(os.path.join(folder, name), encoding="utf-8").read()
+    for path in more:
+        if os.path.isfile(os.path.join(root, path)):
+            tree[path] = open(os.path.join(root, path), encoding="utf-8").read()
+    return tree
