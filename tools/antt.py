@@ -142,13 +142,15 @@ def definitions(text, path=""):
         if not m[2]:  # its body: the clauses that follow
             while end < len(bare) and (depth_of(bare[end]) > depth or not bare[end].strip() or re.split(r"[\s(){}]", bare[end].strip())[0] in ("unfolding", m[3])):
                 end += 1
+        while not bare[end - 1].strip():
+            end -= 1
         names = [m[3]] if m[2] or not re.fullmatch(r"[^(){}]+", takes) else [m[3]] + takes.split()
         for name in names:
             d = Definition()
             d.name, d.before, d.kind, d.path, d.line, d.depth = name, m[1].split(), (m[2] or "").strip(), path, begun + 1, depth
             d.comment = " ".join(part.strip().lstrip("-").strip() for part in kept[above:begun])
             d.modules, d.takes, d.type = [head for _, head in modules], "" if len(names) > 1 else takes, type
-            d.text = "\n".join(part[depth:].rstrip() for part in kept[begun:end]).rstrip()
+            d.text = "\n".join(part[depth:].rstrip() for part in kept[begun:end])
             found.append(d)
     return found
 
