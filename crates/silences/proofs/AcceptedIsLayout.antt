@@ -1,5 +1,5 @@
--- A book is accepted exactly when it is the layout of a strictly ascending list of at most 1,000 silences in range. Reading stops at the end
--- (`ReadsAs`), so the whole book is the layout of what was read; and a layout is read to its end. 13,000 bytes are 1,000 fields.
+-- A book is accepted exactly when it is the layout of a strictly ascending list of at most 1,000 silences in range (`accepted-iff`). An accepted book was read
+-- to its end (`ReadsAs`), so all of it is the layout of what was read. Conversely such a layout is read to its end. 13,000 bytes are 1,000 fields.
 use Prim.Native.Nat.{ℕ, _≤_}
 use mathlib.Core.Logic.{⊎-elim, _↔_, Iff·symm, Iff·trans}
 use mathlib.Core.Path.{_≡_, refl, sym, ap, subst, _∙_}
@@ -22,18 +22,18 @@ use Rattle.silences.proofs.FieldsRead.{FieldsRead, ReadsAs, read-all, r
 use Rattle.silences.proofs.BookRows.{book-accepted-iff}
 use Rattle.silences.proofs.LayoutRead.{layout-length, read-fine, fine-read}
 
--- How a book was accepted: it is no longer than 13,000 bytes, and its fields were read to its end.
+-- The book has at most 13,000 bytes, and reading its fields to its end gives the silences `ss`.
 pub record IsReadWhole (ss : List Silence) (book : List ℕ) : Type 0 where
   pub book-le : length book ≤ mostBytes
   pub stop : ℕ
   pub fields : FieldsRead book none 0 ss stop
   pub stop-ge : length book ≤ stop
 
--- fields that were read as far as the end
+-- a walk that accepts has read the fields to the end
 whole-of-walk : (book : List ℕ) (ss : List Silence) → length book ≤ mostBytes → ReadsAs book none 0 (accepted ss) → IsReadWhole ss book
 whole-of-walk book ss h (read-all {stop = stop} f l) = record { book-le = h; stop = stop; fields = f; stop-ge = l }
 
--- A book is accepted exactly when its fields were read to its end.
+-- A book is accepted with `ss` exactly when it has at most 13,000 bytes and reading its fields to its end gives `ss`.
 pub accepted-whole-iff : (book : List ℕ) (ss : List Silence) → (readBook book ≡ accepted ss) ↔ IsReadWhole ss book
 accepted-whole-iff book ss = (
   λ e. ⊎-elim
@@ -55,7 +55,7 @@ whole-book book ss bytes w =
       length-le = omega (arith, ap length laid-out, layout-length ss, w .book-le);
     }
 
--- The book of silences is accepted, and gives them.
+-- The book of the silences `ss` is accepted, and reading it gives `ss`.
 pub book-accepted : (book : List ℕ) (ss : List Silence) → IsBook ss book → readBook book ≡ accepted ss
 book-accepted book ss b =
     let long : length book ≡ length (layout ss) = ap length (b .laid-out) in
@@ -69,7 +69,7 @@ book-accepted book ss b =
       stop-ge = omega arith;
     })
 
--- A book is accepted, and gives these silences, exactly when it is their layout, they ascend strictly, are in range, and are at most 1,000.
+-- Bytes are accepted as a book and give the silences `ss` exactly when they are the layout of `ss`, and `ss` ascend strictly, are in range and at most 1,000.
 pub accepted-iff : (book : List ℕ) (ss : List Silence) → IsBytes book → (readBook book ≡ accepted ss) ↔ IsBook ss book
 accepted-iff book ss bytes = (λ e. whole-book book ss bytes (accepted-whole-iff book ss .0 e), book-accepted book ss)
 
@@ -78,13 +78,13 @@ module _ (book : List ℕ) (bytes : IsBytes book) where
   silences-read-iff : (ss : List Silence) → ((bookRefusal book ≡ none) × (silencesRead book ≡ ss)) ↔ IsBook ss book
   silences-read-iff ss = Iff·trans (Iff·symm (book-accepted-iff book ss)) (accepted-iff book ss bytes)
 
-  -- None of its rows is given, and the silences read have some property, exactly when it is the book of silences that have it.
+  -- None of the book's rows is given and the silences read satisfy P, exactly when it is the book of some silences that satisfy P.
   pub read-book-iff : (P : List Silence → Type 0) → ((bookRefusal book ≡ none) × P (silencesRead book)) ↔ ((ss : List Silence) × IsBook ss book × P ss)
   read-book-iff P = (
     λ h. (silencesRead book, silences-read-iff (silencesRead book) .0 (h .0, refl), h .1),
     λ h. let read = silences-read-iff (h .0) .1 (h .1) in (read .0, subst P (sym (read .1)) (h .2)),
   )
 
-  -- None of its rows is given exactly when it is the book of some silences.
+  -- None of the book's rows is given exactly when it is the book of some silences.
   pub no-refusal-iff : (bookRefusal book ≡ none) ↔ ((ss : List Silence) × IsBook ss book)
   no-refusal-iff = (λ e. (silencesRead book, silences-read-iff (silencesRead book) .0 (e, refl)), λ h. silences-read-iff (h .0) .1 (h .1) .0)

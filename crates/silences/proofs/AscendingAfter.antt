@@ -1,5 +1,5 @@
--- Silences that ascend, and the first of them above a last one before them: what reading and packing keep while they go from record to record. With none
--- before them it is `Ascending`. That the next one isn't above the last is `IsNotAbove`.
+-- `AscendingAfter last ss`: the silences `ss` ascend, and the first is above `last`, if there is a last one. Reading and packing keep this from record to
+-- record. With no last one it is `Ascending` (`ascending-after-iff`). The test for the next record fails exactly where `IsNotAbove` holds (`not-above-iff`).
 use mathlib.Core.Logic.{_↔_}
 use mathlib.Core.Path.{_≡_, refl, sym, ap, _∙_}
 use mathlib.Core.Bool.{true, false, false≢true}
@@ -15,30 +15,30 @@ abbrev pub AscendingAfter : Option Silence → List Silence → Type 0
 AscendingAfter last [] = Unit {0}
 AscendingAfter last (s ∷ ss) = (isAbove last s ≡ true) × AscendingAfter (some s) ss
 
--- The last of some silences, and `last` where there are none.
+-- The last of the silences; `last` if there are none.
 abbrev pub lastAfter : Option Silence → List Silence → Option Silence
 lastAfter last [] = last
 lastAfter last (s ∷ ss) = lastAfter (some s) ss
 
--- after a first one
+-- the silences after the first ascend after it
 after-one : (s : Silence) (ss : List Silence) → Ascending (s ∷ ss) → AscendingAfter (some s) ss
 unfolding Ascending
 after-one s [] a = tt
 after-one s (t ∷ ss) a = (isBelow-iff s t .1 (a .0), after-one t ss (a .1))
 
--- and back
+-- and the converse
 from-one : (s : Silence) (ss : List Silence) → AscendingAfter (some s) ss → Ascending (s ∷ ss)
 unfolding Ascending
 from-one s [] a = tt
 from-one s (t ∷ ss) a = (isBelow-iff s t .0 (a .0), from-one t ss (a .1))
 
--- With none before them they just ascend.
+-- Silences ascend exactly when they ascend with no silence before them.
 pub ascending-after-iff : (ss : List Silence) → Ascending ss ↔ AscendingAfter none ss
 unfolding Ascending
 ascending-after-iff [] = (λ a. tt, λ a. tt)
 ascending-after-iff (s ∷ ss) = (λ a. (refl, after-one s ss a), λ a. from-one s ss (a .1))
 
--- One silence more after them, above the last.
+-- Ascending silences still ascend with one more at the end, if it is above the last of them.
 pub ascends-more : (last : Option Silence) (ss : List Silence) (s : Silence) → AscendingAfter last ss → isAbove (lastAfter last ss) s ≡ true
     → AscendingAfter last (ss ++ s ∷ [])
 ascends-more last [] s a above = (above, tt)
@@ -49,22 +49,22 @@ pub lastAfter-end : (last : Option Silence) (ss : List Silence) (s : Silence) �
 lastAfter-end last [] s = refl
 lastAfter-end last (t ∷ ss) s = lastAfter-end (some t) ss s
 
--- one silence more at the front
+-- one silence more at the front changes nothing
 not-above-cons : (t : Silence) (ss : List Silence) (s : Silence) → IsNotAbove ss s → IsNotAbove (t ∷ ss) s
 not-above-cons t ss s n =
     record { earlier = t ∷ n .earlier; previous = n .previous; before-it = ap (λ (l : List Silence). t ∷ l) (n .before-it); not-above = n .not-above }
 
--- by the last of a list that has one
+-- if the test fails after silences, of which there is at least one, the last of them is not below
 not-above-one : (t : Silence) (ss : List Silence) (s : Silence) → isAbove (lastAfter (some t) ss) s ≡ false → IsNotAbove (t ∷ ss) s
 not-above-one t [] s e = record { earlier = []; previous = t; before-it = refl; not-above = not-below-iff t s .0 e }
 not-above-one t (u ∷ ss) s e = not-above-cons t (u ∷ ss) s (not-above-one u ss s e)
 
--- what the test finds not above is not above
+-- if the test fails, there is a last silence, and it is not below
 not-above-yes : (ss : List Silence) (s : Silence) → isAbove (lastAfter none ss) s ≡ false → IsNotAbove ss s
 not-above-yes [] s e = absurd (false≢true (sym e))
 not-above-yes (t ∷ ss) s e = not-above-one t ss s e
 
--- The next silence isn't above the last exactly when the test says so.
+-- The test that `s` is above the last of `ss` fails exactly when there is a last one and it is not below `s`.
 pub not-above-iff : (ss : List Silence) (s : Silence) → (isAbove (lastAfter none ss) s ≡ false) ↔ IsNotAbove ss s
 not-above-iff ss s = (
   not-above-yes ss s,

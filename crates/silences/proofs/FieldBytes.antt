@@ -1,5 +1,5 @@
--- A field's bytes and its silence: the field of a silence in range is read back as that silence, wherever it stands (`field-of-silence`), and where a
--- whole field is read, its bytes are the field of its silence, which is in range (`silence-of-field`). Number by number, by the laws of FieldLaid of the fields.
+-- A field's bytes and its silence determine each other. The field of a silence in range, wherever it stands, is read back as that silence (`field-of-silence`).
+-- Where a whole field is read, its bytes are the field of its silence, which is in range (`silence-of-field`). Number by number, by FieldLaid of crates/fields.
 use Prim.Native.Nat.{ℕ, _+_, _≤_}
 use mathlib.Core.Path.{_≡_, refl, sym, ap, ap₂, subst, _∙_}
 use mathlib.Core.List.{List, _∷_, _++_, append-assoc}
@@ -16,12 +16,12 @@ use Rattle.silences.specs.Layout.{silenceTag, valueLength, fieldLength, 
 use Rattle.silences.specs.Reading.{silenceAt, whole, fieldAt}
 use Rattle.silences.proofs.FieldTest.{IsTested, field-whole-is, field-is-whole}
 
--- the bytes of a value
+-- a value has 10 bytes
 value-length : (s : Silence) → length (valueOf s) ≡ valueLength
 unfolding valueOf
 value-length s = simp (length-append, bytesOf-length)
 
--- The field of a silence: 21 00 0A hex, and its value.
+-- The field of a silence is 21 00 0A hex and then its value.
 pub fieldOf-is : (s : Silence) → fieldOf s ≡ 0x21 ∷ 0x00 ∷ 0x0a ∷ valueOf s
 unfolding fieldOf bytesOf
 fieldOf-is s = ap (λ (n : ℕ). silenceTag ∷ bytesOf lengthBytes n ++ valueOf s) (value-length s)
@@ -30,7 +30,7 @@ fieldOf-is s = ap (λ (n : ℕ). silenceTag ∷ bytesOf lengthBytes n ++ valueOf
 pub field-length : (s : Silence) → length (fieldOf s) ≡ fieldLength
 field-length s = ap length (fieldOf-is s) ∙ omega (arith, value-length s)
 
--- The field of a silence in range, wherever it stands, is read back as that silence.
+-- The field of a silence in range, wherever it stands in a book, is read back as that silence, with its end.
 pub field-of-silence : (s : Silence) → InRange s → (book : List ℕ) (at : ℕ) (rest : List ℕ) → drop at book ≡ fieldOf s ++ rest
     → fieldAt book at ≡ whole s (at + length (fieldOf s))
 unfolding fieldOf valueOf silenceAt
@@ -81,12 +81,12 @@ module _ (book : List ℕ) (bytes : IsBytes book) (at : ℕ) where
       (number-then book bytes startBytes (at + cellBytes + ringNumberBytes) (omega arith)))
       ∙ sym (simp append-assoc)
 
--- What a whole field is: its silence is in range, and its bytes are the field of that silence.
+-- At `at` the book has the field of `s`, followed by what stands from `next` on; and `s` is in range.
 pub record FieldStands (book : List ℕ) (at : ℕ) (s : Silence) (next : ℕ) : Type 0 where
   pub in-range : InRange s
   pub bytes-are : drop at book ≡ fieldOf s ++ drop next book
 
--- A whole field ends where its silence's field does.
+-- A whole field ends as many bytes after its beginning as the field of its silence has.
 pub field-next-is : (book : List ℕ) (at : ℕ) (s : Silence) (next : ℕ) → fieldAt book at ≡ whole s next → next ≡ at + length (fieldOf s)
 field-next-is book at s next e = omega (arith, field-whole-is book at s next e .2, field-length s)
 

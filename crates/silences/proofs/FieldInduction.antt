@@ -1,6 +1,6 @@
--- Along a book's fields: each whole field takes some of the bytes that are left, and past the last byte none stands (`field-ends`). So what holds at a byte
--- offset whenever it holds just past the whole field there holds at every offset (`field-induction`); and a definition that goes from field to field and counts
--- down the bytes left never runs out of them, so that it has an equation without the count (`count-step`).
+-- Induction from field to field. Each whole field takes at least one of the bytes left, and past the last byte no field stands (`field-ends`). So a property
+-- that holds at a byte offset whenever it holds just past the whole field there, holds at every offset (`field-induction`). And a definition that goes from
+-- field to field and counts down the bytes left never runs out of the count, so it has an equation without it (`count-step`).
 use Prim.Native.Nat.{ℕ, zero, suc, _-_, _≤_, _<_}
 use mathlib.Core.Path.{_≡_, sym, _∙_}
 use mathlib.Core.List.{List}
@@ -16,17 +16,17 @@ module _ (book : List ℕ) (P : ℕ → Type 0) (turn : (at : ℕ) → ((s : Sil
   over-bytes zero at h = turn at (λ s next e. absurd (let ends : (at < next) × (next ≤ length book) = field-ends book at s next e in omega arith))
   over-bytes (suc left) at h = turn at (λ s next e. let ends : (at < next) × (next ≤ length book) = field-ends book at s next e in over-bytes left next (omega arith))
 
-  -- What holds at an offset whenever it holds past the field there, holds at every offset.
+  -- If P holds at an offset whenever it holds just past the whole field there, then P holds at every offset.
   pub field-induction : (at : ℕ) → P at
   field-induction at = over-bytes (length book - at) at (omega arith)
 
--- A value at an offset depends on what comes after only past a whole field.
+-- A step at an offset uses the values further on (`rest`) only just past a whole field.
 abbrev pub GoesOnPast : {X B : Type 0} → (X → ℕ → FieldAt → (X → ℕ → B) → B) → Type 0
 GoesOnPast {X} {B} step =
     (x : X) (at : ℕ) (f : FieldAt) (rest rest′ : X → ℕ → B) → ((y : X) (s : Silence) (next : ℕ) → f ≡ whole s next → rest y next ≡ rest′ y next)
     → step x at f rest ≡ step x at f rest′
 
--- For what is counted by `values`: at an offset a step at the field there, and, once no byte is left, the same for every count.
+-- `values left x at` is a definition with a count: with one more it takes a step at the field at `at`; once no byte is left the count does not matter.
 module _ {X B : Type 0} (book : List ℕ) (step : X → ℕ → FieldAt → (X → ℕ → B) → B) (values : ℕ → X → ℕ → B)
     (goes-on : GoesOnPast step)
     (turn : (left : ℕ) (x : X) (at : ℕ) → values (suc left) x at ≡ step x at (fieldAt book at) (values left))
@@ -41,7 +41,7 @@ module _ {X B : Type 0} (book : List ℕ) (step : X → ℕ → FieldAt → (X �
       (λ y s next e. let within : (at < next) × (next ≤ length book) = field-ends book at s next e in counts-same left left′ y next (omega arith) (omega arith))
       ∙ sym (turn left′ x at)
 
-  -- Counting the bytes left, the value at an offset is a step there, and then the values past the field.
+  -- With the bytes left as its count, the value at an offset is a step at the field there over the values past it, again with the bytes left as their count.
   pub count-step : (x : X) (at : ℕ) → values (length book - at) x at ≡ step x at (fieldAt book at) (λ y next. values (length book - next) y next)
   count-step x at =
       counts-same (length book - at) (suc (length book - at)) x at (omega arith) (omega arith)

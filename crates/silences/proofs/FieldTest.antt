@@ -1,5 +1,5 @@
--- `fieldAt` tests what row 6 says: a field stands exactly where 13 bytes begin 21 00 0A hex and are not cut off (`IsField`). By its three tests
--- (`IsTested`): the tag, the two length bytes, which make 10 only as 00 0A, and the field's end.
+-- `fieldAt` decides row 6: it gives a whole field exactly where 13 bytes begin 21 00 0A hex and are not cut off (`IsField`). It makes three tests (`IsTested`):
+-- the tag, the two length bytes, which make 10 only as 00 0A, and the field's end.
 use Prim.Native.Nat.{ℕ, _+_, _*_, _≤_, _<_}
 use mathlib.Core.Logic.{_↔_, Iff·trans}
 use mathlib.Core.Path.{_≡_, refl, sym, ap, ap₂, _∙_}
@@ -26,15 +26,15 @@ use Rattle.silences.specs.Books.{IsField}
 pub faulty-not-whole : {s : Silence} {next : ℕ} → faulty ≡ whole s next → ⊥
 faulty-not-whole e = let z : _≡_ {A = ℕ} 0 1 = cc in omega arith
 
--- A whole field determines its silence.
+-- Equal whole fields have the same silence.
 pub whole-silence-unique : {s t : Silence} {i j : ℕ} → whole s i ≡ whole t j → s ≡ t
 whole-silence-unique e = cc
 
--- And its end.
+-- Equal whole fields have the same end.
 pub whole-next-unique : {s t : Silence} {i j : ℕ} → whole s i ≡ whole t j → i ≡ j
 whole-next-unique e = cc
 
--- What the three tests of a field ask.
+-- The field at `at` passes the three tests: its tag is 21 hex, its length bytes say 10, and it ends within the book.
 pub record IsTested (book : List ℕ) (at : ℕ) : Type 0 where
   pub tag-is : getD book at 0 ≡ silenceTag
   pub long-is : longAt book at ≡ valueLength
@@ -49,7 +49,7 @@ module _ (book : List ℕ) (at : ℕ) where
   abbrev here : FieldAt
   here = whole (silenceAt book (at + headLength)) (fieldEnd at valueLength)
 
-  -- they decide what stands
+  -- `fieldAt` gives that field if the tests pass, else a faulty one
   field-by : fieldAt book at ≡ cond test here faulty
   unfolding fieldAt fieldBy lengthByTag test
   field-by = go (eqb (getD book at 0) silenceTag)
@@ -58,7 +58,7 @@ module _ (book : List ℕ) (at : ℕ) where
       go true = refl
       go false = refl
 
-  -- they ask for these facts
+  -- the tests pass exactly when the three facts hold
   test-iff : (test ≡ true) ↔ IsTested book at
   unfolding test isWhole
   test-iff =
@@ -67,7 +67,7 @@ module _ (book : List ℕ) (at : ℕ) where
         λ t. (t .tag-is, (t .long-is, t .within)),
       )
 
-  -- A whole field passed the tests; its silence is the one in its value, and it ends behind its value.
+  -- A whole field passes the tests, its silence is the one of its value, and it ends just past its value.
   pub field-whole-is : (s : Silence) (next : ℕ) → fieldAt book at ≡ whole s next
       → IsTested book at × (s ≡ silenceAt book (at + headLength)) × (next ≡ fieldEnd at valueLength)
   field-whole-is s next e =
@@ -76,18 +76,18 @@ module _ (book : List ℕ) (at : ℕ) where
       (λ t is. absurd (faulty-not-whole is))
       (sym field-by ∙ e)
 
-  -- A whole field begins before it ends, and ends within the book: so a walk from field to field gets on, and past the last byte no field stands.
+  -- A whole field ends after it begins, and within the book. So a walk from field to field advances, and past the last byte no field stands.
   pub field-ends : (s : Silence) (next : ℕ) → fieldAt book at ≡ whole s next → (at < next) × (next ≤ length book)
   field-ends s next e =
       let f : IsTested book at × (s ≡ silenceAt book (at + headLength)) × (next ≡ fieldEnd at valueLength) = field-whole-is s next e in
       (omega arith, omega (arith, f .0 .within))
 
-  -- What passes the tests is whole.
+  -- If the tests pass, the field is whole, with the silence of its value and its end just past the value.
   pub field-is-whole : {s : Silence} {next : ℕ} → IsTested book at → s ≡ silenceAt book (at + headLength) → next ≡ fieldEnd at valueLength
       → fieldAt book at ≡ whole s next
   field-is-whole t is-silence is-next = field-by ∙ ap (λ (b : Bool). cond b here faulty) (test-iff .1 t) ∙ ap₂ whole (sym is-silence) (sym is-next)
 
-  -- What does not pass them is faulty.
+  -- If the tests do not pass, the field is faulty.
   pub field-is-faulty : (IsTested book at → ⊥) → fieldAt book at ≡ faulty
   field-is-faulty fails = field-by ∙ by-test (λ (f : FieldAt). f ≡ faulty) test (λ t. absurd (fails (test-iff .0 t))) (λ t. refl)
 
@@ -103,7 +103,7 @@ module _ (book : List ℕ) (at : ℕ) where
   begins-are : IsField book at → (i : ℕ) → i < headLength → getD book (at + i) 0 ≡ getD (0x21 ∷ 0x00 ∷ 0x0a ∷ []) i 0
   begins-are f i h = sym (getD-drop at book i 0) ∙ sym (getD-take headLength (drop at book) i 0 h) ∙ ap (λ (l : List ℕ). getD l i 0) (f .begins)
 
-  -- The tests ask for what row 6 says: two bytes make 10 only as 00 0A.
+  -- The tests pass exactly where row 6 sees a field: two bytes make 10 only as 00 0A.
   pub tested-iff : IsTested book at ↔ IsField book at
   unfolding listOf
   tested-iff = (
@@ -117,11 +117,11 @@ module _ (book : List ℕ) (at : ℕ) where
     },
   )
 
-  -- A whole field is read exactly where a field stands.
+  -- `fieldAt` gives a whole field exactly where `IsField` holds.
   pub field-whole-iff : (fieldAt book at ≡ here) ↔ IsField book at
   field-whole-iff =
       (λ e. tested-iff .0 (field-whole-is (silenceAt book (at + headLength)) (fieldEnd at valueLength) e .0), λ f. field-is-whole (tested-iff .1 f) refl refl)
 
-  -- Row 6 of one field: it is faulty exactly where "13 bytes beginning 21 00 0A hex" do not stand, whole.
+  -- Row 6 for one field: it is faulty exactly where no whole "13 bytes beginning 21 00 0A hex" stand.
   pub field-faulty-iff : (fieldAt book at ≡ faulty) ↔ (IsField book at → ⊥)
   field-faulty-iff = (λ e f. faulty-not-whole (sym e ∙ field-whole-iff .1 f), λ no. field-is-faulty (λ t. no (tested-iff .0 t)))

@@ -1,5 +1,5 @@
--- Reading as a walk: from a byte offset whole fields are read, each above the one before it, as far as an offset where reading stops (`FieldsRead`). It
--- stops at the book's end, at a faulty field, or at a record that isn't above the last (`ReadsAs`), and these three fix what `readFrom` gives.
+-- Reading as a walk. From a byte offset whole fields are read, each above the one before it, up to an offset where reading stops (`FieldsRead`). It stops at
+-- the book's end, at a faulty field, or at a record that isn't above the last (`ReadsAs`). `readFrom` gives what this walk gives (`reads-as`, `reads-as-is`).
 use Prim.Native.Nat.{ℕ, _+_, _≤_, _<_}
 use mathlib.Core.Logic.{⊎-elim}
 use mathlib.Core.Path.{_≡_, refl, ap, subst, _∙_}
@@ -19,13 +19,13 @@ use Rattle.silences.proofs.FieldInduction.{field-induction}
 use Rattle.silences.proofs.ReadFrom.{readFrom-end, readFrom-faulty, readFrom-not-above, readFrom-above}
 use Rattle.silences.proofs.AscendingAfter.{lastAfter}
 
--- From `at` to `stop` whole fields of these silences are read, each above the one before it, the first above `last`.
+-- From `at` to `stop` the book has whole fields of these silences, each above the one before it, the first above `last`.
 pub data FieldsRead (book : List ℕ) : Option Silence → ℕ → List Silence → ℕ → Type 0 where
   none-read : {last : Option Silence} {at : ℕ} → FieldsRead book last at [] at
   one-read : {last : Option Silence} {at : ℕ} {s : Silence} {next : ℕ} {ss : List Silence} {stop : ℕ} → fieldAt book at ≡ whole s next → isAbove last s ≡ true
       → FieldsRead book (some s) next ss stop → FieldsRead book last at (s ∷ ss) stop
 
--- Where reading from `at` stops, and what it then gives.
+-- What reading from `at` gives, by where it stops: at the book's end, at a faulty field, or at a record that isn't above the last.
 pub data ReadsAs (book : List ℕ) (last : Option Silence) (at : ℕ) : Answer (List Silence) → Type 0 where
   read-all : {ss : List Silence} {stop : ℕ} → FieldsRead book last at ss stop → length book ≤ stop → ReadsAs book last at (accepted ss)
   stopped-faulty : {ss : List Silence} {stop : ℕ} → FieldsRead book last at ss stop → stop < length book → fieldAt book stop ≡ faulty
@@ -33,12 +33,12 @@ pub data ReadsAs (book : List ℕ) (last : Option Silence) (at : ℕ) : Answer (
   stopped-order : {ss : List Silence} {stop : ℕ} {s : Silence} {next : ℕ} → FieldsRead book last at ss stop → fieldAt book stop ≡ whole s next
       → isAbove (lastAfter last ss) s ≡ false → ReadsAs book last at (refused (NotAbove stop))
 
--- silences before those read, where they are accepted
+-- puts silences in front of those read; a refusal stays as it is
 abbrev beforeAll : List Silence → Answer (List Silence) → Answer (List Silence)
 beforeAll [] a = a
 beforeAll (s ∷ ss) a = before s (beforeAll ss a)
 
--- where there is nothing more, they are the silences themselves
+-- in front of no silences they are all
 beforeAll-accepted : (ss : List Silence) → beforeAll ss (accepted []) ≡ accepted ss
 beforeAll-accepted [] = refl
 beforeAll-accepted (s ∷ ss) = ap (before s) (beforeAll-accepted ss)
@@ -48,13 +48,13 @@ beforeAll-refused : (ss : List Silence) (r : Refusal) → beforeAll ss (refused 
 beforeAll-refused [] r = refl
 beforeAll-refused (s ∷ ss) r = ap (before s) (beforeAll-refused ss r)
 
--- One field more after those read, above the last of them.
+-- If the field where the walk stands is whole and above the last, the walk goes one field further.
 pub read-more : {book : List ℕ} {last : Option Silence} {at : ℕ} {ss : List Silence} {stop : ℕ} {s : Silence} {next : ℕ} → FieldsRead book last at ss stop
     → fieldAt book stop ≡ whole s next → isAbove (lastAfter last ss) s ≡ true → FieldsRead book last at (ss ++ s ∷ []) next
 read-more none-read e above = one-read e above none-read
 read-more (one-read e′ above′ more) e above = one-read e′ above′ (read-more more e above)
 
--- There are no more fields than bytes.
+-- A walk meets no more fields than there are bytes from `at` on.
 pub read-length-le : {book : List ℕ} {last : Option Silence} {at : ℕ} {ss : List Silence} {stop : ℕ} → FieldsRead book last at ss stop
     → at ≤ length book → at + length ss ≤ length book
 read-length-le none-read h = omega arith
@@ -70,13 +70,13 @@ reads-before e above (stopped-faulty f h n) = stopped-faulty (one-read e above f
 reads-before e above (stopped-order f n o) = stopped-order (one-read e above f) n o
 
 module _ (book : List ℕ) where
-  -- past fields that were read the rest is read on
+  -- `readFrom` gives the silences of the fields read, and then what it reads from where they end
   read-on : {last : Option Silence} {at : ℕ} {ss : List Silence} {stop : ℕ} → FieldsRead book last at ss stop
       → readFrom book last at ≡ beforeAll ss (readFrom book (lastAfter last ss) stop)
   read-on none-read = refl
   read-on (one-read {last = last} {at = at} {s = s} e above more) = readFrom-above book last at e above ∙ ap (before s) (read-on more)
 
-  -- What the walk gives is what `readFrom` gives.
+  -- If the walk gives `a`, then `readFrom` gives `a`.
   pub reads-as-is : {last : Option Silence} {at : ℕ} {a : Answer (List Silence)} → ReadsAs book last at a → readFrom book last at ≡ a
   reads-as-is (read-all {ss = ss} {stop = stop} f h) = read-on f ∙ ap (beforeAll ss) (readFrom-end book _ stop h) ∙ beforeAll-accepted ss
   reads-as-is (stopped-faulty {ss = ss} {stop = stop} f h n) = read-on f ∙ ap (beforeAll ss) (readFrom-faulty book _ stop h n) ∙ beforeAll-refused ss (Field stop)
@@ -106,6 +106,6 @@ module _ (book : List ℕ) where
       field-induction book (λ (at : ℕ). (last : Option Silence) → ReadsAs book last at (readFrom book last at))
       (λ at more last. ⊎-elim (walk-end last at) (walk-field last at (λ s next e. more s next e (some s))) (le-or-lt (length book) at))
 
-  -- And what `readFrom` gives is what the walk gives.
+  -- If `readFrom` gives `a`, then the walk gives `a`.
   pub reads-as : (last : Option Silence) (at : ℕ) (a : Answer (List Silence)) → readFrom book last at ≡ a → ReadsAs book last at a
   reads-as last at a e = subst (ReadsAs book last at) e (walk at last)

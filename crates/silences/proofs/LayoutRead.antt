@@ -1,5 +1,5 @@
--- The fields that are read are the layout of their silences, which ascend and are in range (`read-fine`), and such a layout is read (`fine-read`): field by field,
--- by the two laws of FieldBytes. The first way the book's elements have to be bytes, the second way the silences have to be in range.
+-- Fields read from the first byte are the layout of their silences, which ascend and are in range (`read-fine`). Conversely such a layout is read
+-- (`fine-read`). Field by field, by the two laws of FieldBytes. The first direction requires that the book's elements are bytes.
 use Prim.Native.Nat.{ℕ, _+_, _*_}
 use mathlib.Core.Path.{_≡_, refl, sym, ap, subst, _∙_}
 use mathlib.Core.List.{List, [], _∷_, _++_, append-assoc}
@@ -21,7 +21,7 @@ use Rattle.silences.proofs.FieldsRead.{FieldsRead, none-read, one-read}
 pub layout-length : (ss : List Silence) → length (layout ss) ≡ fieldLength * length ss
 layout-length = each-length fieldOf fieldLength field-length
 
--- The silences that are read ascend.
+-- The silences that are read ascend, the first above `last`.
 pub read-ascends : {book : List ℕ} {last : Option Silence} {at : ℕ} {ss : List Silence} {stop : ℕ} → FieldsRead book last at ss stop → AscendingAfter last ss
 read-ascends none-read = tt
 read-ascends (one-read e above more) = (above, read-ascends more)
@@ -50,7 +50,7 @@ module _ (book : List ℕ) (bytes : IsBytes book) where
       ∙ ap (λ (l : List ℕ). fieldOf s ++ l) (read-bytes-are more)
       ∙ sym (append-assoc (fieldOf s) (layout ss) (drop stop book))
 
-  -- Fields that are read from the book's first byte are fine.
+  -- If fields are read from the first byte up to `stop`, everything before `stop` is fine.
   pub read-fine : {ss : List Silence} {stop : ℕ} → FieldsRead book none 0 ss stop → IsFineBefore book stop ss
   read-fine {ss} {stop} f =
       let offset-is : stop ≡ length (layout ss) = omega (arith, read-stop-is f) in
@@ -76,7 +76,7 @@ layout-read (s ∷ ss) last book rest at stop in-range ascends laid is-stop =
     (layout-read ss (some s) book rest (at + length (fieldOf s)) stop (in-range .1) (ascends .1) laid-next
     (omega (arith, length-append (fieldOf s) (layout ss))))
 
--- Fine ones are read, from the book's first byte.
+-- If everything before `at` is fine, reading from the first byte reads those silences up to `at`.
 pub fine-read : (book : List ℕ) (ss : List Silence) (at : ℕ) → IsFineBefore book at ss → FieldsRead book none 0 ss at
 fine-read book ss at f =
     layout-read ss none book (drop at book) 0 at (f .in-range) (ascending-after-iff ss .0 (f .ascending))

@@ -1,5 +1,13 @@
--- Laws of silences and books, and the laws that the functions' proofs cite. Read AcceptedIsLayout, NamesIff, ZeroIsOrdinary,
--- BookRows, PackRows, RoundTrips and OneAnswer first: they are the theorems, and their heads name what they rest on. Below each group stands on those before it.
+-- The theorems about silences and books, and the laws that the proofs of functions cite. A function's own proof is in a folder by its file and name, as
+-- field/field_at/Proof.antt. The theorems to read first (their heads name what they use):
+--
+--   AcceptedIsLayout            which books are accepted
+--   NamesIff, ZeroIsOrdinary    which addresses silences name
+--   BookRows, PackRows, UnpackRows    when each refusal is given, and where
+--   RoundTrips                  packing and unpacking undo each other
+--   OneAnswer                   each contract has one answer
+--
+-- The modules below stand in groups; a group uses only itself and those before it.
 
 -- the order of silences
 pub mod SilenceOrder
@@ -7,17 +15,17 @@ pub mod StrictOrder
 pub mod AscendingAfter
 pub mod NamesIff
 pub mod ZeroIsOrdinary
--- one field: where it ends, what row 6 says of it, its bytes and its silence
+-- one field: the test of row 6, its bytes and its silence, induction from field to field
 pub mod FieldTest
 pub mod FieldBytes
 pub mod FieldInduction
--- reading: its equations, the walk from field to field, its rows, and that a book is accepted exactly when it is a layout
+-- reading: its equations, the walk from field to field, its rows, and which books are accepted
 pub mod ReadFrom
 pub mod FieldsRead
 pub mod LayoutRead
 pub mod BookRows
 pub mod AcceptedIsLayout
--- the rows of packing and unpacking, the areas at exit and the round trips
+-- packing and unpacking: words and silences, the rows, the lent area at exit, the round trips
 pub mod WordsOfSilences
 pub mod RecordsPacked
 pub mod RecordRows
@@ -25,5 +33,5 @@ pub mod PackRows
 pub mod UnpackRows
 pub mod AreaAtExit
 pub mod RoundTrips
--- each of the functions has one answer
+-- each function has one answer
 pub mod OneAnswer

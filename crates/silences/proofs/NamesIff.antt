@@ -1,5 +1,5 @@
--- A list of silences names an address, by the test, exactly when one of its silences is that cell, ring number and start. Silence by silence: the
--- first one is the address, or the rest names it.
+-- The test `names` passes exactly when some silence of the list has that cell, ring number and start (`Names`). By induction over the list: the first silence
+-- is the address, or the rest names it.
 use Prim.Native.Nat.{ℕ}
 use mathlib.Core.Logic.{_↔_}
 use mathlib.Core.Path.{_≡_, refl, sym, ap, _∙_}
@@ -30,7 +30,7 @@ module _ (cell ringNumber start : ℕ) where
         start-is = ap (λ (t : Silence). t .start) e;
       }
 
-  -- what the test finds named is named
+  -- if the test passes, the list names the address
   names-yes : (ss : List Silence) → names ss cell ringNumber start ≡ true → Names ss cell ringNumber start
   unfolding names address
   names-yes [] e = absurd (false≢true e)
@@ -41,13 +41,13 @@ module _ (cell ringNumber start : ℕ) where
       go true h more e′ = names-head s ss (isSame-iff s address .0 h)
       go false h more e′ = names-tail s ss (more e′)
 
-  -- a silence that stands in the list, and is the address, is found
+  -- if the address stands in the list, the test passes
   names-of : {s : Silence} {ss : List Silence} → List·Memᴰ s ss → s ≡ address → names ss cell ringNumber start ≡ true
   unfolding names address
   names-of (List·Memᴰ·head e) is = rw (sym e ∙ is, isSame-iff address address .1 refl)
   names-of (List·Memᴰ·tail {x = x} m) is = rw (names-of m is) (or-true (isSame x address))
 
-  -- The test is the proposition.
+  -- The test `names` passes exactly when the proposition `Names` holds.
   pub names-iff : (ss : List Silence) → (names ss cell ringNumber start ≡ true) ↔ Names ss cell ringNumber start
   unfolding address
   names-iff ss = (names-yes ss, λ n. names-of (n .among) (λ i. record { cell = n .cell-is i; ringNumber = n .ring-number-is i; start = n .start-is i }))

@@ -1,5 +1,5 @@
--- Any two answers of a function on silences that meet its contract are equal: a law for each. Where the contract is an equation with the answer itself,
--- both answers are its other side; what a case of `Sought` stands for is read back by `soughtBack`.
+-- Each function's contract has one answer: any two answers that meet it are equal. One law for each function. The contracts of the three tests are equations
+-- for the answer itself. The contract of `field_at` is an equation for `soughtOf r`, which determines `r` (`sought-unique`).
 use Prim.Native.Nat.{ℕ}
 use mathlib.Core.Path.{_≡_, refl, sym, ap, _∙_}
 use mathlib.Core.Bool.{Bool}
@@ -12,17 +12,17 @@ use Rattle.silences.specs.Silences.{isBelow, isSame, isAbove}
 use Rattle.silences.specs.Reading.{FieldAt, whole, faulty, fieldAt}
 use Rattle.silences.specs.Addresses.{silenceOf, lastOf, soughtOf}
 
--- the case that a field comes from
+-- the inverse of `soughtOf`
 abbrev soughtBack : FieldAt → Sought
 soughtBack (whole s next) = Field (record { cell = s .cell; «ring_number» = s .ringNumber; start = s .start }) next
 soughtBack faulty = Nothing
 
--- it is read back
+-- it gives the `Sought` back
 sought-back : (r : Sought) → soughtBack (soughtOf r) ≡ r
 sought-back (Field address next) = refl
 sought-back Nothing = refl
 
--- The field determines what was sought.
+-- A `Sought` is determined by its field.
 pub sought-unique : (r r′ : Sought) → soughtOf r ≡ soughtOf r′ → r ≡ r′
 sought-unique r r′ e = sym (sought-back r) ∙ ap soughtBack e ∙ sought-back r′
 

@@ -1,5 +1,5 @@
--- When packing words gives row 8, 9, 7 or 10, and when it is accepted: row 8 exactly for a wrong number of words; else what the records give
--- (RecordRows), and row 10 exactly where they give nothing and there is too little room. By the laws of a list of rows (RowsExactly of the answers).
+-- When packing gives row 8, 9, 7 or 10, and when it is accepted: row 8 exactly for a wrong number of words; else row 9 or 7 exactly for a faulty record
+-- (RecordRows); else row 10 exactly for too little room. By the laws of lists of rows (RowsExactly of crates/answers).
 use Prim.Native.Nat.{ℕ, _%_, _≤_, _<_}
 use mathlib.Core.Logic.{_⊎_, inl, inr, ⊎-elim, _↔_, Iff·rfl, Iff·trans}
 use mathlib.Core.Path.{_≡_, refl, sym, ap, _∙_}
@@ -21,16 +21,16 @@ use Rattle.silences.specs.Packing.{recordWords, mostWords, silencesOf, i
 use Rattle.silences.specs.Rows.{HasWordCount, IsRingFault, IsRecordFault, IsPackable}
 use Rattle.silences.proofs.RecordRows.{records-have, records-none-iff, records-9-iff, records-7-iff}
 
--- The words to pack "aren't a multiple of 3, or exceed 3,000": row 8.
+-- Row 8: the words to pack "aren't a multiple of 3, or exceed 3,000".
 abbrev pub HasWrongCount : List ℕ → Type 0
 HasWrongCount words = (length words % recordWords ≡ 0 → ⊥) ⊎ (mostWords < length words)
 
--- Row 10, of packing and unpacking.
+-- Row 10, for packing and unpacking: given exactly if there is less room than the output has elements.
 pub is-room-row : (output : List ℕ) (room : ℕ) → IsRow (roomRow output room) OutputRoom (room < length output) (length output ≤ room)
 is-room-row output room = is-row (lt-iff room (length output)) (λ enough short. omega arith) (λ not. omega arith)
 
 module _ (words : List ℕ) (room : ℕ) where
-  -- Row 8: its test.
+  -- Row 8 is given exactly for a wrong number of words, and not given exactly for a right one.
   pub is-row-8 : IsRow (row (isRow8 words) WordCount) WordCount (HasWrongCount words) (HasWordCount words)
   is-row-8 =
       is-row (or-iff (not-iff (eq-iff (length words % recordWords) 0)) (lt-iff mostWords (length words)))
@@ -42,44 +42,44 @@ module _ (words : List ℕ) (room : ℕ) where
         words-le = omega arith;
       })
 
-  -- Row 10: its test.
+  -- Row 10 is given exactly if there is less room than the book of these words has bytes.
   pub is-row-10 : IsRow (roomRow (layout (silencesOf words)) room) OutputRoom (room < length (layout (silencesOf words))) (length (layout (silencesOf words)) ≤ room)
   is-row-10 = is-room-row (layout (silencesOf words)) room
 
-  -- What holds of rows 8, 9, 7 and 10 holds of the row that is given: packing gives no other.
+  -- What holds of rows 8, 9, 7 and 10 holds of the first row that is given: packing gives no other.
   pub pack-has : (P : Refusal → Type 0) → P WordCount → ((j : ℕ) → P (RingNumber j)) → ((j : ℕ) → P (NotAbove j)) → P OutputRoom
       → (q : Refusal) → packRefusal words room ≡ some q → P q
   unfolding packRows
   pack-has P eight nine seven ten = first-has (row-has is-row-8 eight (each (records-have words P nine seven) (row-has is-row-10 ten end)))
 
-  -- Row 8, exactly when the words "aren't a multiple of 3, or exceed 3,000".
+  -- Row 8 is the first row given exactly when the words "aren't a multiple of 3, or exceed 3,000".
   pub pack-8-iff : (packRefusal words room ≡ some WordCount) ↔ HasWrongCount words
   unfolding packRows
   pack-8-iff = at-row is-row-8 (each (records-have words (OtherNumber WordCount) (λ j e. omega arith) (λ j e. omega arith)) (row-has is-row-10 (λ e. omega arith) end)) .exactly
 
-  -- Row 9 at a record number, exactly when row 8 is not given and the first faulty record's ring number is above 65,535.
+  -- Row 9 is given at record number j exactly when row 8 is not given, all records before j are fine, and the ring number of record j is above 65,535.
   pub pack-9-iff : (j : ℕ) → (packRefusal words room ≡ some (RingNumber j)) ↔ (HasWordCount words × IsRingFault words j)
   unfolding packRows
   pack-9-iff j = past-row is-row-8 (λ e. omega arith) (at-fault (records-9-iff words j) (row-has is-row-10 (λ e. omega arith) end)) .exactly
 
-  -- Row 7 at a record number, exactly when row 8 is not given and the first faulty record isn't above the one before it.
+  -- Row 7 is given at record number j exactly when row 8 is not given, all records before j are fine, and row 7's fault is at record j (`IsRecordFault`).
   pub pack-7-iff : (j : ℕ) → (packRefusal words room ≡ some (NotAbove j)) ↔ (HasWordCount words × IsRecordFault words j)
   unfolding packRows
   pack-7-iff j = past-row is-row-8 (λ e. omega arith) (at-fault (records-7-iff words j) (row-has is-row-10 (λ e. omega arith) end)) .exactly
 
-  -- The first faulty record's row, where row 8 is not given.
+  -- If row 8 is not given and the first faulty record has refusal q, then q is given.
   pub pack-fault : HasWordCount words → (q : Refusal) → recordFault words ≡ some q → packRefusal words room ≡ some q
   unfolding packRows firstGiven
   pack-fault right q e = rw (is-row-8 .no .1 right, e)
 
-  -- None of rows 8, 9 and 7 is given exactly when the words can be packed.
+  -- Row 8 is not given and no record is faulty exactly when the words can be packed. P is carried along on both sides.
   pub packable-iff : {P : Type 0} → (HasWordCount words × ((recordFault words ≡ none) × P)) ↔ (IsPackable words × P)
   packable-iff = (
     λ h. let fine = records-none-iff words .0 (h .1 .0) in (record { word-count = h .0; ring-numbers = fine .0; ascending = fine .1 }, h .1 .1),
     λ h. (h .0 .word-count, (records-none-iff words .1 (h .0 .ring-numbers, h .0 .ascending), h .1)),
   )
 
-  -- Row 10, exactly when the words can be packed and there is less room than for their book.
+  -- Row 10 is given exactly when the words can be packed and there is less room than their book has bytes.
   pub pack-10-iff : (packRefusal words room ≡ some OutputRoom) ↔ (IsPackable words × (room < length (layout (silencesOf words))))
   unfolding packRows
   pack-10-iff =
@@ -93,7 +93,7 @@ module _ (words : List ℕ) (room : ℕ) where
   unfolding packRows
   pack-none-iff = Iff·trans (no-row is-row-8 (no-fault Iff·rfl (no-last-row is-row-10)) .exactly) packable-iff
 
-  -- Packing is accepted exactly then, and it gives their silences.
+  -- Packing is accepted with `ss` exactly when the words can be packed, `ss` are their silences, and there is room for the layout of `ss`.
   pub packed-accepted-iff : (ss : List Silence)
       → (packed words room ≡ accepted ss) ↔ (IsPackable words × (ss ≡ silencesOf words) × (length (layout ss) ≤ room))
   unfolding packed

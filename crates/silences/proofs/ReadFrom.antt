@@ -1,5 +1,6 @@
--- The two equations of `readFrom`: at the end nothing is read, before it one field and then the rest. Its count of bytes left never runs out before the end
--- (`count-step`), so nothing after this file looks at it. Then the same by what the field is, and of a whole book: row 5 comes before all others.
+-- The two equations of `readFrom`: at the book's end nothing is read (`readFrom-end`); before it one field, and then the rest (`readFrom-step`). The count of
+-- bytes left never runs out before the end (`count-step`), so nothing after this file uses it. Then an equation for each case of the field: faulty, not above
+-- the last, above it. And two for a whole book: row 5 comes before all others.
 use Prim.Native.Nat.{ℕ, zero, suc, _-_, _≤_, _<_}
 use mathlib.Core.Path.{_≡_, refl, _∙_}
 use mathlib.Core.Bool.{Bool, true, false, cond}
@@ -42,29 +43,29 @@ module _ (book : List ℕ) where
     unfolding readFrom
     readFrom-end h = fields-end (length book - at) last at h
 
-    -- Before it the field at `at` is read, and then the rest from just past it.
+    -- Before the book's end the field at `at` is read, and then the rest from just past it.
     pub readFrom-step : at < length book → readFrom book last at ≡ readField last at (fieldAt book at) (readFrom book)
     unfolding readFrom fieldsFrom
     readFrom-step h =
         count-step book readStep (λ left l i. fieldsFrom left book l i) read-goes-on (λ left l i. refl) fields-end last at
         ∙ rw (lt-leb (length book) at h)
 
-    -- Row 6: a faulty field.
+    -- A faulty field is refused by row 6 at its byte offset.
     pub readFrom-faulty : at < length book → fieldAt book at ≡ faulty → readFrom book last at ≡ refused (Field at)
     readFrom-faulty h e = readFrom-step h ∙ rw e
 
     module _ {s : Silence} {next : ℕ} (e : fieldAt book at ≡ whole s next) where
-      -- a whole field, by its order
+      -- a whole field, by whether its record is above the last
       read-whole : (t : Bool) → isAbove last s ≡ t → readFrom book last at ≡ cond t (before s (readFrom book (some s) next)) (refused (NotAbove at))
       read-whole t above =
           let ends : (at < next) × (next ≤ length book) = field-ends book at s next e in
           readFrom-step (omega arith) ∙ rw (e, above)
 
-      -- Row 7: a whole field whose record is not above the last.
+      -- A whole field whose record is not above the last is refused by row 7 at its byte offset.
       pub readFrom-not-above : isAbove last s ≡ false → readFrom book last at ≡ refused (NotAbove at)
       readFrom-not-above above = read-whole false above
 
-      -- One that is above it is read, and then the rest.
+      -- A whole field whose record is above the last gives its silence, and then the rest is read.
       pub readFrom-above : isAbove last s ≡ true → readFrom book last at ≡ before s (readFrom book (some s) next)
       readFrom-above above = read-whole true above
 
@@ -73,7 +74,7 @@ module _ (book : List ℕ) where
   unfolding readBook bookRows firstGiven
   readBook-long long = rw (lt-ltb mostBytes (length book) long)
 
-  -- Any other is read field by field.
+  -- A book of at most 13,000 bytes is read field by field from its first byte.
   pub readBook-fields : length book ≤ mostBytes → readBook book ≡ readFrom book none 0
   unfolding readBook bookRows firstGiven
   readBook-fields short = rw (le-ltb mostBytes (length book) short) (same (readFrom book none 0))

@@ -1,5 +1,6 @@
--- The rows of the records to pack, "each record 9 before 7": each record is fine, above the one before it and its ring number not above 65,535, as far as one that
--- is not, whose row 9, or else row 7, is the first that is given (`PacksAs`). The three ways fix the first row, by its equation for each way.
+-- The rows of the records to pack, "each record 9 before 7", as a walk. A record is fine if its ring number is not above 65,535 and it is above the one before
+-- it. Either all records are fine and no row is given, or the first one that is not gives row 9, or else row 7 (`PacksAs`). The first row that is given is the
+-- one that this walk gives (`packs-as`, `packs-as-is`).
 use Prim.Native.Nat.{ℕ, suc, _+_, _≤_, _<_}
 use mathlib.Core.Path.{_≡_, refl, sym, ap, subst, _∙_}
 use mathlib.Core.Bool.{Bool, true, false}
@@ -18,7 +19,7 @@ use Rattle.silences.specs.Packing.{mostRingNumber, recordRows}
 use Rattle.silences.specs.Rows.{AllRingNumbers}
 use Rattle.silences.proofs.AscendingAfter.{AscendingAfter, lastAfter}
 
--- The record of number `j` among records from number `i` on, and the fine ones before it.
+-- `s` is record number `j` of the records `ss`, which are numbered from `i` on, and `fine` are those before it: they are fine.
 pub record RecordStands (last : Option Silence) (i : ℕ) (ss fine : List Silence) (j : ℕ) (s : Silence) : Type 0 where
   pub later : List Silence
   pub records-are : ss ≡ fine ++ s ∷ later
@@ -26,7 +27,7 @@ pub record RecordStands (last : Option Silence) (i : ℕ) (ss fine : List Silenc
   pub ring-numbers : AllRingNumbers fine
   pub ascends : AscendingAfter last fine
 
--- The first row that records from number `i` on give, if one is given, and where.
+-- The first row that the records `ss` give: none if all are fine, else row 9 or row 7 at the first that is not. They are numbered from `i` on, after `last`.
 pub data PacksAs (last : Option Silence) (i : ℕ) (ss : List Silence) : Option Refusal → Type 0 where
   packed-all : AllRingNumbers ss → AscendingAfter last ss → PacksAs last i ss none
   stopped-ring : {fine : List Silence} {j : ℕ} {s : Silence} → RecordStands last i ss fine j s → mostRingNumber < s .ringNumber
@@ -35,13 +36,13 @@ pub data PacksAs (last : Option Silence) (i : ℕ) (ss : List Silence) : Option 
       → isAbove (lastAfter last fine) s ≡ false
       → PacksAs last i ss (some (NotAbove j))
 
--- One record more after them, its ring number not above 65,535.
+-- If no ring number is above 65,535, none is with one record more whose ring number is not above it.
 pub ring-numbers-more : (ss : List Silence) (s : Silence) → AllRingNumbers ss → s .ringNumber ≤ mostRingNumber → AllRingNumbers (ss ++ s ∷ [])
 ring-numbers-more [] s rings h = (h, tt)
 ring-numbers-more (t ∷ ss) s rings h = (rings .0, ring-numbers-more ss s (rings .1) h)
 
 module _ (last : Option Silence) (i : ℕ) where
-  -- the first row of records
+  -- the first row that records give
   abbrev first : List Silence → Option Refusal
   first ss = firstGiven (recordRows last i ss)
 
@@ -62,7 +63,7 @@ module _ (last : Option Silence) (i : ℕ) where
       unfolding recordRows firstGiven
       first-step above = rw (le-ltb mostRingNumber (s .ringNumber) low, above)
 
-      -- the walk after a record that is fine
+      -- a record further on, seen from a fine record before it
       stands-before : {fine : List Silence} {j : ℕ} {t : Silence} → isAbove last s ≡ true → RecordStands (some s) (suc i) ss fine j t
           → RecordStands last i (s ∷ ss) (s ∷ fine) j t
       stands-before above r =
@@ -74,7 +75,7 @@ module _ (last : Option Silence) (i : ℕ) where
             ascends = (above, r .ascends);
           }
 
-      -- and what it gives
+      -- what the walk gives, seen from a fine record before it
       packs-before : {o : Option Refusal} → isAbove last s ≡ true → PacksAs (some s) (suc i) ss o → PacksAs last i (s ∷ ss) o
       packs-before above (packed-all rings ascends) = packed-all (low, rings) (above, ascends)
       packs-before above (stopped-ring r g) = stopped-ring (stands-before above r) g
@@ -98,7 +99,7 @@ unfolding recordRows firstGiven
 walk last i [] = packed-all tt tt
 walk last i (s ∷ ss) = walk-record last i s ss (walk (some s) (suc i) ss)
 
--- The first row that is given is what the walk gives.
+-- If the first row that the records give is o, then the walk gives o.
 pub packs-as : (last : Option Silence) (i : ℕ) (ss : List Silence) (o : Option Refusal) → firstGiven (recordRows last i ss) ≡ o → PacksAs last i ss o
 packs-as last i ss o e = subst (PacksAs last i ss) e (walk last i ss)
 
@@ -116,7 +117,7 @@ stands-on {last} {i} {fine = fine} {j = j} {s = s} r =
     ap (λ (l : List Silence). firstGiven (recordRows last i l)) (r .records-are)
     ∙ pack-on fine (s ∷ r .later) last i j (r .ring-numbers) (r .ascends) (r .number-is)
 
--- And what the walk gives is the first row that is given.
+-- If the walk gives o, then o is the first row that the records give.
 pub packs-as-is : {last : Option Silence} {i : ℕ} {ss : List Silence} {o : Option Refusal} → PacksAs last i ss o → firstGiven (recordRows last i ss) ≡ o
 unfolding recordRows firstGiven
 packs-as-is {last} {i} {ss} (packed-all rings ascends) =

@@ -1,5 +1,5 @@
--- Round trips, of the definitions: what packing accepts, unpacking accepts and gives back, word for word; what unpacking accepts, packing writes back,
--- byte for byte. Each way it is the book of one list of silences (AcceptedIsLayout), whose words and whose layout undo each other.
+-- Round trips of the definitions: words that packing accepts come back from unpacking, word for word; a book that unpacking accepts comes back from packing,
+-- byte for byte. Both ways the book is the layout of one list of silences (AcceptedIsLayout), which have the words (WordsOfSilences).
 use Prim.Native.Nat.{ℕ, _*_, _≤_}
 use mathlib.Core.Path.{_≡_, refl, sym, ap, subst, _∙_}
 use mathlib.Core.List.{List}
@@ -17,7 +17,7 @@ use Rattle.silences.proofs.WordsOfSilences.{words-length, silences-of-w
 use Rattle.silences.proofs.UnpackRows.{unpacked-accepted-iff}
 use Rattle.silences.proofs.PackRows.{packed-accepted-iff}
 
--- Words that can be packed are the words of the book that is laid out.
+-- If the words can be packed, the layout of their silences is the book of those silences.
 pub packable-book : (words : List ℕ) → IsWords words → IsPackable words → IsBook (silencesOf words) (layout (silencesOf words))
 packable-book words w p =
     record {
@@ -37,7 +37,7 @@ book-packable ss book b =
       ascending = subst Ascending same (b .ascending);
     }
 
--- What packing accepts and lays out, unpacking accepts, given room, with the same silences.
+-- If packing the words gives `ss`, unpacking the layout of `ss` gives `ss`, given room for as many words.
 pub packed-unpacked : (words : List ℕ) (room room′ : ℕ) (ss : List Silence) → IsWords words → packed words room ≡ accepted ss → length words ≤ room′
     → unpacked (layout ss) room′ ≡ accepted ss
 packed-unpacked words room room′ ss w e fits =
@@ -46,7 +46,7 @@ packed-unpacked words room room′ ss w e fits =
     let words-are : recordWords * length (silencesOf words) ≡ length words = silences-length words (a .0 .word-count .multiple) in
     unpacked-accepted-iff (layout ss) room′ ss .1 (book-accepted (layout ss) ss b, omega (arith, words-length ss, ap (λ (l : List Silence). length l) (a .1)))
 
--- And they are the words, word for word.
+-- If packing the words gives `ss`, the words of `ss` are those words.
 pub packed-words-are : (words : List ℕ) (room : ℕ) (ss : List Silence) → packed words room ≡ accepted ss → wordsOfSilences ss ≡ words
 packed-words-are words room ss e =
     let a : IsPackable words × (ss ≡ silencesOf words) × (length (layout ss) ≤ room) = packed-accepted-iff words room ss .0 e in
@@ -57,12 +57,12 @@ module _ (book : List ℕ) (bytes : IsBytes book) (room : ℕ) (ss : List Silenc
   unpacked-book : IsBook ss book
   unpacked-book = accepted-iff book ss bytes .0 (unpacked-accepted-iff book room ss .0 e .0)
 
-  -- What unpacking accepts and writes, packing accepts, given room, with the same silences.
+  -- If unpacking a book gives `ss`, packing the words of `ss` gives `ss`, given room for as many bytes.
   pub unpacked-packed : (room′ : ℕ) → length book ≤ room′ → packed (wordsOfSilences ss) room′ ≡ accepted ss
   unpacked-packed room′ fits =
       packed-accepted-iff (wordsOfSilences ss) room′ ss .1
       (book-packable ss book unpacked-book, sym (silences-of-words ss), omega (arith, ap length (unpacked-book .laid-out)))
 
-  -- And their layout is the book, byte for byte.
+  -- If unpacking a book gives `ss`, the layout of `ss` is the book.
   pub unpacked-layout-is : layout ss ≡ book
   unpacked-layout-is = sym (unpacked-book .laid-out)

@@ -1,4 +1,4 @@
--- The tests on silences mean what they say: `isBelow` the order, `isSame` equality. Each is put together from its comparisons (SizesTested of the lists).
+-- What the tests on silences decide: `isBelow` the order `Below`, `isSame` equality. Each from its comparisons of numbers (SizesTested of crates/lists).
 use Prim.Native.Nat.{_<_}
 use mathlib.Core.Logic.{_⊎_, inl, inr, ⊎-elim, _↔_, Iff·trans}
 use mathlib.Core.Path.{_≡_, ap}
@@ -10,7 +10,7 @@ use Rattle.lists.proofs.SizesTested.{lt-iff, eq-iff, and-iff, or-iff}
 use Rattle.silences.specs.Silences.{Silence, isBelow, Below, by-cell, by-ring-number, by-start, isSame}
 
 module _ (a b : Silence) where
-  -- The test is the order.
+  -- The test `isBelow` passes exactly when a is below b.
   pub isBelow-iff : (isBelow a b ≡ true) ↔ Below a b
   unfolding isBelow
   isBelow-iff =
@@ -26,7 +26,7 @@ module _ (a b : Silence) where
       first-that-differs (by-ring-number c r) = inr (c, inl r)
       first-that-differs (by-start c r s) = inr (c, inr (r, s))
 
-  -- In one cell and for one ring number the starts decide.
+  -- If the cells are equal and the ring numbers are equal, the starts decide.
   pub isBelow-start : a .cell ≡ b .cell → a .ringNumber ≡ b .ringNumber → isBelow a b ≡ ltb (a .start) (b .start)
   unfolding isBelow
   isBelow-start same-cell same-ring =
@@ -37,12 +37,12 @@ module _ (a b : Silence) where
         eq-eqb (a .ringNumber) (b .ringNumber) same-ring,
       )
 
-  -- Two silences are the same, by the test, exactly when their three numbers are.
+  -- The test `isSame` passes exactly when the three numbers are equal.
   pub same-numbers-iff : (isSame a b ≡ true) ↔ ((a .cell ≡ b .cell) × ((a .ringNumber ≡ b .ringNumber) × (a .start ≡ b .start)))
   unfolding isSame
   same-numbers-iff = and-iff (eq-iff (a .cell) (b .cell)) (and-iff (eq-iff (a .ringNumber) (b .ringNumber)) (eq-iff (a .start) (b .start)))
 
-  -- The test is equality.
+  -- The test `isSame` passes exactly when the silences are equal.
   pub isSame-iff : (isSame a b ≡ true) ↔ (a ≡ b)
   isSame-iff =
       Iff·trans same-numbers-iff (

@@ -1,5 +1,5 @@
--- The order of silences is strict and total: nothing is below itself, what is below a lower one is below, and of two silences that differ one is below
--- the other. Number by number, the first in which they differ deciding; then the same of the test.
+-- The order of silences is strict and total: no silence is below itself, the order is transitive, and of two silences that differ one is below the other. By
+-- cases of the first number in which they differ. Then the same for the test `isBelow`.
 use Prim.Native.Nat.{_≤_, _<_}
 use mathlib.Core.Logic.{_↔_}
 use mathlib.Core.Path.{_≡_, refl, sym, subst, _∙_}
@@ -14,7 +14,7 @@ below-irreflexive a (by-cell c) = omega arith
 below-irreflexive a (by-ring-number c r) = omega arith
 below-irreflexive a (by-start c r s) = omega arith
 
--- What is below a lower one is below.
+-- The order is transitive.
 pub below-trans : (a b c : Silence) → Below a b → Below b c → Below a c
 below-trans a b c (by-cell p) (by-cell q) = by-cell (omega arith)
 below-trans a b c (by-cell p) (by-ring-number q r) = by-cell (omega arith)
@@ -40,15 +40,15 @@ below-total a b not-ab not-ba =
     let start-is : a .start ≡ b .start = omega arith in
     λ i. record { cell = cell-is i; ringNumber = ring-is i; start = start-is i }
 
--- The test says no exactly where one is not below the other.
+-- The test `isBelow` fails exactly when a is not below b.
 pub not-below-iff : (a b : Silence) → (isBelow a b ≡ false) ↔ (Below a b → ⊥)
 not-below-iff a b = (λ e h. false≢true (sym e ∙ isBelow-iff a b .1 h), λ h. not-eq-not {b = false} .0 (λ e. h (isBelow-iff a b .0 e)))
 
--- What is above, the test does not find below.
+-- If b is below a, the test that a is below b fails.
 pub above-isBelow : (a b : Silence) → Below b a → isBelow a b ≡ false
 above-isBelow a b h = not-below-iff a b .1 (λ l. below-irreflexive a (below-trans a b a l h))
 
--- What differs from another and is not below it is above it.
+-- If a and b differ and a is not below b, then b is below a.
 pub above-of-not : (a b : Silence) → isBelow a b ≡ false → isSame a b ≡ false → Below b a
 above-of-not a b h d = go (isBelow b a) refl
   where
@@ -56,14 +56,14 @@ above-of-not a b h d = go (isBelow b a) refl
     go true e = isBelow-iff b a .0 e
     go false e = absurd (false≢true (sym d ∙ isSame-iff a b .1 (below-total a b (not-below-iff a b .0 h) (not-below-iff b a .0 e))))
 
--- What is below differs, either way round.
+-- If a is below b, the test `isSame` fails for a and b, and for b and a.
 pub below-not-same : (a b : Silence) → Below a b → (isSame a b ≡ false) × (isSame b a ≡ false)
 below-not-same a b h = (
   not-eq-not {b = false} .0 (λ e. below-irreflexive b (subst (λ (c : Silence). Below c b) (isSame-iff a b .0 e) h)),
   not-eq-not {b = false} .0 (λ e. below-irreflexive b (subst (λ (c : Silence). Below c b) (sym (isSame-iff b a .0 e)) h)),
 )
 
--- What is below one silence is below another that is not below that one: a field that was passed for an address is passed for any that is not below it.
+-- If s is below a and b is not below a, then s is below b. So a field that is passed in seeking a is passed in seeking b.
 pub below-not-below : (s a b : Silence) → Below s a → (Below b a → ⊥) → Below s b
 below-not-below s a b h not-below = go (isBelow a b) refl
   where
@@ -71,7 +71,7 @@ below-not-below s a b h not-below = go (isBelow a b) refl
     go true e = below-trans s a b h (isBelow-iff a b .0 e)
     go false e = subst (Below s) (below-total a b (not-below-iff a b .0 e) not-below) h
 
--- In one cell and for one ring number a silence whose start is not lower is not below.
+-- If a and b have equal cells and equal ring numbers and a's start is at most b's, then b is not below a.
 pub start-not-below : (a b : Silence) → a .cell ≡ b .cell → a .ringNumber ≡ b .ringNumber → a .start ≤ b .start → Below b a → ⊥
 start-not-below a b same-cell same-ring h (by-cell c) = omega arith
 start-not-below a b same-cell same-ring h (by-ring-number c r) = omega arith

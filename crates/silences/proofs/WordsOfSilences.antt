@@ -1,6 +1,6 @@
--- Words and silences undo each other: silences are records of three words, and a list of words that is a multiple of 3 is the words of its silences. A walk through the
--- words meets the silence of the next three (`silencesOf-step`), or none (`silencesOf-end`). By the laws of records of any width (Records of the lists). Where the words are
--- 32-bit words and no ring number is above 65,535, the silences are in range.
+-- Silences and their words determine each other: `silencesOf` and `wordsOfSilences` undo each other, on words whose number is a multiple of 3. A walk through
+-- the words meets the silence of the next three (`silencesOf-step`), or none (`silencesOf-end`). By the laws of records of any width (Records of crates/lists).
+-- If the words are 32-bit words and no ring number is above 65,535, the silences are in range.
 use Prim.Native.Nat.{ℕ, suc, _+_, _*_, _%_, _≤_, _<_}
 use mathlib.Core.Path.{_≡_, refl, sym, ap, _∙_}
 use mathlib.Core.List.{List, [], _∷_}
@@ -16,7 +16,7 @@ use Rattle.silences.specs.Silences.{Silence, silence, AllInRange}
 use Rattle.silences.specs.Packing.{silenceWords, wordsOfSilences, recordWords, silenceOfWords, silencesOf}
 use Rattle.silences.specs.Rows.{AllRingNumbers}
 
--- Three words for each silence.
+-- Silences have three words each.
 pub words-length : (ss : List Silence) → length (wordsOfSilences ss) ≡ recordWords * length ss
 words-length = each-length silenceWords recordWords (λ s. refl)
 
@@ -24,22 +24,22 @@ words-length = each-length silenceWords recordWords (λ s. refl)
 pub silences-of-words : (ss : List Silence) → silencesOf (wordsOfSilences ss) ≡ ss
 silences-of-words = records-of-words recordWords silenceOfWords (omega arith) silenceWords (λ s. refl) (λ s. refl)
 
--- The words of the silences of words are those words, if they are a multiple of 3.
+-- The words of the silences of words are those words, if their number is a multiple of 3.
 pub words-of-silences : (words : List ℕ) → length words % recordWords ≡ 0 → wordsOfSilences (silencesOf words) ≡ words
 unfolding listOf
 words-of-silences =
     words-of-records recordWords silenceOfWords (omega arith) silenceWords (λ l long. sym (listOf-is l recordWords (λ i. getD l i 0) long (λ p h. refl)))
 
--- There are a third as many silences.
+-- Words whose number is a multiple of 3 have a third as many silences.
 pub silences-length : (words : List ℕ) → length words % recordWords ≡ 0 → recordWords * length (silencesOf words) ≡ length words
 silences-length words h = sym (words-length (silencesOf words)) ∙ ap length (words-of-silences words h)
 
--- The silence of the words from word `at` on.
+-- The silence of the three words from word `at` on.
 abbrev pub silenceFrom : List ℕ → ℕ → Silence
 silenceFrom words at = silence (getD words at 0) (getD words (at + 1) 0) (getD words (at + 2) 0)
 
 module _ (words : List ℕ) (at : ℕ) where
-  -- Where a record's words are left, they are the next silence.
+  -- If three words are left at `at`, they are the next silence, and the rest follow.
   pub silencesOf-step : at + recordWords ≤ length words → silencesOf (drop at words) ≡ silenceFrom words at ∷ silencesOf (drop (at + recordWords) words)
   unfolding listOf
   silencesOf-step h =
@@ -47,7 +47,7 @@ module _ (words : List ℕ) (at : ℕ) where
       ∙ ap (λ (l : List ℕ). silenceOfWords l ∷ silencesOf (drop (at + recordWords) words)) (part-places words at recordWords h)
       ∙ ap (λ (n : ℕ). silence (getD words n 0) (getD words (at + 1) 0) (getD words (at + 2) 0) ∷ silencesOf (drop (at + recordWords) words)) (add-zero at)
 
-  -- Where fewer are left, there is none.
+  -- If fewer than three words are left, there is no silence more.
   pub silencesOf-end : length words < at + recordWords → silencesOf (drop at words) ≡ []
   silencesOf-end = records-end recordWords silenceOfWords (omega arith) words at
 

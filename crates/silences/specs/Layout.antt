@@ -7,7 +7,7 @@
 --   layout                    a book's bytes
 --   mostSilences, mostBytes   the longest book
 --
--- A length that follows from others is computed from them; beside it stands the document's number.
+-- A length that follows from other lengths is computed from them, and an equation below it checks the document's number.
 use Prim.Native.Nat.{ℕ, _+_, _*_}
 use mathlib.Core.Path.{_≡_, refl}
 use mathlib.Core.List.{List, _++_}
@@ -20,7 +20,7 @@ use Rattle.silences.specs.Silences.{Silence, cellBytes, ringNumberBytes,
 abbrev pub silenceTag : ℕ
 silenceTag = 0x21
 
--- "length 10, cell (4 bytes), ring number (2), start (4)": the bytes of a value.
+-- "length 10, cell (4 bytes), ring number (2), start (4)": the number of bytes of a value.
 abbrev pub valueLength : ℕ
 valueLength = cellBytes + ringNumberBytes + startBytes
 
@@ -28,7 +28,7 @@ valueLength = cellBytes + ringNumberBytes + startBytes
 value-length-is : valueLength ≡ 10
 value-length-is = refl
 
--- The bytes of a field: its head and its value.
+-- The number of bytes of a field: its head and its value.
 abbrev pub fieldLength : ℕ
 fieldLength = headLength + valueLength
 
@@ -36,7 +36,7 @@ fieldLength = headLength + valueLength
 field-length-is : fieldLength ≡ 13
 field-length-is = refl
 
--- "cell (4 bytes), ring number (2), start (4)"
+-- "cell (4 bytes), ring number (2), start (4)": the bytes of a silence's value.
 unfoldable pub valueOf : Silence → List ℕ
 valueOf s = bytesOf cellBytes (s .cell) ++ bytesOf ringNumberBytes (s .ringNumber) ++ bytesOf startBytes (s .start)
 
@@ -44,11 +44,11 @@ valueOf s = bytesOf cellBytes (s .cell) ++ bytesOf ringNumberBytes (s .ringNumbe
 unfoldable pub fieldOf : Silence → List ℕ
 fieldOf s = field silenceTag (valueOf s)
 
--- The book of a list of silences: their fields, one after the other. The empty list has the empty book.
+-- The bytes of the book of a list of silences: their fields, one after the other. The empty list gives the empty book.
 abbrev pub layout : List Silence → List ℕ
 layout = wordsOfEach fieldOf
 
--- The most silences of a book: document 01 gives their bytes and their words.
+-- The most silences of a book. Document 01 gives this number as bytes (row 5: 13,000) and as words (row 8: 3,000).
 abbrev pub mostSilences : ℕ
 mostSilences = 1000
 

@@ -1,4 +1,4 @@
--- Document 01, "What each call returns", rows 7 to 10: words to silences and back, and what a call writes into its lent area.
+-- Document 01, "What each call returns", rows 7 to 10: silences as words, what packing and unpacking give, and what they write into the lent area.
 --
 --   silencesOf, wordsOfSilences   silences as words, three each: cell, ring number, start
 --   isRow8, mostRingNumber        rows 8 and 9
@@ -8,7 +8,7 @@
 --   packed, unpacked              what packing and unpacking give
 --   areaAtExit                    the lent area at exit
 --
--- That the words of a record come in this order is a reading: document 01 names the three in it and gives no other.
+-- The order of a record's words is our reading: document 01 lists cell, ring number and start in this order, and gives no other.
 use Prim.Native.Nat.{ℕ, suc, _*_, _%_, _^_}
 use mathlib.Core.Path.{_≡_, refl}
 use mathlib.Core.Bool.{Bool, not, _||_}
@@ -34,19 +34,19 @@ silenceWords s = s .cell ∷ s .ringNumber ∷ s .start ∷ []
 abbrev pub wordsOfSilences : List Silence → List ℕ
 wordsOfSilences = wordsOfEach silenceWords
 
--- "words to pack aren't a multiple of 3": the words of a record.
+-- "words to pack aren't a multiple of 3": the number of words of a record.
 abbrev pub recordWords : ℕ
 recordWords = 3
 
--- The silence of the words of a record.
+-- The silence of a record's three words.
 abbrev pub silenceOfWords : List ℕ → Silence
 silenceOfWords words = silence (getD words 0 0) (getD words 1 0) (getD words 2 0)
 
--- The silences of a list of words, a record each; fewer words than a record's at the end are none.
+-- The silences of a list of words, three words each. One or two words left over at the end are no record.
 abbrev pub silencesOf : List ℕ → List Silence
 silencesOf = recordsOf recordWords silenceOfWords
 
--- "or exceed 3,000": the most words that are packed.
+-- "or exceed 3,000": the most words that can be packed.
 abbrev pub mostWords : ℕ
 mostWords = recordWords * mostSilences
 
@@ -62,21 +62,21 @@ isRow8 words = not (eqb (length words % recordWords) 0) || ltb mostWords (length
 abbrev pub mostRingNumber : ℕ
 mostRingNumber = 65535
 
--- It is the largest that its bytes hold.
+-- It is the largest number that the two bytes of a ring number hold.
 most-ring-number-is : suc mostRingNumber ≡ 256 ^ ringNumberBytes
 most-ring-number-is = refl
 
--- "each record 9 before 7", with the record number: the rows of the records from number `i` on, `last` the one before them.
+-- "each record 9 before 7": the rows of the records from record number `i` on; `last` is the record before them. The place is the record number.
 unfoldable pub recordRows : Option Silence → ℕ → List Silence → List (Option Refusal)
 recordRows last i [] = []
 recordRows last i (s ∷ ss) =
     row (ltb mostRingNumber (s .ringNumber)) (RingNumber i) ∷ row (not (isAbove last s)) (NotAbove i) ∷ recordRows (some s) (suc i) ss
 
--- Rows 9 and 7, one row: the refusal of the first faulty record.
+-- Rows 9 and 7, as one row: the refusal of the first faulty record, if there is one.
 abbrev pub recordFault : List ℕ → Option Refusal
 recordFault words = firstGiven (recordRows none 0 (silencesOf words))
 
--- Row 10: "packing or unpacking lacks room for its whole output".
+-- Row 10: "packing or unpacking lacks room for its whole output". `room` is the length of the lent area.
 abbrev pub roomRow : List ℕ → ℕ → Option Refusal
 roomRow output room = row (ltb room (length output)) OutputRoom
 
@@ -84,11 +84,11 @@ roomRow output room = row (ltb room (length output)) OutputRoom
 unfoldable pub packRows : List ℕ → ℕ → List (Option Refusal)
 packRows words room = row (isRow8 words) WordCount ∷ recordFault words ∷ roomRow (layout (silencesOf words)) room ∷ []
 
--- The first of these rows that is given, if one is.
+-- The refusal of the first of these rows that is given, if one is.
 abbrev pub packRefusal : List ℕ → ℕ → Option Refusal
 packRefusal words room = firstGiven (packRows words room)
 
--- What packing these words gives: their silences, or the first row that is given.
+-- What packing these words into `room` bytes gives: their silences, or the refusal of the first row that is given.
 unfoldable pub packed : List ℕ → ℕ → Answer (List Silence)
 packed words room = answerBy (packRefusal words room) (silencesOf words)
 
@@ -96,16 +96,16 @@ packed words room = answerBy (packRefusal words room) (silencesOf words)
 unfoldable pub unpackRows : List ℕ → ℕ → List (Option Refusal)
 unpackRows book room = bookRows book ++ roomRow (wordsOfSilences (silencesRead book)) room ∷ []
 
--- The first of these rows that is given, if one is.
+-- The refusal of the first of these rows that is given, if one is.
 abbrev pub unpackRefusal : List ℕ → ℕ → Option Refusal
 unpackRefusal book room = firstGiven (unpackRows book room)
 
--- What unpacking this book gives: its silences, or the first row that is given.
+-- What unpacking this book into `room` words gives: its silences, or the refusal of the first row that is given.
 unfoldable pub unpacked : List ℕ → ℕ → Answer (List Silence)
 unpacked book room = answerBy (unpackRefusal book room) (silencesRead book)
 
--- The lent area at exit: the whole output and then the room beyond it as it was, for calls "leave room beyond their output unwritten"; a refusal
--- "writes nothing to any lent area".
+-- The lent area at exit. An accepted call has written its whole output at the front; calls "leave room beyond their output unwritten", and a refusal "writes
+-- nothing to any lent area". `output` is `layout` for packing and `wordsOfSilences` for unpacking.
 abbrev pub areaAtExit : (List Silence → List ℕ) → Answer (List Silence) → List ℕ → List ℕ
 areaAtExit output (accepted ss) area = written (output ss) area
 areaAtExit output (refused r) area = area

@@ -1,14 +1,15 @@
--- Document 01, the table of refusals, rows 6 to 9: their "Given exactly when" as propositions, without reading or packing. "Within a book the first faulty field
--- decides": all fields before it are a book's. Rows 5 and 10 are a comparison each and stand in their laws. The laws of the definitions are in proofs/BookRows.antt,
--- PackRows.antt and UnpackRows.antt, those of the calls in RowsOfReading.antt and RowsOfUnpacking.antt of crates/book and RowsOfPacking.antt of crates/packing.
+-- Document 01, the table of refusals, rows 6 to 9: the column "Given exactly when" as propositions, without the definitions of reading and packing. "Within a
+-- book the first faulty field decides", so a fault also says that everything before it is fine. Rows 5 and 10 are one comparison each and need no definition.
+-- That each row is given exactly then is proved for the definitions in proofs/BookRows.antt, PackRows.antt and UnpackRows.antt, and for the calls in
+-- RowsOfReading.antt and RowsOfUnpacking.antt of crates/book and RowsOfPacking.antt of crates/packing.
 --
---   IsFineBefore      the fields before a byte offset are those of an ascending list of silences in range
+--   IsFineBefore      everything before a byte offset is fine: the fields of an ascending list of silences in range
 --   IsNotAbove        "a record isn't above the one before it"
 --   IsFieldFault      row 6
 --   IsOrderFault      row 7, reading
 --   HasWordCount      row 8 is not given
 --   AllRingNumbers    no ring number is above 65,535
---   IsRecord          a record number of the words to pack, all before it fine
+--   IsRecord          the record of a number in the words to pack, all records before it fine
 --   IsRingFault       row 9
 --   IsRecordFault     row 7, packing
 --   IsPackable        none of rows 8, 9 and 7 is given
@@ -23,28 +24,28 @@ use Rattle.silences.specs.Reading.{silenceAt}
 use Rattle.silences.specs.Packing.{silencesOf, recordWords, mostWords, mostRingNumber}
 use Rattle.silences.specs.Books.{IsField}
 
--- The fields before a byte offset are those of these silences, which are in range and ascend.
+-- Everything before byte offset `at` is fine: it is the layout of the silences `ss`, which are in range and ascend.
 pub record IsFineBefore (book : List ℕ) (at : ℕ) (ss : List Silence) : Type 0 where
   pub laid-out : take at book ≡ layout ss
   pub offset-is : at ≡ length (layout ss)
   pub in-range : AllInRange ss
   pub ascending : Ascending ss
 
--- "a record isn't above the one before it": the last of these silences is not below this one.
+-- "a record isn't above the one before it": the silences `ss` have a last one, `previous`, and it is not below `s`.
 pub record IsNotAbove (ss : List Silence) (s : Silence) : Type 0 where
   pub earlier : List Silence
   pub previous : Silence
   pub before-it : ss ≡ earlier ++ previous ∷ []
   pub not-above : Below previous s → ⊥
 
--- Row 6 at a byte offset of the book: "a field isn't 13 bytes beginning 21 00 0A hex, or is cut off", and all before it is fine.
+-- Row 6 at byte offset `at`: everything before it is fine, the book goes on, and "a field isn't 13 bytes beginning 21 00 0A hex, or is cut off" there.
 pub record IsFieldFault (book : List ℕ) (at : ℕ) : Type 0 where
   pub fine : List Silence
   pub fine-before : IsFineBefore book at fine
   pub more : at < length book
   pub no-field : IsField book at → ⊥
 
--- Row 7 at a byte offset of the book: a field stands there, its record isn't above the one before it, and all before it is fine.
+-- Row 7, reading, at byte offset `at`: everything before it is fine, a field stands there, and its record isn't above the one before it.
 pub record IsOrderFault (book : List ℕ) (at : ℕ) : Type 0 where
   pub fine : List Silence
   pub fine-before : IsFineBefore book at fine
@@ -61,7 +62,7 @@ abbrev pub AllRingNumbers : List Silence → Type 0
 AllRingNumbers [] = Unit {0}
 AllRingNumbers (s ∷ ss) = (s .ringNumber ≤ mostRingNumber) × AllRingNumbers ss
 
--- This is the record of this number, from 0, in the words to pack, and these are the records before it: they ascend, and no ring number is above 65,535.
+-- `s` is record number `i`, from 0, of the words to pack, and `fine` are the records before it: they ascend, and none has a ring number above 65,535.
 pub record IsRecord (words : List ℕ) (i : ℕ) (fine : List Silence) (s : Silence) : Type 0 where
   pub later : List Silence
   pub records-are : silencesOf words ≡ fine ++ s ∷ later
@@ -69,14 +70,14 @@ pub record IsRecord (words : List ℕ) (i : ℕ) (fine : List Silence) (s : Sile
   pub ring-numbers : AllRingNumbers fine
   pub ascending : Ascending fine
 
--- Row 9 at a record number: "a ring number to pack is above 65,535", and all before it is fine.
+-- Row 9 at record number `i`: all records before it are fine, and its ring number is "above 65,535".
 pub record IsRingFault (words : List ℕ) (i : ℕ) : Type 0 where
   pub fine : List Silence
   pub here : Silence
   pub is-record : IsRecord words i fine here
   pub ring-number-gt : mostRingNumber < here .ringNumber
 
--- Row 7 at a record number: its ring number is not above 65,535, the record isn't above the one before it, and all before it is fine.
+-- Row 7, packing, at record number `i`: all records before it are fine, its ring number is not above 65,535, and it isn't above the one before it.
 pub record IsRecordFault (words : List ℕ) (i : ℕ) : Type 0 where
   pub fine : List Silence
   pub here : Silence
@@ -84,7 +85,7 @@ pub record IsRecordFault (words : List ℕ) (i : ℕ) : Type 0 where
   pub ring-number-le : here .ringNumber ≤ mostRingNumber
   pub not-above : IsNotAbove fine here
 
--- The words can be packed: neither row 8 is given, nor row 9 or 7 at any record.
+-- The words can be packed, given room: row 8 is not given, nor row 9 or 7 at any record.
 pub record IsPackable (words : List ℕ) : Type 0 where
   pub word-count : HasWordCount words
   pub ring-numbers : AllRingNumbers (silencesOf words)

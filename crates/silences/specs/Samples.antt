@@ -1,4 +1,4 @@
--- Document 01's samples of books, computed: the book of the report program's example, what stands at the edges of rows 5 to 10, and what a silence names.
+-- Document 01's samples of books, computed: the book of the report program's example, inputs at the edges of rows 5 to 10, and what a silence names.
 use Prim.Native.Nat.{ℕ}
 use mathlib.Core.Path.{_≡_, refl}
 use mathlib.Core.Bool.{true, false}
@@ -20,7 +20,7 @@ use Rattle.silences.specs.Packing.{wordsOfSilences, recordRows, packRows
 unfoldable pub example : List ℕ
 example = 0x21 ∷ 0x00 ∷ 0x0a ∷ 0x00 ∷ 0x00 ∷ 0x00 ∷ 0x07 ∷ 0x00 ∷ 0x02 ∷ 0x00 ∷ 0x00 ∷ 0x00 ∷ 0x01 ∷ []
 
--- It is the layout of the one silence (7, 2, 1), and is read as that.
+-- It is the layout of the one silence (7, 2, 1), and reading it gives that silence.
 example-right : (layout (silence 7 2 1 ∷ []) ≡ example) × (readBook example ≡ accepted (silence 7 2 1 ∷ []))
 unfolding example bytesOf valueOf fieldOf wordsOfEach firstGiven bookRows readBook readFrom fieldsFrom fieldAt fieldBy lengthByTag isWhole silenceAt numberAt isBelow
 example-right = (refl, refl)
@@ -30,13 +30,13 @@ pub empty-book : readBook [] ≡ accepted []
 unfolding firstGiven bookRows readBook readFrom fieldsFrom
 empty-book = refl
 
--- 13,001 bytes are row 5, whatever they are; 13,000 are not.
+-- 13,001 bytes of 21 hex are refused by row 5. 13,000 of them are not: row 6 refuses them at byte 0.
 row-5 : (readBook (replicate 13001 0x21) ≡ refused BookLength) × (readBook (replicate 13000 0x21) ≡ refused (Field 0))
 unfolding firstGiven bookRows readBook readFrom fieldsFrom fieldAt fieldBy lengthByTag isWhole silenceAt numberAt
 row-5 = (refl, refl)
 
--- Equal neighbours, and a lower one after a higher: row 7 at the later one, byte 13. A field cut off: row 6 at byte 13. Another length, or another tag: row 6 at
--- its first byte. Each byte of a number counts.
+-- Equal neighbours, or a lower record after a higher one: row 7 at the later one, byte 13. A field cut off: row 6 at byte 13. Another length or another tag:
+-- row 6 at the field's first byte. The last line has ten different bytes in a value, and each is read.
 rows-6-7 : (readBook (example ++ example) ≡ refused (NotAbove 13))
     × (readBook (example ++ layout (silence 7 1 9 ∷ [])) ≡ refused (NotAbove 13))
     × (readBook (example ++ 0x21 ∷ []) ≡ refused (Field 13))
@@ -46,7 +46,7 @@ rows-6-7 : (readBook (example ++ example) ≡ refused (NotAbove 13))
 unfolding example bytesOf valueOf fieldOf wordsOfEach firstGiven bookRows readBook readFrom fieldsFrom fieldAt fieldBy lengthByTag isWhole silenceAt numberAt isBelow
 rows-6-7 = (refl, refl, refl, refl, refl, refl)
 
--- The words (7, 2, 1) packed into 15 bytes: the example, and two bytes as they were. One byte short: row 10, and nothing is written.
+-- The words 7, 2, 1 packed into 15 bytes: the example's book, and two bytes as they were. With 12 bytes of room: row 10. On a refusal nothing is written.
 packed-right : (packed (7 ∷ 2 ∷ 1 ∷ []) 15 ≡ accepted (silence 7 2 1 ∷ []))
     × (areaAtExit layout (accepted (silence 7 2 1 ∷ [])) (replicate 13 0x60 ++ 0x61 ∷ 0x62 ∷ []) ≡ example ++ 0x61 ∷ 0x62 ∷ [])
     × (packed (7 ∷ 2 ∷ 1 ∷ []) 12 ≡ refused OutputRoom)
@@ -54,19 +54,20 @@ packed-right : (packed (7 ∷ 2 ∷ 1 ∷ []) 15 ≡ accepted (silence 7 2 1 ∷
 unfolding written example bytesOf valueOf fieldOf wordsOfEach firstGiven packed packRows recordRows recordsOf firstRecords isBelow
 packed-right = (refl, refl, refl, refl)
 
--- Four words: row 8. A ring number of 65,536 in record 1: row 9 there, before row 7. Equal neighbours: row 7 at record 1. Before row 10, each of them.
+-- Four words: row 8. A ring number of 65,536 in record 1, which is also below record 0: row 9, before row 7. Equal neighbours: row 7 at record 1. There is no
+-- room either; each of these rows comes before row 10.
 rows-8-9-7 : (packed (7 ∷ 2 ∷ 1 ∷ 7 ∷ []) 0 ≡ refused WordCount)
     × (packed (7 ∷ 2 ∷ 1 ∷ 6 ∷ 65536 ∷ 1 ∷ []) 0 ≡ refused (RingNumber 1))
     × (packed (7 ∷ 2 ∷ 1 ∷ 7 ∷ 2 ∷ 1 ∷ []) 0 ≡ refused (NotAbove 1))
 unfolding bytesOf valueOf fieldOf wordsOfEach firstGiven packed packRows recordRows recordsOf firstRecords isBelow
 rows-8-9-7 = (refl, refl, refl)
 
--- The example unpacked: its three words, with room for three and not for two.
+-- The example unpacked: its silence with room for three words, whose words are 7, 2, 1; row 10 with room for two.
 unpacked-right : (unpacked example 3 ≡ accepted (silence 7 2 1 ∷ [])) × (wordsOfSilences (silence 7 2 1 ∷ []) ≡ 7 ∷ 2 ∷ 1 ∷ []) × (unpacked example 2 ≡ refused OutputRoom)
 unfolding example unpacked unpackRows wordsOfEach firstGiven bookRows readBook readFrom fieldsFrom fieldAt fieldBy lengthByTag isWhole silenceAt numberAt isBelow
 unpacked-right = (refl, refl, refl)
 
--- One silence names its own cell, ring number and start: (7, 2, 1) nothing in cell 0, and (0, 2, 1) nothing in cell 7.
+-- A silence names its own cell, ring number and start: (7, 2, 1) names nothing in cell 0, and (0, 2, 1) nothing in cell 7.
 names-right : (names (silence 7 2 1 ∷ []) 7 2 1 ≡ true) × (names (silence 7 2 1 ∷ []) 0 2 1 ≡ false) × (names (silence 0 2 1 ∷ []) 7 2 1 ≡ false)
 unfolding isSame names
 names-right = (refl, refl, refl)

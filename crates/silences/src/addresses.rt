@@ -7,8 +7,8 @@ pub struct Address {
     pub start: u32,
 }
 
-// What was sought, at a byte offset or for an address: a field's address, and the byte offset just past that field, from
-// where to read or seek on; or that there is none.
+// The result of reading a field at a byte offset, or of seeking one: its address and the byte offset just past it,
+// where reading or seeking goes on; or that there is no such field.
 pub enum Sought {
     Field { address: Address, next: usize },
     Nothing,

@@ -1,4 +1,4 @@
-// One field of a book: what stands at a byte offset. The next offset comes from the field itself.
+// Reading the field at a byte offset of a book. Where the next field begins follows from this field's length bytes.
 use crate::addresses::Address;
 use crate::addresses::Sought;
 use crate::lengths::CELL_BYTES;
@@ -35,8 +35,8 @@ fn address_at(book: &[u8], at: usize) -> Address
     }
 }
 
-// The field at byte offset `at`, as seeking answers it: nothing where no whole field of a silence stands. The offset may
-// lie past the book's end, so it is compared with the length before anything is added to it.
+// Returns the field at byte offset `at`, or `Nothing` if no whole field of a silence stands there. The offset may be
+// any number, so it is compared with the book's length before anything is added to it.
 pub fn field_at(book: &[u8], at: usize) -> Sought
     ensures { λ r. ⌜ soughtOf r ≡ fieldAt (now (book .entry)) at ⌝ }
 {

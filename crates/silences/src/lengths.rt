@@ -1,4 +1,4 @@
-// The bytes of a silence's field, part by part, the words of a record, and the most silences of a book.
+// How many bytes each part of a silence's field has, how many words a record, and how many silences a book at most.
 use fields::HEAD_LENGTH;
 
 // "tag 21 hex"
@@ -13,14 +13,14 @@ pub const RING_NUMBER_BYTES: usize = 2;
 // "start (4)"
 pub const START_BYTES: usize = 4;
 
-// "length 10": the bytes of a silence's value.
+// "length 10": the number of bytes of a silence's value.
 pub const SILENCE_LENGTH: usize = CELL_BYTES + RING_NUMBER_BYTES + START_BYTES;
 
 // "Each silence is one field of 13 bytes": head and value.
 pub const FIELD_LENGTH: usize = HEAD_LENGTH + SILENCE_LENGTH;
 
-// The most silences of a book: as many as 13,000 bytes hold, and 3,000 words.
+// The most silences of a book: 13,000 bytes hold as many, and so do 3,000 words.
 pub const MOST_SILENCES: usize = 1000;
 
-// The words of a record: cell, ring number, start.
+// The number of words of a record: cell, ring number, start.
 pub const RECORD_WORDS: usize = 3;

@@ -1,6 +1,6 @@
-// Silences: what a silence is, the order of silences, and one field of a book read. The book's calls stand on this crate.
-// What a book is, and what reading, packing and unpacking give, stands in specs/. No public function has a `requires`:
-// each takes every input.
+// Silences: the address of a silence, the order of addresses, and reading one field of a book. The crates book and
+// packing build on this. What a book is, and what reading, packing and unpacking give, is defined in specs/. No public
+// function has a `requires`: each takes every input.
 mod addresses;
 mod field;
 mod lengths;

@@ -36,13 +36,13 @@ pub fn is_same(a: Address, b: Address) -> bool
     a.start == b.start
 }
 
-// The record before another, which has to be below it. The first record has none.
+// The record before another one. The first record has none.
 pub enum Last {
     NoRecord,
     Record(Address),
 }
 
-// Whether a record is above the one before it.
+// Whether a record is above the one before it. The first record is.
 pub fn is_above(last: Last, address: Address) -> bool
     ensures { λ r. ⌜ r ≡ isAbove (lastOf last) (silenceOf address) ⌝ }
 {

@@ -1,4 +1,4 @@
--- `silences::field::address_at` meets its contract: the three numbers are those of the value; the ring number's two bytes fit sixteen bits.
+-- `silences::field::address_at` meets its contract: it reads the three numbers of the value. The ring number's two bytes fit sixteen bits.
 use native.Mathlib.Omega.{arith}
 use Rattle.fields.proofs.NumberWithin.{number-read}
 use Rattle.silences.specs.Reading.{silenceAt}

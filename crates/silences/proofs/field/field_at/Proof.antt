@@ -1,4 +1,4 @@
--- `silences::field::field_at` meets its contract: each return is one case of what stands at a byte offset.
+-- `silences::field::field_at` meets its contract: four returns for the ways in which a field is faulty, and one for a whole field.
 use mathlib.Core.Path.{sym, _∙_}
 use native.Mathlib.Omega.{arith}
 use Rattle.fields.proofs.NumberWithin.{number-read}

@@ -1,4 +1,4 @@
--- `silences::order::is_above` meets its contract: the first record is above, any other as `is_below` says of the one before it.
+-- `silences::order::is_above` meets its contract: the first record is above; any other is if `is_below` says that the one before it is below it.
 use borrow.Author.Needs.{needs}
 use Rattle.silences.proofs.order.is_above.Statement.{statement}
 use Rattle.silences.proofs.order.is_above.Tie as tie

@@ -1,4 +1,4 @@
--- `silences::order::is_below` meets its contract: each return is one case of the order.
+-- `silences::order::is_below` meets its contract: each return is one case of the order, below or above by cell, then by ring number, then the starts.
 use mathlib.Core.Path.{sym}
 use native.Mathlib.Omega.{arith}
 use Rattle.silences.specs.Silences.{by-cell, by-ring-number}
