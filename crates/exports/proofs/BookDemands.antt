@@ -1,5 +1,5 @@
--- `outlines_unpack` and `outlines_pack` meet the demands. Both go by their rows, so demand 1 is that of every call (RowsAgree). A book is accepted exactly when it is the
--- layout (`accepted-iff` of the silences), and the words of its silences and their layout undo each other: so each call gives back what the other was given.
+-- `outlines_unpack` and `outlines_pack` meet the demands. Both answer by their rows, so demand 1 follows as for every call (RowsAgree). A book is accepted exactly when it
+-- is the layout of silences (`accepted-iff` of crates/silences). A book's layout and its words determine each other, so each call gives back what the other was given.
 use Prim.Native.Nat.{ℕ, _*_, _≤_, _<_}
 use mathlib.Core.Path.{_≡_, refl, sym, ap, subst, _∙_}
 use mathlib.Core.Logic.{_↔_, _⊎_, inl, inr, Iff·trans}
@@ -36,7 +36,7 @@ use Rattle.exports.specs.Exported.{counted, recordCounts, IsExported, Is
 use Rattle.exports.specs.Demands.{rowOf, bookTable, packTable, UnpackDemand2, PackDemand2, GivesBack, UnpackMeets, PackMeets}
 use Rattle.exports.proofs.RowsAgree.{Agrees, AllAgree, agree-append, row-agrees, faults-agree, demand-1-met}
 
--- What an accepted call on a book answers and writes.
+-- What an accepted pack or unpack returns and writes, for the records `ss`.
 record GivesRecords (output : List Silence → List ℕ) (ss : List Silence) (area : List ℕ) (r : AnswerStruct) (out : List ℕ) : Type 0 where
   accepted-is : r .refusal ≡ 0
   found-is : r .found ≡ length ss
@@ -44,7 +44,7 @@ record GivesRecords (output : List Silence → List ℕ) (ss : List Silence) (ar
 
 module _ (output : List Silence → List ℕ) (a : Answer (List Silence)) (area : List ℕ) {out : List ℕ} {r : AnswerStruct}
     (e : IsExported (counted recordCounts (recordsPaper a)) (areaAtExit output a area) r out) where
-  -- where its definition gives silences, the call gives as many records and writes their output
+  -- where the definition accepts with silences, the call is accepted, returns their number and writes their output
   gives-records : (ss : List Silence) → a ≡ accepted ss → GivesRecords output ss area r out
   gives-records ss is = record {
     accepted-is = ap (λ (p : Paper ReportCounts). p .number) (e .paper) ∙ rw is refl;
@@ -52,7 +52,7 @@ module _ (output : List Silence → List ℕ) (a : Answer (List Silence)) (area 
     written-is = e .written ∙ rw is refl;
   }
 
-  -- where the call is accepted, its definition gives silences
+  -- where the call is accepted, the definition accepts with some silences
   accepted-has : r .refusal ≡ 0 → (ss : List Silence) × (a ≡ accepted ss)
   accepted-has zero-is = go a refl (sym (ap (λ (p : Paper ReportCounts). p .number) (e .paper)) ∙ zero-is)
     where
@@ -61,18 +61,18 @@ module _ (output : List Silence → List ℕ) (a : Answer (List Silence)) (area 
       go (refused q) is z = absurd (omega (arith, number-in q .0))
 
 module _ (book area : List ℕ) {out : List ℕ} {r : AnswerStruct} (bytes : IsBytes book) (e : IsUnpackExported book area r out) where
-  -- the book of silences, with room, is unpacked
+  -- a book of silences is unpacked where there is room
   book-given : (ss : List Silence) → IsBook ss book → length (wordsOfSilences ss) ≤ length area → GivesRecords wordsOfSilences ss area r out
   book-given ss is-book room = gives-records wordsOfSilences (unpacked book (length area)) area e ss (unpacked-accepted-iff book (length area) ss .1 (book-accepted book ss is-book, omega (arith, words-length ss, room)))
 
-  -- an unpacked book is the book of silences
+  -- a book that is unpacked is a book of silences, and there was room
   unpacked-has : r .refusal ≡ 0 → (ss : List Silence) × IsBook ss book × (length (wordsOfSilences ss) ≤ length area)
   unpacked-has zero-is =
       let h = accepted-has wordsOfSilences (unpacked book (length area)) area e zero-is in
       let b = unpacked-accepted-iff book (length area) (h .0) .0 (h .1) in
       (h .0, accepted-iff book (h .0) bytes .0 (b .0), omega (arith, words-length (h .0), b .1))
 
-  -- a book is that of one list of silences
+  -- a book has one list of silences only, so any list that it is the book of is the one unpacked
   the-book : (ss : List Silence) → IsBook ss book → r .refusal ≡ 0 → GivesRecords wordsOfSilences ss area r out
   the-book ss is-book zero-is =
       let h = unpacked-has zero-is in
@@ -88,11 +88,11 @@ module _ (book area : List ℕ) {out : List ℕ} {r : AnswerStruct} (bytes : IsB
   }
 
 module _ (words area : List ℕ) {out : List ℕ} {r : AnswerStruct} (are-words : IsWords words) (e : IsPackExported words area r out) where
-  -- words that can be packed are packed, with room
+  -- words that can be packed are packed where there is room
   words-given : IsPackable words → length (layout (silencesOf words)) ≤ length area → GivesRecords layout (silencesOf words) area r out
   words-given can room = gives-records layout (packed words (length area)) area e (silencesOf words) (packed-accepted-iff words (length area) (silencesOf words) .1 (can, refl, room))
 
-  -- packed words can be packed
+  -- words that are packed can be packed, and there was room
   packed-has : r .refusal ≡ 0 → IsPackable words × (length (layout (silencesOf words)) ≤ length area)
   packed-has zero-is =
       let h = accepted-has layout (packed words (length area)) area e zero-is in
@@ -108,7 +108,7 @@ module _ (words area : List ℕ) {out : List ℕ} {r : AnswerStruct} (are-words 
     bytes-are = λ zero-is. let h = packed-has zero-is in words-given (h .0) (h .1) .written-is;
   }
 
--- The book that `outlines_pack` wrote, unpacked with room for its words, gives the words back.
+-- The book that an accepted `outlines_pack` wrote, unpacked with room for its words, gives the words back.
 pub pack-unpack : (words area : List ℕ) {out : List ℕ} {r : AnswerStruct} → IsWords words → IsPackExported words area r out → r .refusal ≡ 0
     → (area′ : List ℕ) {out′ : List ℕ} {r′ : AnswerStruct} → length words ≤ length area′ → IsUnpackExported (take (length (layout (silencesOf words))) out) area′ r′ out′
     → GivesBack words r r′ out′
@@ -126,7 +126,7 @@ pack-unpack words area {out} {r} are-words e zero-is area′ {out′} {r′} roo
       front-is = written-front (wordsOfSilences ss) area′ (given .written-is) (length words) (ap length back) ∙ back;
     }
 
--- The words that `outlines_unpack` wrote, packed with room for their bytes, give the book back.
+-- The words that an accepted `outlines_unpack` wrote, packed with room for their bytes, give the book back.
 pub unpack-pack : (book area : List ℕ) {out : List ℕ} {r : AnswerStruct} → IsBytes book → IsUnpackExported book area r out → r .refusal ≡ 0
     → (area′ : List ℕ) {out′ : List ℕ} {r′ : AnswerStruct} → length book ≤ length area′ → IsPackExported (take (recordWords * r .found) out) area′ r′ out′
     → GivesBack book r r′ out′
@@ -146,7 +146,7 @@ unpack-pack book area {out} {r} bytes e zero-is area′ {out′} {r′} room e�
       front-is = written-front (layout ss) area′ (given .written-is) (length book) (ap length book-is) ∙ book-is;
     }
 
--- a book's paper in the struct, and its area, by the first row that is given
+-- the paper and the area at exit of pack and unpack, by the first row that is given
 records-by : (o : Option Refusal) (ss : List Silence)
     → counted recordCounts (recordsPaper (answerBy o ss)) ≡ answerPaper noReportCounts (answerBy o (recordCounts (length ss)))
 records-by none ss = refl
@@ -157,7 +157,7 @@ area-by : (output : List Silence → List ℕ) (o : Option Refusal) (ss : List S
 area-by output none ss area = refl
 area-by output (some q) ss area = refl
 
--- The rows of a book, one by one: 5, then the first faulty field.
+-- The rows of a book agree with those of the page: 5, then the first faulty field.
 pub book-agrees : (book : List ℕ) → IsBytes book → AllAgree (bookRows book) (bookTable book)
 unfolding bookRows
 book-agrees book bytes = (
@@ -170,7 +170,7 @@ book-agrees book bytes = (
 )
 
 module _ (book area : List ℕ) {out : List ℕ} {r : AnswerStruct} (bytes : IsBytes book) (e : IsUnpackExported book area r out) where
-  -- row 10, where no row of the book is given: there is a book, and its words have no room
+  -- row 10 agrees where no row of the book is given: the bytes are a book then, and its words lack room
   room-agrees : firstGiven (bookRows book) ≡ none
       → Agrees (roomRow (wordsOfSilences (silencesRead book)) (length area)) (rowOf 10 ((ss : List Silence) × IsBook ss book × (length area < length (wordsOfSilences ss))))
   room-agrees none-given number place =
@@ -196,7 +196,7 @@ module _ (book area : List ℕ) {out : List ℕ} {r : AnswerStruct} (bytes : IsB
     demand-2 = unpack-demand-2 book area bytes e;
   }
 
--- The rows of packing, one by one: 8, then the first faulty record, then 10.
+-- the rows of packing agree with those of the page: 8, then the first faulty record, then 10
 pack-agrees : (words : List ℕ) (room : ℕ) → AllAgree (packRows words room) (packTable words room)
 unfolding packRows
 pack-agrees words room = (

@@ -1,5 +1,5 @@
--- The place of a refusal fits 32 bits, for the calls on a book: a byte offset is at most the book's length and so 13,000; a record number is below the
--- number of records and so 1,000.
+-- The places of the calls on a book fit 32 bits. A byte offset is at most the book's length, which is at most 13,000 where an offset is given. A record number is
+-- at most the number of records, which is at most 1,000.
 use Prim.Native.Nat.{ℕ, _≤_, _<_}
 use mathlib.Core.Logic.{⊎-elim}
 use mathlib.Core.Path.{_≡_, refl, sym, ap}
@@ -27,7 +27,7 @@ use Rattle.silences.proofs.UnpackRows.{unpack-either}
 use Rattle.silences.proofs.PackRows.{pack-has, pack-9-iff, pack-7-iff}
 
 module _ (book : List ℕ) where
-  -- where reading stops
+  -- the place where reading stops is at most the book's length
   reads-place : {a : Answer (List Silence)} → ReadsAs book none 0 a → recordsPaper a .place ≤ length book
   reads-place (read-all f h) = omega arith
   reads-place (stopped-faulty f h n) = omega (arith, h)
@@ -41,7 +41,7 @@ module _ (book : List ℕ) where
       (λ (h : mostBytes < length book). rw (readBook-long book h) (omega arith))
       (le-or-lt (length book) mostBytes)
 
--- A place is at most so much, if it is in each row that is given.
+-- a place is at most `most` if that of each refusal given is
 place-le : (most : ℕ) (o : Option Refusal) (ss : List Silence) → ((q : Refusal) → o ≡ some q → placeOf q ≤ most) → recordsPaper (answerBy o ss) .place ≤ most
 place-le most none ss each = omega arith
 place-le most (some q) ss each = each q refl

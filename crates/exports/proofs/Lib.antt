@@ -1,4 +1,4 @@
--- Laws of the exported calls.
+-- The exported calls meet the demands, each has one answer only, and what the proofs of the functions cite.
 pub mod RowsAgree
 pub mod SearchDemands
 pub mod BookDemands

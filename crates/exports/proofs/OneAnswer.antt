@@ -1,4 +1,4 @@
--- Any two answers of an exported call that meet its contract are equal, and so are the lent areas at exit: the struct is its paper's five numbers.
+-- Any two answers of an exported call that meet its contract are equal, and so are the lent areas at exit: the struct is the five numbers of its paper.
 use Prim.Native.Nat.{ℕ}
 use mathlib.Core.Path.{_≡_, sym, ap, _∙_}
 use mathlib.Core.List.{List}
@@ -11,7 +11,7 @@ use Rattle.exports.specs.Exported.{IsExported, IsSurveyExported, IsScanE
 abbrev answerOf : Paper ReportCounts → Answer
 answerOf p = record { refusal = p .number; place = p .place; found = p .counts .found; hidden = p .counts .hidden; looks = p .counts .looks }
 
--- two structs that stand for one paper are equal, and two areas that hold the same
+-- two structs with the same paper are equal, and so are two areas with the same content
 exported-unique : {p : Paper ReportCounts} {area out out′ : List ℕ} {a b : Answer} → IsExported p area a out → IsExported p area b out′ → (a ≡ b) × (out ≡ out′)
 exported-unique h h′ = (ap answerOf (h .paper ∙ sym (h′ .paper)), h .written ∙ sym (h′ .written))
 

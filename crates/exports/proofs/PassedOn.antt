@@ -1,5 +1,5 @@
--- An exported call passes its call's answer on: for each call, that the place of any answer that meets its contract fits 32 bits; and for all of them, that the
--- struct which holds that answer, with the lent area as the call left it, meets the exported contract.
+-- What an exported call needs to pass its call's answer on. For each call: the place of any answer that meets its contract fits 32 bits. For all of them: the struct that
+-- holds the call's answer, with the lent area as the call left it, meets the exported contract (`passed-on`).
 use Prim.Native.Nat.{ℕ, _<_, _^_}
 use mathlib.Core.Path.{_≡_, ap, _∙_}
 use mathlib.Core.List.{List}
@@ -27,21 +27,21 @@ place-is e = ap (λ p. p .place) e
 pub search-place : {ring line : List ℕ} {k asked : ℕ} {words out : List ℕ} {r : Searched} → IsSearched ring line k asked words r out → searchPaperOf r .place < 2 ^ 32
 search-place h = omega (arith, rows-of-search h .place-is)
 
--- A place of `report` does.
+-- A place of `report` fits 32 bits.
 pub report-place : {cell ringNumber : ℕ} {ring line : List ℕ} {k : ℕ} {book words out : List ℕ} {r : Reported}
     → IsReported cell ringNumber ring line k book words r out → reportPaperOf r .place < 2 ^ 32
 report-place {cell} {ringNumber} {ring} {line} {k} {book} {words} h =
     omega (arith, place-is (h .paper), report-place-le ring line k (length words) cell ringNumber book)
 
--- A place of `pack` does.
+-- A place of `pack` fits 32 bits.
 pub pack-place : {words area out : List ℕ} {r : BookAnswer} → IsPacked words area r out → bookPaperOf r .place < 2 ^ 32
 pack-place {words} {area} h = omega (arith, place-is (h .paper), packed-place-le words (length area))
 
--- A place of `unpack` does.
+-- A place of `unpack` fits 32 bits.
 pub unpack-place : {book area out : List ℕ} {r : BookAnswer} → IsUnpacked book area r out → bookPaperOf r .place < 2 ^ 32
 unpack-place {book} {area} h = omega (arith, place-is (h .paper), unpacked-place-le book (length area))
 
--- The struct that holds a call's answer meets the exported contract: of the paper and the area at exit, as the call's own contract gives them.
+-- If the call's own contract gives its paper and its area at exit, the struct that holds that paper meets the exported contract with the same paper and area.
 pub passed-on : {C : Type 0} (held : C → ReportCounts) {p q : Paper C} {area out : List ℕ} {a : Answer} → p ≡ q → out ≡ area → paperOf a ≡ counted held p
     → IsExported (counted held q) area a out
 passed-on held paper written e = record { paper = e ∙ ap (counted held) paper; written = written }

@@ -1,5 +1,5 @@
--- `outlines_report` meets the demands. It goes by rows 1 to 7, so demand 1 is that of every call (RowsAgree). Accepted, its book is the layout of the silences that were
--- read (`accepted-iff` of the silences), so a finding is shown exactly when the book's bytes do not name it. Its looks are the scan's.
+-- `outlines_report` meets the demands. It answers by rows 1 to 7, so demand 1 follows as for every call (RowsAgree). Where it is accepted, the book is the layout of the
+-- silences read (`accepted-iff` of crates/silences), so a finding is shown exactly when the book's bytes do not name it. Its looks are the scan's.
 use Prim.Native.Nat.{ℕ, _+_, _<_}
 use mathlib.Core.Path.{_≡_, refl, sym, ap, subst, _∙_}
 use mathlib.Core.Logic.{_↔_, Iff·trans, Iff·and, Iff·rfl}
@@ -32,7 +32,7 @@ use Rattle.exports.proofs.RowsAgree.{AllAgree, agree-append, GoesByRows
 use Rattle.exports.proofs.BookDemands.{book-agrees}
 use Rattle.exports.proofs.SearchDemands.{search-agrees, start-shown-iff, looks-demand-3}
 
--- The book's bytes name a start exactly when the silences read from them do.
+-- the book's bytes name a start exactly when the silences read from them do
 named-iff : {book : List ℕ} {ss : List Silence} → IsBytes book → readBook book ≡ accepted ss
     → (cell ringNumber start : ℕ) → Names ss cell ringNumber start ↔ BookNames book cell ringNumber start
 named-iff {book} {ss} bytes is cell ringNumber start = (
@@ -44,7 +44,7 @@ module _ (cell ringNumber : ℕ) (ring line : List ℕ) (k : ℕ) where
   abbrev fs : List Finding
   fs = findings ring line k
 
-  -- Demand 2, of a report that goes by these silences.
+  -- demand 2 on a report with these silences
   report-demand-2 : {book words : List ℕ} {ss : List Silence} {r : Answer} {out : List ℕ} → IsBytes book → readBook book ≡ accepted ss → 0 < length ring → r .found ≡ length fs → r .hidden ≡ length (hidden ss cell ringNumber fs) → out ≡ written (wordsOf (shown ss cell ringNumber fs)) words
       → Demand2 (BookNames book cell ringNumber) ring line k words r out
   report-demand-2 {book} {words} {ss} bytes is pos found-is hidden-is words-are =
@@ -71,13 +71,13 @@ module _ (cell ringNumber : ℕ) (ring line : List ℕ) (k : ℕ) (book words : 
   abbrev rows : List (Option Refusal)
   rows = reportRows (length ring) k (length line) (length words) book
 
-  -- a report goes by rows 1 to 7
+  -- a report answers by rows 1 to 7
   reported-by-rows : GoesByRows rows (reportCounts ring line k cell ringNumber (silencesRead book))
       (written (wordsOf (shown (silencesRead book) cell ringNumber (findings ring line k))) words) words r out
   unfolding reported reportedWords
   reported-by-rows = record { paper = e .paper; written = e .written }
 
-  -- one by one
+  -- and these agree with the rows of the page
   report-agrees : AllAgree rows (reportTable (length ring) k (length line) (length words) book)
   unfolding reportRows
   report-agrees =
@@ -89,7 +89,7 @@ module _ (cell ringNumber : ℕ) (ring line : List ℕ) (k : ℕ) (book words : 
         (written (wordsOf (shown (silencesRead book) cell ringNumber (findings ring line k))) words) r out
     taken = accepts reported-by-rows zero-is
 
-    -- no row is given: of 1 to 4, nor of the book
+    -- no row is given, neither of 1 to 4 nor of the book
     none-of-either : (refusalOf (length ring) k (length line) (length words) ≡ none) × (firstGiven (bookRows book) ≡ none)
     unfolding reportRows
     none-of-either = none-append-iff (admitRows (length ring) k (length line) (length words)) (bookRows book) .0 (taken .none-given)

@@ -1,5 +1,5 @@
--- Demand 1, once for every call. A call's list of rows (specs/Rows of the answers) and the rows of the page of demands agree one by one (`AllAgree`): so the first row
--- that is given has the same number and place in both, and a call that goes by the first one meets demand 1. Induction on the rows.
+-- Demand 1, once for every call. If a call's list of rows (Rows of crates/answers) and the rows of the page of demands agree one by one (`AllAgree`), the first row that is
+-- given has the same number and place in both, by induction on the rows. So a call that answers by the first of its rows (`GoesByRows`) meets demand 1 (`demand-1-met`).
 use Prim.Native.Nat.{ℕ, _<_}
 use mathlib.Core.Path.{_≡_, refl, sym, ap, subst, _∙_}
 use mathlib.Core.Logic.{_↔_, _⊎_, inl, inr, ⊎-elim}
@@ -26,22 +26,22 @@ pub record IsGivenAt (o : Option Refusal) (number place : ℕ) : Type 0 where
   pub number-is : number ≡ numberOf refusal
   pub place-is : place ≡ placeOf refusal
 
--- where nothing is given, no number is
+-- where no refusal is given, none is given with a number
 not-given : {o : Option Refusal} {number place : ℕ} → o ≡ none → IsGivenAt o number place → ⊥
 not-given none-is g = none-some (sym none-is ∙ g .given)
 
--- The page's row holds of exactly the number and place of the refusal that the call's row gives.
+-- A row of the call agrees with a row of the page: the page's row holds of exactly the number and place of the refusal that the call's row gives.
 abbrev pub Agrees : Option Refusal → Row → Type 0
 Agrees o r = (number place : ℕ) → r number place ↔ IsGivenAt o number place
 
--- Two lists of rows agree one by one; a row need agree only where none before it is given.
+-- Two lists of rows agree one by one. A row has to agree only where no row before it is given.
 abbrev pub AllAgree : List (Option Refusal) → List Row → Type 0
 AllAgree [] [] = Unit {0}
 AllAgree [] (r ∷ rs) = ⊥
 AllAgree (o ∷ os) [] = ⊥
 AllAgree (o ∷ os) (r ∷ rs) = Agrees o r × (o ≡ none → AllAgree os rs)
 
--- So do two lists after them, if they agree where none before them is given.
+-- Two lists that agree, followed by two that agree where no row of the first two is given, agree as a whole.
 pub agree-append : (os : List (Option Refusal)) (rs : List Row) (os′ : List (Option Refusal)) (rs′ : List Row)
     → AllAgree os rs → (firstGiven os ≡ none → AllAgree os′ rs′) → AllAgree (os ++ os′) (rs ++ rs′)
 unfolding firstGiven
@@ -51,7 +51,7 @@ agree-append (o ∷ os) [] os′ rs′ a b = absurd a
 agree-append (none ∷ os) (r ∷ rs) os′ rs′ a b = (a .0, λ e. agree-append os rs os′ rs′ (a .1 e) b)
 agree-append (some q ∷ os) (r ∷ rs) os′ rs′ a b = (a .0, λ e. absurd (none-some (sym e)))
 
--- A row of the table with place 0 agrees with the page's: it gives its refusal exactly when the page's condition holds.
+-- A row with place 0 that gives its refusal exactly when a condition holds agrees with the page's row of that number and condition.
 pub row-agrees : {o : Option Refusal} {q : Refusal} {Yes No : Type 0} → IsRow o q Yes No → placeOf q ≡ 0 → Agrees o (rowOf (numberOf q) Yes)
 row-agrees {q = q} is no-place number place = (
   λ h. record { refusal = q; given = is .yes .1 (h .2); number-is = h .0; place-is = h .1 ∙ sym no-place },
@@ -59,7 +59,7 @@ row-agrees {q = q} is no-place number place = (
       (g .number-is ∙ ap numberOf same, g .place-is ∙ ap placeOf same ∙ no-place, is .yes .0 (g .given ∙ ap some same)),
 )
 
--- A row that two refusals can come from, each at any place, agrees with the page's two conditions.
+-- A row that gives one of two refusals, each at any place, agrees with the page's row of their two conditions.
 pub faults-agree : {o : Option Refusal} {A B : ℕ → Type 0} (one other : ℕ → Refusal) {a b : ℕ}
     → ((p : ℕ) → (numberOf (one p) ≡ a) × (placeOf (one p) ≡ p)) → ((p : ℕ) → (numberOf (other p) ≡ b) × (placeOf (other p) ≡ p))
     → ((p : ℕ) → (o ≡ some (one p)) ↔ A p) → ((p : ℕ) → (o ≡ some (other p)) ↔ B p)
@@ -77,7 +77,7 @@ faults-agree {A = A} {B = B} one other of-one of-other one-iff other-iff only nu
       (only (g .refusal) (g .given)),
 )
 
--- The first row that is given is the same in both lists.
+-- Where two lists agree, the first row that is given has the same number and place in both.
 pub first-agrees : (os : List (Option Refusal)) (rs : List Row) → AllAgree os rs
     → (number place : ℕ) → FirstRow rs number place ↔ IsGivenAt (firstGiven os) number place
 unfolding FirstRow firstGiven
@@ -94,7 +94,7 @@ first-agrees (some q ∷ os) (r ∷ rs) a number place = (
   λ g. inl (a .0 number place .1 g),
 )
 
--- No row is given in one list exactly when none is in the other.
+-- Where two lists agree, no row is given in the one exactly when none is in the other.
 pub none-agrees : (os : List (Option Refusal)) (rs : List Row) → AllAgree os rs → NoRow rs ↔ (firstGiven os ≡ none)
 unfolding NoRow firstGiven
 none-agrees [] [] a = (λ _. refl, λ _. tt)
@@ -109,12 +109,12 @@ none-agrees (some q ∷ os) (r ∷ rs) a = (
   λ e. absurd (none-some (sym e)),
 )
 
--- An answer and an area that go by the first row that is given.
+-- A call answers by the first row that is given: its struct and its area at exit are that refusal's; or, if no row is given, `counts` and `new`.
 pub record GoesByRows (os : List (Option Refusal)) (counts : ReportCounts) (new area : List ℕ) (r : Answer) (out : List ℕ) : Type 0 where
   pub paper : paperOf r ≡ answerPaper noReportCounts (answerBy (firstGiven os) counts)
   pub written : out ≡ areaBy (firstGiven os) new area
 
--- They meet demand 1.
+-- A call that answers by its rows meets demand 1, if its rows agree with those of the page.
 pub demand-1-met : {os : List (Option Refusal)} {rs : List Row} {counts : ReportCounts} {new area out : List ℕ} {r : Answer}
     → AllAgree os rs → GoesByRows os counts new area r out → Demand1 rs r area out
 demand-1-met {os} {rs} {counts} {new} {area} {out} {r} agree by = go (firstGiven os) refl (by .paper) (by .written)
@@ -162,12 +162,13 @@ demand-1-met {os} {rs} {counts} {new} {area} {out} {r} agree by = go (firstGiven
         some-same : {q′ : Refusal} → _≡_ {A = Option Refusal} (some q) (some q′) → q ≡ q′
         some-same h = cc
 
--- Where they are accepted, the counts and the area are the call's own, and no row is given.
+-- What an accepted call that answers by its rows gives: no row is given, and the counts and the area at exit are the call's own.
 pub record Accepts (os : List (Option Refusal)) (counts : ReportCounts) (new : List ℕ) (r : Answer) (out : List ℕ) : Type 0 where
   pub none-given : firstGiven os ≡ none
   pub counts-are : paperOf r .counts ≡ counts
   pub written : out ≡ new
 
+-- Such a call with refusal 0 is accepted in that sense.
 pub accepts : {os : List (Option Refusal)} {counts : ReportCounts} {new area out : List ℕ} {r : Answer}
     → GoesByRows os counts new area r out → r .refusal ≡ 0 → Accepts os counts new r out
 accepts {os} {counts} {new} {area} {out} {r} by zero-is =

@@ -1,5 +1,6 @@
--- `outlines_survey` and `outlines_scan` meet the demands. Both go by rows 1 to 4 (`searched-by-rows`), so demand 1 is that of every call (RowsAgree). Accepted, they
--- write the findings, which are exactly what `IsFinding` says (`findings-iff` of the meanings); their looks are the definitions', which the meanings bound.
+-- `outlines_survey` and `outlines_scan` meet the demands. Both answer by rows 1 to 4 (`searched-by-rows`), so demand 1 follows as for every call (RowsAgree). Where they are
+-- accepted, they write the findings, which are exactly those of `IsFinding` (`findings-iff` of crates/meaning). Their looks are `surveyLooks` and `quickLooks`, whose
+-- value and bound crates/meaning proves.
 use Prim.Native.Nat.{ℕ, _+_, _-_, _*_, _≤_, _<_}
 use mathlib.Core.Path.{_≡_, refl, sym, ap, subst, _∙_}
 use mathlib.Core.Logic.{_↔_}
@@ -27,7 +28,7 @@ use Rattle.exports.specs.Exported.{paperOf, counted, searchCounts, IsExp
 use Rattle.exports.specs.Demands.{searchTable, NeverNamed, Demand1, Demand2, Demand3, SurveyMeets, ScanMeets, SameWords}
 use Rattle.exports.proofs.RowsAgree.{AllAgree, row-agrees, GoesByRows, Accepts, demand-1-met, accepts}
 
--- The rows of a search, one by one.
+-- The rows of a search agree with those of the page, 1 to 4.
 pub search-agrees : (m k n room : ℕ) → AllAgree (admitRows m k n room) (searchTable m k n room)
 unfolding admitRows
 search-agrees m k n room = (
@@ -35,7 +36,7 @@ search-agrees m k n room = (
   λ _. (row-agrees (is-row-2 m k n room) refl, λ _. (row-agrees (is-row-3 m k n room) refl, λ _. (row-agrees (is-row-4 m k n room) refl, λ _. tt))),
 )
 
--- A start is among the shown findings exactly when some rotation differs in at most k places and it is not named, if the shown are the findings not named.
+-- If the shown findings are exactly those not named, then a start is among them exactly when some rotation differs in at most k places and it is not named.
 pub start-shown-iff : (Named : ℕ → Type 0) {ring line : List ℕ} {k : ℕ} {shown : List Finding} → 0 < length ring
     → ((f : Finding) → List·Memᴰ f shown ↔ (IsFinding ring line k f × (Named (f .start) → ⊥)))
     → (i : ℕ) → ((f : Finding) × (f .start ≡ i) × List·Memᴰ f shown)
@@ -51,7 +52,7 @@ start-shown-iff Named {ring} {line} {k} pos shown-iff i = (
 abbrev held : List ℕ → List ℕ → ℕ → ℕ → ReportCounts
 held ring line k looks = record { found = length (findings ring line k); hidden = 0; looks = looks }
 
--- a search's paper in the struct, by the first row that is given
+-- the paper of a search in the struct, by the first row that is given
 counted-by : (o : Option Refusal) (c : Counts)
     → counted searchCounts (answerPaper noCounts (answerBy o c)) ≡ answerPaper noReportCounts (answerBy o (searchCounts c))
 counted-by none c = refl
@@ -59,7 +60,7 @@ counted-by (some q) c = refl
 
 module _ (ring line : List ℕ) (k looks : ℕ) (words : List ℕ) {r : Answer} {out : List ℕ}
     (exported : IsExported (counted searchCounts (searchPaper ring line k (length words) looks)) (searchedWords ring line k words) r out) where
-  -- A search goes by rows 1 to 4.
+  -- a search answers by rows 1 to 4
   searched-by-rows : GoesByRows (admitRows (length ring) k (length line) (length words)) (held ring line k looks) (written (wordsOf (findings ring line k)) words) words r out
   unfolding searched searchedWords
   searched-by-rows = record {
@@ -68,7 +69,7 @@ module _ (ring line : List ℕ) (k looks : ℕ) (words : List ℕ) {r : Answer} 
     written = exported .written;
   }
 
-  -- It meets demand 1.
+  -- it meets demand 1
   search-demand-1 : Demand1 (searchTable (length ring) k (length line) (length words)) r words out
   search-demand-1 = demand-1-met (search-agrees (length ring) k (length line) (length words)) searched-by-rows
 
@@ -82,7 +83,7 @@ module _ (ring line : List ℕ) (k looks : ℕ) (words : List ℕ) {r : Answer} 
     looks-are : r .looks ≡ looks
     looks-are = ap (λ (c : ReportCounts). c .looks) (taken .counts-are)
 
-    -- It meets demand 2: the findings are shown, and none is hidden.
+    -- it meets demand 2: all findings are shown, and none is hidden
     search-demand-2 : Demand2 NeverNamed ring line k words r out
     search-demand-2 =
         let shown-iff : (f : Finding) → List·Memᴰ f (findings ring line k) ↔ (IsFinding ring line k f × (⊥ → ⊥)) =
@@ -100,7 +101,7 @@ module _ (ring line : List ℕ) (k looks : ℕ) (words : List ℕ) {r : Answer} 
           words-are = taken .written;
         }
 
--- Looks of an accepted call that are the quick scan's meet demand 3.
+-- An answer whose looks are those of the quick scan meets demand 3.
 pub looks-demand-3 : {ring line : List ℕ} {k : ℕ} {r : Answer} → 0 < length ring → r .looks ≡ quickLooks ring line k → Demand3 ring line k r
 looks-demand-3 {ring} {line} {k} pos are = record {
   looks-are = are;
@@ -121,7 +122,7 @@ module _ (ring line : List ℕ) (k : ℕ) (words : List ℕ) where
         no-looks = λ zero-is short. looks-are ring line k looks words e zero-is ∙ surveyLooks-short ring line short;
       }
 
-  -- `outlines_scan` meets them.
+  -- `outlines_scan` meets the demands.
   pub scan-meets : {r : Answer} {out : List ℕ} → IsScanExported ring line k words r out → ScanMeets ring line k words r out
   scan-meets e =
       let looks : ℕ = quickLooks ring line k in
@@ -131,7 +132,7 @@ module _ (ring line : List ℕ) (k : ℕ) (words : List ℕ) where
         demand-3 = λ zero-is. looks-demand-3 (admitted ring line k looks words e zero-is .some-edge) (looks-are ring line k looks words e zero-is);
       }
 
--- two answers by the same row that count alike but for their looks
+-- two answers by the same first row, with the same found, agree in all but their looks
 same-but-looks : (o : Option Refusal) (found looks looks′ : ℕ) {r r′ : Answer} {out out′ : List ℕ}
     → paperOf r ≡ answerPaper noReportCounts (answerBy o (record { found = found; hidden = 0; looks = looks }))
     → paperOf r′ ≡ answerPaper noReportCounts (answerBy o (record { found = found; hidden = 0; looks = looks′ }))
@@ -149,7 +150,7 @@ same-but-looks (some q) found looks looks′ p p′ same = record {
   words-are = same;
 }
 
--- Surveyed and scanned, a line has the same refusal or the same findings, and the same words.
+-- On the same arguments, survey and scan give the same refusal and place, the same found, and the same words at exit.
 pub survey-scan-same : (ring line : List ℕ) (k : ℕ) (words : List ℕ) {r r′ : Answer} {out out′ : List ℕ}
     → IsSurveyExported ring line k words r out → IsScanExported ring line k words r′ out′ → SameWords r r′ out out′
 survey-scan-same ring line k words e e′ =

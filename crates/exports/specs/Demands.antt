@@ -1,19 +1,19 @@
--- The three demands on the calls, stated of what a C caller gets: the struct `Answer` and the lent area at exit. Hold this page beside document 01. Nothing here
--- speaks of how a call works. That each call meets it is proved in proofs/SearchDemands.antt (survey and scan), proofs/ReportDemands.antt and proofs/BookDemands.antt.
+-- The three demands on the calls, stated for what a C caller gets: the struct `Answer` and the lent area at exit. Read this page beside document 01. Nothing here
+-- says how a call works. proofs/SearchDemands.antt (survey and scan), proofs/ReportDemands.antt and proofs/BookDemands.antt prove that each call meets its demands.
 --
---   Row, rowOf, FirstRow, NoRow              a row of the table of refusals; the first row that is given; none is
+--   Row, rowOf, FirstRow, NoRow              a row of the table of refusals; the first row that is given; no row is given
 --   searchTable, bookTable, reportTable,     the rows of each call in its order, "Given exactly when"
 --   unpackTable, packTable
---   Demand1                                  accepted, or refused by the first row that is given; a refusal counts 0 and writes nothing
---   BookNames, NeverNamed                    which starts the book names
---   Demand2                                  the findings that are written, and those that are hidden
+--   Demand1                                  accepted, or refused by the first row that is given; a refusal has 0 in every count and writes nothing
+--   BookNames, NeverNamed                    which starts a book names
+--   Demand2                                  which findings are written, and which are hidden
 --   UnpackDemand2, PackDemand2, GivesBack    books: what is accepted, what is written, and that reading gives it back
 --   Demand3                                  the looks of scan and report
 --   SurveyMeets, ScanMeets, ReportMeets,     the demands on each call
 --   UnpackMeets, PackMeets
 --   SameWords                                survey and scan give the same findings
 --
--- The theorems presume that a book's numbers are bytes and that words are 32-bit words: a C caller's types say so.
+-- The theorems require that a book's numbers are below 256 and that words are below 2^32. A C caller's types guarantee both.
 use Prim.Native.Nat.{ℕ, _+_, _-_, _*_, _%_, _≤_, _<_}
 use mathlib.Core.Path.{_≡_}
 use mathlib.Core.Logic.{_↔_, _⊎_}
@@ -30,20 +30,20 @@ use Rattle.silences.specs.Packing.{silencesOf, wordsOfSilences}
 use Rattle.silences.specs.Rows.{IsFieldFault, IsOrderFault, IsRingFault, IsRecordFault, IsPackable}
 use Rattle.exports.specs.declared.answering.Answer.{Answer}
 
--- A row of a call: with which number and at which place it is given, and when.
+-- A row of a call: `r number place` says that the row is given, with this number and this place.
 abbrev pub Row : Type 1
 Row = ℕ → ℕ → Type 0
 
--- A row whose place is 0.
+-- A row with one number and place 0: it is given exactly when the condition holds.
 abbrev pub rowOf : ℕ → Type 0 → Row
 rowOf its-number condition number place = (number ≡ its-number) × (place ≡ 0) × condition
 
--- This number and place are those of the first row that is given: its condition holds, and that of no row before it.
+-- This number and place are those of the first row that is given: that row holds of them, and no row before it holds of any.
 unfoldable pub FirstRow : List Row → ℕ → ℕ → Type 0
 FirstRow [] number place = ⊥
 FirstRow (r ∷ rows) number place = r number place ⊎ (((n p : ℕ) → r n p → ⊥) × FirstRow rows number place)
 
--- No row is given.
+-- No row is given, whatever the number and the place.
 unfoldable pub NoRow : List Row → Type 0
 NoRow [] = Unit {0}
 NoRow (r ∷ rows) = ((n p : ℕ) → r n p → ⊥) × NoRow rows
@@ -61,7 +61,7 @@ searchTable m k n room =
     ∷ rowOf 4 ((m ≤ n) × (room < 3 * (n - m + 1)))
     ∷ []
 
--- Rows 5, 6 and 7 of a book that is read. "Within a book the first faulty field decides, 6 before 7": a fault says that all fields before it are right.
+-- Rows 5, 6 and 7 of a book that is read. "Within a book the first faulty field decides, 6 before 7": a fault requires that all fields before it are right.
 abbrev pub bookTable : List ℕ → List Row
 bookTable book =
     -- "book longer than 13,000 bytes"
@@ -70,7 +70,7 @@ bookTable book =
     ∷ (λ number place. ((number ≡ 6) × IsFieldFault book place) ⊎ ((number ≡ 7) × IsOrderFault book place))
     ∷ []
 
--- "report 1 to 7"
+-- "report 1 to 7": the rows of a search, then those of the book.
 abbrev pub reportTable : ℕ → ℕ → ℕ → ℕ → List ℕ → List Row
 reportTable m k n room book = searchTable m k n room ++ bookTable book
 
@@ -93,13 +93,13 @@ packTable words room =
     ∷ rowOf 10 (room < length (layout (silencesOf words)))
     ∷ []
 
--- Demand 1: every call answers, or refuses by a number of the table under exactly the condition given there; a refusal has zero in every count and writes nothing.
--- `rows` are the call's rows, `area` its lent area at entry and `out` at exit.
+-- Demand 1: a call is accepted, or refused with a number of the table under exactly the condition given there; a refusal has zero in every count and writes nothing.
+-- `rows` are the call's rows, `area` its lent area at entry and `out` the same area at exit.
 pub record Demand1 (rows : List Row) (r : Answer) (area out : List ℕ) : Type 0 where
-  -- The answer has number 0 exactly when no row is given, and then place 0.
+  -- The answer's refusal is 0 exactly when no row is given, and then its place is 0.
   pub accepted-iff : (r .refusal ≡ 0) ↔ NoRow rows
   pub accepted-place : r .refusal ≡ 0 → r .place ≡ 0
-  -- A refusal has the number and place of the first row that is given, and of no other.
+  -- The answer's refusal and place are those of the first row that is given, and of no other.
   pub refused-iff : (number place : ℕ) → FirstRow rows number place ↔ ((0 < number) × (r .refusal ≡ number) × (r .place ≡ place))
   -- "zero in every count"
   pub no-found : 0 < r .refusal → r .found ≡ 0
@@ -108,7 +108,7 @@ pub record Demand1 (rows : List Row) (r : Answer) (area out : List ℕ) : Type 0
   -- "writes nothing to any lent area"
   pub untouched : 0 < r .refusal → out ≡ area
 
--- The book's bytes name this cell, ring number and start: they are the layout of silences, one of which is for them.
+-- The book's bytes name this cell, ring number and start: they are the layout of silences, and one of these has that cell, ring number and start.
 pub record BookNames (book : List ℕ) (cell ringNumber start : ℕ) : Type 0 where
   pub silences : List Silence
   pub is-book : IsBook silences book
@@ -118,17 +118,17 @@ pub record BookNames (book : List ℕ) (cell ringNumber start : ℕ) : Type 0 wh
 abbrev pub NeverNamed : ℕ → Type 0
 NeverNamed start = ⊥
 
--- Demand 2, of an accepted survey, scan or report: it writes exactly the findings that the book does not name. `Named` says which starts the book names.
+-- Demand 2 on an accepted survey, scan or report: it writes exactly the findings whose starts the book does not name. `Named` says which starts it names.
 pub record Demand2 (Named : ℕ → Type 0) (ring line : List ℕ) (k : ℕ) (words : List ℕ) (r : Answer) (out : List ℕ) : Type 0 where
   pub shown : List Finding
   pub hidden : List Finding
-  -- A start is among the shown exactly when some rotation differs in at most k places and the book does not name it.
+  -- A start is among the shown exactly when some rotation differs from its window in at most k places and the book does not name it.
   pub start-iff : (i : ℕ)
       → ((f : Finding) × (f .start ≡ i) × List·Memᴰ f shown)
       ↔ ((IsStart ring line i × ((q : ℕ) × (q < length ring) × (distance ring line i q ≤ k))) × (Named i → ⊥))
   -- "It carries start, rotation, distance: the least distance, and the lowest r that reaches it."
   pub shown-iff : (f : Finding) → List·Memᴰ f shown ↔ (IsFinding ring line k f × (Named (f .start) → ⊥))
-  -- A finding is hidden exactly when the book names its start.
+  -- A finding is among the hidden exactly when the book names its start.
   pub hidden-iff : (f : Finding) → List·Memᴰ f hidden ↔ (IsFinding ring line k f × Named (f .start))
   -- "by rising start": so none is listed twice.
   pub shown-rising : Rising 0 (length line) shown
@@ -139,21 +139,21 @@ pub record Demand2 (Named : ℕ → Type 0) (ring line : List ℕ) (k : ℕ) (wo
   -- "Words after the last one written keep their values."
   pub words-are : out ≡ written (wordsOf shown) words
 
--- Demand 2, of unpacking: a book is accepted exactly when it is the layout of ascending silences in range, at most 1,000 of them, with room for their words.
+-- Demand 2 on unpacking: a book is accepted exactly when it is the layout of ascending silences in range, at most 1,000 of them, and there is room for their words.
 pub record UnpackDemand2 (book area : List ℕ) (r : Answer) (out : List ℕ) : Type 0 where
   pub accepted-iff : (r .refusal ≡ 0) ↔ ((ss : List Silence) × IsBook ss book × (length (wordsOfSilences ss) ≤ length area))
   -- "return the number of records and leave room beyond their output unwritten"
   pub found-is : (ss : List Silence) → IsBook ss book → r .refusal ≡ 0 → r .found ≡ length ss
   pub words-are : (ss : List Silence) → IsBook ss book → r .refusal ≡ 0 → out ≡ written (wordsOfSilences ss) area
 
--- Demand 2, of packing: words are accepted exactly when they are silences that can be packed, with room for their layout, and it is the layout that is written.
+-- Demand 2 on packing: words are accepted exactly when they are silences that can be packed and there is room for their layout; the layout, a book, is written.
 pub record PackDemand2 (words area : List ℕ) (r : Answer) (out : List ℕ) : Type 0 where
   pub accepted-iff : (r .refusal ≡ 0) ↔ (IsPackable words × (length (layout (silencesOf words)) ≤ length area))
   pub found-is : r .refusal ≡ 0 → r .found ≡ length (silencesOf words)
   pub book-is : r .refusal ≡ 0 → IsBook (silencesOf words) (layout (silencesOf words))
   pub bytes-are : r .refusal ≡ 0 → out ≡ written (layout (silencesOf words)) area
 
--- Demand 3, of an accepted scan or report: its looks are the steps of rules 1 to 5, and bounded.
+-- Demand 3 on an accepted scan or report: its looks are the steps of rules 1 to 5, within the document's bound.
 pub record Demand3 (ring line : List ℕ) (k : ℕ) (r : Answer) : Type 0 where
   -- "Looks are the sum over rules 1 and 5."
   pub looks-are : r .looks ≡ quickLooks ring line k
@@ -163,8 +163,8 @@ pub record Demand3 (ring line : List ℕ) (k : ℕ) (r : Answer) : Type 0 where
   -- "A line shorter than the ring is accepted: no start, no look, zero findings."
   pub no-looks : length line < length ring → r .looks ≡ 0
 
--- Demand 2: reading gives back what was written. `given` is what the first of two calls was given, `out` the second's area at exit. The second accepts what the first
--- wrote, counts as many records, and its area begins with what the first was given.
+-- Demand 2 on packing and unpacking in turn: the second call gives back what the first was given (`given`). It accepts what the first wrote, counts as many records,
+-- and its area at exit (`out`) begins with `given`.
 pub record GivesBack (given : List ℕ) (first second : Answer) (out : List ℕ) : Type 0 where
   pub accepted : second .refusal ≡ 0
   pub found-is : second .found ≡ first .found
@@ -183,7 +183,7 @@ pub record ScanMeets (ring line : List ℕ) (k : ℕ) (words : List ℕ) (r : An
   pub demand-2 : r .refusal ≡ 0 → Demand2 NeverNamed ring line k words r out
   pub demand-3 : r .refusal ≡ 0 → Demand3 ring line k r
 
--- Demand 3: the quick scan lists precisely the survey's findings. The same ring, line, allowance and words, surveyed and scanned, differ in their looks alone.
+-- Demand 3: the quick scan lists exactly the survey's findings. For the same ring, line, allowance and lent words, survey and scan differ in their looks alone.
 pub record SameWords (survey scan : Answer) (survey-out scan-out : List ℕ) : Type 0 where
   pub refusal-is : scan .refusal ≡ survey .refusal
   pub place-is : scan .place ≡ survey .place

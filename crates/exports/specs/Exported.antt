@@ -1,12 +1,12 @@
--- The calls as C and Rust programs have them: each answers one struct of five numbers, whatever it counts. What survey, scan, report, pack and unpack give
--- is said where they are defined; here stands only how the struct holds it.
+-- The contracts of the calls for C and Rust programs. Each returns one struct of five numbers. What survey, scan, report, pack and unpack answer is defined in their
+-- own crates (findings, outlines, silences); this file only says how the struct holds that answer.
 --
 --   paperOf          the number, place and counts that the struct stands for
 --   searchCounts     "found and looks"; a search counts nothing hidden
 --   recordCounts     "the number of records", as found
---   counted          a paper with its counts so held
---   IsExported       what every call promises, of its paper and of its area
---   Is..Exported     what each call promises
+--   counted          the same paper, with its counts as the struct holds them
+--   IsExported       the contract that all five calls share: the struct's paper, and the lent area at exit
+--   Is..Exported     the contract of each call
 use Prim.Native.Nat.{ℕ}
 use mathlib.Core.Path.{_≡_}
 use mathlib.Core.List.{List}
@@ -20,11 +20,11 @@ use Rattle.findings.specs.Searching.{Counts, searchPaper, searchedWords}
 use Rattle.outlines.specs.Report.{ReportCounts, noReportCounts, reported, reportedWords}
 use Rattle.exports.specs.declared.answering.Answer.{Answer}
 
--- "A refusal carries its number and place, zero in every count"; 0 is no refusal's number, and is an accepted answer's.
+-- The paper of a struct. "A refusal carries its number and place, zero in every count"; an accepted answer has number 0, which no refusal has.
 abbrev pub paperOf : Answer → Paper ReportCounts
 paperOf a = record { number = a .refusal; place = a .place; counts = record { found = a .found; hidden = a .hidden; looks = a .looks } }
 
--- "Survey and scan return found and looks": what they do not count is 0.
+-- "Survey and scan return found and looks": hidden is 0.
 abbrev pub searchCounts : Counts → ReportCounts
 searchCounts c = record { found = c .found; hidden = 0; looks = c .looks }
 
@@ -32,36 +32,36 @@ searchCounts c = record { found = c .found; hidden = 0; looks = c .looks }
 abbrev pub recordCounts : ℕ → ReportCounts
 recordCounts records = record { found = records; hidden = 0; looks = 0 }
 
--- The same number and place, and the counts as the struct holds them.
+-- The same number and place, with the counts as the struct holds them.
 abbrev pub counted : {C : Type 0} → (C → ReportCounts) → Paper C → Paper ReportCounts
 counted held p = record { number = p .number; place = p .place; counts = held (p .counts) }
 
--- What every exported call promises: the struct stands for this paper, and the lent area holds these at exit.
+-- The contract of an exported call: the returned struct has this paper, and the lent area holds `area-given` at exit.
 pub record IsExported (paper-given : Paper ReportCounts) (area-given : List ℕ) (r : Answer) (out : List ℕ) : Type 0 where
   pub paper : paperOf r ≡ paper-given
   pub written : out ≡ area-given
 
--- What `outlines_survey` promises: of the ring, the line, the allowance, the lent words, the answer and the words at exit.
+-- The contract of `outlines_survey`. `words` are the lent words at entry, `out` the same at exit.
 abbrev pub IsSurveyExported : List ℕ → List ℕ → ℕ → List ℕ → Answer → List ℕ → Type 0
 IsSurveyExported ring line k words r out =
     IsExported (counted searchCounts (searchPaper ring line k (length words) (surveyLooks ring line))) (searchedWords ring line k words) r out
 
--- What `outlines_scan` promises, of the same.
+-- The contract of `outlines_scan`: that of the survey, with the looks of the quick scan.
 abbrev pub IsScanExported : List ℕ → List ℕ → ℕ → List ℕ → Answer → List ℕ → Type 0
 IsScanExported ring line k words r out =
     IsExported (counted searchCounts (searchPaper ring line k (length words) (quickLooks ring line k))) (searchedWords ring line k words) r out
 
--- What `outlines_report` promises: of cell, ring number, ring, line, allowance, book, the lent words, the answer and the words at exit.
+-- The contract of `outlines_report`.
 abbrev pub IsReportExported : ℕ → ℕ → List ℕ → List ℕ → ℕ → List ℕ → List ℕ → Answer → List ℕ → Type 0
 IsReportExported cell ringNumber ring line k book words r out =
     IsExported (answerPaper noReportCounts (reported ring line k cell ringNumber book (length words))) (reportedWords ring line k cell ringNumber book words) r out
 
--- What `outlines_pack` promises: of the words, the area lent for the book, the answer and the area at exit.
+-- The contract of `outlines_pack`. `area` is the area lent for the book, `out` the same at exit.
 abbrev pub IsPackExported : List ℕ → List ℕ → Answer → List ℕ → Type 0
 IsPackExported words area r out =
     IsExported (counted recordCounts (recordsPaper (packed words (length area)))) (areaAtExit layout (packed words (length area)) area) r out
 
--- What `outlines_unpack` promises: of the book, the area lent for the words, the answer and the area at exit.
+-- The contract of `outlines_unpack`. `area` is the area lent for the words, `out` the same at exit.
 abbrev pub IsUnpackExported : List ℕ → List ℕ → Answer → List ℕ → Type 0
 IsUnpackExported book area r out =
     IsExported (counted recordCounts (recordsPaper (unpacked book (length area)))) (areaAtExit wordsOfSilences (unpacked book (length area)) area) r out

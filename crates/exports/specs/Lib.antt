@@ -1,3 +1,3 @@
--- The calls for C and Rust programs: what each promises, in one struct of five numbers.
+-- The calls for C and Rust programs. Exported has the contract of each call; Demands says in plain comparisons what document 01 requires of them.
 pub mod Exported
 pub mod Demands

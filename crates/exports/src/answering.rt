@@ -1,4 +1,4 @@
-// The answer of every exported call: five numbers, in C's layout.
+// The struct that every exported call returns: five numbers, in C's layout.
 use answers::Refusal;
 use answers::number_of;
 use answers::place_of;
@@ -14,7 +14,8 @@ ghost use Rattle.findings.specs.Searching.{paperOf as searchPaperOf};
 ghost use Rattle.outlines.specs.Report.{noReportCounts, paperOf as reportPaperOf};
 ghost use Rattle.exports.specs.Exported.{paperOf, searchCounts, recordCounts, counted};
 
-// Refusal 0 is accepted. What a call does not count is 0; pack and unpack have the records in `found`.
+// `refusal` is 0 where the call is accepted. A count that a call does not have is 0; pack and unpack return the number of records
+// in `found`.
 #[repr(C)]
 pub struct Answer {
     pub refusal: u32,
@@ -24,7 +25,7 @@ pub struct Answer {
     pub looks: u64,
 }
 
-// A refusal's number and place, "zero in every count". That a place fits 32 bits is proved of each call.
+// A refusal's number and place, "zero in every count". The proof of each call shows that its places fit 32 bits.
 fn refused_answer(refusal: Refusal) -> Answer
     requires { ⌜ placeOf refusal < 2 ^ 32 ⌝ }
     ensures { λ r. ⌜ paperOf r ≡ answerPaper noReportCounts (refused refusal) ⌝ }

@@ -1,4 +1,4 @@
-// The silence book, for C.
+// Pack and unpack, for C.
 use crate::answering::Answer;
 use crate::answering::book_answer;
 use book::unpack;

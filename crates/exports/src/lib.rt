@@ -1,5 +1,6 @@
-// The calls for C and Rust programs, over the C calling convention: include/outlines.h says the same in C's words. Each takes every input, as the call
-// that it passes on, and answers one struct by value. A slice is a pointer and a length.
+// The library's five calls for programs in C and Rust, over the C calling convention; include/outlines.h declares them for C. Each
+// passes its arguments to the Rattle call of the same name and returns that call's answer as one struct, by value. Each takes
+// every input. A slice is a pointer and a length.
 mod answering;
 mod books;
 mod searches;

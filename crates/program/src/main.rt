@@ -1,4 +1,5 @@
-// The report program of document 01: standard input to standard output, by `reply::answer`.
+// The report program of document 01: reads standard input, has `reply::answer` make the text, and writes it to standard output.
+// (crates/request reads the request that the input holds, crates/reply writes the text. The built program is target/native/report.)
 use reply::MOST_INPUT;
 use reply::MOST_TEXT;
 ghost use Prim.Native.Nat.{_≤_};
@@ -7,9 +8,9 @@ ghost use lib.ListN.{length};
 // One byte more than the longest input. If all of these bytes come, the input is too long.
 const MOST_READ: usize = MOST_INPUT + 1;
 
-// Reads standard input to its end, or until `input` is full, and returns how many bytes came. A read that fails leaves an unknown
-// rest: then this returns 0, and the empty input is refused by 11 at place 0. (A short count does not tell a failure from the end,
-// so this calls `libc::read` and not `io::read_full`.)
+// Reads standard input to its end, or until `input` is full, and returns the number of bytes read. If a read fails, the rest of the
+// input is unknown: this returns 0, and the empty input is refused by 11 at place 0. (`io::read_full` returns a short count at the
+// end of the input and on a failure alike, so this calls `libc::read`.)
 fn read_input(input: &mut [u8]) -> usize
     ensures { λ r. ⌜ r ≤ length (now (input .exit)) ⌝ }
 {
@@ -34,7 +35,7 @@ fn main() {
     let mut text = [0u8; MOST_TEXT];
     let long = reply::answer(&input[..got], &mut text);
     if !io::write_all(libc::STDOUT_FILENO, &text[..long]) {
-        // A program has no exit status: this is all that tells of a failed write.
+        // A Rattle program has no exit status (it is always 0), so standard error is the only place to report a failed write.
         io::write_all(
             libc::STDERR_FILENO,
             b"outlines: the report was not written whole\n",

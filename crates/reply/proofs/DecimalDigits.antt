@@ -1,5 +1,5 @@
--- Decimal digits by their two equations: a number below 10 is one digit, and any other is the digits of a tenth of it and then its last digit. These hide that
--- `decimal` counts down: any count above the number gives the same digits (`digits-enough`). And a bound: a number below 10 to the power of
+-- Decimal digits by their two equations: a number below 10 is one digit, and any other is the digits of a tenth of it and then its last digit. With
+-- them no proof needs the bound that `decimal` recurses on: any bound above the number gives the same digits (`digits-enough`). And a number below 10 to the power of
 -- c + 1 has at most c + 1 digits.
 use Prim.Native.Nat.{ℕ, zero, suc, _/_, _%_, _^_, _≤_, _<_}
 use mathlib.Core.Path.{_≡_, sym, ap, _∙_}
@@ -22,7 +22,7 @@ within-more : (most n : ℕ) → 10 ≤ n → digitsWithin (suc most) n ≡ digi
 unfolding digitsWithin
 within-more most n h = simp (le-ltb n 10 h)
 
--- Any two counts above the number give the same digits.
+-- Any two bounds above the number give the same digits.
 digits-enough : (a b n : ℕ) → n < a → n < b → digitsWithin a n ≡ digitsWithin b n
 digits-enough zero b n h k = absurd (omega arith)
 digits-enough (suc a) zero n h k = absurd (omega arith)

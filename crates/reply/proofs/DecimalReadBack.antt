@@ -1,5 +1,5 @@
--- A number's decimal digits, said of no division (`IsDecimal`): they are digits, read back they give the number, and none leads that is a zero. By a tenth of the
--- number and its last digit: the first digit of both is the same.
+-- `decimal` gives a number's decimal digits, as `IsDecimal` defines them without division: they are digits, read back they give the number, and none is a leading
+-- zero. By recursion on a tenth of the number: one more digit behind its digits leaves the first digit as it is.
 use Prim.Native.Nat.{ℕ, zero, suc, _+_, _-_, _*_, _/_, _%_, _≤_, _<_}
 use mathlib.Core.Path.{_≡_, refl, sym, ap, subst, _∙_}
 use mathlib.Core.Logic.{⊎-elim}
@@ -10,18 +10,18 @@ use Rattle.lists.proofs.Cases.{le-or-lt}
 use Rattle.reply.specs.Decimal.{digit, decimal, decimalValue, AllDigits, IsDecimal}
 use Rattle.reply.proofs.DecimalDigits.{decimal-one, decimal-more}
 
--- one more digit is read last
+-- the value with one more digit at the end
 value-more : (n : ℕ) (ds : List ℕ) (d : ℕ) → decimalValue n (ds ++ d ∷ []) ≡ decimalValue n ds * 10 + (d - digit 0)
 unfolding decimalValue
 value-more n [] d = refl
 value-more n (e ∷ ds) d = value-more (n * 10 + (e - digit 0)) ds d
 
--- one more digit is a digit
+-- with one more digit at the end all are digits
 digits-more : (ds : List ℕ) (d : ℕ) → d < 10 → AllDigits ds → AllDigits (ds ++ digit d ∷ [])
 digits-more [] d h all = ((omega arith, omega arith), tt)
 digits-more (e ∷ ds) d h all = (all .0, digits-more ds d h (all .1))
 
--- what a number of one digit is
+-- a number of one digit
 one-digit : (n : ℕ) → n < 10 → IsDecimal n (digit n ∷ [])
 unfolding decimalValue
 one-digit n h = record {
@@ -31,7 +31,7 @@ one-digit n h = record {
   no-leading-zero = λ e. ap (λ (d : ℕ). d ∷ []) e;
 }
 
--- what the digits of a tenth and one more are
+-- the digits of a tenth of the number, and its last digit
 more-digits : (n : ℕ) (ds : List ℕ) → 10 ≤ n → IsDecimal (n / 10) ds → IsDecimal n (ds ++ digit (n % 10) ∷ [])
 unfolding decimalValue
 more-digits n ds h tenth =
@@ -47,7 +47,7 @@ more-digits n ds h tenth =
       no-leading-zero = λ e. absurd (not-zero (sym first ∙ e));
     }
 
--- by as many steps as the first number allows
+-- by recursion on a bound above the number
 decimal-within : (most n : ℕ) → n < most → IsDecimal n (decimal n)
 decimal-within zero n h = absurd (omega arith)
 decimal-within (suc most) n h =
@@ -56,6 +56,6 @@ decimal-within (suc most) n h =
     (λ one. subst (IsDecimal n) (sym (decimal-one n one)) (one-digit n one))
     (le-or-lt 10 n)
 
--- A number's decimal digits without leading zeros.
+-- The bytes of `decimal n` are the decimal digits of n, without leading zeros.
 pub decimal-is : (n : ℕ) → IsDecimal n (decimal n)
 decimal-is n = decimal-within (suc n) n (omega arith)

@@ -16,7 +16,7 @@ use Rattle.reply.specs.Decimal.{decimal}
 use Rattle.reply.specs.Writing.{hole, filled, IsWritten}
 use Rattle.reply.proofs.PutLoop.{StillToPut, put-start, put-turn, put-end}
 
--- What the loop keeps.
+-- The loop's invariant.
 pub record Filling (form numbers area : List ℕ) (at done used : ℕ) (out : List ℕ) (next : ℕ) : Type 0 where
   pub done-le : done ≤ length form
   pub used-le : used ≤ done

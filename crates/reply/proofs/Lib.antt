@@ -1,4 +1,4 @@
--- Laws of the report program's text, and what the functions' proofs cite.
+-- Laws of the report program's text, and what the proofs of the functions cite.
 pub mod DecimalDigits
 pub mod TextWritten
 pub mod PutLoop

@@ -1,4 +1,4 @@
--- The loop that puts a line for each finding. Before each turn the lines of the words from `done` on are still to be put.
+-- The loop that puts a line for each finding. Before each turn the lines of the findings in the words from `done` on are still to be put.
 --
 --   words, area, at     the words, and the area and the next offset at the start
 --   done, out, next     how many words are read, and the area and the next offset now
@@ -13,7 +13,7 @@ use Rattle.reply.specs.Writing.{findingsOf, IsWritten}
 use Rattle.reply.proofs.PutLoop.{StillToPut, put-start, put-turn, put-end}
 use Rattle.reply.proofs.WordsOfFindings.{findingFrom, findingsOf-step, findingsOf-end}
 
--- What the loop keeps.
+-- The loop's invariant.
 pub record PuttingLines (words area : List ℕ) (at done : ℕ) (out : List ℕ) (next : ℕ) : Type 0 where
   pub done-le : done ≤ length words
   pub left : StillToPut (findingLines (findingsOf (drop done words))) (findingLines (findingsOf words)) area at out next

@@ -1,5 +1,5 @@
--- From a report's answer to the text of a request. A refusal is the text's one line. Counts give three pieces of text: the first line, the lines of the findings
--- whose words the report wrote, and the last line; together they are no longer than the program's array.
+-- From a report's answer to the text of its request. A refusal's line is the whole text. Counts give three pieces of text: the first line, the lines of the findings
+-- whose words the report wrote, and the last line. Together they are no longer than the program's array.
 use Prim.Native.Nat.{ℕ, _+_, _-_, _*_, _^_, _≤_, _<_}
 use mathlib.Core.Path.{_≡_, refl, sym, ap, ap₂, _∙_}
 use mathlib.Core.List.{List, _++_}
@@ -28,7 +28,7 @@ use Rattle.reply.proofs.RoomEnough.{refusal-same}
 use Rattle.reply.proofs.WordsOfFindings.{findingsOf-words}
 use Rattle.reply.proofs.TextRoom.{report-lines-le}
 
--- The text that counts and words give, in its three pieces, and how long it is at most.
+-- What an accepted report gives: the words of the shown findings lie in the lent words, the three pieces are the request's text, and the text fits the array.
 pub record Answered (q : Request) (found hid looks : ℕ) (words : List ℕ) : Type 0 where
   pub hidden-le : hid ≤ found
   pub words-le : wordsEach * (found - hid) ≤ length words
@@ -46,7 +46,7 @@ text-by q room line-le enough e =
 
 module _ {cell ringNumber k : ℕ} {ring line book words out : List ℕ} {r : Reported} (meets : IsReported cell ringNumber ring line k book words r out)
     (line-le : length line ≤ lineField .most) (enough : mostFindingWords ≤ length words) where
-  -- A refusal is the text's one line.
+  -- The line of the report's refusal is the request's text.
   pub refused-text : (refusal : Refusal) → r ≡ Refused refusal → refusalLine refusal ≡ requestText (request cell ringNumber k ring line book)
   unfolding reported
   refused-text refusal e =
@@ -55,7 +55,7 @@ module _ {cell ringNumber k : ℕ} {ring line book words out : List ℕ} {r : Re
       (row-place-iff noReportCounts (reportCounts ring line k cell ringNumber (silencesRead book)) (reportRefusal (length ring) k (length line) (length words) book)
       (sym (ap paperOf e) ∙ meets .paper) refusal .0 (refl, refl)))
 
-  -- Counts are three pieces of text.
+  -- An accepted report's counts and words give the request's text, in three pieces.
   pub counted-text : {found hid looks : ℕ} → cell < 2 ^ 32 → ringNumber < 2 ^ 16 → r ≡ CountsCase found hid looks
       → Answered (request cell ringNumber k ring line book) found hid looks out
   unfolding reportLines

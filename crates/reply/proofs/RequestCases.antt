@@ -1,5 +1,5 @@
--- The two cases of a read request: its parts, which lie in the input, and its text; or refusal 11 and its line. And the text of `answer` lies within its array
--- (`answer-within`).
+-- From what `read_request` returns to the contract of `answer`. The parts of a request lie in the input, and the request's text is the input's; the line of refusal 11
+-- is the input's text too. And the text of `answer` lies within its array (`answer-within`).
 use Prim.Native.Nat.{ℕ, _-_, _≤_}
 use mathlib.Core.Path.{_≡_, sym, ap, subst, _∙_}
 use mathlib.Core.List.{List}
@@ -19,12 +19,12 @@ use Rattle.reply.specs.Answering.{requestText, textBy, answerText, IsAns
 use Rattle.reply.specs.Writing.{request, IsText}
 use Rattle.lists.proofs.Areas.{written-le}
 
--- the request of these parts, with this book
+-- the request with these parts and this book
 abbrev withBook : List ℕ → Parts → List ℕ → Request
 withBook input p book =
     request (p .cell) (p .«ring_number») (p .allowance) (between input (p .«ring_from») (p .«ring_to»)) (between input (p .«line_from») (p .«line_to»)) book
 
--- The text of the input, written whole.
+-- A text that is the input's, written whole, meets the contract of `answer`.
 pub answered-by : {input text area out : List ℕ} {long : ℕ} → text ≡ answerText input → IsText text area long out → IsAnswered input area long out
 answered-by {area = area} e is-text = record {
   long-is = is-text .long-is ∙ ap length e;
@@ -32,11 +32,11 @@ answered-by {area = area} e is-text = record {
 }
 
 module _ {input : List ℕ} {r : Requested} (read : IsRequestRead input r) where
-  -- Where the parts of a request lie.
+  -- The parts of a request lie in the input.
   pub parts-within : {p : Parts} → r ≡ PartsCase p → PartsWithin input p
   parts-within e = subst (PartsWithinBy input) e (read .within)
 
-  -- The text of a request is the input's. (Code takes the book as the bytes up to the input's end.)
+  -- The text of the request with these parts is the input's. (Code takes the book as the bytes from `line_to` up to the input's end.)
   pub parts-text : {p : Parts} → r ≡ PartsCase p
       → requestText (withBook input p (between input (p .«line_to») (length input))) ≡ answerText input
   unfolding answerText
@@ -47,11 +47,11 @@ module _ {input : List ℕ} {r : Requested} (read : IsRequestRead input r) where
       ∙ ap (λ (x : Requested). textBy (requestedOf input x)) (sym e)
       ∙ ap textBy (read .is)
 
-  -- The line of refusal 11 is the input's.
+  -- The line of the refusal is the input's text.
   pub refused-line : {refusal : Refusal} → r ≡ Refused refusal → refusalLine refusal ≡ answerText input
   unfolding answerText
   refused-line e = ap (λ (x : Requested). textBy (requestedOf input x)) (sym e) ∙ ap textBy (read .is)
 
--- The text lies within the array.
+-- The text of `answer` is no longer than its array.
 pub answer-within : {input area out : List ℕ} {long : ℕ} → IsAnswered input area long out → long ≤ length out
 answer-within {input} {area} answered = omega (arith, answered .long-is, written-le (answerText input) area (answered .written))

@@ -1,5 +1,5 @@
--- Which refusals a request is given: not 3, its line being at most 4,096 edges, and not 4, the report being lent as many words as row 4 asks. So of the
--- report's rows 1 to 7 there come 1, 2, 5, 6 and 7, after 11.
+-- A request is never refused by 3, because its line has at most 4,096 edges, nor by 4, because the report is lent as many words as row 4 requires. So the program's
+-- refusals are 11, and after it 1, 2, 5, 6 and 7.
 use Prim.Native.Nat.{ℕ, _≤_}
 use mathlib.Core.Path.{_≡_}
 use mathlib.Core.Option.{some}
@@ -22,7 +22,7 @@ module _ (q : Request) (line-le : length (q .line) ≤ lineField .most) where
   abbrev n : ℕ
   n = length (q .line)
 
-  -- of rows 1 to 4 only 1 and 2
+  -- of rows 1 to 4 only 1 and 2 are given
   early-rows : (refusal : Refusal) → refusalOf m (q .allowance) n (roomAsked m n) ≡ some refusal → numberOf refusal ≤ 2
   early-rows =
       by-row m (q .allowance) n (roomAsked m n) (λ (r : Refusal). numberOf r ≤ 2) (λ _. omega arith) (λ _. omega arith) (λ long. absurd (omega arith)) (λ short. absurd (omega arith))

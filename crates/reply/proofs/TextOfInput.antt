@@ -1,4 +1,5 @@
--- The text by what the input is: row 11 at a place is its line, and an input laid down from a request has the text of that request.
+-- The program's text, by what its input is: an input that is not as laid down gives the line of refusal 11 with its place, and an input laid down from a request gives
+-- that request's text.
 use Prim.Native.Nat.{ℕ}
 use mathlib.Core.Path.{_≡_, ap}
 use mathlib.Core.List.{List}
@@ -14,7 +15,7 @@ pub fault-text-is : (input : List ℕ) (place : ℕ) → IsInputFault input plac
 unfolding answerText
 fault-text-is input place fault = ap textBy (row-11-iff input place .1 fault)
 
--- Where it is as laid down, the text is that of the request.
+-- Where it is a request laid down, the text is that of the request.
 pub laid-down-text-is : (q : Request) → CanLayDown q → answerText (laidDown q) ≡ requestText q
 unfolding answerText
 laid-down-text-is q can = ap textBy (laid-down-read q can)

@@ -1,4 +1,4 @@
--- No text is longer than the program's array (`mostText`), from how many digits its numbers have (`decimal-length-le`). A report shows at most a finding for each edge
+-- No text is longer than the program's array (`mostText`), because its numbers have few digits (`decimal-length-le`). A report shows at most one finding for each edge
 -- of the line; a start is below the line's length, a rotation and a distance below the ring's, and looks are at most 3·m·n.
 use Prim.Native.Nat.{ℕ, _*_, _^_, _≤_, _<_}
 use mathlib.Core.Path.{refl}
@@ -22,19 +22,19 @@ use Rattle.reply.specs.Answering.{reportLines}
 use Rattle.reply.specs.Writing.{mostFindingLine, mostText}
 use Rattle.reply.proofs.DecimalDigits.{decimal-length-le}
 
--- The line of a refusal whose number and place fit 64 bits.
+-- The line of a refusal whose number and place fit 64 bits is no longer than the array.
 pub refusal-line-le : (number place : ℕ) → number < 2 ^ 64 → place < 2 ^ 64 → length (refusalLineOf number place) ≤ mostText
 unfolding refusalLineOf ascii
 refusal-line-le number place number-lt place-lt =
     simp length-append (omega (arith, decimal-length-le 19 number (omega arith), decimal-length-le 19 place (omega arith)))
 
--- A finding of a ring and a line that the program takes.
+-- A finding of a ring and a line within the program's limits.
 record Short (f : Finding) : Type 0 where
   pub start-lt : f .start < lineField .most
   pub rotation-lt : f .rotation < mostRing
   pub distance-lt : f .distance < mostRing
 
--- the lines of such findings
+-- each line of such findings has at most `mostFindingLine` bytes
 finding-lines-le : (fs : List Finding) → ((f : Finding) → List·Memᴰ f fs → Short f) → length (findingLines fs) ≤ mostFindingLine * length fs
 unfolding findingLines findingLine
 finding-lines-le [] short = omega arith
@@ -70,7 +70,7 @@ module _ (q : Request) (room : ℕ) (admitted : Admitted (length (q .ring)) (q .
         distance-lt = omega (arith, is .at-most-k, admitted .allowed, admitted .most-ring);
       }
 
-  -- The text of a report.
+  -- The lines of an accepted report are no longer than the array.
   pub report-lines-le : q .cell < 2 ^ 32 → q .ringNumber < 2 ^ 16 → length (reportLines q silences) ≤ mostText
   unfolding reportLines firstLine lastLine ascii
   report-lines-le cell-lt ring-number-lt =

@@ -1,6 +1,5 @@
--- A text being written. Its pieces: bytes written and then more bytes are both written (`written-then`), so what a writer writes is its pieces one after the other,
--- and no step of it asks for room. The whole: a text that there is room for stands at the area's beginning (`text-stands`), for with room no byte is left out
--- (`putBytes-sets`).
+-- A text written piece by piece. Writing some bytes and then more bytes writes both, one after the other, and requires no room (`written-then`). A whole text for which
+-- there is room stands at the area's beginning (`text-stands`), because with room no byte is left out (`putBytes-sets`).
 use Prim.Native.Nat.{ℕ, suc, _+_, _≤_, _<_}
 use mathlib.Core.Path.{_≡_, refl, sym, ap, _∙_}
 use mathlib.Core.List.{List, [], _∷_, _++_}
@@ -13,7 +12,7 @@ use Rattle.lists.specs.Areas.{written}
 use Rattle.lists.proofs.Areas.{written-more}
 use Rattle.reply.specs.Writing.{Text, textIn, putByte, putBytes, IsWritten, IsText}
 
--- Bytes and then more bytes, put at once or one after the other.
+-- Putting two lists of bytes at once is putting the first and then the second.
 pub putBytes-append : (a b : List ℕ) (text : Text) → putBytes (a ++ b) text ≡ putBytes b (putBytes a text)
 unfolding putBytes
 putBytes-append [] b text = refl
@@ -29,16 +28,16 @@ pub byte-left-out : (byte : ℕ) (area : List ℕ) (at : ℕ) → length area �
 unfolding putBytes putByte
 byte-left-out byte area at full = record { is = simp (le-ltb at (length area) full) }
 
--- Bytes are written, and then more bytes: both are written.
+-- A writer of `a` and then a writer of `b` together write `a ++ b`.
 pub written-then : {a b area mid out : List ℕ} {at next last : ℕ} → IsWritten a area at mid next → IsWritten b mid next out last
     → IsWritten (a ++ b) area at out last
 written-then {a} {b} {area} {at = at} first second = record { is = second .is ∙ ap (putBytes b) (first .is) ∙ sym (putBytes-append a b (textIn area at)) }
 
--- What is written, said of equal bytes.
+-- A writer of some bytes is a writer of equal bytes.
 pub written-same : {a b area out : List ℕ} {at next : ℕ} → a ≡ b → IsWritten a area at out next → IsWritten b area at out next
 written-same e is-written = rw e at is-written
 
--- with room each byte is stored behind the one before it
+-- with room for all, each byte is stored behind the one before it
 putBytes-sets : (bytes area : List ℕ) (at : ℕ) → at + length bytes ≤ length area → putBytes bytes (textIn area at) ≡ textIn (sets area at bytes) (at + length bytes)
 unfolding putBytes
 putBytes-sets [] area at room = let none-more : at ≡ at + 0 = omega arith in ap (textIn area) none-more
@@ -48,7 +47,7 @@ putBytes-sets (byte ∷ bytes) area at room =
     ∙ putBytes-sets bytes (set area at byte) (suc at) (simp length-set (omega arith))
     ∙ ap (textIn (sets area at (byte ∷ bytes))) more
 
--- A text that there is room for stands at the area's beginning.
+-- A text for which there is room, written from offset 0 on, stands whole at the area's beginning.
 pub text-stands : {text area out : List ℕ} {long : ℕ} → length text ≤ length area → IsWritten text area 0 out long → IsText text area long out
 unfolding written
 text-stands {text} {area} {out} {long} room is-written =
@@ -57,6 +56,6 @@ text-stands {text} {area} {out} {long} room is-written =
     let area-is : out ≡ sets area 0 text = ap (λ (t : Text). t .area) whole in
     record { long-is = omega arith; written = area-is ∙ written-more [] text area (omega arith) }
 
--- What a whole text is, said of equal texts.
+-- A writer of a whole text is a writer of an equal text.
 pub text-same : {a b area out : List ℕ} {long : ℕ} → a ≡ b → IsText a area long out → IsText b area long out
 text-same e is-text = rw e at is-text

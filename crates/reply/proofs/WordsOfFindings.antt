@@ -1,5 +1,5 @@
--- The findings of words, as a walk through the words meets them: from a word on, the finding there and the findings after it; or, with too few words left, none.
--- And the findings of the words of findings are those findings. All from the laws of records (`Records` of crates/lists).
+-- `findingsOf`, as a loop through the words meets it: from a word on, the finding there and the findings after it; or, with fewer than three words left, none. And
+-- the findings of the words of findings are those findings. All follow from the laws of records (`Records` of crates/lists).
 use Prim.Native.Nat.{ℕ, _+_, _≤_, _<_}
 use mathlib.Core.Path.{_≡_, refl, ap, _∙_}
 use mathlib.Core.List.{List, [], _∷_}
@@ -14,13 +14,13 @@ use Rattle.reply.specs.Writing.{findingOfNumbers, findingOfWords, findin
 abbrev pub findingFrom : List ℕ → ℕ → Finding
 findingFrom words at = findingOfNumbers (getD words at 0) (getD words (at + 1) 0) (getD words (at + 2) 0)
 
--- The findings of findings' words are those findings.
+-- The findings of the words of findings are those findings.
 pub findingsOf-words : (fs : List Finding) → findingsOf (wordsOf fs) ≡ fs
 unfolding findingsOf
 findingsOf-words = records-of-words wordsEach findingOfWords (omega arith) findingWords (λ _. refl) (λ _. refl)
 
 module _ (words : List ℕ) (at : ℕ) where
-  -- Where the words of a finding are left, they are the next finding.
+  -- Where three words are left from `at` on, they are the next finding.
   pub findingsOf-step : at + wordsEach ≤ length words → findingsOf (drop at words) ≡ findingFrom words at ∷ findingsOf (drop (at + wordsEach) words)
   unfolding findingsOf
   findingsOf-step h =
@@ -29,7 +29,7 @@ module _ (words : List ℕ) (at : ℕ) where
       ∙ ap (λ (f : Finding). f ∷ findingsOf (drop (at + wordsEach) words))
       (λ i. findingOfNumbers ((word 0 (omega arith) ∙ ap (λ (j : ℕ). getD words j 0) (add-zero at)) i) (word 1 (omega arith) i) (word 2 (omega arith) i))
 
-  -- Where fewer are left, there is none.
+  -- Where fewer are left, there is no finding more.
   pub findingsOf-end : length words < at + wordsEach → findingsOf (drop at words) ≡ []
   unfolding findingsOf
   findingsOf-end = records-end wordsEach findingOfWords (omega arith) words at

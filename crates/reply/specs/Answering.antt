@@ -1,6 +1,6 @@
 -- Document 01, "The report program": the program's whole output for an input's bytes, on every input, and the contract of `answer`.
 --
---   reportLines    the lines of a report whose book has some silences
+--   reportLines    the lines of a report with these silences
 --   requestText    the output for a request: the report's lines, or its refusal
 --   answerText     the output for an input's bytes: "Refusal 11 comes before all others"
 --   IsAnswered     the contract of `answer`
@@ -24,29 +24,29 @@ use Rattle.outlines.specs.Report.{shown, reportRefusal, reportCounts}
 use Rattle.request.specs.Input.{Request, requestOf}
 use Rattle.reply.specs.Lines.{firstLine, findingLines, lastLine, refusalLine}
 
--- The lines of a report whose book has these silences: the first line, a line for each shown finding, the last line.
+-- The lines of a report with these silences: the first line, a line for each shown finding, the last line.
 unfoldable pub reportLines : Request → List Silence → List ℕ
 reportLines q silences =
     firstLine (q .cell) (q .ringNumber) (length (q .ring)) (q .allowance)
     ++ (findingLines (shown silences (q .cell) (q .ringNumber) (findings (q .ring) (q .line) (q .allowance)))
     ++ lastLine (reportCounts (q .ring) (q .line) (q .allowance) (q .cell) (q .ringNumber) silences))
 
--- The output by the first of the report's rows that is given: the lines of the book's silences, or the refusal's line.
+-- The output by the first of the report's rows that is given: that refusal's line; or, if none is given, the report's lines with the book's silences.
 abbrev pub linesBy : Request → Option Refusal → List ℕ
 linesBy q none = reportLines q (silencesRead (q .book))
 linesBy q (some refusal) = refusalLine refusal
 
--- The output for a request.
+-- The output for a request: the report is lent exactly the words that row 4 requires.
 unfoldable pub requestText : Request → List ℕ
 requestText q =
     linesBy q (reportRefusal (length (q .ring)) (q .allowance) (length (q .line)) (roomAsked (length (q .ring)) (length (q .line))) (q .book))
 
--- The output by the request of an input, or by refusal 11.
+-- The output by what was read: the text of the request, or the line of refusal 11.
 abbrev pub textBy : Answer Request → List ℕ
 textBy (accepted q) = requestText q
 textBy (refused refusal) = refusalLine refusal
 
--- The program's whole output for an input's bytes.
+-- The program's whole output for an input's bytes. "Refusal 11 comes before all others".
 unfoldable pub answerText : List ℕ → List ℕ
 answerText input = textBy (requestOf input)
 

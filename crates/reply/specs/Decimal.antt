@@ -2,9 +2,9 @@
 --
 --   digit        the byte of a digit
 --   decimal      the bytes of a number
---   IsDecimal    what they are, said of no division: digits, the number's value, and no leading zero
+--   IsDecimal    the same without division: bytes of digits that give the number, with no leading zero
 --
--- `decimal` counts down the digits that there may be. Read instead its two equations `decimal-one` and `decimal-more` of proofs/DecimalDigits.antt, or
+-- `decimal` recurses on a bound for the number of digits. Read instead its two equations `decimal-one` and `decimal-more` of proofs/DecimalDigits.antt, or
 -- `decimal-is` of proofs/DecimalReadBack.antt, which gives `IsDecimal`.
 use Prim.Native.Nat.{ℕ, zero, suc, _+_, _-_, _*_, _/_, _%_, _≤_, _<_}
 use mathlib.Core.Path.{_≡_}
@@ -17,7 +17,7 @@ use lib.ListN.{length, getD}
 abbrev pub digit : ℕ → ℕ
 digit d = 0x30 + d
 
--- The digits of a number, the last one last, at most as many as the first number says.
+-- The digits of a number, the last one last. The first argument bounds how many: where it is too small, the leading digits are missing.
 unfoldable pub digitsWithin : ℕ → ℕ → List ℕ
 digitsWithin zero n = []
 digitsWithin (suc most) n =
@@ -28,12 +28,12 @@ digitsWithin (suc most) n =
 unfoldable pub decimal : ℕ → List ℕ
 decimal n = digitsWithin (suc n) n
 
--- The number that digits have been read as, one more digit after the other.
+-- The number that digits give, read one after the other; `n` is the number that the digits before them gave.
 unfoldable pub decimalValue : ℕ → List ℕ → ℕ
 decimalValue n [] = n
 decimalValue n (d ∷ ds) = decimalValue (n * 10 + (d - digit 0)) ds
 
--- Each byte is a digit's.
+-- Each byte is that of a digit.
 abbrev pub AllDigits : List ℕ → Type 0
 AllDigits [] = Unit {0}
 AllDigits (d ∷ ds) = ((digit 0 ≤ d) × (d ≤ digit 9)) × AllDigits ds

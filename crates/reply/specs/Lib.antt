@@ -1,4 +1,5 @@
--- The report program's text. Decimal to Answering state document 01; Writing has the contracts of private functions. Samples are computed.
+-- Writing the report program's text. Decimal, Lines and Answering state document 01; Answering also has the contract of `answer`, Writing those of the private
+-- functions. The checker computes the claims of Samples.
 pub mod Decimal
 pub mod Lines
 pub mod Answering

@@ -7,7 +7,7 @@
 --   refusalLineOf                    the line of a number and a place
 --   findingLines                     "one line per shown finding"
 --
--- Names of counts and fields are the sample's own: cell, ring, edges, allow; found, hidden, looks; refused, place.
+-- The words in the lines are those of the document's sample: cell, ring, edges, allow; found, hidden, looks; refused, place.
 use Prim.Native.Nat.{ℕ}
 use mathlib.Core.List.{List, [], _∷_, _++_}
 use Rattle.meaning.specs.Findings.{Finding}

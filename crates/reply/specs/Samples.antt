@@ -1,5 +1,5 @@
--- Document 01's sample of the report program, whole, and samples beside it: refusal 11 at each of its places, which refusal wins, and the digits of numbers. Each is
--- computed from the definitions.
+-- Document 01's sample of the report program, whole, and samples of our own: refusal 11 at several places, the order of refusals, and the digits of numbers. The
+-- checker computes each from the definitions.
 use Prim.Native.Nat.{ℕ}
 use mathlib.Core.Path.{_≡_, refl}
 use mathlib.Core.List.{List, [], _∷_, _++_}
@@ -34,17 +34,17 @@ sampleFields =
 unfoldable sampleBook : List ℕ
 sampleBook = 0x21 ∷ 0x00 ∷ 0x0a ∷ 0x00 ∷ 0x00 ∷ 0x00 ∷ 0x07 ∷ 0x00 ∷ 0x02 ∷ 0x00 ∷ 0x00 ∷ 0x00 ∷ 0x01 ∷ []
 
--- A text's line as it is read: its letters, and LF.
+-- A line of the text: these letters, and LF.
 abbrev printed : List ℕ → List ℕ
 printed letters = letters ++ lf ∷ []
 
--- "Output, whole".
+-- "Output, whole": the text for the sample's input.
 sample-right : answerText (sampleFields ++ sampleBook)
     ≡ printed (ascii "cell 7 ring 2 edges 2 allow 0") ++ (printed (ascii "0 0 0") ++ printed (ascii "found 2 hidden 1 looks 12"))
 unfolding sampleFields sampleBook ascii answerText requestOf inputFault firstFault partsFrom isField numberAt requestText reportLines firstLine findingLine findingLines lastLine digitsWithin decimal reportRows admitRows firstGiven bookRows readBook readFrom fieldsFrom fieldAt fieldBy lengthByTag isWhole silenceAt isBelow isSame names those findingsBelow foundAt lowestRotation lowest distance count differs readLooks tallyLooks verifyLooks windowsFrom candidatesOf readWindow readLeft readEdge begins fits someBelow
 sample-right = refl
 
--- It is what is laid down for this request.
+-- The sample's input is this request, laid down.
 sample-laid-down : laidDown (record { cell = 7; ringNumber = 2; allowance = 0; ring = ascii "aa"; line = ascii "aaa"; book = sampleBook }) ≡ sampleFields ++ sampleBook
 unfolding sampleFields sampleBook ascii laidDown bytesOf
 sample-laid-down = refl
@@ -62,13 +62,13 @@ row-11 : (answerText [] ≡ printed (ascii "refused 11 place 0"))
 unfolding sampleFields ascii answerText requestOf inputFault firstFault partsFrom isField numberAt refusalLineOf digitsWithin decimal
 row-11 = (refl, refl, refl, refl, refl, refl, refl, refl)
 
--- The fields of cell 7, ring number 2, this allowance, this ring and a line of this many edges.
+-- The input of cell 7, ring number 2, this allowance, this ring, a line of `n` edges and no book.
 abbrev fieldsWith : ℕ → List ℕ → ℕ → List ℕ
 fieldsWith k ring n = laidDown (record { cell = 7; ringNumber = 2; allowance = k; ring = ring; line = replicate n 0x61; book = [] })
 
--- "Refusal 11 comes before all others": an empty ring is row 1, but not before its line is read; a line of 4,097 edges is wrongly long, and row 11 at its first byte.
--- Then 1 before 2, and 2 before the book's. "Book places count from the book's first byte": a book of one byte is row 6 at place 0, and one that is cut
--- in its second field row 6 at place 13.
+-- "Refusal 11 comes before all others": an empty ring is refused by 1, and by 11 where its line is cut as well; a line of 4,097 edges is wrongly long, so 11 at the
+-- offset where its field begins. The empty ring is also 1 before 2, and the fourth sample 2 before 6. "Book places count from the book's first byte": a book of one
+-- byte is refused by 6 at place 0, and a book whose second field is cut by 6 at place 13.
 order-of-rows : (answerText (fieldsWith 0 [] 3) ≡ printed (ascii "refused 1 place 0"))
     × (answerText (take 21 (fieldsWith 0 [] 3)) ≡ printed (ascii "refused 11 place 19"))
     × (answerText (fieldsWith 0 (ascii "a") 4097) ≡ printed (ascii "refused 11 place 20"))

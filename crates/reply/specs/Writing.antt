@@ -1,4 +1,4 @@
--- The contracts of the private functions that write the text. Nothing here is part of the public call's meaning.
+-- The contracts of the private functions that write the text. Nothing here is part of what `answer` means.
 --
 --   Text, putByte, putBytes    a text being written, and bytes put one after the other while there is room
 --   IsWritten                  the contract of a writer of bytes; it requires no room
@@ -30,18 +30,18 @@ pub record Text : Type 0 where
 abbrev pub textIn : List ℕ → ℕ → Text
 textIn area next = record { area = area; next = next }
 
--- A byte put: it is stored where there is room for it, and left out where there is none.
+-- The text after a byte is put: stored where there is room for it, left out where there is none.
 unfoldable pub putByte : ℕ → Text → Text
 putByte byte text =
     let stored : Text = textIn (set (text .area) (text .next) byte) (text .next + 1) in
     cond (ltb (text .next) (length (text .area))) stored text
 
--- Bytes put one after the other.
+-- The text after bytes are put, one after the other.
 unfoldable pub putBytes : List ℕ → Text → Text
 putBytes [] text = text
 putBytes (byte ∷ bytes) text = putBytes bytes (putByte byte text)
 
--- The contract of a writer of these bytes: from the area and the next offset at entry (`area`, `at`) to both at exit (`out`, `next`).
+-- The contract of a writer of these bytes: the area and the next offset at exit (`out`, `next`) are those at entry (`area`, `at`) after the bytes are put.
 pub record IsWritten (bytes area : List ℕ) (at : ℕ) (out : List ℕ) (next : ℕ) : Type 0 where
   pub is : textIn out next ≡ putBytes bytes (textIn area at)
 
@@ -54,7 +54,7 @@ pub record IsText (text area : List ℕ) (long : ℕ) (out : List ℕ) : Type 0 
 abbrev pub hole : ℕ
 hole = 0x23
 
--- A line's form with numbers: each `#` is the next number in decimal digits, and every other byte is itself. (Past the last number a `#` is 0.)
+-- A line by its form and its numbers: each `#` becomes the next number in decimal digits, and every other byte stays. (Past the last number a `#` becomes 0.)
 unfoldable pub filled : List ℕ → List ℕ → List ℕ
 filled [] numbers = []
 filled (byte ∷ form) numbers =
@@ -74,11 +74,11 @@ findingOfWords words = findingOfNumbers (getD words 0 0) (getD words 1 0) (getD 
 unfoldable pub findingsOf : List ℕ → List Finding
 findingsOf words = recordsOf wordsEach findingOfWords words
 
--- These three counts.
+-- The counts of a report with these three numbers.
 abbrev pub countsOf : ℕ → ℕ → ℕ → ReportCounts
 countsOf found hid looks = record { found = found; hidden = hid; looks = looks }
 
--- The most bytes of the first line, `cell C ring R edges M allow K`: 26 that are no digit, LF among them, and at most 10, 5, 3 and 3 digits.
+-- The most bytes of the first line, `cell C ring R edges M allow K`: 26 that are not digits, LF among them, and at most 10, 5, 3 and 3 digits.
 abbrev pub mostFirstLine : ℕ
 mostFirstLine = 26 + (10 + 5 + 3 + 3)
 
@@ -86,11 +86,11 @@ mostFirstLine = 26 + (10 + 5 + 3 + 3)
 abbrev pub mostFindingLine : ℕ
 mostFindingLine = wordsEach + (4 + 3 + 3)
 
--- The most bytes of the last line, `found F hidden H looks L`: 22 that are no digit, LF among them, and at most 4, 4 and 7 digits.
+-- The most bytes of the last line, `found F hidden H looks L`: 22 that are not digits, LF among them, and at most 4, 4 and 7 digits.
 abbrev pub mostLastLine : ℕ
 mostLastLine = 22 + (4 + 4 + 7)
 
--- No text is longer: there is at most a finding for each edge of the line. (A refusal's line is shorter.)
+-- The most bytes of a text: a line has at most one finding for each edge. (A refusal's line is shorter.)
 abbrev pub mostText : ℕ
 mostText = mostFirstLine + mostFindingLine * lineField .most + mostLastLine
 
@@ -103,7 +103,7 @@ abbrev pub request : ℕ → ℕ → ℕ → List ℕ → List ℕ → List ℕ 
 request cell ringNumber allowance ring line book =
     record { cell = cell; ringNumber = ringNumber; allowance = allowance; ring = ring; line = line; book = book }
 
--- The precondition of `answer_request`: the line is no longer than its field may be, and there is room for every text.
+-- The precondition of `answer_request`: the line has at most 4,096 edges, and there is room for every text.
 pub record CanAnswer (n room : ℕ) : Type 0 where
   pub line-le : n ≤ lineField .most
   pub room-for : mostText ≤ room

@@ -1,4 +1,4 @@
-// The program's input to its output: read the request, make the report, write its lines.
+// From the bytes of the program's input to its text: reads the request, makes the report, writes its lines.
 use crate::lines::put_finding_lines;
 use crate::lines::put_line;
 use crate::refusing::put_refusal;
@@ -12,22 +12,22 @@ ghost use lib.ListN.{length};
 ghost use Rattle.reply.specs.Answering.{requestText, IsAnswered};
 ghost use Rattle.reply.specs.Writing.{request, CanAnswer, IsText};
 
-// Words for a finding at each edge of the longest line: row 4 never asks for more.
+// Words for a finding at each edge of the longest line. Row 4 never requires more.
 const MOST_FINDING_WORDS: usize = WORDS_EACH * MOST_LINE_BYTES;
 
-// The most bytes of the first line: 26 that are no digit, and at most 10, 5, 3 and 3 digits.
+// The most bytes of the first line: 26 that are not digits, and at most 10, 5, 3 and 3 digits.
 const MOST_FIRST_LINE: usize = 26 + (10 + 5 + 3 + 3);
 
 // The most bytes of a finding's line: a space or LF after each number, and at most 4, 3 and 3 digits.
 const MOST_FINDING_LINE: usize = WORDS_EACH + (4 + 3 + 3);
 
-// The most bytes of the last line: 22 that are no digit, and at most 4, 4 and 7 digits.
+// The most bytes of the last line: 22 that are not digits, and at most 4, 4 and 7 digits.
 const MOST_LAST_LINE: usize = 22 + (4 + 4 + 7);
 
-// Bytes enough for every text: there is at most a finding for each edge of the line. (A refusal's line is shorter.)
+// Room for every text: a line has at most one finding for each edge. (A refusal's line is shorter.)
 pub const MOST_TEXT: usize = MOST_FIRST_LINE + MOST_FINDING_LINE * MOST_LINE_BYTES + MOST_LAST_LINE;
 
-// The output for a request: its report's lines, or the report's refusal.
+// Writes the text for a request and returns its length: the lines of the report, or the line of the report's refusal.
 fn answer_request(
     cell: u32,
     ring_number: u16,
@@ -58,14 +58,14 @@ fn answer_request(
     }
 }
 
-// The program's whole output for its input, at the beginning of `text`; returns its length.
+// Writes the program's whole output for this input at the beginning of `text`, and returns its length.
 pub fn answer(input: &[u8], text: &mut [u8; MOST_TEXT]) -> usize
     ensures { λ r. ⌜ IsAnswered (now (input .entry)) (now (text .entry)) r (now (text .exit)) ⌝ }
 {
     match read_request(input) {
         Requested::Refused(refusal) => put_refusal(text, refusal),
         Requested::Parts(parts) => {
-            // The kit takes a part of a slice between locals, not between fields.
+            // The kit cuts a slice at local variables only, not at fields.
             let ring_from = parts.ring_from;
             let ring_to = parts.ring_to;
             let line_from = parts.line_from;

@@ -1,5 +1,5 @@
-// One byte of the text. If there is no room for it, it is left out: so no writer requires room, and what a writer puts is its
-// pieces one after the other. There always is room: the proofs of refusing.rt and answering.rt show it once for each whole text.
+// Writes one byte of the text. A byte for which there is no room is left out, so no writer has to require room. There always is
+// room: the proofs of `put_refusal` and `answer_request` show it once for each whole text.
 ghost use mathlib.Core.List.{[], _∷_};
 ghost use Rattle.reply.specs.Writing.{IsWritten};
 

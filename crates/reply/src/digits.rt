@@ -6,8 +6,8 @@ ghost use Rattle.reply.specs.Writing.{IsWritten};
 // The byte of the digit 0.
 const ZERO: u8 = 0x30;
 
-// Puts a number from `at` on, in decimal digits without leading zeros, and returns the offset of the next byte. The digits
-// before the last are those of a tenth of the number, so nothing has to be counted first.
+// Puts a number at `at`, in decimal digits without leading zeros, and returns the offset of the next byte. The digits before the
+// last one are those of number / 10, so the number of digits need not be known first.
 pub fn put_decimal(text: &mut [u8], at: usize, number: usize) -> usize
     ensures { λ r. ⌜ IsWritten (decimal number) (now (text .entry)) at (now (text .exit)) r ⌝ }
 {

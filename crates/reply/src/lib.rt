@@ -1,5 +1,7 @@
-// The report program's work: from its input's bytes to its output's text. specs/Answering.antt defines the text for every input.
-// No public function has a `requires`: each takes every input.
+// Writes the report program's text: `answer` takes the bytes of the program's input, reads the request in them (crates/request),
+// makes the report (crates/outlines) and writes its lines, or the line of a refusal. crates/program reads standard input, calls
+// `answer` and writes the text. specs/Answering.antt defines the text for every input. No public function has a `requires`: each
+// takes every input.
 mod answering;
 mod bytes;
 mod digits;

@@ -11,7 +11,7 @@ ghost use Rattle.reply.specs.Writing.{filled, findingsOf, IsWritten};
 // The byte of a line's form that stands for a number: `#`.
 const HOLE: u8 = 0x23;
 
-// The number that the next `#` stands for. (No form here has more of them than there are numbers; one more would be 0.)
+// The number that the next `#` stands for. (No form here has more `#` than there are numbers; one too many would be 0.)
 fn next_number(numbers: &[usize], at: usize) -> usize
     ensures { λ r. ⌜ r ≡ getD (now (numbers .entry)) at 0 ⌝ }
 {
@@ -21,8 +21,8 @@ fn next_number(numbers: &[usize], at: usize) -> usize
     0
 }
 
-// A line by its form, as `refused # place #` and LF: each `#` is the next of the numbers, in decimal digits, and every other byte
-// is put as it is.
+// Puts a line by its form, such as `refused # place #` and LF: each `#` becomes the next number in decimal digits, and every other
+// byte is put as it is.
 pub fn put_line(text: &mut [u8], at: usize, form: &[u8], numbers: &[usize]) -> usize
     ensures { λ r. ⌜ IsWritten (filled (now (form .entry)) (now (numbers .entry))) (now (text .entry)) at (now (text .exit)) r ⌝ }
 {
@@ -56,7 +56,7 @@ fn word_at(words: &[u32], at: usize) -> usize
     number_of_word(words[at])
 }
 
-// "one line per shown finding (start, rotation, distance)"
+// Puts "one line per shown finding (start, rotation, distance)".
 pub fn put_finding_lines(text: &mut [u8], at: usize, words: &[u32]) -> usize
     ensures { λ r. ⌜ IsWritten (findingLines (findingsOf (now (words .entry)))) (now (text .entry)) at (now (text .exit)) r ⌝ }
 {

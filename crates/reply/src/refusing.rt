@@ -1,4 +1,4 @@
-// A refusal's line: its number and place in document 01.
+// Writes the line of a refusal: its number and its place, as document 01 gives them.
 use crate::lines::put_line;
 use answers::Refusal;
 use answers::number_of;

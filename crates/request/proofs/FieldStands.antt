@@ -1,4 +1,4 @@
--- The test of a field is true exactly where the field stands.
+-- The test `isField` is true exactly where a field stands (`IsFieldAt`): its four comparisons are the record's four facts.
 use Prim.Native.Nat.{ℕ}
 use mathlib.Core.Path.{_≡_, sym, _∙_}
 use mathlib.Core.Bool.{true, false, false≢true}
@@ -14,7 +14,7 @@ use Rattle.request.specs.Fields.{nextAt, isField}
 use Rattle.request.specs.RowEleven.{IsFieldAt, NoFieldAt}
 
 module _ (kind : FieldKind) (input : List ℕ) (at : ℕ) where
-  -- A field of this kind stands.
+  -- The test is true exactly where a field of this kind stands.
   pub field-iff : (isField kind input at ≡ true) ↔ IsFieldAt kind input at
   unfolding isField
   field-iff = (
@@ -40,6 +40,6 @@ module _ (kind : FieldKind) (input : List ℕ) (at : ℕ) where
             not-cut = leb-true (nextAt input at) (length input) (short .1);
           }
 
-  -- None stands.
+  -- It is false exactly where none stands.
   pub no-field-iff : (isField kind input at ≡ false) ↔ NoFieldAt kind input at
   no-field-iff = (λ e f. false≢true (sym e ∙ field-iff .1 f), λ none. sym (not-passed (isField kind input at) (λ e. none (field-iff .0 e))))

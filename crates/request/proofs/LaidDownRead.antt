@@ -1,5 +1,5 @@
--- An input laid down from a request is read back as that request, field after field (`parts-laid`). So the definition that reads and the one that writes cannot both be
--- wrong in the same way.
+-- An input laid down from a request is read back as that request. By induction on the fields (`parts-laid`): each field that was laid down stands, its value is
+-- read back, and the next field begins at its end.
 use Prim.Native.Nat.{ℕ, _+_, _-_, _^_, _≤_, _<_}
 use mathlib.Core.Path.{_≡_, refl, sym, ap, ap₂, _∙_}
 use mathlib.Core.List.{List, [], _∷_, _++_, append-nil}
@@ -19,19 +19,19 @@ use Rattle.request.specs.Input.{Request, mostInput, firstFault, inputFau
 use Rattle.request.specs.RowEleven.{IsFieldAt}
 use Rattle.request.proofs.FieldStands.{field-iff}
 
--- Fields of these kinds with these values, one after the other, and the last part after them.
+-- Fields of these kinds with these values, one after the other, and after them the part that is left: the book.
 abbrev pub laid : List FieldKind → List (List ℕ) → List ℕ
 laid [] parts = getD parts 0 []
 laid (kind ∷ kinds) [] = []
 laid (kind ∷ kinds) (value ∷ parts) = field (kind .tag) value ++ laid kinds parts
 
--- Each value has a length that its kind takes, and one part comes after the fields.
+-- Each value has a length that its kind allows and that two bytes can hold, and one part, the book, comes after the fields.
 data Fit : List FieldKind → List (List ℕ) → Type 0 where
   book-left : {book : List ℕ} → Fit [] (book ∷ [])
   field-fits : {kind : FieldKind} {kinds : List FieldKind} {value : List ℕ} {parts : List (List ℕ)} → kind .least ≤ length value → length value ≤ kind .most
       → length value < 256 ^ lengthBytes → Fit kinds parts → Fit (kind ∷ kinds) (value ∷ parts)
 
--- What is laid down is read back: no field is faulty, and the parts are those.
+-- Where such fields stand from byte offset `at` on, none is faulty, and the parts read are those that were laid down.
 parts-laid : {kinds : List FieldKind} {parts : List (List ℕ)} (whole : List ℕ) (at : ℕ) → Fit kinds parts → drop at whole ≡ laid kinds parts
     → (firstFault kinds whole at ≡ none) × (partsFrom kinds whole at ≡ parts)
 unfolding firstFault partsFrom
@@ -59,7 +59,7 @@ number-in-bytes count number fits =
     ap (λ (n : ℕ). numberAt n (bytesOf count number) 0) (bytesOf-length count number)
     ∙ laid-number (bytesOf count number) 0 count number [] (sym (append-nil (bytesOf count number))) fits
 
--- and fit the kind of field that takes them
+-- and have the length that the field of such a number requires
 number-fits : {tag : ℕ} {kinds : List FieldKind} {parts : List (List ℕ)} (count number : ℕ) → count < 256 ^ lengthBytes → Fit kinds parts
     → Fit (record { tag = tag; least = count; most = count } ∷ kinds) (bytesOf count number ∷ parts)
 number-fits {tag} count number small fit =
@@ -71,7 +71,7 @@ number-fits {tag} count number small fit =
 abbrev partsOf : Request → List (List ℕ)
 partsOf q = bytesOf 4 (q .cell) ∷ bytesOf 2 (q .ringNumber) ∷ bytesOf 1 (q .allowance) ∷ q .ring ∷ q .line ∷ q .book ∷ []
 
--- A request that can be laid down is read back.
+-- Reading the input laid down from a request gives that request, for every request that can be laid down.
 pub laid-down-read : (q : Request) → CanLayDown q → requestOf (laidDown q) ≡ accepted q
 unfolding requestOf inputFault laidDown
 laid-down-read q can =

@@ -1,4 +1,4 @@
--- Laws of the report program's input, and what the functions' proofs cite.
+-- Laws of reading the report program's input, and what the proofs of the functions cite.
 pub mod FieldStands
 pub mod PastFields
 pub mod RequestRead

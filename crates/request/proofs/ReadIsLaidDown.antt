@@ -1,5 +1,5 @@
--- An input that is read as a request is the one laid down from that request, field after field (`read-laid`), and the request can be laid down. With `laid-down-read`:
--- an input is accepted exactly when it is "as laid down", and as one request only.
+-- An input that is read as a request is that request laid down, and the request can be laid down. By induction on the fields (`read-laid`): a field that stands is its
+-- tag, its length and its value. With `laid-down-read`: an input is accepted exactly when it is "as laid down".
 use Prim.Native.Nat.{ℕ, _+_, _-_, _^_, _≤_, _<_}
 use mathlib.Core.Path.{_≡_, refl, sym, ap, ap₂, subst, _∙_}
 use mathlib.Core.Bool.{Bool, true, false, cond}
@@ -37,7 +37,7 @@ module _ (input : List ℕ) (is-bytes : IsBytes input) where
       go true stands e = (field-iff kind input at .0 stands, e)
       go false missing e = absurd (let z : _≡_ {A = ℕ} 0 1 = cc in omega arith)
 
-  -- What is read is laid down.
+  -- the bytes from `at` on are the fields read, laid down, and the book after them
   read-laid : (kinds : List FieldKind) (at : ℕ) → firstFault kinds input at ≡ none → drop at input ≡ laid kinds (partsFrom kinds input at)
   unfolding partsFrom
   read-laid [] at e = refl
@@ -62,11 +62,11 @@ module _ (input : List ℕ) (is-bytes : IsBytes input) where
   number-lt : {at tag : ℕ} (count : ℕ) → IsFieldAt (record { tag = tag; least = count; most = count }) input at → numberIn (valueAt input at) < 256 ^ count
   number-lt {at} count f = rw (number-of-field count f) (numberAt-lt input is-bytes count (at + headLength))
 
-  -- how long the value of a field is
+  -- the value of a field has at most the kind's most bytes
   value-le : {kind : FieldKind} {at : ℕ} → IsFieldAt kind input at → length (valueAt input at) ≤ kind .most
   value-le {kind} {at} f = omega (arith, f .most-le, length-take (nextAt input at - (at + headLength)) (drop (at + headLength) input))
 
-  -- the request that is read is laid down, and can be
+  -- where no field is faulty, the input is its request laid down, and that request can be laid down
   parts-laid-down : length input ≤ mostInput → firstFault inputFields input 0 ≡ none
       → (input ≡ laidDown (requestOfParts (partsFrom inputFields input 0))) × CanLayDown (requestOfParts (partsFrom inputFields input 0))
   unfolding laidDown partsFrom
@@ -93,7 +93,7 @@ module _ (input : List ℕ) (is-bytes : IsBytes input) where
       )
 
   module _ (q : Request) where
-    -- what is read is laid down
+    -- an input that is read as `q` is `q` laid down
     read-is-laid-down : requestOf input ≡ accepted q → (input ≡ laidDown q) × CanLayDown q
     unfolding requestOf inputFault
     read-is-laid-down h = go (ltb mostInput (length input)) refl (firstFault inputFields input 0) refl h
@@ -105,6 +105,6 @@ module _ (input : List ℕ) (is-bytes : IsBytes input) where
         go false short none e h =
             subst (λ (p : Request). (input ≡ laidDown p) × CanLayDown p) (accepted-unique refl h) (parts-laid-down (ltb-false mostInput (length input) short) e)
 
-    -- An input is read as a request exactly when it is the one laid down from it.
+    -- An input is read as the request `q` exactly when it is `q` laid down and `q` can be laid down.
     pub laid-down-iff : (requestOf input ≡ accepted q) ↔ ((input ≡ laidDown q) × CanLayDown q)
     laid-down-iff = (read-is-laid-down, λ h. ap requestOf (h .0) ∙ laid-down-read q (h .1))

@@ -1,5 +1,5 @@
--- A request read as code reads it: the five fields one after the other (`AllRead`). If the last is faulty, its place is that of row 11; if not, all five stand, their
--- ends are in order (`InOrder`), and their numbers and offsets are the request.
+-- From the five fields, as `read_request` reads them one after the other (`AllRead`), to its contract. If a fault was found, its offset is the place of row 11. If none
+-- was, all five fields stand, their ends are in order (`InOrder`), and their numbers and offsets are the parts of the request.
 use Prim.Native.Nat.{ℕ, zero, suc, _+_, _-_, _*_, _≤_}
 use mathlib.Core.Path.{_≡_, refl, sym, ap, ap₂, _∙_}
 use mathlib.Core.Bool.{true, false}
@@ -25,7 +25,7 @@ use Rattle.request.specs.Parsing.{IsPast}
 use Rattle.request.specs.RequestReading.{requestAt, IsRequestRead}
 use Rattle.request.proofs.PastFields.{faultBy, FieldRead, past-fault, past-stands}
 
--- The five fields are read one after the other, and a longer input is faulty before the first.
+-- The five fields, read one after the other. An input that is too long is faulty before the first.
 pub record AllRead (input : List ℕ) (cell ringNumber allowance ring line : ReadTo) : Type 0 where
   pub cell-read : IsPast cellField input (record { next = 0; faulty = ltb mostInput (length input) }) cell
   pub ring-number-read : IsPast ringNumberField input cell ringNumber
@@ -33,7 +33,7 @@ pub record AllRead (input : List ℕ) (cell ringNumber allowance ring line : Rea
   pub ring-read : IsPast ringField input allowance ring
   pub line-read : IsPast lineField input ring line
 
--- The ends of the five fields.
+-- Where the five fields end: the first three have fixed lengths, and ring and line lie within the input.
 pub record InOrder (input : List ℕ) (cell ringNumber allowance ring line : ℕ) : Type 0 where
   pub cell-is : cell ≡ headLength + 4
   pub ring-number-is : ringNumber ≡ cell + headLength + 2
@@ -52,7 +52,7 @@ number-taken (suc count) n bytes at i h =
     ap₂ (λ (a b : ℕ). a * 256 + b) (number-taken count n bytes at i (omega arith))
     (getD-take n (drop at bytes) (i + count) 0 (omega arith) ∙ getD-drop at bytes (i + count) 0 ∙ ap (λ (j : ℕ). getD bytes j 0) same)
 
--- The number of a field whose value has `count` bytes.
+-- The number in the value of a field of `count` bytes is the number that stands behind the field's head in the input.
 pub number-of-field : {input : List ℕ} {at tag : ℕ} (count : ℕ) → IsFieldAt (record { tag = tag; least = count; most = count }) input at
     → numberIn (valueAt input at) ≡ numberAt count input (at + headLength)
 number-of-field {input} {at} count f =
@@ -64,7 +64,7 @@ number-of-field {input} {at} count f =
     ∙ ap (numberAt count input) (add-zero (at + headLength))
 
 module _ {input : List ℕ} {cell ringNumber allowance ring line : ReadTo} (read : AllRead input cell ringNumber allowance ring line) where
-  -- The place of row 11 is that of the last field.
+  -- row 11 is given exactly if a fault was found, and its place is the fault's
   fault-is : inputFault input ≡ faultBy [] input line
   unfolding inputFault
   fault-is =
@@ -74,12 +74,13 @@ module _ {input : List ℕ} {cell ringNumber allowance ring line : ReadTo} (read
       ∙ past-fault (read .ring-read) (lineField ∷ [])
       ∙ past-fault (read .line-read) []
 
-  -- A fault: refusal 11 there.
+  -- If a fault was found, refusal 11 at its offset meets the contract.
   pub request-refused : line .faulty ≡ true → IsRequestRead input (Refused (Input (line .next)))
   unfolding requestOf
   request-refused fault = record { is = sym (ap (requestBy input) fault-is ∙ simp fault); within = tt }
 
   module _ (whole : line .faulty ≡ false) where
+    -- the five fields stand
     line-field : FieldRead lineField input ring line
     line-field = past-stands (read .line-read) whole
 
@@ -95,7 +96,7 @@ module _ {input : List ℕ} {cell ringNumber allowance ring line : ReadTo} (read
     cell-field : FieldRead cellField input (record { next = 0; faulty = ltb mostInput (length input) }) cell
     cell-field = past-stands (read .cell-read) (ring-number-field .earlier)
 
-    -- No fault: the ends are in order.
+    -- If no fault was found, the ends of the fields are in order.
     pub in-order : InOrder input (cell .next) (ringNumber .next) (allowance .next) (ring .next) (line .next)
     in-order = record {
       cell-is = omega (arith, cell-field .ends, cell-field .field .least-le, cell-field .field .most-le);
@@ -107,7 +108,7 @@ module _ {input : List ℕ} {cell ringNumber allowance ring line : ReadTo} (read
       line-within = omega (arith, line-field .ends, line-field .field .not-cut);
     }
 
-    -- And their numbers and offsets are the request.
+    -- And the parts with the fields' numbers and offsets meet the contract.
     pub request-parts : {c r k : ℕ} → c ≡ numberAt 4 input headLength → r ≡ numberAt 2 input (cell .next + headLength)
         → k ≡ numberAt 1 input (ringNumber .next + headLength)
         → IsRequestRead input (PartsCase (record {

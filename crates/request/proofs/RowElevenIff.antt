@@ -1,4 +1,5 @@
--- Row 11 is given, with its place, exactly when the input is longer or the first field that does not stand begins there.
+-- `requestOf` gives row 11 with a place exactly when `IsInputFault` holds of that place: the input is too long and the place is 0, or the first field that does not
+-- stand begins, or should begin, there. By induction on the fields, the computed fault is the first (`fault-found`) and the first is computed (`fault-first`).
 use Prim.Native.Nat.{ℕ}
 use mathlib.Core.Path.{_≡_, refl, subst}
 use mathlib.Core.Bool.{Bool, true, false, cond}
@@ -19,15 +20,15 @@ use Rattle.request.specs.RowEleven.{FirstFault, here, later, IsInputFaul
 use Rattle.request.proofs.FieldStands.{field-iff, no-field-iff}
 
 module _ (input : List ℕ) where
-  -- two places that are equal
+  -- equal options hold equal places
   place-same : {a b : ℕ} → some a ≡ some b → a ≡ b
   place-same e = cc
 
-  -- no place is not some place
+  -- `none` is not `some`
   none-not-some : {place : ℕ} → none ≡ some place → ⊥
   none-not-some e = let z : _≡_ {A = ℕ} 0 1 = cc in omega arith
 
-  -- a fault that is found is the first
+  -- the fault that `firstFault` gives is the first
   fault-found : (kinds : List FieldKind) (at : ℕ) {place : ℕ} → firstFault kinds input at ≡ some place → FirstFault input kinds at place
   unfolding firstFault
   fault-found [] at e = absurd (none-not-some e)
@@ -38,13 +39,13 @@ module _ (input : List ℕ) where
       go true stands among-later e = later (field-iff kind input at .0 stands) (among-later e)
       go false missing among-later e = subst (FirstFault input (kind ∷ kinds) at) (place-same e) (here (no-field-iff kind input at .0 missing))
 
-  -- the first fault is found
+  -- the first fault is the one that `firstFault` gives
   fault-first : {kinds : List FieldKind} {at place : ℕ} → FirstFault input kinds at place → firstFault kinds input at ≡ some place
   unfolding firstFault
   fault-first (here missing) = simp (no-field-iff _ input _ .1 missing)
   fault-first (later stands fault) = simp (field-iff _ input _ .1 stands, fault-first fault)
 
-  -- the place of row 11
+  -- `inputFault` gives the place of row 11
   fault-iff : (place : ℕ) → (inputFault input ≡ some place) ↔ IsInputFault input place
   unfolding inputFault
   fault-iff place = (λ e. to (ltb mostInput (length input)) refl e, from)
@@ -57,7 +58,7 @@ module _ (input : List ℕ) where
       from (longer long) = simp (lt-ltb mostInput (length input) long)
       from (no-field short fault) = simp (le-ltb mostInput (length input) short, fault-first fault)
 
-  -- Row 11: "the program's input isn't as laid down", with its place.
+  -- Row 11, "the program's input isn't as laid down": an input is refused by 11 with a place exactly when `IsInputFault` holds of that place.
   pub row-11-iff : (place : ℕ) → (requestOf input ≡ refused (Input place)) ↔ IsInputFault input place
   unfolding requestOf
   row-11-iff place = (λ h. go (inputFault input) refl h, λ fault. simp (fault-iff place .1 fault))

@@ -1,13 +1,13 @@
--- Document 01, "The report program": the fields of the program's input. They are those of "Silence book": "A house format of tagged fields: one-byte tag,
--- two-byte length, value; numbers high byte first."
+-- Document 01, "The report program": the five fields of the program's input. Their format is the silence book's: "A house format of tagged fields: one-byte
+-- tag, two-byte length, value; numbers high byte first."
 --
---   cellField, ringNumberField,   the five kinds: each has its tag, and the least and the most bytes of its value
+--   cellField, ringNumberField,   the five kinds of field, each with its tag and the least and the most bytes of its value
 --   allowanceField, ringField,
 --   lineField
 --   inputFields                   the five in their order
 --   between                       the bytes from one byte offset up to another
 --   nextAt, valueAt               the byte offset just past a field, and the field's value
---   isField                       a field of a kind stands at a byte offset
+--   isField                       whether a field of a kind stands at a byte offset
 use Prim.Native.Nat.{ℕ, _+_, _-_}
 use mathlib.Core.Bool.{Bool, _&&_}
 use mathlib.Core.List.{List, [], _∷_}
@@ -28,7 +28,7 @@ ringNumberField = record { tag = 0x35; least = 2; most = 2 }
 abbrev pub allowanceField : FieldKind
 allowanceField = record { tag = 0x33; least = 1; most = 1 }
 
--- "31 ring (any length)": any that a two-byte length says.
+-- "31 ring (any length)": any length that two bytes can hold.
 abbrev pub ringField : FieldKind
 ringField = record { tag = 0x31; least = 0; most = 65535 }
 
@@ -36,7 +36,7 @@ ringField = record { tag = 0x31; least = 0; most = 65535 }
 abbrev pub lineField : FieldKind
 lineField = record { tag = 0x32; least = 0; most = 4096 }
 
--- "fields in this order"
+-- "fields in this order": the five kinds.
 abbrev pub inputFields : List FieldKind
 inputFields = cellField ∷ ringNumberField ∷ allowanceField ∷ ringField ∷ lineField ∷ []
 
@@ -44,16 +44,16 @@ inputFields = cellField ∷ ringNumberField ∷ allowanceField ∷ ringField ∷
 abbrev pub between : List ℕ → ℕ → ℕ → List ℕ
 between input from to = take (to - from) (drop from input)
 
--- The byte offset just past the field at a byte offset.
+-- The byte offset just past the field that begins at `at`.
 abbrev pub nextAt : List ℕ → ℕ → ℕ
 nextAt input at = fieldEnd at (longAt input at)
 
--- The value of the field at a byte offset.
+-- The value of the field that begins at `at`.
 abbrev pub valueAt : List ℕ → ℕ → List ℕ
 valueAt input at = between input (at + headLength) (nextAt input at)
 
--- A field of this kind stands at a byte offset: it is not wrongly tagged, not wrongly long and not cut. (Past the input's end a byte reads as 0, which
--- is no kind's tag.)
+-- Whether a field of this kind stands at `at`: it has the kind's tag, its length is within the kind's bounds, and it is not cut. (Past the input's end a byte
+-- reads as 0, which is no kind's tag.)
 unfoldable pub isField : FieldKind → List ℕ → ℕ → Bool
 isField kind input at =
     eqb (getD input at 0) (kind .tag)

@@ -1,17 +1,18 @@
--- Document 01, "The report program": what the program's input asks, or refusal 11. "It reads at most 32,768 bytes of standard input, fields in this
+-- Document 01, "The report program": the request that the program's input holds, or refusal 11. "It reads at most 32,768 bytes of standard input, fields in this
 -- order: 34 cell (4 bytes), 35 ring number (2), 33 allowance (1), 31 ring (any length), 32 line (at most 4,096), then the book to the end."
 --
 --   Request       cell, ring number, allowance, ring, line and book
 --   mostInput     "at most 32,768 bytes"
---   firstFault    where the first field begins that does not stand
+--   firstFault    where the first field that does not stand begins or should begin
 --   inputFault    the place of row 11
 --   partsFrom     the values of the fields, and the book
 --   requestOf     the request of an input's bytes, or refusal 11
 --   laidDown      the bytes of a request, as the document lays them down
 --   CanLayDown    the requests that have such bytes
 --
--- `requestOf` reads and `laidDown` writes, each by itself: that the first undoes the second, and accepts nothing else, is `laid-down-iff` of proofs/.
--- The ring may have any length here, 0 and 257 too: row 1 of the report refuses those, after all five fields are right.
+-- `requestOf` reads an input and `laidDown` writes one, and neither is defined by the other. `laid-down-iff` of proofs/ReadIsLaidDown.antt joins them: an input is
+-- read as a request exactly when it is that request laid down. The ring may have any length here, 0 and 257 too: row 1 of the report refuses those, after all
+-- five fields are read.
 use Prim.Native.Nat.{ℕ, _≤_, _<_, _^_}
 use mathlib.Core.Bool.{cond}
 use mathlib.Core.List.{List, [], _∷_, _++_}
@@ -25,7 +26,7 @@ use Rattle.fields.specs.Tagged.{field}
 use Rattle.request.specs.declared.field.FieldKind.{FieldKind}
 use Rattle.request.specs.Fields.{cellField, ringNumberField, allowanceField, ringField, lineField, inputFields, nextAt, valueAt, isField}
 
--- What the program is asked: the report of a cell, a ring number, a ring, a line, an allowance and a book.
+-- A request: all that one report of the program is made from.
 pub record Request : Type 0 where
   pub cell : ℕ
   pub ringNumber : ℕ
@@ -34,34 +35,34 @@ pub record Request : Type 0 where
   pub line : List ℕ
   pub book : List ℕ
 
--- "at most 32,768 bytes"
+-- "It reads at most 32,768 bytes of standard input": the most bytes of an input.
 abbrev pub mostInput : ℕ
 mostInput = 32768
 
--- Of fields of these kinds, the first of which begins at `at` and each next one where the one before it ends: "the offset where the first such field begins
--- or should begin", which is missing, cut, wrongly tagged or wrongly long.
+-- The place of the first field that is missing, cut, wrongly tagged or wrongly long: "the offset where the first such field begins or should begin". The fields
+-- are of these kinds; the first begins at `at`, and each next one where the one before it ends. `none` if every field stands.
 unfoldable pub firstFault : List FieldKind → List ℕ → ℕ → Option ℕ
 firstFault [] input at = none
 firstFault (kind ∷ kinds) input at =
     let among-later : Option ℕ = firstFault kinds input (nextAt input at) in
     cond (isField kind input at) among-later (some at)
 
--- The place of row 11, if it is given: "a longer input is refusal 11, place 0, and is tested first".
+-- The place of row 11, or `none` if the input is as laid down: "a longer input is refusal 11, place 0, and is tested first".
 unfoldable pub inputFault : List ℕ → Option ℕ
 inputFault input =
     let of-fields : Option ℕ = firstFault inputFields input 0 in
     cond (ltb mostInput (length input)) (some 0) of-fields
 
--- The values of such fields, "then the book to the end".
+-- The values of fields of these kinds, the first of which begins at `at`, and as the last part all bytes after them: "then the book to the end".
 unfoldable pub partsFrom : List FieldKind → List ℕ → ℕ → List (List ℕ)
 partsFrom [] input at = drop at input ∷ []
 partsFrom (kind ∷ kinds) input at = valueAt input at ∷ partsFrom kinds input (nextAt input at)
 
--- The number in bytes: "numbers high byte first".
+-- The number that these bytes hold: "numbers high byte first".
 abbrev pub numberIn : List ℕ → ℕ
 numberIn bytes = numberAt (length bytes) bytes 0
 
--- The request of the values of the five fields and the book.
+-- The request of six parts: the values of the five fields, and the book.
 abbrev pub requestOfParts : List (List ℕ) → Request
 requestOfParts parts = record {
   cell = numberIn (getD parts 0 []);
@@ -72,7 +73,7 @@ requestOfParts parts = record {
   book = getD parts 5 [];
 }
 
--- The request of an input's bytes, by the place of row 11.
+-- Refusal 11 at this place; or, where there is no place, the request of the input's five fields and its book.
 abbrev pub requestBy : List ℕ → Option ℕ → Answer Request
 requestBy input (some place) = refused (Input place)
 requestBy input none = accepted (requestOfParts (partsFrom inputFields input 0))
@@ -81,7 +82,7 @@ requestBy input none = accepted (requestOfParts (partsFrom inputFields input 0))
 unfoldable pub requestOf : List ℕ → Answer Request
 requestOf input = requestBy input (inputFault input)
 
--- A request's bytes: the five fields in their order, "then the book to the end".
+-- The bytes of a request: the five fields in their order, "then the book to the end".
 unfoldable pub laidDown : Request → List ℕ
 laidDown q =
     field (cellField .tag) (bytesOf 4 (q .cell))
@@ -89,8 +90,8 @@ laidDown q =
     ++ (field (allowanceField .tag) (bytesOf 1 (q .allowance))
     ++ (field (ringField .tag) (q .ring) ++ (field (lineField .tag) (q .line) ++ q .book))))
 
--- The requests that the document's layout has room for: each number fits its bytes, the ring's length its two bytes, the line is not too long, nor is
--- the whole input.
+-- The requests that the document's layout has room for: each number fits its bytes, the ring's length fits two bytes, the line has at most 4,096 edges, and all
+-- the bytes together are at most 32,768.
 pub record CanLayDown (q : Request) : Type 0 where
   pub cell-lt : q .cell < 256 ^ 4
   pub ring-number-lt : q .ringNumber < 256 ^ 2

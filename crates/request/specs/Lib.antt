@@ -1,4 +1,5 @@
--- The report program's input. Fields to RowEleven state document 01; RequestReading is what `read_request` promises, Parsing what a private function does.
+-- Reading the report program's input. Fields, Input and RowEleven state document 01. RequestReading is the contract of `read_request`, Parsing that of the
+-- private function that reads one field.
 pub mod Fields
 pub mod Input
 pub mod RowEleven

@@ -12,14 +12,16 @@ pub struct FieldKind {
     pub most: usize,
 }
 
-// How far the fields are read. Either they all stand and the last ends at byte offset `next`; or one is missing, cut, wrongly
-// tagged or wrongly long, and the first such field begins, or should begin, at `next`.
+// How far the fields have been read. If `faulty` is false, every field so far stands and the last one ends at byte offset `next`.
+// If it is true, a field is missing, cut, wrongly tagged or wrongly long, and the first such field begins, or should begin, at
+// `next`. (An input that is too long is faulty at offset 0 before any field is read.)
 pub struct ReadTo {
     pub next: usize,
     pub faulty: bool,
 }
 
-// Reads one field more. It stands if it has the kind's tag, its value has `least` to `most` bytes, and it is not cut.
+// Reads the next field. It stands if it has the kind's tag, its value has `least` to `most` bytes, and it is not cut. A fault found
+// before is returned as it is.
 pub fn past_field(input: &[u8], before: ReadTo, kind: FieldKind) -> ReadTo
     ensures { λ r. ⌜ IsPast kind (now (input .entry)) before r ⌝ }
 {

@@ -1,5 +1,6 @@
-// The report program's input read: the five fields in their order, and then the book; or refusal 11. What a request is and
-// which inputs are refused stands in specs/Input.antt. No public function has a `requires`: each takes every input.
+// Reads the report program's input: `read_request` returns the parts of the request, or refusal 11. crates/reply makes the
+// program's text from them, and crates/program reads standard input and writes that text. specs/Input.antt defines what a request
+// is and which inputs are accepted. No public function has a `requires`: each takes every input.
 mod field;
 mod reading;
 

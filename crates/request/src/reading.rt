@@ -1,4 +1,4 @@
-// What the program is asked: the five fields in their order, and then the book.
+// Reads the request that the program's input holds: the five fields in their order, and then the book.
 use crate::field::FieldKind;
 use crate::field::ReadTo;
 use crate::field::past_field;
@@ -10,14 +10,14 @@ ghost use Rattle.request.specs.RequestReading.{IsRequestRead};
 // "It reads at most 32,768 bytes of standard input".
 pub const MOST_INPUT: usize = 32768;
 
-// How many bytes the number of a cell has, of a ring number, and of an allowance.
+// The bytes of a cell, of a ring number and of an allowance.
 const CELL_BYTES: usize = 4;
 
 const RING_NUMBER_BYTES: usize = 2;
 
 const ALLOWANCE_BYTES: usize = 1;
 
-// The most edges of a line.
+// The most edges of a line in the program's input.
 pub const MOST_LINE_BYTES: usize = 4096;
 
 // "34 cell (4 bytes)"
@@ -41,7 +41,7 @@ const ALLOWANCE: FieldKind = FieldKind {
     most: ALLOWANCE_BYTES,
 };
 
-// "31 ring (any length)": any that a two-byte length says.
+// "31 ring (any length)": any length that two bytes can hold.
 const RING: FieldKind = FieldKind {
     tag: 0x31,
     least: 0,
@@ -55,8 +55,8 @@ const LINE: FieldKind = FieldKind {
     most: MOST_LINE_BYTES,
 };
 
-// The numbers of a request, and the byte offsets between which its ring and its line stand. The book begins where the line
-// ends.
+// A request by its numbers and its byte offsets in the input. The ring is the bytes from `ring_from` up to `ring_to`, the line
+// those from `line_from` up to `line_to`, and the book all bytes from `line_to` on.
 pub struct Parts {
     pub cell: u32,
     pub ring_number: u16,
@@ -67,14 +67,15 @@ pub struct Parts {
     pub line_to: usize,
 }
 
-// A request, or refusal 11.
+// What `read_request` returns: the parts of a request, or refusal 11.
 pub enum Requested {
     Parts(Parts),
     Refused(Refusal),
 }
 
-// "a longer input is refusal 11, place 0, and is tested first"; then each field, or refusal 11 where it begins or should
-// begin.
+// "a longer input is refusal 11, place 0, and is tested first". Then the five fields are read in their order. The first that is
+// missing, cut, wrongly tagged or wrongly long gives refusal 11, at the offset where it begins or should begin. `past_field` keeps
+// a fault that was found before, so one test after the last field is enough.
 pub fn read_request(input: &[u8]) -> Requested
     ensures { λ r. ⌜ IsRequestRead (now (input .entry)) r ⌝ }
 {

@@ -1,4 +1,4 @@
--- `report::main`, which has no contract, is safe: what it hands on lies within its arrays, the input read (`read_input`) and the answer's text (`answer-within`).
+-- `program::main` has no contract. It is safe: the slices that it passes on, the input read (`read_input`) and the text (`answer-within`), lie within its arrays.
 use mathlib.Core.Path.{sym}
 use lib.Seq.{length-take-le}
 use Rattle.reply.proofs.RequestCases.{answer-within}

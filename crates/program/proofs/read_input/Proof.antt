@@ -1,4 +1,4 @@
--- `report::read_input` stays within the lent area and ends: the room left falls with each read. No contract can say which bytes are read.
+-- `program::read_input` stays within the lent area and ends: the room left falls with each read. No contract can say which bytes are read.
 use Prim.Native.Nat.{_-_, _≤_}
 use mathlib.Core.Path.{_≡_}
 use native.Mathlib.Omega.{arith}

@@ -1,4 +1,4 @@
--- `exports::answering::refused_answer` meets its contract: the refusal's number and place, both below 2^32.
+-- `exports::answering::refused_answer` meets its contract: the refusal's number and place are both below 2^32, so the casts keep them.
 use Prim.Native.Nat.{ℕ}
 use mathlib.Core.Path.{ap₂}
 use native.Mathlib.Omega.{arith}
@@ -15,11 +15,11 @@ number-of-requires c κs = search needs
 place-of-requires : tie.Need-place-of-requires
 place-of-requires c κs = search needs
 
--- the number
+-- the number fits
 cast-t4 : tie.Need-cast-t4
 cast-t4 c = let at-number = c .before in omega (arith, at-number .number-of .ensures .is, number-in (at-number .before .args .refusal))
 
--- the place
+-- the place fits
 cast-t5 : tie.Need-cast-t5
 cast-t5 c = omega (arith, c .place-of .ensures .is, c .before .before .pre)
 

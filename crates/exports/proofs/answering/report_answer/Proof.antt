@@ -1,4 +1,4 @@
--- `exports::answering::report_answer` meets its contract, by the answer's two cases.
+-- `exports::answering::report_answer` meets its contract: by the two cases of the answer, accepted and refused.
 use mathlib.Core.Path.{refl, ap}
 use native.Mathlib.Omega.{arith}
 use Rattle.outlines.specs.declared.reporting.Reported.{Reported}

@@ -1,4 +1,4 @@
--- `exports::books::outlines_pack` meets its contract: it passes the answer of `pack` on.
+-- `exports::books::outlines_pack` meets its contract: it returns the answer of `pack` as a struct.
 use Rattle.exports.specs.Exported.{recordCounts}
 use Rattle.exports.proofs.PassedOn.{pack-place, passed-on}
 use borrow.Author.Needs.{needs}

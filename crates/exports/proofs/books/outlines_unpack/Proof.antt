@@ -1,4 +1,4 @@
--- `exports::books::outlines_unpack` meets its contract: it passes the answer of `unpack` on.
+-- `exports::books::outlines_unpack` meets its contract: it returns the answer of `unpack` as a struct.
 use Rattle.exports.specs.Exported.{recordCounts}
 use Rattle.exports.proofs.PassedOn.{unpack-place, passed-on}
 use borrow.Author.Needs.{needs}

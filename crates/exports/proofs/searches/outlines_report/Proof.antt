@@ -1,4 +1,4 @@
--- `exports::searches::outlines_report` meets its contract: it passes the answer of `report` on.
+-- `exports::searches::outlines_report` meets its contract: it returns the answer of `report` as a struct.
 use Rattle.outlines.specs.Report.{ReportCounts}
 use Rattle.exports.proofs.PassedOn.{report-place, passed-on}
 use borrow.Author.Needs.{needs}

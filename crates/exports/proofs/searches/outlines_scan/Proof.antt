@@ -1,4 +1,4 @@
--- `exports::searches::outlines_scan` meets its contract: it passes the answer of `scan` on.
+-- `exports::searches::outlines_scan` meets its contract: it returns the answer of `scan` as a struct.
 use Rattle.exports.specs.Exported.{searchCounts}
 use Rattle.exports.proofs.PassedOn.{search-place, passed-on}
 use borrow.Author.Needs.{needs}

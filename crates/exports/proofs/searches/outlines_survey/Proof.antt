@@ -1,4 +1,4 @@
--- `exports::searches::outlines_survey` meets its contract: it passes the answer of `survey` on.
+-- `exports::searches::outlines_survey` meets its contract: it returns the answer of `survey` as a struct.
 use Rattle.exports.specs.Exported.{searchCounts}
 use Rattle.exports.proofs.PassedOn.{search-place, passed-on}
 use borrow.Author.Needs.{needs}

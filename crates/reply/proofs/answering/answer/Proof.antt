@@ -1,4 +1,4 @@
--- `reply::answering::answer` meets its contract: the line of refusal 11, or the text of the request, whose parts lie in the input.
+-- `reply::answering::answer` meets its contract: it writes the line of refusal 11, or the text of the request, whose parts lie in the input.
 use native.Mathlib.Omega.{arith}
 use lib.ListN.{length-take, length-drop}
 use Rattle.request.specs.RequestReading.{PartsWithin}

@@ -1,5 +1,5 @@
--- `reply::answering::answer_request` meets its contract: a refusal of the report is one line; its counts are three pieces of text put one after the other
--- (`Answered`), for which there is room.
+-- `reply::answering::answer_request` meets its contract. A refusal of the report is one line. Counts give three pieces of text, put one after the other
+-- (`Answered`), and there is room for them.
 use mathlib.Core.Path.{sym}
 use native.Mathlib.Omega.{arith}
 use lib.Seq.{length-take-le}
@@ -27,7 +27,7 @@ put-refusal-requires c κs = search needs
 enum-known-found : tie.Need-enum-known-found
 enum-known-found c = search needs
 
--- where the report was made, and where the request was given, before its counts are known
+-- the state after the call of `report`, and the state at entry
 abbrev at-report : tie.After-known-told2 → tie.After-report
 at-report c = c .before .before .before .before
 
@@ -91,7 +91,7 @@ returns c =
 same-length-2 : tie.Need-same-length-2
 same-length-2 c = search needs
 
--- its counts
+-- counts of the report
 returns-2 : tie.Need-returns-2
 unfolding ascii filled firstLine lastLine
 returns-2 c =

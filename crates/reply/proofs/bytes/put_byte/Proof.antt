@@ -1,4 +1,4 @@
--- `reply::bytes::put_byte` meets its contract: the byte is stored, or there is no room for it.
+-- `reply::bytes::put_byte` meets its contract: the byte is stored, or there is no room and it is left out.
 use native.Mathlib.Omega.{arith}
 use borrow.Author.Needs.{needs}
 use Rattle.reply.proofs.TextWritten.{byte-stored, byte-left-out}

@@ -1,5 +1,5 @@
--- The proof of the cycle of calls {put_decimal}: the number falls, since a tenth of it is less. Its digits are one digit (`decimal-one`), or those of a tenth of it
--- and one more behind them (`decimal-more`).
+-- `reply::digits::put_decimal`, which calls itself, meets its contract. The number falls: a tenth of it is less. Its digits are one digit (`decimal-one`), or those of a
+-- tenth of it and its last digit (`decimal-more`).
 use Prim.Native.Nat.{ℕ, _<_}
 use mathlib.Core.Path.{sym}
 use native.Mathlib.Omega.{arith}

@@ -1,4 +1,4 @@
--- `reply::lines::put_finding_lines` meets its contract. Its loop keeps `PuttingLines`; the words left fall.
+-- `reply::lines::put_finding_lines` meets its contract. Its loop keeps `PuttingLines`; the number of words left falls.
 use Prim.Native.Nat.{_-_}
 use mathlib.Core.Path.{sym}
 use native.Mathlib.Omega.{arith}

@@ -1,4 +1,4 @@
--- `reply::lines::put_line` meets its contract. Its loop keeps `Filling`; the form's bytes left fall.
+-- `reply::lines::put_line` meets its contract. Its loop keeps `Filling`; the number of bytes left of the form falls.
 use Prim.Native.Nat.{_-_}
 use mathlib.Core.Logic.{⊎-elim}
 use native.Mathlib.Omega.{arith}

@@ -1,4 +1,4 @@
--- `reply::refusing::put_refusal` meets its contract: the form with the refusal's number and place is its line, and that is short.
+-- `reply::refusing::put_refusal` meets its contract: the form filled with the refusal's number and place is its line, and there is room for it.
 use mathlib.Core.Path.{ap₂}
 use native.Mathlib.Omega.{arith}
 use Rattle.lists.specs.Texts.{ascii}

@@ -1,4 +1,4 @@
--- `request::field::past_field` meets its contract: a fault before this field is kept; or each test in turn shows that no field of the kind stands; or it stands.
+-- `request::field::past_field` meets its contract. A fault found before is kept. Each test that fails shows that no field of the kind stands here; where all pass, one does.
 use native.Mathlib.Omega.{arith}
 use borrow.Author.Needs.{needs}
 use Rattle.fields.proofs.NumberWithin.{number-read}
@@ -37,7 +37,7 @@ number-at-requires c κs = tt
 cast-long : tie.Need-cast-long
 cast-long c = search needs
 
--- back from where its length was read to the tests before it
+-- the state at the tests before the length was read
 abbrev to-head : tie.After-number-at → tie.Else1
 to-head c = c .before .before .before .before .before .before
 

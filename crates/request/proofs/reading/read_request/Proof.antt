@@ -1,4 +1,4 @@
--- `request::reading::read_request` meets its contract: its five fields are read one after the other (`AllRead`), and the last tells whether one is faulty.
+-- `request::reading::read_request` meets its contract. Its five calls read the fields one after the other (`AllRead`), and the last one returns whether a fault was found.
 use native.Mathlib.Omega.{arith}
 use borrow.Author.Needs.{needs}
 use Rattle.fields.proofs.NumberWithin.{number-read}
@@ -21,7 +21,7 @@ past-field-requires-4 c κs = tt
 past-field-requires-5 : tie.Need-past-field-requires-5
 past-field-requires-5 c κs = tt
 
--- back from where the fields are read to the first of them
+-- the state after the first field was read
 abbrev at-cell : tie.After-past-field5 → tie.After-past-field
 at-cell c = c .before .before .before .before
 
@@ -37,7 +37,7 @@ all-read c = record {
   line-read = c .past-field5 .ensures;
 }
 
--- a fault
+-- a fault was found
 returns : tie.Need-returns
 returns c = request-refused (all-read (c .before)) (c .if1 .taken)
 
@@ -80,7 +80,7 @@ add-t19 c =
     let order = in-order (all-read (at-whole .before)) (at-whole .if1 .left) in
     omega arith
 
--- no fault
+-- no fault was found
 returns-2 : tie.Need-returns-2
 returns-2 c =
     let at-allowance = c .before .before in
