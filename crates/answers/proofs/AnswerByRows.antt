@@ -1,5 +1,5 @@
--- An answer by the first row that is given, o: its paper has a refusal's number and place exactly when o is that refusal, and number 0 exactly when no row
--- is given. A refusal has "zero in every count" and leaves a lent area as it was.
+-- A call's answer is decided by o, the first row that is given. Its paper has a refusal's number and place exactly when o is that refusal, and number 0 exactly
+-- when no row is given. A refusal has "zero in every count" and leaves a lent area as it was. By cases of o, and the laws of RefusalNumbers.
 use Prim.Native.Nat.{ℕ, _<_}
 use mathlib.Core.Path.{_≡_, refl, sym, ap, _∙_}
 use mathlib.Core.Logic.{_↔_, Iff·trans}
@@ -13,7 +13,7 @@ use Rattle.answers.specs.Rows.{answerBy, areaBy}
 use Rattle.answers.proofs.OneAnswer.{number-in}
 use Rattle.answers.proofs.RefusalNumbers.{HasNoPlace, refusal-iff, refusal-number-iff}
 
--- The answer is a refusal exactly when that row is the first.
+-- The answer is the refusal q exactly when the first row that is given has q.
 pub answer-refused-iff : {A : Type 0} (a : A) (o : Option Refusal) (q : Refusal) → (answerBy o a ≡ refused q) ↔ (o ≡ some q)
 answer-refused-iff a none q = (
   λ h. absurd (let z : _≡_ {A = ℕ} 0 1 = cc in omega arith),
@@ -21,7 +21,7 @@ answer-refused-iff a none q = (
 )
 answer-refused-iff a (some p) q = (λ h. cc, λ h. cc)
 
--- The answer is accepted with a value exactly when no row is given and the call gives that value.
+-- The answer is accepted with b exactly when no row is given and the call's result is b.
 pub answer-gives-iff : {A : Type 0} (a b : A) (o : Option Refusal) → (answerBy o a ≡ accepted b) ↔ ((o ≡ none) × (a ≡ b))
 answer-gives-iff a b none = (λ h. (refl, cc), λ h. ap accepted (h .1))
 answer-gives-iff a b (some p) = (
@@ -29,9 +29,9 @@ answer-gives-iff a b (some p) = (
   λ h. absurd (let e : some p ≡ none = h .0 in let z : _≡_ {A = ℕ} 0 1 = cc in omega arith),
 )
 
--- the paper by its cases
+-- The paper, by cases of o.
 module _ {C : Type 0} (zeros counts : C) where
-  -- no row has number 0
+  -- The number is 0 exactly when no row is given, because no row has number 0.
   number-zero-iff : (o : Option Refusal) → (answerPaper zeros (answerBy o counts) .number ≡ 0) ↔ (o ≡ none)
   number-zero-iff none = (λ e. refl, λ e. refl)
   number-zero-iff (some q) = (
@@ -39,34 +39,34 @@ module _ {C : Type 0} (zeros counts : C) where
     λ h. absurd (let z : _≡_ {A = ℕ} 0 1 = cc in omega arith),
   )
 
-  -- a refusal's counts are zero
+  -- A refusal's counts are zero.
   counts-zero : (o : Option Refusal) → 0 < answerPaper zeros (answerBy o counts) .number → answerPaper zeros (answerBy o counts) .counts ≡ zeros
   counts-zero none l = absurd (omega arith)
   counts-zero (some q) l = refl
 
-  -- and it leaves an area as it was
+  -- A refusal leaves an area as it was.
   area-kept : (o : Option Refusal) (new old : List ℕ) → 0 < answerPaper zeros (answerBy o counts) .number → areaBy o new old ≡ old
   area-kept none new old l = absurd (omega arith)
   area-kept (some q) new old l = refl
 
--- The paper of an answer by the first row that is given, whatever it counts.
+-- The paper p of an answer that o decides, whatever its counts are.
 module _ {C : Type 0} (zeros counts : C) (o : Option Refusal) {p : Paper C} (paper : p ≡ answerPaper zeros (answerBy o counts)) where
   number-is : p .number ≡ answerPaper zeros (answerBy o counts) .number
   number-is = ap (λ (x : Paper C). x .number) paper
 
-  -- It has a refusal's number and place exactly when that row is the first.
+  -- The paper has the number and place of q exactly when the first row that is given has q.
   pub row-place-iff : (q : Refusal) → ((p .number ≡ numberOf q) × (p .place ≡ placeOf q)) ↔ (o ≡ some q)
   row-place-iff q = Iff·trans (refusal-iff zeros (answerBy o counts) paper q) (answer-refused-iff counts o q)
 
-  -- Where the table's place is always 0, the number alone says so.
+  -- If the table's place for q is always 0, the number alone decides: the paper has q's number exactly when the first row that is given has q.
   pub row-number-iff : (q : Refusal) → HasNoPlace (numberOf q) → (p .number ≡ numberOf q) ↔ (o ≡ some q)
   row-number-iff q no-place = Iff·trans (refusal-number-iff zeros (answerBy o counts) paper q no-place) (answer-refused-iff counts o q)
 
-  -- It has number 0 exactly when no row is given.
+  -- The paper has number 0 exactly when no row is given.
   pub accepted-number-iff : (p .number ≡ 0) ↔ (o ≡ none)
   accepted-number-iff = Iff·trans (λ e. sym number-is ∙ e, λ e. number-is ∙ e) (number-zero-iff zeros counts o)
 
-  -- Then its counts are those that the call gives.
+  -- If no row is given, the counts are the call's.
   pub accepted-counts : o ≡ none → p .counts ≡ counts
   accepted-counts e = ap (λ (x : Paper C). x .counts) paper ∙ rw e refl
 
@@ -78,11 +78,11 @@ module _ {C : Type 0} (zeros counts : C) (o : Option Refusal) {p : Paper C} (pap
   pub refused-area : (new old : List ℕ) {out : List ℕ} → out ≡ areaBy o new old → 0 < p .number → out ≡ old
   refused-area new old e l = e ∙ area-kept zeros counts o new old (omega (arith, number-is))
 
-  -- An accepted call writes it.
+  -- If no row is given, the area has the new content.
   pub accepted-area : (new old : List ℕ) {out : List ℕ} → out ≡ areaBy o new old → o ≡ none → out ≡ new
   accepted-area new old e accepted-is = e ∙ rw accepted-is refl
 
-  -- What holds of number 0 and of the numbers of the rows that can be given holds of the paper's number.
+  -- If P holds for 0 and for the number of every row that can be given, it holds for the paper's number.
   pub number-by : (P : ℕ → Type 0) → P 0 → ((q : Refusal) → o ≡ some q → P (numberOf q)) → P (p .number)
   number-by P zero-has each = rw number-is (by-row P zero-has o each)
     where
@@ -90,7 +90,7 @@ module _ {C : Type 0} (zeros counts : C) (o : Option Refusal) {p : Paper C} (pap
       by-row P zero-has none each = zero-has
       by-row P zero-has (some q) each = each q refl
 
-  -- The place is 0 if it is in each row that can be given.
+  -- If every row that can be given has place 0, so has the paper.
   pub place-by : ((q : Refusal) → o ≡ some q → placeOf q ≡ 0) → p .place ≡ 0
   place-by each = ap (λ (x : Paper C). x .place) paper ∙ by-row o each
     where

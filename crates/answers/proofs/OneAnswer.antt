@@ -1,5 +1,6 @@
--- Number and place determine the refusal, and the paper determines the answer, whatever its counts are. Each by a left inverse: `refusalOf` and
--- `answerOf` read the answer back. So any two answers that meet a contract on the paper are equal. Last, a law for each function of this crate: its contract is one equation.
+-- Number and place determine the refusal, and the paper determines the answer, whatever its counts are. `refusalOf` and `answerOf` compute the refusal and the
+-- answer back, so two with the same paper are equal. So any two answers that meet a contract on the paper are equal. The last four laws are about the functions
+-- of this crate, whose contracts are one equation each.
 use Prim.Native.Nat.{ℕ, _≤_}
 use mathlib.Core.Path.{_≡_, refl, sym, ap, ap₂, _∙_}
 use mathlib.Core.Bool.{cond}
@@ -14,7 +15,7 @@ use Rattle.answers.specs.Refusals.{numberOf, placeOf, IsNumber, IsPlace}
 use Rattle.answers.specs.Places.{IsRingPlace, IsLinePlace}
 use Rattle.answers.specs.Paper.{Answer, accepted, refused, Paper, answerPaper}
 
--- the refusal that has this number and this place
+-- The refusal that has this number and this place.
 unfoldable refusalOf : ℕ → ℕ → Refusal
 refusalOf number place =
     cond (eqb number 1) Ring
@@ -28,7 +29,7 @@ refusalOf number place =
     (cond (eqb number 9) (RingNumber place)
     (cond (eqb number 10) OutputRoom (Input place))))))))))
 
--- it is read back
+-- From its number and place a refusal is computed back.
 refusal-back : (r : Refusal) → refusalOf (numberOf r) (placeOf r) ≡ r
 unfolding refusalOf
 refusal-back Ring = refl
@@ -47,7 +48,7 @@ refusal-back (Input place) = refl
 pub refusal-unique : (a b : Refusal) → numberOf a ≡ numberOf b → placeOf a ≡ placeOf b → a ≡ b
 refusal-unique a b n p = sym (refusal-back a) ∙ ap₂ refusalOf n p ∙ refusal-back b
 
--- The numbers are 1 to 11.
+-- The numbers of refusals are 1 to 11.
 pub number-in : (r : Refusal) → (1 ≤ numberOf r) × (numberOf r ≤ 11)
 number-in Ring = omega arith
 number-in Allowance = omega arith
@@ -62,11 +63,11 @@ number-in OutputRoom = omega arith
 number-in (Input place) = omega arith
 
 module _ {C : Type 0} (zeros : C) where
-  -- the answer that has this paper
+  -- The answer that has this paper.
   unfoldable answerOf : Paper C → Answer C
   answerOf p = cond (eqb (p .number) 0) (accepted (p .counts)) (refused (refusalOf (p .number) (p .place)))
 
-  -- it is read back
+  -- From its paper an answer is computed back.
   answer-back : (a : Answer C) → answerOf (answerPaper zeros a) ≡ a
   unfolding answerOf
   answer-back (accepted counts) = refl

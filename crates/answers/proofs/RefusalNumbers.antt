@@ -1,5 +1,5 @@
--- From numbers and places to refusals, of any answer, whatever it counts: a paper has a refusal's number and place exactly when the answer is that refusal, and
--- where the table's place is always 0 the number alone says so. The rows of every call are stated through these.
+-- From numbers and places to refusals, for any answer, whatever its counts are. A paper has a refusal's number and place exactly when the answer is that
+-- refusal; if the table's place is always 0, the number alone decides. The rows of every call are stated through these laws.
 use Prim.Native.Nat.{ℕ}
 use mathlib.Core.Logic.{_↔_}
 use mathlib.Core.Path.{_≡_, refl, sym, ap, subst, _∙_}
@@ -10,14 +10,14 @@ use Rattle.answers.specs.Refusals.{numberOf, placeOf}
 use Rattle.answers.specs.Paper.{Answer, accepted, refused, Paper, answerPaper}
 use Rattle.answers.proofs.OneAnswer.{refusal-unique, number-in}
 
--- The table gives a place other than 0 in rows 6, 7, 9 and 11 only.
+-- The table's place for this number is always 0: only rows 6, 7, 9 and 11 give another place.
 pub record HasNoPlace (number : ℕ) : Type 0 where
   pub not-6 : number ≡ 6 → ⊥
   pub not-7 : number ≡ 7 → ⊥
   pub not-9 : number ≡ 9 → ⊥
   pub not-11 : number ≡ 11 → ⊥
 
--- so the place is 0 in every other
+-- Such a refusal has place 0.
 place-zero : (r : Refusal) → HasNoPlace (numberOf r) → placeOf r ≡ 0
 place-zero Ring h = refl
 place-zero Allowance h = refl
@@ -32,27 +32,27 @@ place-zero OutputRoom h = refl
 place-zero (Input place) h = absurd (h .not-11 refl)
 
 module _ {C : Type 0} (zeros : C) where
-  -- the answer that a paper with a refusal's number and place is of
+  -- If the paper of an answer has the number and place of q, the answer is the refusal q.
   row-back : (a : Answer C) (q : Refusal) → answerPaper zeros a .number ≡ numberOf q → answerPaper zeros a .place ≡ placeOf q → a ≡ refused q
   row-back (accepted counts) q number place = absurd (omega (arith, number-in q .0))
   row-back (refused p) q number place = ap refused (refusal-unique p q number place)
 
-  -- a number without a place is found with place 0
+  -- If the paper of an answer has q's number, and q has no place, it has q's place too: both are 0.
   number-place : (a : Answer C) (q : Refusal) → HasNoPlace (numberOf q) → answerPaper zeros a .number ≡ numberOf q → answerPaper zeros a .place ≡ placeOf q
   number-place (accepted counts) q none number = absurd (omega (arith, number-in q .0))
   number-place (refused p) q none number = place-zero p (subst HasNoPlace (sym number) none) ∙ sym (place-zero q none)
 
--- The paper of an answer, whatever it counts.
+-- The paper p of an answer a, whatever its counts are.
 module _ {C : Type 0} (zeros : C) (a : Answer C) {p : Paper C} (paper : p ≡ answerPaper zeros a) where
-  -- the paper's number is the answer's
+  -- The paper's number is the answer's.
   number-is : p .number ≡ answerPaper zeros a .number
   number-is = ap (λ (x : Paper C). x .number) paper
 
-  -- and its place
+  -- The paper's place is the answer's.
   place-is : p .place ≡ answerPaper zeros a .place
   place-is = ap (λ (x : Paper C). x .place) paper
 
-  -- A paper has a refusal's number and place exactly when the answer is that refusal.
+  -- The paper has the number and place of q exactly when the answer is the refusal q.
   pub refusal-iff : (q : Refusal) → ((p .number ≡ numberOf q) × (p .place ≡ placeOf q)) ↔ (a ≡ refused q)
   refusal-iff q = (
     λ e. row-back zeros a q (sym number-is ∙ e .0) (sym place-is ∙ e .1),
@@ -60,10 +60,10 @@ module _ {C : Type 0} (zeros : C) (a : Answer C) {p : Paper C} (paper : p ≡ an
   )
 
   module _ (q : Refusal) (none : HasNoPlace (numberOf q)) where
-    -- Where the table's place is always 0, the number alone says so.
+    -- If the table's place for q is always 0, the number alone decides: the paper has q's number exactly when the answer is the refusal q.
     pub refusal-number-iff : (p .number ≡ numberOf q) ↔ (a ≡ refused q)
     refusal-number-iff = (λ e. row-back zeros a q (sym number-is ∙ e) (number-place zeros a q none (sym number-is ∙ e)), λ e. refusal-iff q .1 e .0)
 
-    -- And the place is 0.
+    -- If the table's place for q is always 0 and the paper has q's number, the paper's place is 0.
     pub refusal-place-is : p .number ≡ numberOf q → p .place ≡ 0
     refusal-place-is e = refusal-iff q .1 (refusal-number-iff .0 e) .1 ∙ place-zero q none

@@ -1,17 +1,17 @@
--- Document 01, "What each call returns": the table of refusals, rows 1 to 11. Here stand the number and the place of each
--- refusal; each call defines when its rows are given.
+-- Document 01, "What each call returns": the table of refusals, rows 1 to 11. This file gives the number and the place of each refusal. Each call
+-- defines when its rows are given.
 --
 --   numberOf    the column "No."
 --   placeOf     the column "Place"
 --   IsNumber, IsPlace    the contracts of `number_of` and `place_of`
 --
--- A refusal whose place is always 0 holds none. Leaves nothing out and adds no row.
+-- A refusal whose place is always 0 holds no place. All 11 rows are here, and no other.
 use Prim.Native.Nat.{ℕ}
 use mathlib.Core.Path.{_≡_}
 use Rattle.answers.specs.declared.refusals.Refusal.{Refusal}
 use Rattle.answers.specs.declared.refusals.Refusal.the-variants.{Ring, Allowance, Line, FindingsRoom, BookLength, Field, NotAbove, WordCount, RingNumber, OutputRoom, Input}
 
--- The number of a refusal, the table's own, under the sentence of its row.
+-- The number of a refusal. Above each case stands the table's sentence for that row.
 abbrev pub numberOf : Refusal → ℕ
 -- "m = 0 or m > 256"
 numberOf Ring = 1
@@ -36,7 +36,7 @@ numberOf OutputRoom = 10
 -- "the program's input isn't as laid down below"
 numberOf (Input place) = 11
 
--- The place of a refusal, under the words of its row.
+-- The place of a refusal. Above each case stand the row's number and the table's words.
 abbrev pub placeOf : Refusal → ℕ
 -- 1: "0"
 placeOf Ring = 0

@@ -1,14 +1,14 @@
--- Document 01, "What each call returns": the order of refusals. A call has one list of rows, in the order of "Order: ..", and the first
--- row that is given decides. Each call defines its list; what the first row decides is defined here for all calls.
+-- Document 01, "What each call returns": the order of refusals. Each call defines one list of rows, in the order of "Order: ..", and the first row
+-- that is given decides. What it decides is defined here, for all calls.
 --
 --   row          a row of the table: its refusal if its test holds
 --   firstGiven   the refusal of the first row that is given, if one is
 --   NoneGiven    no row of a list is given
---   IsFirst      the same as `firstGiven`, as facts: this row is given, and no row before it
+--   IsFirst      `firstGiven` as facts: this row is given, and no row before it (joined by `first-iff` of proofs/)
 --   answerBy     the answer: accepted, or refused by that row
 --   areaBy       a lent area at exit: written, or untouched
 --
--- Rows 6 and 7 within a book, and 9 and 7 among the records to pack, are one element of the list: the first fault, if there is one.
+-- Rows 6 and 7 within a book are one element of the list, the first fault if there is one; so are rows 9 and 7 among the records to pack.
 use Prim.Native.Nat.{ℕ}
 use mathlib.Core.Path.{_≡_}
 use mathlib.Core.Bool.{Bool, cond}
@@ -17,11 +17,11 @@ use mathlib.Core.Option.{Option, none, some}
 use Rattle.answers.specs.declared.refusals.Refusal.{Refusal}
 use Rattle.answers.specs.Paper.{Answer, accepted, refused}
 
--- "Given exactly when": a row gives its refusal if its test holds.
+-- "Given exactly when": a row gives its refusal if its test is true.
 abbrev pub row : Bool → Refusal → Option Refusal
 row test refusal = cond test (some refusal) none
 
--- "Order: ..": the refusal of the first row that is given; none where no row is.
+-- "Order: ..": the refusal of the first row that is given, or none if no row is.
 unfoldable pub firstGiven : List (Option Refusal) → Option Refusal
 firstGiven [] = none
 firstGiven (none ∷ rows) = firstGiven rows
@@ -39,12 +39,12 @@ pub record IsFirst (rows : List (Option Refusal)) (refusal : Refusal) : Type 0 w
   pub rows-are : rows ≡ earlier ++ some refusal ∷ later
   pub none-before : NoneGiven earlier
 
--- A call is accepted with its result `a` where no row is given; else it is refused by the first.
+-- The call's answer: if no row is given, it is accepted with the result `a`; else it is refused by the first row given.
 abbrev pub answerBy : {A : Type 0} → Option Refusal → A → Answer A
 answerBy none a = accepted a
 answerBy (some refusal) a = refused refusal
 
--- A lent area at exit: `new` if the call is accepted; a refusal "writes nothing to any lent area", so it is as before, `old`.
+-- A lent area at exit: `new` if the call is accepted. A refusal "writes nothing to any lent area", so the area is then `old`, as before.
 abbrev pub areaBy : Option Refusal → List ℕ → List ℕ → List ℕ
 areaBy none new old = new
 areaBy (some refusal) new old = old

@@ -1,5 +1,5 @@
-// What every call shares: the refusals, the two kinds of place. The refusals' numbers and places
-// stand in specs/Refusals.antt, what the two conversions of a place give in specs/Places.antt.
+// What all calls share: the refusals, and the two kinds of place. specs/Refusals.antt gives each refusal's number and
+// place; specs/Places.antt says what the two conversions of a place return.
 // No public function has a `requires`: each takes every input.
 mod places;
 mod refusals;

@@ -1,24 +1,26 @@
 // Ring places and line places, each counted from zero, "never added or compared directly": two types, and two functions,
 // `to_ring` and `to_line`, that turn one into the other.
 //
-// The compiler sees to this: where a line place is kept, taken or returned, there can be no ring place and no bare number,
-// and the other way round. A reader checks the rest, since each type hands out its number by `.0` and any number can be
-// wrapped. In the search a ring place is made by `to_ring`, as rotation 0 (`count_edges`) and of the index of a count
-// (`lowest_rotation`), and never of a line place's number. The numbers are read as indices, as words of a finding and the
-// start in a silence's address, and in sums and comparisons with lengths and with places of the same kind.
+// The compiler rejects a ring place or a bare number where a line place is stored, passed or returned, and the other way
+// round. The rest is for a reader to check, because `.0` gives a place's number and any number can be wrapped. In the
+// search a ring place is made in three ways: by `to_ring`, as rotation 0 (`count_edges`), and from the index of a count
+// (`lowest_rotation`); never from a line place's number. A place's number is used as an index, as a word of a finding, as
+// the start in a silence's address, and in sums and comparisons with lengths and with places of the same kind.
 ghost use mathlib.Core.Path.{_≡_};
 ghost use Prim.Native.Nat.{_+_};
 ghost use Rattle.answers.specs.Places.{around, IsRingPlace, IsLinePlace};
 
+// A place of the ring, counted from 0.
 pub struct RingPlace(pub usize);
 
+// A place of the line, counted from 0.
 pub struct LinePlace(pub usize);
 
 // The largest place that a usize holds.
 const LAST_PLACE: usize = 18446744073709551615;
 
-// The sum mod m, 0 where m is 0. Both parts are below m before they are added, and are added only where the sum
-// stays below m: so nothing overflows.
+// (a + b) mod m, and 0 if m is 0. Both numbers are reduced mod m first, and added only where the sum stays below m, so
+// nothing overflows.
 fn sum_around(a: usize, b: usize, m: usize) -> usize
     ensures { λ r. ⌜ r ≡ around m (a + b) ⌝ }
 {

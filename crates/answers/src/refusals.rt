@@ -1,5 +1,5 @@
-// Document 01's table of refusals: a name for each row, its number and its place. A variant holds a place where the table gives one that is not
-// always 0.
+// Document 01's table of refusals: a name for each row, its number and its place. A variant holds a place if the table
+// gives one that is not always 0.
 ghost use Rattle.answers.specs.Refusals.{IsNumber, IsPlace};
 
 pub enum Refusal {

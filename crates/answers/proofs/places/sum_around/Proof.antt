@@ -1,5 +1,5 @@
--- `answers::places::sum_around` meets its contract: each return cites the law of `around` for its case, and what is taken from m is
--- a number mod m.
+-- `answers::places::sum_around` meets its contract: each return cites the law of `around` for its case. No subtraction goes below 0, because what is
+-- subtracted from m is a number mod m.
 use native.Mathlib.Nat.{mod-lt}
 use native.Mathlib.Omega.{arith}
 use borrow.Author.Needs.{needs}

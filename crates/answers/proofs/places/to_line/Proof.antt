@@ -1,4 +1,4 @@
--- `answers::places::to_line` meets its contract: its three returns are the three laws of a line place, with what `sum_around` ensures.
+-- `answers::places::to_line` meets its contract: each of its three returns is a law of Conversions, with the contract of `sum_around`.
 use native.Mathlib.Nat.{mod-lt}
 use native.Mathlib.Omega.{arith}
 use borrow.Author.Needs.{needs}

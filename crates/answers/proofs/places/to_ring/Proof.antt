@@ -1,4 +1,4 @@
--- `answers::places::to_ring` meets its contract: its two returns are the two laws of a ring place, with what `sum_around` ensures.
+-- `answers::places::to_ring` meets its contract: each of its two returns is a law of Conversions, with the contract of `sum_around`.
 use borrow.Author.Needs.{needs}
 use Rattle.answers.proofs.Conversions.{ring-place-from, ring-place-before}
 use Rattle.answers.proofs.places.to_ring.Statement.{statement}
