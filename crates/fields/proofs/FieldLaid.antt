@@ -1,6 +1,6 @@
--- Numbers and fields laid down in bytes, and read from them, one after the other. Where a number's bytes stand from a byte offset on, the number is read back and
--- what comes after it stands behind it (`laid-number`, `laid-number-rest`); so with a field (`laid-tag`, `laid-long`, `laid-value`, `laid-rest`). The other way round, where
--- a number or a field is read, its bytes stand there (`number-then`, `field-then`).
+-- Numbers and fields written one after the other in bytes, and read back. If the bytes of a number stand from a byte offset on, the number is read back and the
+-- rest stands behind it (`laid-number`, `laid-number-rest`). The same holds for a field (`laid-tag`, `laid-long`, `laid-value`, `laid-rest`). Conversely, where a
+-- number or a field was read, its bytes stand (`number-then`, `field-then`).
 use Prim.Native.Nat.{ℕ, zero, suc, _+_, _*_, _^_, _≤_, _<_}
 use mathlib.Core.Path.{_≡_, refl, sym, ap, ap₂, _∙_}
 use mathlib.Core.List.{List, [], _∷_, _++_, append-assoc}
@@ -14,7 +14,7 @@ use Rattle.fields.specs.Numbers.{bytesOf, numberAt}
 use Rattle.fields.specs.Tagged.{tagBytes, lengthBytes, headLength, field, longAt, fieldEnd}
 use Rattle.fields.proofs.NumberBytes.{bytesOf-length, number-of-bytes, bytes-of-number}
 
--- a number is the same in the bytes from some byte offset on
+-- Reading from byte offset at + i is reading from offset i after the first `at` bytes are dropped.
 numberAt-drop : (count : ℕ) (bytes : List ℕ) (at i : ℕ) → numberAt count bytes (at + i) ≡ numberAt count (drop at bytes) i
 unfolding numberAt
 numberAt-drop zero bytes at i = refl
@@ -22,9 +22,9 @@ numberAt-drop (suc count) bytes at i =
     let same : at + i + count ≡ at + (i + count) = omega arith in
     ap₂ (λ (a b : ℕ). a * 256 + b) (numberAt-drop count bytes at i) (ap (λ (n : ℕ). getD bytes n 0) same ∙ sym (getD-drop at bytes (i + count) 0))
 
--- A number's bytes, laid down from byte offset `at` on.
+-- The bytes of a number stand from byte offset `at` on, followed by `rest`.
 module _ (bytes : List ℕ) (at count number : ℕ) (rest : List ℕ) (laid : drop at bytes ≡ bytesOf count number ++ rest) where
-  -- If it fits them, it is read back.
+  -- The number is read back, if it fits its bytes.
   pub laid-number : number < 256 ^ count → numberAt count bytes at ≡ number
   laid-number fits =
       sym (ap (numberAt count bytes) (add-zero at))
@@ -32,46 +32,46 @@ module _ (bytes : List ℕ) (at count number : ℕ) (rest : List ℕ) (laid : dr
       ∙ ap (λ (l : List ℕ). numberAt count l 0) laid
       ∙ number-of-bytes count number [] rest fits
 
-  -- The rest stands behind it.
+  -- The rest stands behind the number.
   pub laid-number-rest : drop (at + count) bytes ≡ rest
   laid-number-rest = sym (drop-drop count at bytes) ∙ ap (drop count) laid ∙ drop-at (bytesOf count number) rest count (bytesOf-length count number)
 
--- A field laid down from byte offset `at` on.
+-- The bytes of a field stand from byte offset `at` on, followed by `rest`.
 module _ (bytes : List ℕ) (at tag : ℕ) (value rest : List ℕ) (laid : drop at bytes ≡ field tag value ++ rest) where
-  -- Its tag stands there.
+  -- The byte at `at` is the field's tag.
   pub laid-tag : getD bytes at 0 ≡ tag
   laid-tag = sym (ap (λ (n : ℕ). getD bytes n 0) (add-zero at)) ∙ sym (getD-drop at bytes 0 0) ∙ ap (λ (l : List ℕ). getD l 0 0) laid
 
-  -- its length stands behind its tag
+  -- The length bytes stand behind the tag.
   laid-length : drop (at + tagBytes) bytes ≡ bytesOf lengthBytes (length value) ++ (value ++ rest)
   laid-length = sym (drop-drop tagBytes at bytes) ∙ ap (drop tagBytes) laid ∙ append-assoc (bytesOf lengthBytes (length value)) value rest
 
-  -- Its two length bytes say how long its value is.
+  -- The field's length bytes give the length of its value, if that fits two bytes.
   pub laid-long : length value < 256 ^ lengthBytes → longAt bytes at ≡ length value
   laid-long = laid-number bytes (at + tagBytes) lengthBytes (length value) (value ++ rest) laid-length
 
-  -- Its value stands behind its head.
+  -- The field's value stands behind its head.
   pub laid-value : drop (at + headLength) bytes ≡ value ++ rest
   laid-value =
       let head : at + headLength ≡ at + tagBytes + lengthBytes = omega arith in
       ap (λ (n : ℕ). drop n bytes) head ∙ laid-number-rest bytes (at + tagBytes) lengthBytes (length value) (value ++ rest) laid-length
 
-  -- The rest stands behind its value.
+  -- The rest stands behind the field's value.
   pub laid-rest : drop (fieldEnd at (length value)) bytes ≡ rest
   laid-rest = sym (drop-drop (length value) (at + headLength) bytes) ∙ ap (drop (length value)) laid-value ∙ drop-append-seam value rest
 
-  -- It is not cut off.
+  -- The field is not cut off.
   pub laid-within : fieldEnd at (length value) ≤ length bytes
   laid-within = omega (arith, simp (length-drop, length-append, bytesOf-length) at (ap length laid))
 
 module _ (bytes : List ℕ) (is-bytes : IsBytes bytes) where
-  -- Where a number is read, its bytes stand, and then the rest.
+  -- The bytes from `at` on are the bytes of the number read there, and then the rest.
   pub number-then : (count at : ℕ) → at + count ≤ length bytes → drop at bytes ≡ bytesOf count (numberAt count bytes at) ++ drop (at + count) bytes
   number-then count at within =
       sym (take-append-drop count (drop at bytes))
       ∙ ap₂ (λ (a b : List ℕ). a ++ b) (sym (bytes-of-number bytes is-bytes count at within)) (drop-drop count at bytes)
 
-  -- Where a field is read, whose length bytes say `long` and that is not cut off, its bytes stand, and then the rest.
+  -- If the length bytes at `at` are `long` and the field is not cut off, the bytes from `at` on are the field of that tag and value, and then the rest.
   pub field-then : (at long : ℕ) → longAt bytes at ≡ long → fieldEnd at long ≤ length bytes
       → drop at bytes ≡ field (getD bytes at 0) (take long (drop (at + headLength) bytes)) ++ drop (fieldEnd at long) bytes
   field-then at long says within =

@@ -1,5 +1,5 @@
--- Numbers and their bytes, once over the count of bytes: a number that fits them is read back from its bytes (`number-of-bytes`), and bytes are written
--- back as they stood (`bytes-of-number`). Byte by byte: the last one is the number mod 256, and what is left of it is the number before.
+-- Numbers and their bytes, for any count of bytes. A number that fits is read back from its bytes (`number-of-bytes`), and the bytes of a number that was read
+-- are the bytes it was read from (`bytes-of-number`). Induction on the count: the last byte is the number mod 256, the others hold the number divided by 256.
 use Prim.Native.Nat.{ℕ, zero, suc, _+_, _*_, _/_, _%_, _^_, _≤_, _<_}
 use mathlib.Core.Path.{_≡_, refl, sym, ap, ap₂, _∙_}
 use mathlib.Core.List.{List, [], _∷_, _++_, append-assoc}
@@ -16,11 +16,11 @@ unfolding bytesOf
 bytesOf-length zero number = refl
 bytesOf-length (suc count) number = omega (arith, length-append (bytesOf count (number / 256)) (number % 256 ∷ []), bytesOf-length count (number / 256))
 
--- a number below 256 to the power of count + 1 is, without its last byte, below 256 to the power of count
+-- A number below 256^(count + 1), divided by 256, is below 256^count.
 without-last : (count number : ℕ) → number < 256 ^ suc count → number / 256 < 256 ^ count
 without-last count number h = omega (arith, pow-suc 256 count)
 
--- A number is read back from its bytes, wherever they stand.
+-- A number below 256^count is read back from its `count` bytes, wherever they stand.
 pub number-of-bytes : (count number : ℕ) (front rest : List ℕ) → number < 256 ^ count
     → numberAt count (front ++ (bytesOf count number ++ rest)) (length front) ≡ number
 unfolding bytesOf numberAt
@@ -38,13 +38,13 @@ number-of-bytes (suc count) number front rest h =
     ∙ div-add-mod' number 256
 
 module _ (book : List ℕ) (bytes : IsBytes book) where
-  -- The number in some bytes fits them.
+  -- The number in `count` bytes is below 256^count.
   pub numberAt-lt : (count at : ℕ) → numberAt count book at < 256 ^ count
   unfolding numberAt
   numberAt-lt zero at = omega arith
   numberAt-lt (suc count) at = omega (arith, numberAt-lt count at, pow-suc 256 count, bytes .each-lt (at + count))
 
-  -- Bytes are written back as they stood.
+  -- The bytes of the number in `count` bytes are those bytes.
   pub bytes-of-number : (count at : ℕ) → at + count ≤ length book → bytesOf count (numberAt count book at) ≡ take count (drop at book)
   unfolding bytesOf numberAt
   bytes-of-number zero at h = refl

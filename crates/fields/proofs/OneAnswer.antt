@@ -1,9 +1,9 @@
--- Any two answers of `number_at` that meet its contract are equal: both are the other side of its equation.
+-- The contract of `number_at` determines its result: it is one equation.
 use Prim.Native.Nat.{ℕ}
 use mathlib.Core.Path.{_≡_, sym, _∙_}
 use mathlib.Core.List.{List}
 use Rattle.fields.specs.Numbers.{IsNumberRead}
 
--- Any two answers of `number_at` are equal.
+-- Any two results that meet the contract of `number_at` are equal.
 pub number-at-unique : (bytes : List ℕ) (at count r r′ : ℕ) → IsNumberRead bytes at count r → IsNumberRead bytes at count r′ → r ≡ r′
 number-at-unique bytes at count r r′ p p′ = p .is ∙ sym (p′ .is)

@@ -1,4 +1,4 @@
--- Fields and numbers of document 01's sample input of the report program, computed.
+-- A field and numbers from document 01's sample input of the report program, computed.
 use Prim.Native.Nat.{ℕ}
 use mathlib.Core.Path.{_≡_, refl}
 use mathlib.Core.Bool.{true, false}
@@ -10,7 +10,8 @@ use Rattle.fields.specs.Tagged.{field, longAt, isWhole}
 unfoldable cellBytes : List ℕ
 cellBytes = 0x34 ∷ 0x00 ∷ 0x04 ∷ 0x00 ∷ 0x00 ∷ 0x00 ∷ 0x07 ∷ []
 
--- It is the field of that tag and that number. It says its length, and another byte cut off it is not whole.
+-- It is the field with tag 34 hex and the number 7 in four bytes. Its length bytes are 4; it is whole with length 4, not with 5, and not with its last byte
+-- cut off.
 field-right : (field 0x34 (bytesOf 4 7) ≡ cellBytes)
     × (longAt cellBytes 0 ≡ 4)
     × (isWhole cellBytes 0 4 ≡ true)
@@ -19,7 +20,7 @@ field-right : (field 0x34 (bytesOf 4 7) ≡ cellBytes)
 unfolding cellBytes bytesOf numberAt isWhole
 field-right = (refl, refl, refl, refl, refl)
 
--- Each byte of a number counts, the first the most. A number that lies partly or wholly past the bytes, or has five bytes, is read as 0.
+-- The first byte of a number is the highest. A number is read as 0 if it lies partly or wholly past the bytes, or has five bytes.
 numbers-right : (bytesOf 4 0x01020304 ≡ 0x01 ∷ 0x02 ∷ 0x03 ∷ 0x04 ∷ [])
     × (numberWithin 4 (0x01 ∷ 0x02 ∷ 0x03 ∷ 0x04 ∷ []) 0 ≡ 0x01020304)
     × (numberWithin 2 cellBytes 1 ≡ 4)

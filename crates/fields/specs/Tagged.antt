@@ -1,12 +1,12 @@
--- Document 01, "Silence book": "A house format of tagged fields: one-byte tag, two-byte length, value; numbers high byte first." What every field has, whatever
--- its tag and its value are.
+-- Document 01, "Silence book": "A house format of tagged fields: one-byte tag, two-byte length, value; numbers high byte first." What all fields share,
+-- whatever their tag and value.
 --
 --   tagBytes, lengthBytes   "one-byte tag, two-byte length"
 --   headLength              the bytes of a field before its value
 --   field                   the bytes of a field
---   longAt                  the length that the field at a byte offset says
+--   longAt                  the length in a field's two length bytes
 --   fieldEnd                the byte offset just past a field
---   isWhole                 a field says its length and is not cut off
+--   isWhole                 whether a field has a given length and is not cut off
 use Prim.Native.Nat.{ℕ, _+_}
 use mathlib.Core.Bool.{Bool, _&&_}
 use mathlib.Core.List.{List, [], _∷_, _++_}
@@ -26,7 +26,7 @@ lengthBytes = 2
 abbrev pub headLength : ℕ
 headLength = tagBytes + lengthBytes
 
--- "one-byte tag, two-byte length, value; numbers high byte first."
+-- The bytes of a field: "one-byte tag, two-byte length, value; numbers high byte first."
 abbrev pub field : ℕ → List ℕ → List ℕ
 field tag value = tag ∷ bytesOf lengthBytes (length value) ++ value
 
@@ -34,10 +34,10 @@ field tag value = tag ∷ bytesOf lengthBytes (length value) ++ value
 abbrev pub longAt : List ℕ → ℕ → ℕ
 longAt bytes at = numberAt lengthBytes bytes (at + tagBytes)
 
--- The byte offset just past a field at `at` whose value has length `long`.
+-- The byte offset just past a field at `at` whose value has `long` bytes.
 abbrev pub fieldEnd : ℕ → ℕ → ℕ
 fieldEnd at long = at + headLength + long
 
--- A field at `at` whose value has length `long`: its two length bytes say so, and it is not cut off.
+-- Whether the field at `at` has a value of `long` bytes and is whole: its length bytes are `long`, and it does not reach past the bytes given.
 unfoldable pub isWhole : List ℕ → ℕ → ℕ → Bool
 isWhole bytes at long = eqb (longAt bytes at) long && leb (fieldEnd at long) (length bytes)

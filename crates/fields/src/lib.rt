@@ -1,6 +1,6 @@
-// "A house format of tagged fields: one-byte tag, two-byte length, value; numbers high byte first." What every field has,
-// whatever its value is: the silence book and the report program's input are made of such fields. No public function has a
-// `requires`: each takes every input.
+// "A house format of tagged fields: one-byte tag, two-byte length, value; numbers high byte first." What all fields
+// share: the silence book and the report program's input consist of such fields. No public function has a `requires`:
+// each takes every input.
 mod lengths;
 mod numbers;
 

@@ -2,7 +2,7 @@
 ghost use mathlib.Core.Path.{_≡_};
 ghost use Rattle.fields.specs.Numbers.{IsNumberRead};
 
-// The most bytes of a number: it fits 32 bits.
+// A number has at most this many bytes, so that it fits 32 bits.
 const MOST_NUMBER_BYTES: usize = 4;
 
 // A byte as a number of 32 bits.
@@ -12,8 +12,8 @@ fn byte_value(x: u8) -> u32
     x as u32
 }
 
-// The number in the `count` bytes from byte offset `at`; 0 where they are more than four, or do not all lie within the
-// bytes. Offset and count may be any, so they are compared with the length before anything is added to them.
+// The number in the `count` bytes from byte offset `at`; 0 if `count` is above 4, or if these bytes reach past the end.
+// Offset and count can have any value, so both are compared with the length before anything is added to them.
 pub fn number_at(bytes: &[u8], at: usize, count: usize) -> u32
     ensures { λ r. ⌜ IsNumberRead (now (bytes .entry)) at count r ⌝ }
 {

@@ -1,5 +1,5 @@
--- `fields::numbers::number_at` meets its contract. More than four bytes, and bytes past those given, give 0. After `done` bytes the number is theirs
--- (`Numbered`), and at the end it is that of them all, which lie within; what is left of `count` falls.
+-- `fields::numbers::number_at` meets its contract. It returns 0 for more than four bytes and for bytes that reach past the end. After `done` bytes the number
+-- is the one in these bytes (`Numbered`), and at the end the one in all of them. `count - done` falls.
 use Prim.Native.Nat.{_+_, _-_}
 use native.Mathlib.Omega.{arith}
 use Rattle.fields.proofs.NumberLoop.{Numbered, number-many, number-past, number-start, number-turn, number-lt, number-end}
@@ -12,18 +12,18 @@ Inv-loop book at count number₀ done₀ number done = Numbered book at count nu
 abbrev μ-loop : tie.MeasureT-loop
 μ-loop book at count number₀ done₀ number done = count - done
 
--- more than four bytes
+-- More than four bytes.
 returns : tie.Need-returns Inv-loop μ-loop
 returns c = number-many _ _ _ (omega arith)
 
--- more bytes than there are
+-- More bytes than are given.
 returns-2 : tie.Need-returns-2 Inv-loop μ-loop
 returns-2 c = number-past _ _ _ (omega arith)
 
 sub-if3 : tie.Need-sub-if3 Inv-loop μ-loop
 sub-if3 c = omega arith
 
--- not all of them within
+-- The bytes reach past the end.
 returns-3 : tie.Need-returns-3 Inv-loop μ-loop
 returns-3 c = number-past _ _ _ (omega arith)
 
@@ -63,7 +63,7 @@ loop-again c =
     number-turn _ _ _ _ _ (at-loop .inv) _ (omega arith) (c .byte-value .ensures)
     (omega (arith, c .before .shared-slice-known2 .given (c .before .before .before .before .before .before .before .before .args .at + at-loop .done)))
 
--- their number
+-- The number in all the bytes.
 returns-4 : tie.Need-returns-4 Inv-loop μ-loop
 returns-4 c = number-end _ _ _ _ _ (c .before .loop .inv) (omega arith) (omega arith) (omega arith)
 
