@@ -1,10 +1,11 @@
-/* Finds a planted copy of a ring in a line, then silences it and finds it hidden. */
+/* Finds an edited copy of a ring in a line, then silences it: the report of its cell hides it, the report of another cell shows it.
+ * To build it: tools/native, then cc -Iinclude -o find examples/find.c target/native/libexports.a. It prints examples/find.out. */
 #include <stdio.h>
 
 #include "outlines.h"
 
 static const uint8_t ring[] = {3, 1, 4, 1, 5, 9};
-/* At place 4 stands the ring from its edge 2 on, with one edge edited: 4 1 5 9 3 1, the 9 stored as 8. */
+/* At place 4 stands the ring from its edge 2 on, 4 1 5 9 3 1, with one edge edited: the 9 is stored as 8. With k = 1 that is one finding. */
 static const uint8_t line[] = {7, 7, 7, 7, 4, 1, 5, 8, 3, 1, 7, 7};
 static const uint32_t silence[] = {7, 2, 4}; /* cell, ring number, start */
 

@@ -1,12 +1,19 @@
-/* Outlines stored twice: any rotation of a ring of edges in a line of edges, with at most k differing edges.
+/* Outlines stored twice: finds a closed ring of edges in a line of edges, begun at any of its edges and with at most k edges that differ.
  *
- * A ring has m edges, a line n, one byte each; every value is an edge code like any other. Rotation r of the ring has at its place q the ring's edge
- * (r + q) mod m. A start is a line place i with i + m <= n, its window the m edges from i. A finding is a start where some rotation differs from the
- * window in at most k places; it carries its start, the least distance, and the lowest rotation that reaches it.
+ * Terms. A ring has m edges and a line has n, one byte each; every byte value is an edge code like any other. Rotation r of the ring, 0 <= r < m, has
+ * the ring's edge (r + q) mod m at its place q. A start is a line place i with i + m <= n, and its window is the m edges from i on. The distance of a
+ * start under rotation r is the number of places where its window and rotation r differ. A finding is a start whose least distance over all rotations
+ * is at most k, the allowance. It has three numbers: the start, the lowest rotation with that least distance, and the least distance. Places and
+ * rotations count from 0.
  *
- * Every call takes every input and answers by value. refusal is 0 where the call is accepted; otherwise place says where, every count is 0, and
- * nothing was written. A length counts elements. A pointer may be null where its length is 0. Areas that are lent for writing must not overlap what is
- * read. Each call reads and writes only what it is lent, and keeps nothing of it.
+ * One stored copy is several findings. Moving a window by s edges exchanges s of its edges, so beside an exact copy at start i every start from i - k
+ * to i + k is a finding too. Away from the line's ends one exact copy gives at least 2 k + 1 findings, and a reviewer who accepts that copy needs as
+ * many silences: 5 at k = 2, so that a book of 1,000 silences holds at most 200 such copies.
+ *
+ * Calls. Every call takes every input. It is accepted or refused, and returns a struct outlines_answer by value. A refused call has written nothing
+ * and returns zero in every count. A length counts elements: bytes of a ring, a line or a book, 32-bit words of an area of words. A pointer may be
+ * null where its length is 0. An area that is lent for writing must not overlap anything else that is passed to the same call. A call reads and writes
+ * only what it is passed, keeps no pointer to it, allocates nothing and needs about 12 KB of stack (docs/LOOKS.md).
  */
 #ifndef OUTLINES_H
 #define OUTLINES_H
@@ -18,60 +25,80 @@
 extern "C" {
 #endif
 
-/* The limits. */
-#define OUTLINES_MOST_RING 256      /* edges of a ring; at least 1 */
-#define OUTLINES_MOST_LINE 65536    /* edges of a line; a line shorter than the ring has no start */
-#define OUTLINES_FINDING_WORDS 3    /* start, rotation, distance */
-#define OUTLINES_SILENCE_WORDS 3    /* cell, ring number, start */
-#define OUTLINES_SILENCE_BYTES 13   /* a silence in a book */
-#define OUTLINES_MOST_SILENCES 1000 /* silences of a book */
-#define OUTLINES_MOST_BOOK 13000    /* bytes of a book */
+/* Limits and sizes. */
+#define OUTLINES_MOST_RING 256      /* most edges of a ring; the least is 1 */
+#define OUTLINES_MOST_LINE 65536    /* most edges of a line; the least is 0 */
+#define OUTLINES_FINDING_WORDS 3    /* words of a finding: start, rotation, distance */
+#define OUTLINES_SILENCE_WORDS 3    /* words of a silence: cell, ring number, start */
+#define OUTLINES_SILENCE_BYTES 13   /* bytes of a silence in a book */
+#define OUTLINES_MOST_SILENCES 1000 /* most silences of a book */
+#define OUTLINES_MOST_BOOK 13000    /* most bytes of a book */
 
-/* The table of refusals. Place is 0 where nothing else is said. Each call gives the first that holds, in the order said at the call. */
+/* Refusals: the condition of each, and its place. If several conditions hold, the call gives the first in the order stated at the call. */
 enum outlines_refusal {
     OUTLINES_ACCEPTED = 0,
-    OUTLINES_RING = 1,          /* m = 0 or m > 256 */
-    OUTLINES_ALLOWANCE = 2,     /* k >= m */
-    OUTLINES_LINE = 3,          /* n > 65,536 */
-    OUTLINES_FINDINGS_ROOM = 4, /* n >= m and fewer than 3 (n - m + 1) words are lent for findings */
-    OUTLINES_BOOK_LENGTH = 5,   /* book longer than 13,000 bytes */
-    OUTLINES_FIELD = 6,         /* a field isn't 13 bytes beginning 21 00 0A hex, or is cut off; place: its byte offset */
-    OUTLINES_NOT_ABOVE = 7,     /* a record isn't above the one before it; place: byte offset (reading) or record number from 0 (packing) */
-    OUTLINES_WORD_COUNT = 8,    /* words to pack aren't a multiple of 3, or exceed 3,000 */
-    OUTLINES_RING_NUMBER = 9,   /* a ring number to pack is above 65,535; place: record number */
-    OUTLINES_OUTPUT_ROOM = 10,  /* packing or unpacking lacks room for its whole output */
-    OUTLINES_INPUT = 11         /* the report program's alone */
+    OUTLINES_RING = 1,          /* the ring has no edge, or more than 256; place 0 */
+    OUTLINES_ALLOWANCE = 2,     /* k is m or more; place 0 */
+    OUTLINES_LINE = 3,          /* the line has more than 65,536 edges; place 0 */
+    OUTLINES_FINDINGS_ROOM = 4, /* n >= m, and fewer than 3 (n - m + 1) words are lent for the findings; place 0 */
+    OUTLINES_BOOK_LENGTH = 5,   /* the book has more than 13,000 bytes; place 0 */
+    OUTLINES_FIELD = 6,         /* a field of the book is not 13 bytes that begin with 21 00 0A hex, or is cut off; place: the field's byte offset */
+    OUTLINES_NOT_ABOVE = 7,     /* a record is not above the one before it; place: its byte offset (report, unpack) or its record number (pack) */
+    OUTLINES_WORD_COUNT = 8,    /* the number of words to pack is not a multiple of 3, or is above 3,000; place 0 */
+    OUTLINES_RING_NUMBER = 9,   /* a ring number to pack is above 65,535; place: its record number. Record numbers count from 0 */
+    OUTLINES_OUTPUT_ROOM = 10,  /* the area lent to pack or unpack is too small for the whole output; place 0 */
+    OUTLINES_INPUT = 11         /* the report program's input is not as it must be; no call declared here gives it */
 };
 
-/* What a call does not count is 0. */
+/* What every call returns. A look is one line edge read by the quick scan, or one comparison of a line edge with a ring edge. */
 struct outlines_answer {
-    uint32_t refusal;
-    uint32_t place;
-    uint64_t found;
-    uint64_t hidden;
-    uint64_t looks;
+    uint32_t refusal; /* 0 if the call is accepted, else a number of enum outlines_refusal */
+    uint32_t place;   /* the place of the refusal; 0 if the call is accepted */
+    uint64_t found;   /* survey, scan and report: findings, hidden ones included; pack and unpack: records */
+    uint64_t hidden;  /* report: findings that the book hides; 0 from the other calls */
+    uint64_t looks;   /* survey, scan and report: looks; 0 from pack and unpack */
 };
 
-/* The plain survey: verifies every start. found, looks (2 m n - m m for n >= m, else 0); the findings' words (start, rotation, distance), by rising
- * start; words after the last one keep their values. Refusals 1 to 4. */
+/* The plain survey: computes the least distance of every start.
+ *   ring, ring_length     the ring, m = ring_length: 1 to 256 edges
+ *   line, line_length     the line, n = line_length: 0 to 65,536 edges; a line shorter than the ring is accepted and has no start
+ *   k                     the allowance: 0 to m - 1
+ *   words, words_length   lent for the findings: at least 3 (n - m + 1) words if n >= m; none are needed if n < m
+ * Returns found and looks; looks are 2 m n - m m if n >= m, else 0. Writes three words for each finding (start, rotation, distance), by rising start.
+ * Words after the last one written keep their values. Refusals, in order: 1, 2, 3, 4. */
 struct outlines_answer outlines_survey(const uint8_t *ring, size_t ring_length, const uint8_t *line, size_t line_length, size_t k, uint32_t *words,
                                        size_t words_length);
 
-/* The quick scan: the same findings, words and refusals; looks are the steps of its rules, at most 3 m n. */
+/* The quick scan: the arguments, findings, words and refusals of outlines_survey, usually in much less time (README.md says when not). Its looks are
+ * the steps of the scan's rules: at most 3 m n - 2 m m + m if n >= m, else 0. */
 struct outlines_answer outlines_scan(const uint8_t *ring, size_t ring_length, const uint8_t *line, size_t line_length, size_t k, uint32_t *words,
                                      size_t words_length);
 
-/* The quick scan, and of its findings only those that the book does not name by cell, ring number and start. found (hidden ones included), hidden,
- * looks; the words of the shown findings only, without a gap. Zero is an ordinary cell, ring number and start. Refusals 1 to 7; the book is read even
- * where the line is shorter than the ring. */
+/* The report: the quick scan, without the findings that the book hides. A finding is hidden exactly if the book has a record of this cell, this ring
+ * number and the finding's start. Zero is an ordinary cell, ring number and start; no value stands for all. A record that names no finding hides
+ * nothing.
+ *   cell, ring_number     the cell that the line is of, and the number of the ring
+ *   book, book_length     a silence book, as outlines_pack writes it: 0 to 13,000 bytes; an empty book is valid
+ *   the others            as for outlines_scan, with the same room for findings however many are hidden
+ * Returns found (hidden ones included), hidden, and the looks of the scan. Writes the words of the shown findings only, found - hidden of them, by
+ * rising start and without a gap; words after the last one written keep their values. Refusals, in order: 1, 2, 3, 4, 5, then the first faulty field
+ * of the book, 6 before 7. The book is read even if the line is shorter than the ring. */
 struct outlines_answer outlines_report(uint32_t cell, uint16_t ring_number, const uint8_t *ring, size_t ring_length, const uint8_t *line,
                                        size_t line_length, size_t k, const uint8_t *book, size_t book_length, uint32_t *words, size_t words_length);
 
-/* Packs silences, three words each (cell, ring number, start), into a book of 13 bytes each. found is the number of records; room beyond the output
- * stays as it was. Refusal 8, then for each record 9 before 7, then 10. */
+/* Packs silences into a book.
+ *   words, words_length   three words for each silence (cell, ring number, start): at most 3,000 words, in strictly rising order by cell, then ring
+ *                         number, then start; a ring number is at most 65,535
+ *   bytes, bytes_length   lent for the book: at least 13 bytes for each silence
+ * Returns the number of records in found. Writes 13 bytes for each silence: 21 00 0A hex, cell (4 bytes), ring number (2), start (4), numbers high
+ * byte first. Bytes after the last one written keep their values. Refusals, in order: 8, then the first faulty record, 9 before 7, then 10. */
 struct outlines_answer outlines_pack(const uint32_t *words, size_t words_length, uint8_t *bytes, size_t bytes_length);
 
-/* Unpacks a book into three words for each silence. found is the number of records; room beyond the output stays as it was. Refusals 5, 6, 7, 10. */
+/* Unpacks a book into words. Unpacking a packed book gives the words back, and packing unpacked words gives the book back.
+ *   book, book_length     a silence book: 0 to 13,000 bytes; an empty book is valid
+ *   words, words_length   lent for the silences: at least three words for each record
+ * Returns the number of records in found. Writes three words for each record (cell, ring number, start). Words after the last one written keep their
+ * values. Refusals, in order: 5, then the first faulty field of the book, 6 before 7, then 10. */
 struct outlines_answer outlines_unpack(const uint8_t *book, size_t book_length, uint32_t *words, size_t words_length);
 
 #ifdef __cplusplus
