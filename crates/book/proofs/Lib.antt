@@ -1,11 +1,17 @@
--- Laws of the calls on a book: the meaning of each call's answer, and what the functions' proofs cite. Read SeekNames, SoughtRising, OneAnswer and the
--- two RowsOf first: they are the theorems, and their heads name what they rest on; the laws of a book's definitions stand in the crate silences. Below
--- each group stands on those before it.
+-- The theorems about the calls on a book, and the laws that the proofs of functions cite. The theorems about the definitions are in crates/silences/proofs. A
+-- function's own proof is in a folder by its file and name, as reading/read/Proof.antt. The theorems to read first (their heads name what they use):
+--
+--   SeekNames           seeking decides which addresses a book names
+--   SoughtRising        so do `seek` and `seek_on` with rising addresses, as the report calls them
+--   RowsOfReading, RowsOfUnpacking    when each refusal is given, and where
+--   OneAnswer           each contract has one answer
+--
+-- The modules below stand in groups; a group uses only itself and those before it.
 
--- answers, and the book that is accepted
+-- answers, and what is known of an accepted book
 pub mod OneAnswer
 pub mod AcceptedBook
--- seeking: it answers whether a book names an address, asked with rising addresses too
+-- seeking: its equation, what it finds in an accepted book, and rising addresses
 pub mod SeekFrom
 pub mod SeekNames
 pub mod SeekRising
@@ -14,7 +20,7 @@ pub mod SoughtRising
 pub mod RowNumbers
 pub mod RowsOfReading
 pub mod RowsOfUnpacking
--- what each function's proof cites: loops, and the cases of a call
+-- what the proofs of functions cite: invariants of loops, and the cases of `unpack`
 pub mod ReadLoop
 pub mod SeekLoop
 pub mod UnpackLoop

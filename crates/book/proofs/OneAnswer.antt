@@ -1,5 +1,5 @@
--- Any two answers of a call that meet its contract are equal, and so are the lent areas at exit: a law for each of the calls. The paper determines
--- the answer (`answer-unique` of the answers) and the answer its case; a field determines what was sought (`sought-unique` of the silences).
+-- Each call's contract has one answer and one area at exit: any two that meet it are equal. One law for each call. The paper determines the answer
+-- (`answer-unique` of crates/answers), and the answer the `BookAnswer`; a field determines the `Sought` (`sought-unique` of crates/silences).
 use Prim.Native.Nat.{ℕ}
 use mathlib.Core.Path.{_≡_, refl, sym, ap, _∙_}
 use mathlib.Core.Bool.{Bool}
@@ -13,16 +13,17 @@ use Rattle.silences.specs.declared.addresses.Address.{Address}
 use Rattle.silences.specs.declared.addresses.Sought.{Sought}
 use Rattle.book.specs.Calls.{answerOf, paperOf, IsUnpacked, IsRead, IsSought, IsSoughtOn, IsAskedFor}
 
--- the case that an answer comes from
+-- the inverse of `answerOf`
 abbrev answerBack : Answer ℕ → BookAnswer
 answerBack (accepted records) = Records records
 answerBack (refused refusal) = Refused refusal
 
+-- it gives the `BookAnswer` back
 answer-back : (r : BookAnswer) → answerBack (answerOf r) ≡ r
 answer-back (Records records) = refl
 answer-back (Refused refusal) = refl
 
--- The paper determines the answer.
+-- A `BookAnswer` is determined by its paper.
 pub paper-unique : (r r′ : BookAnswer) → paperOf r ≡ paperOf r′ → r ≡ r′
 paper-unique r r′ e = sym (answer-back r) ∙ ap answerBack (answer-unique 0 (answerOf r) (answerOf r′) e) ∙ answer-back r′
 

@@ -1,5 +1,5 @@
--- Reading field by field. Before the field at `at` the fields before it have been read (`FieldsRead`) and counted; where reading stops, there or at the
--- book's end, the walk so far is the whole one (`reads-as-is`). Each whole field gets on (`field-ends`), so there are no more records than bytes.
+-- The loop of `read_fields`. Before the field at `at` the fields before it are read (`FieldsRead`) and counted. Where the loop stops, at a fault or at the
+-- book's end, the walk so far is the whole walk (`reads-as-is`). Each field takes at least one byte (`field-ends`), so there are no more records than bytes.
 use Prim.Native.Nat.{ℕ, _+_, _≤_, _<_}
 use mathlib.Core.Path.{_≡_, refl, sym, ap, subst, _∙_}
 use mathlib.Core.Bool.{Bool, true, false}
@@ -16,7 +16,7 @@ use Rattle.silences.proofs.FieldTest.{field-ends}
 use Rattle.silences.proofs.AscendingAfter.{lastAfter, lastAfter-end}
 use Rattle.silences.proofs.FieldsRead.{FieldsRead, none-read, ReadsAs, read-all, stopped-faulty, stopped-order, read-more, reads-as-is}
 
--- Before the field at `at`, after `records` records, the last of them `last`.
+-- The invariant: before the field at `at` there are `records` records, the last of them `last`, and all are read.
 pub record ReadOn (book : List ℕ) (at records : ℕ) (last : Option Silence) : Type 0 where
   pub at-le : at ≤ length book
   pub records-le : records ≤ at
@@ -25,12 +25,12 @@ pub record ReadOn (book : List ℕ) (at records : ℕ) (last : Option Silence) :
   pub records-is : records ≡ length silences
   pub last-is : last ≡ lastAfter none silences
 
--- Before the first field.
+-- The invariant holds before the first field.
 pub read-start : (book : List ℕ) → ReadOn book 0 0 none
 read-start book = record { at-le = omega arith; records-le = omega arith; silences = []; fields = none-read; records-is = refl; last-is = refl }
 
 module _ {book : List ℕ} where
-  -- where the walk stops, its answer is the whole one
+  -- what the walk gives where it stops is what reading gives
   stops-so : {a : Answer (List Silence)} → ReadsAs book none 0 a → recordCount a ≡ recordCount (readFrom book none 0)
   stops-so w = ap recordCount (sym (reads-as-is book w))
 
@@ -39,20 +39,20 @@ module _ {book : List ℕ} where
     pub read-end : length book ≤ at → accepted records ≡ recordCount (readFrom book none 0)
     read-end done = ap accepted (inv .records-is) ∙ stops-so (read-all (inv .fields) done)
 
-    -- Where no whole field stands, row 6 at its byte offset is the answer.
+    -- At a faulty field, refusal 6 with its byte offset is the answer.
     pub read-faulty : faulty ≡ fieldAt book at → at < length book → refused (Field at) ≡ recordCount (readFrom book none 0)
     read-faulty is within = stops-so (stopped-faulty (inv .fields) within (sym is))
 
     module _ {s : Silence} {next : ℕ} (is : whole s next ≡ fieldAt book at) where
-      -- the last record is that of the walk
+      -- `last` is the last record of the walk
       same-order : {t : Bool} → isAbove last s ≡ t → isAbove (lastAfter none (inv .silences)) s ≡ t
       same-order {t} e = subst (λ (l : Option Silence). isAbove l s ≡ t) (inv .last-is) e
 
-      -- Where its record is not above the last, row 7 at its byte offset is.
+      -- At a whole field whose record is not above the last, refusal 7 with its byte offset is the answer.
       pub read-not-above : isAbove last s ≡ false → refused (NotAbove at) ≡ recordCount (readFrom book none 0)
       read-not-above not-above = stops-so (stopped-order (inv .fields) (sym is) (same-order not-above))
 
-      -- Where it is, one record more is counted.
+      -- Past a whole field whose record is above the last, with one record more counted, the invariant holds again.
       pub read-turn : isAbove last s ≡ true → ReadOn book next (records + 1) (some s)
       read-turn above =
           let ends : (at < next) × (next ≤ length book) = field-ends book at s next (sym is) in

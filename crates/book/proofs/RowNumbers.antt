@@ -1,5 +1,5 @@
--- The calls on a book answer by the first row that is given: their paper and their area at exit, in the form of which the laws of the answers speak
--- (AnswerByRows), and how many records they give. The rows of each call are stated through these.
+-- The paper, the area at exit and the number of records of a call on a book, by the first row that is given: the form that AnswerByRows of crates/answers uses.
+-- RowsOfReading, RowsOfUnpacking and RowsOfPacking are proved through these.
 use Prim.Native.Nat.{ℕ}
 use mathlib.Core.Logic.{_↔_}
 use mathlib.Core.Path.{_≡_, refl, sym, ap, _∙_}
@@ -19,18 +19,18 @@ use Rattle.book.specs.declared.answering.BookAnswer.the-variants.{Record
 use Rattle.book.specs.Calls.{answerOf, paperOf, recordsPaper}
 use Rattle.book.proofs.OneAnswer.{paper-unique}
 
--- The area at exit: the output, or, on a refusal, as it was.
+-- The area at exit: with the output written if no row is given, else as it was.
 pub area-by : (output : List Silence → List ℕ) (area : List ℕ) (o : Option Refusal) (ss : List Silence)
     → areaAtExit output (answerBy o ss) area ≡ areaBy o (written (output ss) area) area
 area-by output area none ss = refl
 area-by output area (some q) ss = refl
 
--- The paper: as many records as silences.
+-- The paper: if no row is given, the number of records is the number of silences.
 pub paper-by : (o : Option Refusal) (ss : List Silence) {p : Paper ℕ} → p ≡ recordsPaper (answerBy o ss) → p ≡ answerPaper 0 (answerBy o (length ss))
 paper-by none ss e = e
 paper-by (some q) ss e = e
 
--- A call gives n records exactly when no row is given and there are n silences.
+-- A call returns n records exactly when no row is given and there are n silences.
 pub records-iff : (o : Option Refusal) (ss : List Silence) (r : BookAnswer) → paperOf r ≡ recordsPaper (answerBy o ss) → (n : ℕ)
     → (r ≡ Records n) ↔ ((o ≡ none) × (length ss ≡ n))
 records-iff o ss r paper n =

@@ -1,6 +1,6 @@
--- The rows of `unpack`, for any answer that meets its contract: rows 5, 6, 7 and 10 of document 01's table as an iff each, number and place written out, that it
--- gives no other row, that a refusal counts and writes nothing, and that it is accepted, and gives n records, exactly for the book of n silences with room
--- for their words. From UnpackRows of the silences, by AnswerByRows of the answers; rows 5 to 7 as of reading (RowsOfReading).
+-- The rows of `unpack`, for any answer `r` and area at exit `out` that meet its contract. Rows 5, 6, 7 and 10 of document 01's table are given exactly when the
+-- table says, each with its number and place; no other row is given; a refusal counts and writes nothing; n records are returned exactly for the book of n
+-- silences with room for their words. From UnpackRows of crates/silences, by AnswerByRows of crates/answers; rows 5 to 7 as for reading (RowsOfReading).
 use Prim.Native.Nat.{ℕ, _*_, _≤_, _<_}
 use mathlib.Core.Logic.{_⊎_, inl, inr, _↔_, Iff·trans}
 use mathlib.Core.Path.{_≡_, refl, _∙_}
@@ -36,20 +36,20 @@ module _ (book area : List ℕ) (r : BookAnswer) (out : List ℕ) (meets : IsUnp
   abbrev o : Option Refusal
   o = unpackRefusal book (length area)
 
-  -- as many records as silences
+  -- the number of silences read
   abbrev records : ℕ
   records = length (silencesRead book)
 
-  -- its paper, by the first row that is given
+  -- the paper of `r`, by the first row that is given
   paper : paperOf r ≡ answerPaper 0 (answerBy o records)
   unfolding unpacked
   paper = paper-by o (silencesRead book) (meets .paper)
 
-  -- Row 5: "book longer than 13,000 bytes".
+  -- Row 5 is given exactly for a "book longer than 13,000 bytes".
   pub unpack-row-5 : (paperOf r .number ≡ 5) ↔ (mostBytes < length book)
   unpack-row-5 = row-5 book o records paper (unpack-row-iff book (length area))
 
-  -- No other row: its number is 0, 5, 6, 7 or 10.
+  -- No other row is given: the number is 0, 5, 6, 7 or 10.
   pub unpack-numbers : (paperOf r .number ≡ 0) ⊎ ((paperOf r .number ≡ 5) ⊎ ((paperOf r .number ≡ 6) ⊎ ((paperOf r .number ≡ 7) ⊎ (paperOf r .number ≡ 10))))
   unpack-numbers =
       number-by 0 records o paper (λ (n : ℕ). (n ≡ 0) ⊎ ((n ≡ 5) ⊎ ((n ≡ 6) ⊎ ((n ≡ 7) ⊎ (n ≡ 10))))) (inl refl)
@@ -57,46 +57,46 @@ module _ (book area : List ℕ) (r : BookAnswer) (out : List ℕ) (meets : IsUnp
       (λ (q : Refusal). (numberOf q ≡ 0) ⊎ ((numberOf q ≡ 5) ⊎ ((numberOf q ≡ 6) ⊎ ((numberOf q ≡ 7) ⊎ (numberOf q ≡ 10)))))
       (inr (inl refl)) (λ at. inr (inr (inl refl))) (λ at. inr (inr (inr (inl refl)))) (inr (inr (inr (inr refl)))))
 
-  -- The place of row 5: 0.
+  -- The place of refusal 5 is 0.
   pub unpack-row-5-place : paperOf r .number ≡ 5 → paperOf r .place ≡ 0
   unpack-row-5-place = refusal-place-is 0 (answerBy o records) paper BookLength (omega arith)
 
-  -- The place of row 10: 0.
+  -- The place of refusal 10 is 0.
   pub unpack-row-10-place : paperOf r .number ≡ 10 → paperOf r .place ≡ 0
   unpack-row-10-place = refusal-place-is 0 (answerBy o records) paper OutputRoom (omega arith)
 
-  -- "A refusal carries .. zero in every count".
+  -- "A refusal carries .. zero in every count": its number of records is 0.
   pub unpack-refused-none : 0 < paperOf r .number → paperOf r .counts ≡ 0
   unpack-refused-none = refused-counts 0 records o paper
 
-  -- A refusal "writes nothing to any lent area".
+  -- A refusal "writes nothing to any lent area": the area at exit is the area at entry.
   pub unpack-refused-area : 0 < paperOf r .number → out ≡ area
   unfolding unpacked
   unpack-refused-area =
       refused-area 0 records o paper (written (wordsOfSilences (silencesRead book)) area) area (meets .written ∙ area-by wordsOfSilences area o (silencesRead book))
 
   module _ (bytes : IsBytes book) where
-    -- Row 6: "a field isn't 13 bytes beginning 21 00 0A hex, or is cut off", its byte offset.
+    -- Row 6, "a field isn't 13 bytes beginning 21 00 0A hex, or is cut off", is given at byte offset `at` exactly if row 5 is not and it is the first fault.
     pub unpack-row-6 : (at : ℕ) → ((paperOf r .number ≡ 6) × (paperOf r .place ≡ at)) ↔ ((length book ≤ mostBytes) × IsFieldFault book at)
     unpack-row-6 = row-6 book o records paper (unpack-row-iff book (length area)) bytes
 
-    -- Row 7: "a record isn't above the one before it", its byte offset.
+    -- Row 7, "a record isn't above the one before it", is given at byte offset `at` exactly if row 5 is not and it is the first fault.
     pub unpack-row-7 : (at : ℕ) → ((paperOf r .number ≡ 7) × (paperOf r .place ≡ at)) ↔ ((length book ≤ mostBytes) × IsOrderFault book at)
     unpack-row-7 = row-7 book o records paper (unpack-row-iff book (length area)) bytes
 
-    -- Row 10: "unpacking lacks room for its whole output", three words for each silence of the book.
+    -- Row 10, "unpacking lacks room for its whole output", is given exactly for the book of some silences with less room than three words for each.
     pub unpack-row-10 : (paperOf r .number ≡ 10) ↔ ((ss : List Silence) × IsBook ss book × (length area < recordWords * length ss))
     unpack-row-10 =
         Iff·trans (row-number-iff 0 records o paper OutputRoom (omega arith))
         (Iff·trans (unpack-10-iff book (length area)) (read-book-iff book bytes (λ (ss : List Silence). length area < recordWords * length ss)))
 
-    -- It is accepted exactly for the book of some silences, with room for three words each.
+    -- `unpack` accepts exactly the book of some silences, with room for three words each.
     pub unpack-accepted : (paperOf r .number ≡ 0) ↔ ((ss : List Silence) × IsBook ss book × (recordWords * length ss ≤ length area))
     unpack-accepted =
         Iff·trans (accepted-number-iff 0 records o paper)
         (Iff·trans (unpack-none-iff book (length area)) (read-book-iff book bytes (λ (ss : List Silence). recordWords * length ss ≤ length area)))
 
-    -- It gives n records exactly for the book of n silences, with room for three words each.
+    -- `unpack` returns n records exactly for the book of n silences, with room for three words each.
     pub unpack-records : (n : ℕ) → (r ≡ Records n) ↔ ((ss : List Silence) × IsBook ss book × ((length ss ≡ n) × (recordWords * length ss ≤ length area)))
     unfolding unpacked
     unpack-records n =

@@ -1,5 +1,5 @@
--- The equation of `seekFrom`: one field, and then from just past it. While a whole field stands the count of bytes left never runs out (`count-step`), so nothing
--- after this file looks at it. Then the same by what the field is: faulty, below the address, or the one sought.
+-- The equation of `seekFrom`: one step at the field, and then on from just past it (`seekFrom-step`). The count of bytes left never runs out while a whole
+-- field stands (`count-step`), so nothing after this file uses it. Then an equation for each case of the field: faulty, below the address, or found.
 use Prim.Native.Nat.{ℕ, zero, suc, _≤_, _<_}
 use mathlib.Core.Path.{_≡_, refl, ap, _∙_}
 use mathlib.Core.Bool.{Bool, true, false, cond}
@@ -22,7 +22,7 @@ seek-goes-on address at faulty rest rest′ h = refl
 seek-goes-on address at (whole s next) rest rest′ h = ap (λ (on : FieldAt). cond (isBelow s address) on (whole s next)) (h address s next refl)
 
 module _ (book : List ℕ) where
-  -- with no byte left no whole field stands, and there is none
+  -- with no byte left no whole field stands, and nothing is found
   seek-none : (left : ℕ) (address : Silence) (at : ℕ) → length book ≤ at → seekFields left book address at ≡ faulty
   unfolding seekFields
   seek-none zero address at h = refl
@@ -33,17 +33,17 @@ module _ (book : List ℕ) where
       by-field (whole s next) e = absurd (let ends : (at < next) × (next ≤ length book) = field-ends book at s next e in omega arith)
 
 module _ (book : List ℕ) (address : Silence) (at : ℕ) where
-  -- The field at `at` is sought, or it is passed and sought from just past it.
+  -- Seeking from `at` on is one step at the field there, and then on from just past it.
   pub seekFrom-step : seekFrom book address at ≡ seekField address (fieldAt book at) (seekFrom book address)
   unfolding seekFrom seekFields
   seekFrom-step = count-step book seekStep (λ left a i. seekFields left book a i) seek-goes-on (λ left a i. refl) (seek-none book) address at
 
-  -- Where no whole field stands, there is none.
+  -- At a faulty field nothing is found.
   pub seekFrom-faulty : fieldAt book at ≡ faulty → seekFrom book address at ≡ faulty
   seekFrom-faulty e = seekFrom-step ∙ ap (λ (f : FieldAt). seekField address f (seekFrom book address)) e
 
   module _ {s : Silence} {next : ℕ} (e : fieldAt book at ≡ whole s next) where
-    -- a whole field, by its order
+    -- a whole field, by whether it is below the address
     seek-whole : (t : Bool) → isBelow s address ≡ t → seekFrom book address at ≡ cond t (seekFrom book address next) (whole s next)
     seek-whole t b =
         seekFrom-step
@@ -54,6 +54,6 @@ module _ (book : List ℕ) (address : Silence) (at : ℕ) where
     pub seekFrom-below : isBelow s address ≡ true → seekFrom book address at ≡ seekFrom book address next
     seekFrom-below b = seek-whole true b
 
-    -- One that is not is the one sought.
+    -- A field that is not below the address is found.
     pub seekFrom-found : isBelow s address ≡ false → seekFrom book address at ≡ whole s next
     seekFrom-found b = seek-whole false b

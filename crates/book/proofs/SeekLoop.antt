@@ -1,5 +1,4 @@
--- Seeking field by field. Before the field at `at` what is sought from `from` on is what is sought from `at` on: each field passed is below the
--- address.
+-- The loop of `seek`. Before the field at `at`, seeking from `at` on finds what seeking from `from` on finds, because each field passed is below the address.
 use Prim.Native.Nat.{ℕ}
 use mathlib.Core.Path.{_≡_, refl, sym, _∙_}
 use mathlib.Core.Bool.{true, false}
@@ -9,24 +8,24 @@ use Rattle.silences.specs.Reading.{whole, faulty, fieldAt}
 use Rattle.book.specs.Seeking.{seekFrom}
 use Rattle.book.proofs.SeekFrom.{seekFrom-faulty, seekFrom-below, seekFrom-found}
 
--- What is sought from `from` on is what is sought from `at` on.
+-- The invariant: seeking from `from` on finds what seeking from `at` on finds.
 pub record SeekOn (book : List ℕ) (from : ℕ) (address : Silence) (at : ℕ) : Type 0 where
   pub same : seekFrom book address from ≡ seekFrom book address at
 
--- Before the first field.
+-- The invariant holds before the first field.
 pub seek-start : (book : List ℕ) (from : ℕ) (address : Silence) → SeekOn book from address from
 seek-start book from address = record { same = refl }
 
 module _ {book : List ℕ} {from : ℕ} {address : Silence} {at : ℕ} (inv : SeekOn book from address at) where
-  -- Where no whole field stands, there is none.
+  -- At a faulty field, seeking from `from` on finds nothing.
   pub seek-nothing : faulty ≡ fieldAt book at → faulty ≡ seekFrom book address from
   seek-nothing is = sym (inv .same ∙ seekFrom-faulty book address at (sym is))
 
   module _ {s : Silence} {next : ℕ} (is : whole s next ≡ fieldAt book at) where
-    -- A field that is not below the address is the one.
+    -- A field that is not below the address is what seeking from `from` on finds.
     pub seek-end : isBelow s address ≡ false → whole s next ≡ seekFrom book address from
     seek-end above = sym (inv .same ∙ seekFrom-found book address at (sym is) above)
 
-    -- A field below the address is passed.
+    -- Past a field below the address the invariant holds again.
     pub seek-turn : isBelow s address ≡ true → SeekOn book from address next
     seek-turn below = record { same = inv .same ∙ seekFrom-below book address at (sym is) below }

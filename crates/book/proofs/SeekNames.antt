@@ -1,5 +1,6 @@
--- Seeking an address in an accepted book answers exactly whether the book names it, from any field boundary before which every silence is below the
--- address. Field by field: one that is below the address is not it; the first that is not below decides, for all after it are above.
+-- In an accepted book, what seeking an address finds is for the address exactly when the book names it. So it is from the first byte on (`seek-iff`), and from
+-- any field boundary on before which every silence is below the address (`seek-names`). Field by field: a silence below the address is not the address; the
+-- first that is not below decides, because all after it are above.
 use Prim.Native.Nat.{ℕ, _+_, _≤_}
 use mathlib.Core.Logic.{_↔_}
 use mathlib.Core.Path.{_≡_, refl, sym, ap, subst, _∙_}
@@ -91,7 +92,8 @@ read-after {book} {stop} (s ∷ ss) ts last at (one-read {next = next} e above m
     omega (arith, field-next-is book at s next e, length-append (fieldOf s) (layout ss)) in
     subst (λ (n : ℕ). FieldsRead book (lastAfter (some s) ss) n ts stop) from (read-after ss ts (some s) next more)
 
--- From any field boundary of an accepted book before which every silence is below the address, seeking answers whether the book names it.
+-- In an accepted book, from a field boundary on, with every silence before it below the address: what seeking finds is for the address exactly when the book
+-- names it. `passed` are the silences before the boundary, `ahead` those after it.
 pub seek-names : (book : List ℕ) (passed ahead : List Silence) (address : Silence) → readBook book ≡ accepted (passed ++ ahead) → AllPassed address passed
     → isFor address (seekFrom book address (length (layout passed))) ≡ namesAddress (passed ++ ahead) address
 seek-names book passed ahead address e p =
@@ -100,18 +102,18 @@ seek-names book passed ahead address e p =
     ∙ seek-read address book (read-after passed ahead none 0 (w .fields)) (w .stop-ge)
     ∙ sym (names-passed address passed ahead p)
 
--- From the first byte on too.
+-- In an accepted book, from the first byte on: what seeking finds is for the address exactly when the book names it.
 pub seek-all-names : (book : List ℕ) (ss : List Silence) (address : Silence) → readBook book ≡ accepted ss
     → isFor address (seekFrom book address 0) ≡ namesAddress ss address
 seek-all-names book ss address e =
     let w : IsReadWhole ss book = accepted-whole-iff book ss .0 e in
     seek-read address book (w .fields) (w .stop-ge)
 
--- What was sought is for the address exactly when one of the book's silences is that cell, ring number and start.
+-- In an accepted book, what seeking finds from the first byte on is for the address exactly when some silence of the book has that cell, ring number and start.
 pub seek-iff : (book : List ℕ) (ss : List Silence) (cell ringNumber start : ℕ) → readBook book ≡ accepted ss
     → (isFor (silence cell ringNumber start) (seekFrom book (silence cell ringNumber start) 0) ≡ true) ↔ Names ss cell ringNumber start
 seek-iff book ss cell ringNumber start e = rw (seek-all-names book ss (silence cell ringNumber start) e) (names-iff cell ringNumber start ss)
 
--- In the empty book nothing is sought, from any offset.
+-- In the empty book nothing is found, from any offset.
 pub empty-seek : (address : Silence) (at : ℕ) → seekFrom [] address at ≡ faulty
 empty-seek address at = seekFrom-faulty [] address at (field-past [] at (omega arith))

@@ -1,6 +1,6 @@
--- Asking with rising addresses: what is held from the last address asked answers the next one, if it is not below the last, as seeking anew from the
--- first byte would, on any bytes (`seek-again`). A field that was passed for the last address is below the next one too. So a caller holds one field
--- (`Seeking`), seeks on from just past it where it is below the next address, and reads no field twice.
+-- Seeking rising addresses. A caller holds the field found for the last address (`Seeking`). For the next address, which is not below the last, it keeps that
+-- field or seeks on from just past it, and finds what seeking from the first byte would find, on any bytes (`seek-again`): a field that was passed for the last
+-- address is below the next one too. So no field is read twice.
 use Prim.Native.Nat.{ℕ}
 use mathlib.Core.Path.{_≡_, refl, sym, ap, _∙_}
 use mathlib.Core.Bool.{Bool, true, false}
@@ -16,7 +16,7 @@ use Rattle.book.proofs.SeekFrom.{seekFrom-step, seekFrom-faulty, seekFr
 use Rattle.book.proofs.SeekNames.{namesAddress, seek-all-names}
 
 module _ (book : List ℕ) where
-  -- the field held for one address, tested for another that is not below it, is what seeking that other gives
+  -- a step for b at the field found for a gives what seeking b gives, if b is not below a
   seek-again : (a b : Silence) → (Below b a → ⊥) → (at : ℕ) → seekField b (seekFrom book a at) (seekFrom book b) ≡ seekFrom book b at
   seek-again a b not-below = field-induction book (λ (at : ℕ). seekField b (seekFrom book a at) (seekFrom book b) ≡ seekFrom book b at) turn
     where
@@ -38,17 +38,17 @@ module _ (book : List ℕ) where
           by-field faulty e = ap held (seekFrom-faulty book a at e) ∙ sym (seekFrom-faulty book b at e)
           by-field (whole s next) e = by-order s next e (isBelow s a) refl
 
--- What a caller with rising addresses holds: the field sought for the last address, as if it were sought from the first byte on.
+-- The caller holds what seeking the address `asked` from the first byte on finds.
 pub record Seeking (book : List ℕ) (asked : Silence) (held : FieldAt) : Type 0 where
   pub held-is : held ≡ seekFrom book asked 0
 
 module _ (book : List ℕ) where
-  -- The next address, if it is not below the last: the held field is tested for it.
+  -- If b is not below a, a step for b at the field held for a gives the field to hold for b.
   pub seeking-turn : (a b : Silence) → (Below b a → ⊥) → (held : FieldAt) → Seeking book a held → Seeking book b (seekField b held (seekFrom book b))
   seeking-turn a b not-below held was =
       record { held-is = ap (λ (f : FieldAt). seekField b f (seekFrom book b)) (was .held-is) ∙ seek-again book a b not-below 0 }
 
-  -- In an accepted book the held field is for the address exactly when the book names it.
+  -- In an accepted book, the field held for an address is for it exactly when the book names it.
   pub seeking-names : (ss : List Silence) (a : Silence) (held : FieldAt) → readBook book ≡ accepted ss → Seeking book a held
       → isFor a held ≡ namesAddress ss a
   seeking-names ss a held e now-held = ap (isFor a) (now-held .held-is) ∙ seek-all-names book ss a e

@@ -1,5 +1,5 @@
--- Asking `seek` and then `seek_on` with rising addresses, as a report does: laws of any answers that meet their contracts, over SeekRising. In an accepted book
--- what is held then answers whether the book names the address.
+-- Calling `seek` and then `seek_on` with rising addresses, as a report does: SeekRising for any answers that meet their contracts. In an accepted book, what is
+-- held is for the address exactly when the book names it.
 use Prim.Native.Nat.{ℕ, _≤_}
 use mathlib.Core.Path.{_≡_, sym, subst}
 use mathlib.Core.List.{List}
@@ -14,29 +14,29 @@ use Rattle.book.specs.Calls.{IsSought, IsSoughtOn}
 use Rattle.silences.proofs.StrictOrder.{start-not-below}
 use Rattle.book.proofs.SeekRising.{Seeking, seeking-turn, seeking-names}
 
--- The next address asked is for the same cell and ring number, and its start is not lower.
+-- The next address has the same cell and ring number as the last one, `asked`, and its start is not lower.
 pub record Rises (asked address : Address) : Type 0 where
   pub cell-is : asked .cell ≡ address .cell
   pub ring-number-is : asked .«ring_number» ≡ address .«ring_number»
   pub start-le : asked .start ≤ address .start
 
--- So it is not below the last one.
+-- so it is not below the last one
 rises-not-below : (asked address : Address) → Rises asked address → Below (silenceOf address) (silenceOf asked) → ⊥
 rises-not-below asked address h = start-not-below (silenceOf asked) (silenceOf address) (h .cell-is) (h .ring-number-is) (h .start-le)
 
 module _ (book : List ℕ) where
-  -- The first answer, asked from the first byte.
+  -- What `seek` returns from the first byte on is held for its address.
   pub sought-start : (address : Address) (r : Sought) → IsSought book 0 address r → Seeking book (silenceOf address) (soughtOf r)
   sought-start address r meets = record { held-is = meets .is }
 
   module _ (asked address : Address) (rises : Rises asked address) where
-    -- What `seek_on` answers is held for the next address.
+    -- What `seek_on` returns is held for the next address.
     pub sought-turn : (held r : Sought) → IsSoughtOn book held address r → Seeking book (silenceOf asked) (soughtOf held) → Seeking book (silenceOf address) (soughtOf r)
     sought-turn held r meets was =
         subst (Seeking book (silenceOf address)) (sym (meets .is))
         (seeking-turn book (silenceOf asked) (silenceOf address) (rises-not-below asked address rises) (soughtOf held) was)
 
-  -- In an accepted book what is held is for the address exactly when the book names it.
+  -- In an accepted book, what is held for an address is for it exactly when the book names it.
   pub sought-end : (ss : List Silence) (address : Address) (r : Sought) → readBook book ≡ accepted ss → Seeking book (silenceOf address) (soughtOf r)
       → isFor (silenceOf address) (soughtOf r) ≡ names ss (address .cell) (address .«ring_number») (address .start)
   sought-end ss address r e held = seeking-names book ss (silenceOf address) (soughtOf r) e held

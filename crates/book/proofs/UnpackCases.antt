@@ -1,5 +1,5 @@
--- What unpacking answers and writes by its cases, as code goes by them: what reading refuses, no room for the words, or all of them. A refusal leaves
--- the area as it was.
+-- The three cases of `unpack`, as its code tests them: reading refuses, there is no room for the words, or all words are written. In each the contract is met.
+-- A refusal leaves the area as it was.
 use Prim.Native.Nat.{ℕ, _*_, _≤_, _<_}
 use mathlib.Core.Path.{_≡_, sym, ap, _∙_}
 use mathlib.Core.List.{List, [], _∷_}
@@ -22,14 +22,14 @@ use Rattle.book.specs.Calls.{paperOf, recordCount, recordsPaper, IsUnpac
 use Rattle.book.proofs.AcceptedBook.{HasRecords, has-records, has-refusal}
 
 module _ (book area : List ℕ) where
-  -- a refusal, and nothing written
+  -- if q is the first row that is given, refusing with q and writing nothing meets the contract
   is-refused : {q : Refusal} → unpackRefusal book (length area) ≡ some q → IsUnpacked book area (Refused q) area
   unfolding unpacked
   is-refused {q} e =
       let is : unpacked book (length area) ≡ refused q = answer-refused-iff (silencesRead book) (unpackRefusal book (length area)) q .1 e in
       record { paper = sym (ap recordsPaper is); written = sym (ap (λ (a : Answer (List Silence)). areaAtExit wordsOfSilences a area) is) }
 
-  -- What reading refuses, unpacking refuses.
+  -- If reading refuses with q, refusing with q and writing nothing meets the contract.
   pub unpack-refused : (q : Refusal) → recordCount (readBook book) ≡ refused q → IsUnpacked book area (Refused q) area
   unpack-refused q e =
       let given : bookRefusal book ≡ some q = book-refused-iff book q .0 (has-refusal (readBook book) q e) in
@@ -41,13 +41,13 @@ module _ (book area : List ℕ) where
     has : HasRecords (readBook book) records
     has = has-records (readBook book) records read
 
-    -- With fewer than three words for each record, row 10.
+    -- If there is less room than three words for each record, refusing with 10 and writing nothing meets the contract.
     pub unpack-no-room : length area < recordWords * records → IsUnpacked book area (Refused OutputRoom) area
     unpack-no-room short =
         let given = book-accepted-iff book (has .silences) .0 (has .is) in
         is-refused (unpack-10-iff book (length area) .1 (given .0, omega (arith, ap length (given .1), has .records-is)))
 
-    -- With their words written, all records.
+    -- If there is room and all words are written, returning the number of records meets the contract.
     pub unpack-written : {out : List ℕ} → recordWords * records ≤ length area → out ≡ areaAtExit wordsOfSilences (readBook book) area
         → IsUnpacked book area (Records records) out
     unpack-written enough put =

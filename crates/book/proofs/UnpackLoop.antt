@@ -1,5 +1,6 @@
--- Writing the records of an accepted book. Before the field at `at` the words of the records that are done stand in the area, and the others are read
--- from there on (`FieldsRead`). While one is left the next field is whole, and there is room for its words; with none left all words stand.
+-- The loop of `put_records`, which writes the words of an accepted book. Before the field at `at` the words of the first `done` records stand in the area, and
+-- the fields of the others stand from `at` on (`FieldsRead`). While a record is left, the next field is whole and there is room for its words. When none is
+-- left, all words are written.
 use Prim.Native.Nat.{ℕ, _+_, _*_, _≤_, _<_}
 use mathlib.Core.Path.{_≡_, refl, sym, ap, ap₂, _∙_}
 use mathlib.Core.List.{List, [], _∷_, _++_, append-nil, append-assoc}
@@ -22,7 +23,7 @@ use Rattle.silences.proofs.FieldsRead.{FieldsRead, none-read, one-read}
 use Rattle.silences.proofs.AcceptedIsLayout.{IsReadWhole, accepted-whole-iff}
 use Rattle.book.proofs.AcceptedBook.{HasRecords, has-records}
 
--- the first of the fields that are read
+-- the first of some fields that are read from `at` on
 record FirstField (book : List ℕ) (at : ℕ) (ss : List Silence) : Type 0 where
   pub first : Silence
   pub next : ℕ
@@ -43,7 +44,7 @@ length-none : (ss : List Silence) → length ss ≡ 0 → ss ≡ []
 length-none [] e = refl
 length-none (s ∷ ss) e = absurd (omega arith)
 
--- Before the field at `at`, with the words of `done` records written.
+-- The invariant: before the field at `at` the words of `done` records are written, and the fields of the others stand from `at` on.
 pub record PutOn (book area : List ℕ) (records : ℕ) (words : List ℕ) (at done : ℕ) : Type 0 where
   pub last : Option Silence
   pub put : List Silence
@@ -57,7 +58,7 @@ pub record PutOn (book area : List ℕ) (records : ℕ) (words : List ℕ) (at d
   pub words-is : words ≡ written (wordsOfSilences put) area
 
 module _ {book area : List ℕ} {records : ℕ} where
-  -- Before the first field.
+  -- The invariant holds before the first field.
   pub put-start : recordCount (readBook book) ≡ accepted records → recordWords * records ≤ length area → PutOn book area records area 0 0
   unfolding written wordsOfEach
   put-start e room =
@@ -83,7 +84,7 @@ module _ {book area : List ℕ} {records : ℕ} where
         ap length (inv .words-is)
         ∙ written-length (wordsOfSilences (inv .put)) area (omega (arith, words-length (inv .put), inv .records-is, inv .room))
 
-    -- With no record left the words of all stand.
+    -- When no record is left, the area is as the contract says.
     pub put-end : records ≤ done → words ≡ areaAtExit wordsOfSilences (readBook book) area
     put-end all-done =
         let none-left : inv .others ≡ [] = length-none (inv .others) (omega (arith, inv .done-is, inv .records-is)) in
@@ -96,15 +97,15 @@ module _ {book area : List ℕ} {records : ℕ} where
       next-field : FirstField book at (inv .others)
       next-field = first-field (inv .fields) (omega (arith, inv .done-is, inv .records-is))
 
-      -- While one is left the next field is whole.
+      -- While a record is left, the field at `at` is not faulty.
       pub put-faulty-no : faulty ≡ fieldAt book at → ⊥
       put-faulty-no is = faulty-not-whole (is ∙ next-field .field-is)
 
-      -- There is room for its words.
+      -- While a record is left, there is room for its words.
       pub put-room-le : recordWords * done + recordWords ≤ length words
       put-room-le = omega (arith, put-length-is, inv .room)
 
-      -- Its words are written behind the others.
+      -- The invariant holds again once the words of the next record are written after the others.
       pub put-turn : {s : Silence} {next : ℕ} → whole s next ≡ fieldAt book at
           → PutOn book area records (sets words (recordWords * done) (silenceWords s)) next (done + 1)
       put-turn {s} {next} is =

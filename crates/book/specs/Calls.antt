@@ -1,8 +1,8 @@
--- The contracts of the calls on a book, one record each: the answer as document 01's number, place and counts (`paper`), and the lent area at
--- exit (`written`), on every input, accepted or refused. "Packer and unpacker return the number of records"; so does reading.
+-- The contracts of the public functions on a book, one record each, for every input, accepted or refused. `paper` is the returned value as document 01's
+-- number, place and number of records; `written` is the lent area at exit. "Packer and unpacker return the number of records"; so does reading.
 --
---   answerOf, paperOf          the answer of a call, and its paper
---   recordCount, recordsPaper  the number of records that a definition gives, and its paper
+--   answerOf, paperOf            a `BookAnswer` as an answer, and its paper
+--   recordCount, recordsPaper    an answer with the number of silences instead of the silences, and its paper
 --   IsUnpacked, IsRead, IsSought, IsSoughtOn, IsAskedFor    the contracts of `unpack`, `read`, `seek`, `seek_on` and `is_for`
 use Prim.Native.Nat.{ℕ}
 use mathlib.Core.Path.{_≡_}
@@ -20,21 +20,21 @@ use Rattle.silences.specs.Addresses.{silenceOf, soughtOf}
 use Rattle.silences.specs.Packing.{wordsOfSilences, unpacked, areaAtExit}
 use Rattle.book.specs.Seeking.{seekField, seekFrom, isFor}
 
--- The answer that an enum's case stands for.
+-- A `BookAnswer` as an answer: accepted with a number of records, or refused.
 abbrev pub answerOf : BookAnswer → Answer ℕ
 answerOf (Records records) = accepted records
 answerOf (Refused refusal) = refused refusal
 
--- Document 01's number, place and number of records of an answer.
+-- The paper of a `BookAnswer`: number, place and number of records.
 abbrev pub paperOf : BookAnswer → Paper ℕ
 paperOf r = answerPaper 0 (answerOf r)
 
--- "the number of records": how many silences there are, or the refusal.
+-- "the number of records": the answer with the number of silences instead of the silences. A refusal stays as it is.
 abbrev pub recordCount : Answer (List Silence) → Answer ℕ
 recordCount (accepted ss) = accepted (length ss)
 recordCount (refused refusal) = refused refusal
 
--- Document 01's number, place and number of records of what a definition gives.
+-- The paper of an answer of silences: number, place and number of records.
 abbrev pub recordsPaper : Answer (List Silence) → Paper ℕ
 recordsPaper a = answerPaper 0 (recordCount a)
 
@@ -47,15 +47,15 @@ pub record IsUnpacked (book area : List ℕ) (r : BookAnswer) (out : List ℕ) :
 pub record IsRead (book : List ℕ) (r : BookAnswer) : Type 0 where
   pub paper : paperOf r ≡ recordsPaper (readBook book)
 
--- The contract of `seek`, which begins at byte offset `from` and returns `r`.
+-- The contract of `seek`, which seeks the address from byte offset `from` on and returns `r`.
 pub record IsSought (book : List ℕ) (from : ℕ) (address : Address) (r : Sought) : Type 0 where
   pub is : soughtOf r ≡ seekFrom book (silenceOf address) from
 
--- The contract of `seek_on`, which returns `r`. The field `held` is kept if it is not below the address; else the address is sought from just past it. Where nothing is
--- held there is nothing.
+-- The contract of `seek_on`, which returns `r`. If the field `held` is not below the address, it is kept; else the address is sought from just past it. If
+-- `held` is `Nothing`, so is `r`.
 pub record IsSoughtOn (book : List ℕ) (held : Sought) (address : Address) (r : Sought) : Type 0 where
   pub is : soughtOf r ≡ seekField (silenceOf address) (soughtOf held) (seekFrom book (silenceOf address))
 
--- The contract of `is_for`: whether what was sought is a field, and is for the address.
+-- The contract of `is_for`, which returns `r`: whether `sought` is a field and its silence has this address.
 pub record IsAskedFor (sought : Sought) (address : Address) (r : Bool) : Type 0 where
   pub is : r ≡ isFor (silenceOf address) (soughtOf sought)

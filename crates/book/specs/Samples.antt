@@ -8,8 +8,8 @@ use Rattle.silences.specs.Reading.{whole, faulty, lengthByTag, silenceAt, field
 use Rattle.silences.specs.Samples.{example}
 use Rattle.book.specs.Seeking.{seekFields, seekFrom, isFor}
 
--- Seeking start 0, 1 and 2 of cell 7, ring 2 in the example: its field is found for the first two, and is for start 1 only; for start 2 it is passed. From its
--- middle on no field stands.
+-- Seeking starts 0, 1 and 2 of cell 7, ring 2 in the example, whose one silence is (7, 2, 1): its field is found for starts 0 and 1 and passed for start 2.
+-- From byte 5, inside the field, nothing is found. The field is for start 1, and not for start 0.
 sought-right : (seekFrom example (silence 7 2 0) 0 ≡ whole (silence 7 2 1) 13)
     × (seekFrom example (silence 7 2 1) 0 ≡ whole (silence 7 2 1) 13)
     × (seekFrom example (silence 7 2 2) 0 ≡ faulty)

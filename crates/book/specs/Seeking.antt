@@ -1,11 +1,10 @@
--- Seeking an address in a book's bytes, as the report does: the first field at or after a byte offset that is not below the address. Document 01 has
--- no such call; it is defined on any bytes and any offset. Where no whole field stands, at the book's end, past it or within a faulty book,
--- seeking finds none.
+-- Seeking an address in a book's bytes, as the report does for each finding: the first field from a byte offset on that is not below the address. Document 01
+-- has no such call. It is defined for any bytes and any offset. At a faulty field, at the book's end and past it nothing is found.
 --
---   seekFrom     the field that is sought, with the byte offset just past it, so that whoever asks with rising addresses reads no field twice
---   isFor        whether it is for the address
+--   seekFrom     the field found, with the byte offset just past it: a caller with rising addresses goes on from there and reads no field twice
+--   isFor        whether the field found is for the address
 --
--- `seekFrom` counts down the bytes that are left, as reading does. Read instead its one equation `seekFrom-step` of proofs/SeekFrom.antt.
+-- `seekFrom` counts down the bytes left, as reading does. Its one equation hides this count; read it instead: `seekFrom-step` of proofs/SeekFrom.antt.
 use Prim.Native.Nat.{ℕ, zero, suc, _-_}
 use mathlib.Core.Bool.{Bool, false, cond}
 use mathlib.Core.List.{List}
@@ -13,23 +12,23 @@ use lib.ListN.{length}
 use Rattle.silences.specs.Silences.{Silence, isBelow, isSame}
 use Rattle.silences.specs.Reading.{FieldAt, whole, faulty, fieldAt}
 
--- A field that is below the address is passed; any other is the one sought; where no whole field stands there is none.
+-- One step of seeking, at a field: if it is below the address, it is passed and `rest` seeks on after it; else it is found. At a faulty field nothing is found.
 abbrev pub seekField : Silence → FieldAt → (ℕ → FieldAt) → FieldAt
 seekField address faulty rest = faulty
 seekField address (whole s next) rest =
     let on : FieldAt = rest next in
     cond (isBelow s address) on (whole s next)
 
--- Seeking from `at` on, over at most as many fields as the first number says.
+-- Seeks from `at` on, over at most as many fields as the first argument says.
 unfoldable pub seekFields : ℕ → List ℕ → Silence → ℕ → FieldAt
 seekFields zero book address at = faulty
 seekFields (suc left) book address at = seekField address (fieldAt book at) (seekFields left book address)
 
--- The first field at or after `at` that is not below the address, and the byte offset just past it; or that there is none.
+-- The first field from `at` on that is not below the address, with the byte offset just past it; faulty if a faulty field or the book's end comes first.
 unfoldable pub seekFrom : List ℕ → Silence → ℕ → FieldAt
 seekFrom book address at = seekFields (length book - at) book address at
 
--- This field is there, and is for the address.
+-- Whether this is a whole field whose silence is the address.
 abbrev pub isFor : Silence → FieldAt → Bool
 isFor address faulty = false
 isFor address (whole s next) = isSame s address

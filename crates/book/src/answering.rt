@@ -1,7 +1,7 @@
-// What the calls on a book answer.
+// What the calls on a book return.
 use answers::Refusal;
 
-// What packing, unpacking and reading answer: "the number of records", or a refusal.
+// What packing, unpacking and reading return: "the number of records", or a refusal.
 pub enum BookAnswer {
     Records(usize),
     Refused(Refusal),

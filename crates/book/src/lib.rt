@@ -1,5 +1,5 @@
-// The silence book: unpacking, reading and seeking in it, over the crate silences; packing is a crate of its own. What each
-// call answers and writes on every input stands in specs/. No public function has a `requires`: each takes every input.
+// The silence book: unpacking, reading and seeking, over the crate silences. Packing is a crate of its own. What each
+// function returns and writes, on every input, is its contract in specs/. No public function has a `requires`.
 mod answering;
 mod reading;
 mod seeking;

@@ -1,4 +1,4 @@
-// Reading a book: how many records it has, or what is wrong with it.
+// Reading a book: how many records it has, or the refusal of its first fault.
 use crate::answering::BookAnswer;
 use answers::Refusal;
 use silences::FIELD_LENGTH;
@@ -12,10 +12,10 @@ ghost use mathlib.Core.Option.{none};
 ghost use Rattle.silences.specs.Reading.{readFrom};
 ghost use Rattle.book.specs.Calls.{answerOf, recordCount, IsRead};
 
-// "book longer than 13,000 bytes": the most bytes that a book has.
+// "book longer than 13,000 bytes": the most bytes that a book may have.
 const MOST_BOOK_LENGTH: usize = FIELD_LENGTH * MOST_SILENCES;
 
-// The fields of a book one after the other. "Within a book the first faulty field decides, 6 before 7."
+// Reads the fields of a book one after the other. "Within a book the first faulty field decides, 6 before 7."
 fn read_fields(book: &[u8]) -> BookAnswer
     ensures { λ r. ⌜ answerOf r ≡ recordCount (readFrom (now (book .entry)) none 0) ⌝ }
 {
@@ -41,7 +41,7 @@ fn read_fields(book: &[u8]) -> BookAnswer
     BookAnswer::Records(records)
 }
 
-// How many records a book has, or refusal 5, 6 or 7.
+// Returns the number of records of a book, or refusal 5, 6 or 7, tested in this order.
 pub fn read(book: &[u8]) -> BookAnswer
     ensures { λ r. ⌜ IsRead (now (book .entry)) r ⌝ }
 {

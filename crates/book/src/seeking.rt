@@ -6,8 +6,8 @@ use silences::is_below;
 use silences::is_same;
 ghost use Rattle.book.specs.Calls.{IsSought, IsSoughtOn, IsAskedFor};
 
-// The first field at or after byte offset `from` that is not below the address. Whoever asks with rising addresses holds
-// the last answer and goes on with `seek_on`, and so reads no field twice.
+// Returns the first field from byte offset `from` on that is not below the address. A caller with rising addresses
+// keeps it and goes on with `seek_on`, and so reads no field twice.
 pub fn seek(book: &[u8], from: usize, address: Address) -> Sought
     ensures { λ r. ⌜ IsSought (now (book .entry)) from address r ⌝ }
 {
@@ -31,8 +31,8 @@ pub fn seek(book: &[u8], from: usize, address: Address) -> Sought
     }
 }
 
-// The field for the next address of one who asks with rising addresses and holds the last answer: kept while it is not
-// below the address, and sought on from just past it where it is.
+// Seeks the next of rising addresses; `held` is what was returned for the one before. If it is not below the address it
+// is kept, else the address is sought from just past it.
 pub fn seek_on(book: &[u8], held: Sought, address: Address) -> Sought
     ensures { λ r. ⌜ IsSoughtOn (now (book .entry)) held address r ⌝ }
 {
@@ -50,7 +50,7 @@ pub fn seek_on(book: &[u8], held: Sought, address: Address) -> Sought
     }
 }
 
-// Whether what was sought is for the address.
+// Whether `sought` is a field and is for this address.
 pub fn is_for(sought: Sought, address: Address) -> bool
     ensures { λ r. ⌜ IsAskedFor sought address r ⌝ }
 {

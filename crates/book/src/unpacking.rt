@@ -1,4 +1,4 @@
-// Unpacking a book into words: three for each record, cell, ring number and start.
+// Unpacking a book into words, three for each record: cell, ring number, start.
 use crate::answering::BookAnswer;
 use crate::reading::read;
 use answers::Refusal;
@@ -16,7 +16,7 @@ ghost use Rattle.silences.specs.Packing.{silenceWords, wordsOfSilences, recordW
 ghost use Rattle.silences.specs.Addresses.{silenceOf};
 ghost use Rattle.book.specs.Calls.{recordCount, IsUnpacked};
 
-// The words of one record, from place `to` on.
+// Writes the three words of a record from place `to` on.
 fn put_record(words: &mut [u32], to: usize, address: Address)
     requires { ⌜ to + recordWords ≤ length (now words) ⌝ }
     ensures { λ _. ⌜ now (words .exit) ≡ sets (now (words .entry)) to (silenceWords (silenceOf address)) ⌝ }
@@ -26,8 +26,7 @@ fn put_record(words: &mut [u32], to: usize, address: Address)
     words[to + 2] = address.start;
 }
 
-// The words of all records of a book that is accepted and has room: nothing is refused here, so nothing is written
-// that a refusal would have to take back.
+// Writes the words of all records. The book is accepted and there is room, so nothing is refused after a write.
 fn put_records(book: &[u8], records: usize, words: &mut [u32])
     requires { ⌜ (recordCount (readBook (now book)) ≡ accepted records) × (recordWords * records ≤ length (now words)) ⌝ }
     ensures { λ _. ⌜ now (words .exit) ≡ areaAtExit wordsOfSilences (readBook (now (book .entry))) (now (words .entry)) ⌝ }
@@ -46,7 +45,7 @@ fn put_records(book: &[u8], records: usize, words: &mut [u32])
     }
 }
 
-// The words of a book's silences and how many records it has, or refusal 5, 6, 7 or 10, in this order.
+// Writes the words of a book's silences and returns the number of records; else refusal 5, 6, 7 or 10, in this order.
 pub fn unpack(book: &[u8], words: &mut [u32]) -> BookAnswer
     ensures { λ r. ⌜ IsUnpacked (now (book .entry)) (now (words .entry)) r (now (words .exit)) ⌝ }
 {

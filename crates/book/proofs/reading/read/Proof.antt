@@ -1,4 +1,4 @@
--- `book::reading::read` meets its contract: row 5, or what `read_fields` gives.
+-- `book::reading::read` meets its contract: refusal 5, or what `read_fields` returns.
 use mathlib.Core.Path.{sym, ap, _∙_}
 use native.Mathlib.Omega.{arith}
 use Rattle.answers.specs.Paper.{answerPaper}

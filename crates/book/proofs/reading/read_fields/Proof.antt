@@ -1,5 +1,5 @@
--- `book::reading::read_fields` meets its contract. Before the field at `at` the fields before it have been read and counted (`ReadOn`); each return is one
--- case of that field, or the book's end. The bytes left fall: a whole field begins before it ends, within the book (`field-ends`).
+-- `book::reading::read_fields` meets its contract. Before the field at `at` the fields before it are read and counted (`ReadOn`); each return is one case of
+-- that field, or the book's end. The number of bytes left falls, because a whole field ends after it begins, within the book (`field-ends`).
 use Prim.Native.Nat.{_-_}
 use mathlib.Core.Path.{_≡_, sym, _∙_}
 use native.Mathlib.Omega.{arith}
@@ -19,7 +19,7 @@ Inv-loop book at₀ records₀ last₀ at records last = ReadOn book at records 
 abbrev μ-loop : tie.MeasureT-loop
 μ-loop book at₀ records₀ last₀ at records last = length book - at
 
--- a whole field that was read stands in the book
+-- the field that `field_at` returned is the field at `at`
 field-is : (c : tie.After-field Inv-loop μ-loop)
     → whole (silenceOf (c .field .given .0 .0)) (c .field .given .0 .1 .0)
     ≡ fieldAt (c .before .before .before .before .before .before .args .book .now) (c .before .before .before .before .loop .at)

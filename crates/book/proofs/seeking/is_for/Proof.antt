@@ -1,4 +1,4 @@
--- `book::seeking::is_for` meets its contract: nothing is for no address, and a field is for its own.
+-- `book::seeking::is_for` meets its contract: `Nothing` is for no address, and a field is for its own.
 use borrow.Author.Needs.{needs}
 use Rattle.book.proofs.seeking.is_for.Statement.{statement}
 use Rattle.book.proofs.seeking.is_for.Tie as tie
@@ -12,11 +12,11 @@ enum-known-sought c = search needs
 is-same-requires : tie.Need-is-same-requires
 is-same-requires c κs = search needs
 
--- Nothing.
+-- `Nothing`
 returns : tie.Need-returns
 returns c = record { is = search needs }
 
--- A field.
+-- a field
 returns-2 : tie.Need-returns-2
 returns-2 c = record { is = rw (c .before .before .sought .given .1) (c .is-same .ensures) }
 

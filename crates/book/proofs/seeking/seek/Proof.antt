@@ -1,5 +1,5 @@
--- `book::seeking::seek` meets its contract. Before the field at `at` what is sought from `from` on is what is sought from `at` on (`SeekOn`); each
--- return is one case of that field. The bytes left fall: a whole field begins before it ends, within the book (`field-ends`).
+-- `book::seeking::seek` meets its contract. Before the field at `at`, seeking from `at` on finds what seeking from `from` on finds (`SeekOn`); each return is
+-- one case of that field. The number of bytes left falls, because a whole field ends after it begins, within the book (`field-ends`).
 use Prim.Native.Nat.{_-_}
 use mathlib.Core.Path.{_≡_, sym, _∙_}
 use native.Mathlib.Omega.{arith}
@@ -19,7 +19,7 @@ Inv-loop book from address at₀ at = SeekOn book from (silenceOf address) at
 abbrev μ-loop : tie.MeasureT-loop
 μ-loop book from address at₀ at = length book - at
 
--- a whole field that was read stands in the book
+-- the field that `field_at` returned is the field at `at`
 field-is : (c : tie.After-field Inv-loop μ-loop)
     → whole (silenceOf (c .field .given .0 .0)) (c .field .given .0 .1 .0)
     ≡ fieldAt (c .before .before .before .before .before .args .book .now) (c .before .before .before .loop .at)
@@ -34,7 +34,7 @@ field-at-requires c κs = tt
 enum-told : tie.Need-enum-told Inv-loop μ-loop
 enum-told c = search needs
 
--- no whole field
+-- a faulty field
 returns : tie.Need-returns Inv-loop μ-loop
 returns c =
     let at-field = c .before .before in

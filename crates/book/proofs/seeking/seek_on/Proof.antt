@@ -1,4 +1,4 @@
--- `book::seeking::seek_on` meets its contract: nothing stays nothing, a field that is below the address is passed, any other kept.
+-- `book::seeking::seek_on` meets its contract: `Nothing` stays `Nothing`, a field below the address is passed, and any other is kept.
 use mathlib.Core.Path.{sym, _∙_}
 use borrow.Author.Needs.{needs}
 use Rattle.book.proofs.seeking.seek_on.Statement.{statement}
@@ -16,7 +16,7 @@ is-below-requires c κs = search needs
 seek-requires : tie.Need-seek-requires
 seek-requires c κs = search needs
 
--- A field that is below the address.
+-- a field below the address
 returns : tie.Need-returns
 returns c =
     let at-below = c .before .before in
@@ -27,11 +27,11 @@ returns c =
           (simp (sym (at-below .is-below .ensures) ∙ c .before .if1 .taken));
     }
 
--- Nothing.
+-- `Nothing`
 returns-2 : tie.Need-returns-2
 returns-2 c = search needs
 
--- A field that is not.
+-- a field that is not below it
 returns-3 : tie.Need-returns-3
 returns-3 c =
     let at-below = c .before in

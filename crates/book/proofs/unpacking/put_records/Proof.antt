@@ -1,5 +1,5 @@
--- `book::unpacking::put_records` meets its contract. Before the field at `at` the words of the records that are done stand in the area (`PutOn`); the
--- return without a field is never reached. The records left fall.
+-- `book::unpacking::put_records` meets its contract. Before the field at `at` the words of the first `done` records stand in the area (`PutOn`). The return at
+-- a faulty field is never reached. The number of records left falls.
 use Prim.Native.Nat.{_-_}
 use native.Mathlib.Omega.{arith}
 use borrow.Author.Needs.{needs}
@@ -28,7 +28,7 @@ enum-told c = search needs
 same-length : tie.Need-same-length Inv-loop μ-loop
 same-length c = put-length-is (c .before .before .before .before .loop .inv)
 
--- never reached: a field stands for each record
+-- never reached: an accepted book has a whole field for each record
 returns : tie.Need-returns Inv-loop μ-loop
 returns c =
     let at-field = c .before .before in

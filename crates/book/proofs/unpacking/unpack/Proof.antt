@@ -1,4 +1,4 @@
--- `book::unpacking::unpack` meets its contract: what `read` refuses, no room for the words, or all of them written by `put_records`.
+-- `book::unpacking::unpack` meets its contract, by the cases of UnpackCases: `read` refuses, there is no room, or `put_records` writes all words.
 use native.Mathlib.Omega.{arith}
 use borrow.Author.Needs.{needs}
 use Rattle.book.proofs.AcceptedBook.{read-answer-is, records-le}
