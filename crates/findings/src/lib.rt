@@ -12,6 +12,6 @@ pub use admitting::Verdict;
 pub use admitting::WORDS_EACH;
 pub use admitting::admit;
 pub use putting::put_finding;
-pub use searching::Counted;
 pub use searching::Finding;
+pub use searching::SearchCounts;
 pub use searching::Searched;

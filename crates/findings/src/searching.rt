@@ -18,7 +18,7 @@ pub enum Searched {
 }
 
 // Found and looks of an accepted call.
-pub struct Counted {
+pub struct SearchCounts {
     pub found: usize,
     pub looks: usize,
 }

@@ -1,5 +1,5 @@
--- Whether counts can be moved: the test is a conjunction of comparisons, and `CanMove` says the same (`can-move-iff`). So counts that pass meet the precondition
--- of `move_along`, and the two returns of `move_counts` are the two cases of its contract.
+-- Whether counts can be moved. The test `canMove` is a conjunction of comparisons, and the record `CanMove` states the same (`can-move-iff`). So counts that pass
+-- meet the precondition of `moved_tally`, and the two returns of `move_counts` are the two cases of its contract.
 use Prim.Native.Nat.{ℕ, _+_, _-_, _≤_}
 use mathlib.Core.Path.{_≡_, refl}
 use mathlib.Core.Bool.{Bool, true, false}
@@ -8,25 +8,25 @@ use mathlib.Core.Logic.{_↔_}
 use native.Mathlib.Omega.{arith}
 use lib.Dec.{leb}
 use lib.ListN.{length}
-use Rattle.tally.specs.Counts.{mostCounts, RingFits}
+use Rattle.tally.specs.Counts.{mostCounts, HasCounts}
 use Rattle.lists.proofs.SizesTested.{lt-iff, le-iff, and-iff, test-same}
 use Rattle.moves.specs.declared.steps.Reached.{Reached}
 use Rattle.moves.specs.Moves.{mostPlaces, canMove, CanMove, IsMovedOn, IsMoved}
 
--- The test passes exactly where the counts can be moved.
+-- The test passes exactly when the counts can be moved.
 pub can-move-iff : (m room n from steps : ℕ) → (canMove m room n from steps ≡ true) ↔ CanMove m room n from steps
 unfolding canMove
 can-move-iff m room n from steps =
     let all = and-iff (and-iff (lt-iff 0 m) (and-iff (le-iff m mostCounts) (le-iff m room))) (and-iff (le-iff n mostPlaces) (le-iff (from + steps + m) n)) in (
-      λ e. let is = all .0 e in record { fits = record { some-edge = is .0 .0; most = is .0 .1 .0; room = is .0 .1 .1 }; most-line = is .1 .0; in-line = is .1 .1 },
-      λ can. all .1 ((can .fits .some-edge, (can .fits .most, can .fits .room)), (can .most-line, can .in-line)),
+      λ e. let is = all .0 e in record { has-counts = record { some-edge = is .0 .0; most = is .0 .1 .0; room = is .0 .1 .1 }; most-line = is .1 .0; in-line = is .1 .1 },
+      λ can. all .1 ((can .has-counts .some-edge, (can .has-counts .most, can .has-counts .room)), (can .most-line, can .in-line)),
     )
 
--- Where nothing else lacks, the test is whether so many steps end in the line.
-pub can-move-last : (m room n from steps : ℕ) → RingFits m room → n ≤ mostPlaces → m ≤ n → from ≤ n - m → leb steps (n - m - from) ≡ canMove m room n from steps
-can-move-last m room n from steps fits most-line long begins =
+-- If m, the counts and n are within the limits and a window fits in the line at `from`, the test passes exactly when `steps` is at most n − m − from.
+pub can-move-last : (m room n from steps : ℕ) → HasCounts m room → n ≤ mostPlaces → m ≤ n → from ≤ n - m → leb steps (n - m - from) ≡ canMove m room n from steps
+can-move-last m room n from steps has-counts most-line long begins =
     test-same (le-iff steps (n - m - from)) (can-move-iff m room n from steps) (
-      λ ends. record { fits = fits; most-line = most-line; in-line = omega arith },
+      λ ends. record { has-counts = has-counts; most-line = most-line; in-line = omega arith },
       λ can. omega (arith, can .in-line),
     )
 
@@ -34,10 +34,10 @@ module _ (ring line : List ℕ) (from steps below : ℕ) (old : List ℕ) where
   abbrev test : Bool
   test = canMove (length ring) (length old) (length line) from steps
 
-  -- Counts that pass the test are moved.
+  -- If the test passes and the counts are moved, the contract of `move_counts` is met.
   pub moved-yes : (new : List ℕ) (r : Reached) → test ≡ true → IsMovedOn ring line from steps below old new r → IsMoved ring line from steps below old new r
   moved-yes new r passed moved = record { is = rw passed (moved .is) }
 
-  -- Any others are left alone.
+  -- If the test fails, leaving the counts as they were and returning `from`, 0 and 0 meets the contract.
   pub moved-no : test ≡ false → IsMoved ring line from steps below old old (record { start = record { 0 = from }; least = 0; looks = 0 })
   moved-no failed = record { is = rw failed refl }

@@ -1,6 +1,6 @@
--- The loop of `move_along`: before the turn at start i, moving the steps that are left from here gives the same result as the whole move (`Moving`). The leaving edge
--- is the first of the window at i, the entering edge the last of the window at i + 1, so a turn is `stepOn`; the move stops where the least count is below `below`.
--- A step takes at most 512 looks, so the sum fits a machine word.
+-- The loop of `move_along`. Before the turn at start i, making the remaining steps from here gives the same result as the whole move (`Moving`). The leaving edge is
+-- the first of the window at i and the entering edge the last of the window at i + 1, so a turn is `stepOn`. The move ends when the least count is below `below`.
+-- A step takes at most 512 looks, so a machine word holds the sum.
 use Prim.Native.Nat.{ℕ, zero, suc, _+_, _-_, _*_, _≤_, _<_}
 use mathlib.Core.Path.{_≡_, refl, sym, ap, _∙_}
 use mathlib.Core.List.{List}
@@ -14,29 +14,29 @@ use Rattle.lists.proofs.Cases.{by-test}
 use Rattle.meaning.specs.Looks.{stepLooks}
 use Rattle.tally.specs.declared.counts.Least.{Least}
 use Rattle.tally.specs.Windows.{IsWindow}
-use Rattle.tally.specs.Counts.{mostCounts, leastOf, RingFits}
+use Rattle.tally.specs.Counts.{mostCounts, leastOf, HasCounts}
 use Rattle.moves.specs.Moves.{steppedCounts, CountsAt, unmoved, stepOn, moveOn, CanMove, IsStepped, IsMovedOn}
 use Rattle.lists.proofs.StoreLoop.{storedFirst-length}
 use Rattle.tally.proofs.WindowEdges.{fitting-edge}
 
 module _ (ring line : List ℕ) (below : ℕ) where
-  -- No step is left.
+  -- With no step left, the move ends where it is.
   pub move-none : (at : CountsAt) → moveOn ring line below 0 at ≡ at
   unfolding moveOn
   move-none at = refl
 
-  -- A step whose least count is below the bound ends the move.
+  -- If the least count after a step is below the bound, this step ends the move.
   pub move-stops : (left : ℕ) (at : CountsAt) → stepOn ring line at .least < below → moveOn ring line below (suc left) at ≡ stepOn ring line at
   unfolding moveOn
   move-stops left at near = rw (lt-ltb (stepOn ring line at .least) below near) refl
 
-  -- Any other goes on.
+  -- If it is not, the move goes on from there.
   pub move-goes-on : (left : ℕ) (at : CountsAt) → below ≤ stepOn ring line at .least
       → moveOn ring line below (suc left) at ≡ moveOn ring line below left (stepOn ring line at)
   unfolding moveOn
   move-goes-on left at far = rw (le-ltb (stepOn ring line at .least) below far) refl
 
--- Before the turn at start i.
+-- The invariant before the turn at start i. `still` says that the remaining steps from here give the same result as the whole move.
 pub record Moving (ring line : List ℕ) (from steps below : ℕ) (old counts : List ℕ) (least looks i : ℕ) : Type 0 where
   pub from-le : from ≤ i
   pub start-le : i ≤ from + steps
@@ -49,16 +49,16 @@ module _ (ring line : List ℕ) (from steps below : ℕ) (old : List ℕ) (can :
   abbrev m : ℕ
   m = length ring
 
-  -- Before the first turn all steps are left.
+  -- The invariant holds before the first turn, where all steps are left.
   pub moving-start : Moving ring line from steps below old old 0 0 from
   moving-start =
       let all : from + steps - from ≡ steps = omega arith in
       record { from-le = omega arith; start-le = omega arith; size = refl; looks-le = omega arith; still = rw all refl }
 
   module _ (counts : List ℕ) (least looks i : ℕ) (before : Moving ring line from steps below old counts least looks i) where
-    -- The counts still have room for the ring.
-    pub moving-fits : RingFits m (length counts)
-    moving-fits = record { some-edge = can .fits .some-edge; most = can .fits .most; room = omega (arith, before .size, can .fits .room) }
+    -- In every turn there is a count for each rotation.
+    pub moving-has-counts : HasCounts m (length counts)
+    moving-has-counts = record { some-edge = can .has-counts .some-edge; most = can .has-counts .most; room = omega (arith, before .size, can .has-counts .room) }
 
     abbrev here-at : CountsAt
     here-at = record { start = i; counts = counts; least = least; looks = looks }
@@ -66,10 +66,10 @@ module _ (ring line : List ℕ) (from steps below : ℕ) (old : List ℕ) (can :
     module _ (goes-on : i < from + steps) (here next new : List ℕ) (z : Least) (here-is : IsWindow line i m here) (next-is : IsWindow line (i + 1) m next)
         (stepped : IsStepped ring (getD here 0 0) (getD next (m - 1) 0) counts new z) where
       leaves : getD here 0 0 ≡ windowEdge line i 0
-      leaves = fitting-edge {ring = ring} here-is (omega (arith, can .in-line)) 0 (can .fits .some-edge)
+      leaves = fitting-edge {ring = ring} here-is (omega (arith, can .in-line)) 0 (can .has-counts .some-edge)
 
       enters : getD next (m - 1) 0 ≡ windowEdge line (i + 1) (m - 1)
-      enters = fitting-edge {ring = ring} next-is (omega (arith, can .in-line)) (m - 1) (omega (arith, can .fits .some-edge))
+      enters = fitting-edge {ring = ring} next-is (omega (arith, can .in-line)) (m - 1) (omega (arith, can .has-counts .some-edge))
 
       new-is : new ≡ steppedCounts ring (windowEdge line i 0) (windowEdge line (i + 1) (m - 1)) counts
       new-is =
@@ -95,26 +95,26 @@ module _ (ring line : List ℕ) (from steps below : ℕ) (old : List ℕ) (can :
       least-of-step : stepOn ring line here-at .least ≡ z .least
       least-of-step = ap (λ (p : CountsAt). p .least) step-is
 
-      -- It ends the move.
+      -- If the least count is below the bound, returning there meets the contract.
       pub moving-stops : z .least < below → IsMovedOn ring line from steps below old new (record { start = record { 0 = i + 1 }; least = z .least; looks = looks + z .looks })
       moving-stops near = record {
         is = sym step-is ∙ sym (move-stops ring line below (from + steps - (i + 1)) here-at (omega (arith, least-of-step)))
             ∙ ap (λ (n : ℕ). moveOn ring line below n here-at) (sym one-less) ∙ before .still;
       }
 
-      -- Or it goes on.
+      -- If it is not, the invariant holds before the next turn.
       pub moving-turn : below ≤ z .least → Moving ring line from steps below old new (z .least) (looks + z .looks) (i + 1)
       moving-turn far = record {
         from-le = omega (arith, before .from-le);
         start-le = omega arith;
         size = ap length (stepped .written) ∙ storedFirst-length m _ counts ∙ before .size;
-        looks-le = omega (arith, before .looks-le, before .from-le, stepped .looks-are, can .fits .most);
+        looks-le = omega (arith, before .looks-le, before .from-le, stepped .looks-are, can .has-counts .most);
         still = ap (moveOn ring line below (from + steps - (i + 1))) (sym step-is)
             ∙ sym (move-goes-on ring line below (from + steps - (i + 1)) here-at (omega (arith, least-of-step)))
             ∙ ap (λ (n : ℕ). moveOn ring line below n here-at) (sym one-less) ∙ before .still;
       }
 
-    -- After the last turn no step is left.
+    -- If no step is left, returning there meets the contract.
     pub moving-end : from + steps ≤ i → IsMovedOn ring line from steps below old counts (record { start = record { 0 = i }; least = least; looks = looks })
     moving-end done =
         let none : from + steps - i ≡ 0 = omega arith in
@@ -122,7 +122,7 @@ module _ (ring line : List ℕ) (from steps below : ℕ) (old : List ℕ) (can :
           is = sym (move-none ring line below here-at) ∙ ap (λ (n : ℕ). moveOn ring line below n here-at) (sym none) ∙ before .still;
         }
 
--- The steps left add at most a step's looks each.
+-- A move of at most `left` steps adds at most `left` times the looks of a step.
 pub move-looks-le : (ring line : List ℕ) (below left : ℕ) (at : CountsAt) → moveOn ring line below left at .looks ≤ at .looks + left * stepLooks (length ring)
 unfolding moveOn stepOn
 move-looks-le ring line below zero at = omega arith

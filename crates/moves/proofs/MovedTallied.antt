@@ -1,5 +1,5 @@
--- The tally moved along the line. By induction on the steps that are left: at each start on the way the counts are its tally and the least count is its least
--- distance; and no start passed has a least distance below the bound.
+-- The tally of a start, moved along the line, is the tally of the start reached. By induction on the steps left: after each step the counts are the tally of the
+-- start there (`tallied-step`), and its least count is its least distance. The move goes on only from starts whose least count is not below the bound.
 use Prim.Native.Nat.{ℕ, zero, suc, _+_, _-_, _*_, _≤_, _<_}
 use mathlib.Core.Path.{_≡_, refl, _∙_}
 use mathlib.Core.Bool.{true}
@@ -25,7 +25,7 @@ module _ (ring line : List ℕ) (below : ℕ) (some : 0 < length ring) (most : l
   abbrev m : ℕ
   m = length ring
 
-  -- The tally is moved from one point to another, by at least one step and at most `left`.
+  -- The tally at point `at` is moved to point `to`, by at least one step and at most `left`.
   record CameTo (at : CountsAt) (left : ℕ) (to : CountsAt) : Type 0 where
     pub after : at .start < to .start
     pub start-le : to .start ≤ at .start + left
@@ -55,7 +55,7 @@ module _ (ring line : List ℕ) (below : ℕ) (some : 0 < length ring) (most : l
     unfolding stepOn
     next-least = leastOf-is m (next .counts) some
 
-    -- One step: the last, or one whose least count is below the bound.
+    -- One step that is the last, or whose least count is below the bound.
     came-one : (left : ℕ) → (0 < left → next .least < below) → CameTo at (suc left) next
     came-one left near =
         let one : next .start - at .start ≡ 1 = omega (arith, next-start) in
@@ -69,7 +69,7 @@ module _ (ring line : List ℕ) (below : ℕ) (some : 0 < length ring) (most : l
           stopped = λ l. near (omega (arith, next-start));
         }
 
-    -- One step and on from there.
+    -- One step whose least count is not below the bound, and the move on from there.
     came-on : (left : ℕ) (to : CountsAt) → below ≤ next .least → CameTo next left to → CameTo at (suc left) to
     came-on left to far on =
         let more : to .start - at .start ≡ 1 + (to .start - next .start) = omega (arith, next-start, on .after) in
@@ -85,7 +85,7 @@ module _ (ring line : List ℕ) (below : ℕ) (some : 0 < length ring) (most : l
           stopped = λ l. on .stopped (omega (arith, next-start));
         }
 
-  -- One step and `left` more, or fewer.
+  -- A move of at least one and at most `left` + 1 steps.
   came : (left : ℕ) (at : CountsAt) → Tallied ring line (at .start) (at .counts) → CameTo at (suc left) (moveOn ring line below (suc left) at)
   came zero at tallied = dite (decLt (stepOn ring line at .least) below)
       (λ near. rw (move-stops ring line below 0 at near) (came-one at tallied 0 (λ _. near)))
@@ -105,9 +105,10 @@ module _ (ring line : List ℕ) (below : ℕ) (some : 0 < length ring) (most : l
     can-be : canMove m (length old) (length line) from steps ≡ true
     can-be =
         can-move-iff m (length old) (length line) from steps .1
-        (record { fits = record { some-edge = some; most = most; room = omega (arith, tallied .size) }; most-line = most-line; in-line = ends .in-line })
+        (record { has-counts = record { some-edge = some; most = most; room = omega (arith, tallied .size) }; most-line = most-line; in-line = ends .in-line })
 
-    -- The tally moved from a start is the tally of the start reached.
+    -- If the counts are the tally of start `from` and a window fits in the line at from + steps, then `move_counts` gives the tally of the start reached
+    -- (`IsReached`).
     pub moved-tallied : (new : List ℕ) (r : Reached) → IsMoved ring line from steps below old new r → IsReached ring line from steps below new r
     moved-tallied new r moved =
         let is : reachedWith r new ≡ moveOn ring line below steps (unmoved from old) = rw can-be at (moved .is) in

@@ -1,4 +1,4 @@
--- The next rotation is (r + 1) mod m. Every number below m is the next of one below m: 0 of m − 1, any other of the number before it (`earlier`).
+-- The next rotation of r is (r + 1) mod m, and `earlier` is its inverse. Every number below m is the next of one below m: 0 of m − 1, any other s of s − 1.
 use Prim.Native.Nat.{ℕ, _+_, _-_, _%_, _<_}
 use mathlib.Core.Path.{_≡_, refl, sym, subst, _∙_, ap}
 use mathlib.Core.Logic.{dite}
@@ -8,7 +8,7 @@ use native.Mathlib.Omega.{arith}
 use borrow.Author.Tests.{eq-eqb, ne-eqb}
 use Rattle.moves.specs.Moves.{earlier}
 
--- What holds of the next of every number below m holds of every number below m.
+-- If P holds for the next of every number below m, then P holds for every number below m.
 pub every-next : (P : ℕ → Type 0) (m : ℕ) → ((r : ℕ) → r < m → P ((r + 1) % m)) → (s : ℕ) → s < m → P s
 every-next P m next s l = dite (ℕ-discrete s 0)
     (λ first.
@@ -18,21 +18,21 @@ every-next P m next s l = dite (ℕ-discrete s 0)
     let here : s - 1 + 1 ≡ s = omega (arith, later) in
     subst P (ap (λ (n : ℕ). n % m) here ∙ mod-eq-of-lt l) (next (s - 1) (omega arith)))
 
--- Before 0 comes the last.
+-- The rotation before 0 is m − 1.
 pub earlier-first : (m r : ℕ) → r ≡ 0 → earlier m r ≡ m - 1
 unfolding earlier
 earlier-first m r first = rw (eq-eqb r 0 first) refl
 
--- Before any other comes the one before.
+-- The rotation before any other r is r − 1.
 pub earlier-later : (m r : ℕ) → (r ≡ 0 → ⊥) → earlier m r ≡ r - 1
 unfolding earlier
 earlier-later m r later = rw (ne-eqb r 0 later) refl
 
--- It is below m too.
+-- The rotation before one below m is below m.
 pub earlier-lt : (m r : ℕ) → r < m → earlier m r < m
 earlier-lt m r l = dite (ℕ-discrete r 0) (λ first. omega (arith, earlier-first m r first)) (λ later. omega (arith, earlier-later m r later))
 
--- Before the next comes the number itself.
+-- The rotation before the next of r is r.
 pub earlier-next : (m r : ℕ) → r < m → earlier m ((r + 1) % m) ≡ r
 earlier-next m r l = dite (decLt (r + 1) m)
     (λ below. rw (mod-eq-of-lt below) (earlier-later m (r + 1) (λ e. omega arith) ∙ omega arith))

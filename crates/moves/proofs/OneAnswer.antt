@@ -1,11 +1,11 @@
--- Any two answers that meet the contract of `move_counts` are equal, and the counts at exit too: it is one equation.
+-- The contract of `move_counts` is one equation for the returned struct and the counts at exit, so it determines both.
 use Prim.Native.Nat.{ℕ}
 use mathlib.Core.Path.{_≡_, sym, ap, _∙_}
 use mathlib.Core.List.{List}
 use Rattle.moves.specs.declared.steps.Reached.{Reached}
 use Rattle.moves.specs.Moves.{CountsAt, reachedWith, IsMoved}
 
--- Any two answers of `move_counts` are equal, and any two counts at exit.
+-- Any two answers that meet the contract of `move_counts` are equal, and so are the counts at exit.
 pub one-move : (ring line : List ℕ) (from steps below : ℕ) (old new new′ : List ℕ) (r r′ : Reached) → IsMoved ring line from steps below old new r
     → IsMoved ring line from steps below old new′ r′ → (r ≡ r′) × (new ≡ new′)
 one-move ring line from steps below old new new′ r r′ a b =

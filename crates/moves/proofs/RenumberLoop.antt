@@ -1,7 +1,7 @@
--- The loop that renumbers the counts, from the last down: a turn copies the count before r to r, whose own count was copied on already. So the count
--- to copy is still the old one. The last count is kept aside and goes to 0 at the end; the counts from m on are not touched.
+-- The loop of `renumber`, from the last count down. A turn copies the count at r − 1 to r; the count at r was copied to r + 1 before, so nothing is lost, and the
+-- count at r − 1 is still the old one. The last count is kept aside and stored at 0 at the end. The counts from m on are not touched.
 use Prim.Native.Nat.{ℕ, _-_, _≤_, _<_}
-use mathlib.Core.Path.{_≡_, refl, sym, ap, _∙_}
+use mathlib.Core.Path.{_≡_, refl, _∙_}
 use mathlib.Core.List.{List}
 use mathlib.Core.Logic.{dite}
 use native.Mathlib.Decide.{ℕ-discrete}
@@ -12,7 +12,7 @@ use Rattle.lists.specs.ByPlace.{StoredFirst}
 use Rattle.moves.specs.Moves.{earlier}
 use Rattle.moves.proofs.NextRotation.{earlier-first, earlier-later}
 
--- Before a turn at r: above r each count is the old one before it, up to r it is its own old one.
+-- The invariant before the turn at r: above r each count is the old count before it; up to r, and from m on, each count is the old one.
 pub record Renumbering (m : ℕ) (old new : List ℕ) (r : ℕ) : Type 0 where
   pub turn-lt : r < m
   pub size : length new ≡ length old
@@ -21,11 +21,11 @@ pub record Renumbering (m : ℕ) (old new : List ℕ) (r : ℕ) : Type 0 where
   pub past : (s : ℕ) → m ≤ s → getD new s 0 ≡ getD old s 0
 
 module _ (m : ℕ) (old : List ℕ) (room : m ≤ length old) where
-  -- Before the first turn nothing is moved.
+  -- The invariant holds before the first turn, at m − 1, where no count is moved.
   pub renumbering-start : 0 < m → Renumbering m old old (m - 1)
   renumbering-start some = record { turn-lt = omega arith; size = refl; moved = λ s l below. absurd (omega arith); kept = λ s l. refl; past = λ s l. refl }
 
-  -- A turn moves the count before r.
+  -- A turn copies the count at r − 1 to r.
   pub renumbering-turn : (new : List ℕ) (r : ℕ) → Renumbering m old new r → 0 < r → Renumbering m old (set new r (getD new (r - 1) 0)) (r - 1)
   renumbering-turn new r before some =
       let count : ℕ = getD new (r - 1) 0 in
@@ -39,7 +39,7 @@ module _ (m : ℕ) (old : List ℕ) (room : m ≤ length old) where
         past = λ s l. getD-set-other new r s count 0 (λ e. omega (arith, before .turn-lt)) ∙ before .past s l;
       }
 
-  -- With the last count under 0 every count stands under the next rotation's number.
+  -- After the last turn, with the old last count stored at 0, every count is under the next rotation's number.
   pub renumbering-end : (new : List ℕ) (r last : ℕ) → Renumbering m old new r → r ≤ 0 → last ≡ getD old (m - 1) 0
       → StoredFirst m (λ s. getD old (earlier m s) 0) old (set new 0 last)
   renumbering-end new r last end done is = record {

@@ -1,5 +1,5 @@
--- A step of the counts is a step of the tally: from the tally of start i, with the first edge of its window leaving and the last edge of the next window entering,
--- the counts become the tally of start i + 1. No count wraps: the leaving edge's comparison is one of those counted, so a count that loses 1 is at least 1; and no
+-- A step turns the tally of start i into the tally of start i + 1: the first edge of the window at i leaves, and the last edge of the window at i + 1 enters
+-- (`distance-step` of crates/meaning). No count wraps: a count that loses 1 is at least 1, because the leaving edge's comparison is one of those counted, and no
 -- count is above 256.
 use Prim.Native.Nat.{ℕ, suc, _+_, _-_, _%_, _≤_, _<_}
 use mathlib.Core.Path.{_≡_, ap, _∙_}
@@ -44,7 +44,7 @@ module _ (ring line : List ℕ) (i : ℕ) where
     abbrev entering : ℕ
     entering = windowEdge line (i + 1) (m - 1)
 
-    -- A count changes as its distance does.
+    -- The changed count of rotation r is the distance of start i + 1 under the next rotation.
     changed-distance : (r : ℕ) → r < m → changedAt ring leaving entering counts r ≡ distance ring line (i + 1) ((r + 1) % m)
     unfolding changedAt
     changed-distance r l =
@@ -58,7 +58,7 @@ module _ (ring line : List ℕ) (i : ℕ) where
           oneIf-le (unequal entering (getD ring r 0)),
         )
 
-    -- A step gives the tally of the next start.
+    -- If the counts are the tally of start i, the counts after a step are the tally of start i + 1.
     pub tallied-step : Tallied ring line (i + 1) (steppedCounts ring leaving entering counts)
     tallied-step = record {
       size = storedFirst-length m _ counts ∙ tallied .size;

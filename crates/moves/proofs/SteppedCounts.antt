@@ -1,4 +1,4 @@
--- Changed and then renumbered, the counts are stepped; renumbering leaves their least.
+-- `step` first changes the counts and then renumbers them; this gives the counts after a step. Renumbering only moves counts, so it does not change their least.
 use Prim.Native.Nat.{ℕ, _+_, _%_, _<_}
 use mathlib.Core.Path.{_≡_, ap, _∙_}
 use mathlib.Core.List.{List}
@@ -14,7 +14,7 @@ use Rattle.lists.proofs.StoreLoop.{stored-again, stored-is}
 use Rattle.tally.proofs.LeastIsOne.{leastOf-only}
 use Rattle.moves.proofs.NextRotation.{earlier-lt, earlier-next}
 
--- Renumbering leaves the least.
+-- Renumbering does not change the least.
 renumbered-least : (m : ℕ) (old new : List ℕ) (least : ℕ) → StoredFirst m (λ r. getD old (earlier m r) 0) old new → IsLeast m old least → IsLeast m new least
 renumbered-least m old new least renumbered is-least =
     let next : ℕ = (is-least .place + 1) % m in
@@ -26,7 +26,7 @@ renumbered-least m old new least renumbered is-least =
       is = renumbered .first next next-lt ∙ ap (λ (p : ℕ). getD old p 0) (earlier-next m (is-least .place) (is-least .place-lt)) ∙ is-least .is;
     }
 
--- Changed and renumbered: stepped.
+-- Counts that are changed, with 2·m looks and the least found, and then renumbered, meet the contract of `step`.
 pub stepped-is : (ring old mid new : List ℕ) (leaving entering : ℕ) (z : Least) → StoredFirst (length ring) (changedAt ring leaving entering old) old mid
     → IsLeast (length ring) mid (z .least) → z .looks ≡ stepLooks (length ring) → StoredFirst (length ring) (λ r. getD mid (earlier (length ring) r) 0) mid new
     → IsStepped ring leaving entering old new z

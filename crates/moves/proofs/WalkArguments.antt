@@ -1,6 +1,5 @@
--- What the two walks of this crate share. Their callees, `move_along` and `move_tally`, take a reference, the ring, the line, a line place and two numbers; so do they
--- themselves, but `moved_tally` takes the tally by value. A walk carries what the reference, the ring and the line own; what a place or a number owns is made anew
--- where it is needed.
+-- What the hand walks of `move_tally` and `moved_tally` share. Their callees, `move_along` and `move_tally`, take six parameters: a reference, the ring, the line, a
+-- line place and two numbers. A walk carries the ownership of the reference, the ring and the line. What a place or a number owns is made anew when a call needs it.
 use Prim.Native.Nat.{ℕ, _<_, _^_}
 use mathlib.Core.Path.{refl}
 use mathlib.Core.List.{[], _∷_, List}
@@ -33,13 +32,13 @@ abbrev Number : ℕ → Fml
 Number n = usize .own n (vint w64 n ∷ [])
 
 module _ {M : Type 1} {𝓤 : URA M} {H : Heap 𝓤} {A : Atoms 𝓤} {K : Type 0} {W : Given 𝓤 H A} {Γ : List (Item 𝓤)} {G : Goal 𝓤 H} where
-  -- The reference, the ring and the line in hand, the six parameters are owned, in their order.
+  -- A step of a walk: from the ownership of the reference, the ring and the line it makes the ownership of all six parameters, in their order.
   pub six-owned : K → {reference ring line : Fml} (start : LinePlace) (steps below : ℕ) → Is Place.the-row start (placeVal start ∷ []) → steps < 2 ^ 64 → below < 2 ^ 64
       → Step K W (‵ (fsep reference (fsep ring (fsep line (fsep (OwnPlace start) (fsep (Number steps) (fsep (Number below) ftrue)))))) ∷ Γ) G
       (‵ reference ∷ (‵ ring ⊛ ‵ line) ∷ Γ) G
-  six-owned t start steps below is-start steps-fits below-fits = step (λ s.
+  six-owned t start steps below is-start steps-lt below-lt = step (λ s.
       move t (1 ∷ []) $ split t $
-      nothing t $ owned t usize (Is usize) (uint-makes 𝓤 H A W w64) below _ (refl, below-fits) $ fjoin t $
-      owned t usize (Is usize) (uint-makes 𝓤 H A W w64) steps _ (refl, steps-fits) $ fjoin t $
+      nothing t $ owned t usize (Is usize) (uint-makes 𝓤 H A W w64) below _ (refl, below-lt) $ fjoin t $
+      owned t usize (Is usize) (uint-makes 𝓤 H A W w64) steps _ (refl, steps-lt) $ fjoin t $
       owned t Place.the-row (Is Place.the-row) (laws.makes Place.the-type Place′.the-plain 𝓤 H A) start _ is-start $ fjoin t $
       move t (2 ∷ 0 ∷ []) $ fjoin t $ move t (1 ∷ 0 ∷ []) $ fjoin t $ move t (1 ∷ 0 ∷ []) $ fjoin t $ s)

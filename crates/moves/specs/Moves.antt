@@ -1,16 +1,17 @@
 -- The counts moved along the line, a step at a time, whatever they hold. Rule 5: "it moves s steps, each 2·m looks (the leaving and the entering edge,
--- each against m ring edges)".
+-- each against m ring edges)". A move may also end early, at the first start whose least count is below a given bound: the survey moves on to the next finding.
 --
---   changedCount       count − (leaving edge differs) + (entering edge differs), mod 2^16
---   earlier            the rotation before a rotation
---   steppedCounts      the counts after a step
---   CountsAt           the start, the counts, their least and the looks, at one point of a move
---   stepOn, moveOn     one step; a number of steps, or fewer
---   canMove, CanMove   whether counts can be moved: the test, and the same as facts
---   mostPlaces         the most places of a line
---   movedFrom          the counts moved, or unchanged where they cannot be moved
---   IsMoved            the contract of `move_counts`
---   IsReached          the start that a moved tally has reached
+--   changedCount, changedAt   count − (leaving edge differs) + (entering edge differs), mod 2^16
+--   earlier                   the rotation before a rotation
+--   steppedCounts             the counts after a step
+--   CountsAt, unmoved         one point of a move: start, counts, their least, looks; the point before the first step
+--   stepOn, moveOn            one step; at most a given number of steps
+--   mostPlaces                2^32, the most places of a line
+--   canMove, CanMove          whether counts can be moved: the test, and the same as facts
+--   movedFrom                 the counts moved, or unchanged if they cannot be moved
+--   IsMoved                   the contract of `move_counts`
+--   IsReached                 the result of moving a start's tally, as facts
+--   IsStepped, IsMovedOn      the contracts of private functions
 use Prim.Native.Nat.{ℕ, zero, suc, _+_, _-_, _*_, _%_, _^_, _≤_, _<_}
 use mathlib.Core.Path.{_≡_}
 use mathlib.Core.Bool.{Bool, cond, _&&_}
@@ -22,28 +23,28 @@ use Rattle.meaning.specs.Numbers.{oneIf}
 use Rattle.meaning.specs.Meanings.{unequal, windowEdge, leastDistance}
 use Rattle.meaning.specs.Looks.{stepLooks}
 use Rattle.tally.specs.declared.counts.Least.{Least}
-use Rattle.tally.specs.Counts.{mostCounts, leastOf, RingFits}
+use Rattle.tally.specs.Counts.{mostCounts, leastOf, HasCounts}
 use Rattle.tally.specs.Tallied.{Verified}
 use Rattle.moves.specs.declared.steps.Reached.{Reached}
 
--- A count has sixteen bits.
+-- The number of values that a count of sixteen bits has.
 abbrev pub sixteenBits : ℕ
 sixteenBits = 2 ^ 16
 
--- count − lost + won, mod 2^16. `lost` is 1 where the leaving edge differs, `won` is 1 where the entering edge differs. A count of 0 that loses 1 wraps.
+-- count − lost + won, mod 2^16. `lost` is 1 if the leaving edge differs, `won` is 1 if the entering edge differs. A count of 0 that loses 1 wraps.
 abbrev pub changedCount : ℕ → ℕ → ℕ → ℕ
 changedCount count lost won = (count + (sixteenBits - lost) + won) % sixteenBits
 
--- The count of rotation r after both edges are compared with the ring's edge at place r.
+-- The count of rotation r after the leaving and the entering edge are compared with the ring's edge at place r.
 unfoldable pub changedAt : List ℕ → ℕ → ℕ → List ℕ → ℕ → ℕ
 changedAt ring leaving entering old r =
     changedCount (getD old r 0) (oneIf (unequal leaving (getD ring r 0))) (oneIf (unequal entering (getD ring r 0)))
 
--- The rotation before rotation r: before 0 it is the last.
+-- The rotation before rotation r, r − 1; before rotation 0 it is the last, m − 1.
 unfoldable pub earlier : ℕ → ℕ → ℕ
 earlier m r = cond (eqb r 0) (m - 1) (r - 1)
 
--- The counts after a step: each of m stands under the next rotation's number, the others are kept.
+-- The counts after a step: each of the m changed counts is kept under the next rotation's number, and the counts from m on are unchanged.
 abbrev pub steppedCounts : List ℕ → ℕ → ℕ → List ℕ → List ℕ
 steppedCounts ring leaving entering old = storedFirst (length ring) (λ r. changedAt ring leaving entering old (earlier (length ring) r)) old
 
@@ -54,7 +55,7 @@ pub record CountsAt : Type 0 where
   pub least : ℕ
   pub looks : ℕ
 
--- Before the first step.
+-- The point before the first step: the start to move from, and the counts as they are.
 abbrev pub unmoved : ℕ → List ℕ → CountsAt
 unmoved from counts = record { start = from; counts = counts; least = 0; looks = 0 }
 
@@ -64,7 +65,7 @@ stepOn ring line at =
     let new : List ℕ = steppedCounts ring (windowEdge line (at .start) 0) (windowEdge line (at .start + 1) (length ring - 1)) (at .counts) in
     record { start = at .start + 1; counts = new; least = leastOf (length ring) new; looks = at .looks + stepLooks (length ring) }
 
--- A number of steps, or fewer: the move stops at the first start whose least count is below `below`.
+-- At most the given number of steps: the move ends at the first start reached whose least count is below `below`, else after the last step.
 unfoldable pub moveOn : List ℕ → List ℕ → ℕ → ℕ → CountsAt → CountsAt
 moveOn ring line below zero at = at
 moveOn ring line below (suc left) at =
@@ -72,16 +73,16 @@ moveOn ring line below (suc left) at =
     let later : CountsAt = moveOn ring line below left next in
     cond (ltb (next .least) below) next later
 
--- A line place goes out as one word of 32 bits, so no line has more places.
+-- The most places that a line may have: a finding's start is written as one 32-bit word.
 abbrev pub mostPlaces : ℕ
 mostPlaces = 2 ^ 32
 
--- Whether the counts of a ring of m edges, `room` of them, can be moved `steps` steps along a line of n edges: at least one edge and at most 256, a count for
--- each rotation, no more line edges than line places, and a window in the line after each step.
+-- Whether `room` counts of a ring of m edges can be moved `steps` steps from start `from` along a line of n edges: m is 1 to 256, there is a count for each
+-- rotation, n is at most 2^32, and the window after the last step still fits in the line.
 unfoldable pub canMove : ℕ → ℕ → ℕ → ℕ → ℕ → Bool
 canMove m room n from steps = (ltb 0 m && (leb m mostCounts && leb m room)) && (leb n mostPlaces && leb (from + steps + m) n)
 
--- The counts moved from a start by `steps` steps or fewer. Where they cannot be moved, no count changes.
+-- The counts moved from start `from` by at most `steps` steps. If they cannot be moved, no count changes, and least and looks are 0.
 abbrev pub movedFrom : List ℕ → List ℕ → ℕ → ℕ → ℕ → List ℕ → CountsAt
 movedFrom ring line from steps below old =
     cond (canMove (length ring) (length old) (length line) from steps) (moveOn ring line below steps (unmoved from old)) (unmoved from old)
@@ -90,11 +91,12 @@ movedFrom ring line from steps below old =
 abbrev pub reachedWith : Reached → List ℕ → CountsAt
 reachedWith r counts = record { start = r .start .0; counts = counts; least = r .least; looks = r .looks }
 
--- The contract of `move_counts`: `from` is the number of the line place to move from, `old` are the counts at entry, `new` those at exit, r is the returned struct.
+-- The contract of `move_counts`. `from` is the number of the line place to move from, `old` are the counts at entry, `new` those at exit, r is the returned struct.
 pub record IsMoved (ring line : List ℕ) (from steps below : ℕ) (old new : List ℕ) (r : Reached) : Type 0 where
   pub is : reachedWith r new ≡ movedFrom ring line from steps below old
 
--- A tally moved from start `from` has reached a start: `steps` steps on, or the first on the way whose least count is below `below`.
+-- The result of moving the tally of start `from`. The start reached is 1 to `steps` steps on. The counts are its tally, r has their least, and each step took 2·m
+-- looks. No start that was passed has a least distance below `below`. If the move ended early, the start reached has a least count below `below`.
 pub record IsReached (ring line : List ℕ) (from steps below : ℕ) (counts : List ℕ) (r : Reached) : Type 0 where
   pub after : from < r .start .0
   pub start-le : r .start .0 ≤ from + steps
@@ -104,18 +106,18 @@ pub record IsReached (ring line : List ℕ) (from steps below : ℕ) (counts : L
 
 -- From here on: preconditions and contracts of private functions.
 
--- One step: the counts, their least, the looks.
+-- The contract of `step`: the counts after one step, their least, and 2·m looks. `old` and `new` are the counts at entry and exit, z is the returned struct.
 pub record IsStepped (ring : List ℕ) (leaving entering : ℕ) (old new : List ℕ) (z : Least) : Type 0 where
   pub written : new ≡ steppedCounts ring leaving entering old
   pub least-is : z .least ≡ leastOf (length ring) new
   pub looks-are : z .looks ≡ stepLooks (length ring)
 
--- What `canMove` tests, as facts.
+-- What `canMove` tests, as facts; the precondition of `move_along`, `move_tally` and `moved_tally`.
 pub record CanMove (m room n from steps : ℕ) : Type 0 where
-  pub fits : RingFits m room
+  pub has-counts : HasCounts m room
   pub most-line : n ≤ mostPlaces
   pub in-line : from + steps + m ≤ n
 
--- The steps are made, or fewer.
+-- The contract of these three: the counts are moved by at most `steps` steps.
 pub record IsMovedOn (ring line : List ℕ) (from steps below : ℕ) (old new : List ℕ) (r : Reached) : Type 0 where
   pub is : reachedWith r new ≡ moveOn ring line below steps (unmoved from old)

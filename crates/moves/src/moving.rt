@@ -7,7 +7,7 @@ ghost use mathlib.Core.Path.{_≡_};
 ghost use lib.ListN.{length};
 ghost use Rattle.moves.specs.Moves.{canMove, CanMove, IsMovedOn, IsMoved};
 
-// A line place goes out as one word of 32 bits, so no line has more places.
+// The most places that a line may have: a finding's start is written as one 32-bit word.
 pub const MOST_PLACES: usize = 1 << 32;
 
 // One count for each rotation.
@@ -21,7 +21,7 @@ pub struct Moved {
     pub reached: Reached,
 }
 
-// Moves a lent tally along the line: it lends the counts on to `move_along`.
+// Moves a lent tally along the line: lends its counts to `move_along`.
 fn move_tally(
     tally: &mut Tally,
     ring: &[u8],
@@ -56,9 +56,10 @@ fn moved_tally(
     }
 }
 
-// Whether the tally of a ring of m edges can be moved `steps` steps: a count for each rotation, and a window in the line after
-// each step. The places are compared before anything is added to them, so nothing overflows. There are always 256 counts;
-// their number is a parameter because a contract does not know the length of a lent array.
+// Whether the tally of a ring of m edges can be moved `steps` steps: m is 1 to 256, there is a count for each rotation,
+// n is at most 2^32, and the window after the last step fits in the line. Places are subtracted and compared, never
+// added, so nothing overflows. There are always 256 counts; their number is a parameter because a contract does not
+// know the length of a lent array.
 fn can_move(m: usize, room: usize, n: usize, from: LinePlace, steps: usize) -> bool
     ensures { λ r. ⌜ r ≡ canMove m room n (from .0) steps ⌝ }
 {
@@ -84,8 +85,9 @@ fn can_move(m: usize, room: usize, n: usize, from: LinePlace, steps: usize) -> b
     steps <= n - m - start
 }
 
-// Moves the counts of a search along the line, or leaves them as they are where they cannot be moved. They are copied into a
-// tally and back once, 512 bytes each way, whatever the number of steps.
+// Moves the counts of a search along the line by at most `steps` steps; stops at the first start whose least count is
+// below `below`. If they cannot be moved, they stay as they are. They are copied into a tally and back once, 512 bytes
+// each way, whatever the number of steps.
 pub fn move_counts(
     counts: &mut [u16; MOST_COUNTS],
     ring: &[u8],

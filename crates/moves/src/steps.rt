@@ -1,5 +1,5 @@
-// Rule 5: the tally moved along the line, each step 2·m looks. The counts stand under the rotations' own numbers
-// (specs/Tallied.antt of crates/tally), so a step renumbers them.
+// Rule 5: the tally moved along the line, each step 2·m looks. The count of rotation r is kept under the number r
+// (specs/Tallied.antt of crates/tally), so a step renumbers the counts.
 use answers::LinePlace;
 use tally::Least;
 use tally::MOST_COUNTS;
@@ -9,16 +9,16 @@ ghost use mathlib.Core.Path.{_≡_};
 ghost use lib.ListN.{length, getD};
 ghost use Rattle.meaning.specs.Looks.{stepLooks};
 ghost use Rattle.lists.specs.ByPlace.{StoredFirst};
-ghost use Rattle.tally.specs.Counts.{RingFits, IsLeast};
+ghost use Rattle.tally.specs.Counts.{HasCounts, IsLeast};
 ghost use Rattle.moves.specs.Moves.{changedCount, changedAt, earlier, IsStepped, CanMove, IsMovedOn};
 
-// A count has sixteen bits.
+// The number of values that a count of sixteen bits has.
 const SIXTEEN_BITS: u32 = 1 << 16;
-// The largest count. The least starts with it, since no count is above it.
+// The largest number of sixteen bits. The least begins with it, because no count is above it.
 const LAST_COUNT: u16 = (SIXTEEN_BITS - 1) as u16;
 
-// count − lost + won, mod 2^16: `lost` is 1 where the leaving edge differs, `won` where the entering edge does. The sum is taken
-// in 32 bits, where it does not overflow. Counts that are a tally never wrap, others may.
+// count − lost + won, mod 2^16: `lost` is 1 if the leaving edge differs, `won` is 1 if the entering edge does. The sum
+// is computed in 32 bits, where it does not overflow. Counts that are a tally never wrap; other counts may.
 fn changed(count: u16, lost: u16, won: u16) -> u16
     ensures { λ r. ⌜ r ≡ changedCount count lost won ⌝ }
 {
@@ -26,11 +26,12 @@ fn changed(count: u16, lost: u16, won: u16) -> u16
     (sum % SIXTEEN_BITS) as u16
 }
 
-// The leaving and the entering edge, each against every ring edge. Rotation r has the ring's edge at place r over the leaving
-// edge, and at the next start the next rotation has the same edge over the entering edge: `to_ring` gives r for both
-// (`leaving-meets`, `entering-meets` in proofs/EdgesMeetRing.antt). So no place is converted here.
+// Compares the leaving and the entering edge with every ring edge and changes the counts. Rotation r has the ring's
+// edge at place r over the leaving edge; at the next start the next rotation has the same edge over the entering edge.
+// `to_ring` gives r for both (`leaving-meets`, `entering-meets` in proofs/EdgesMeetRing.antt), so no place is converted
+// here.
 fn change(counts: &mut [u16; MOST_COUNTS], ring: &[u8], leaving: u8, entering: u8) -> Least
-    requires { ⌜ RingFits (length (now ring)) (length (now counts)) ⌝ }
+    requires { ⌜ HasCounts (length (now ring)) (length (now counts)) ⌝ }
     ensures { λ z. ⌜ StoredFirst (length (now (ring .entry))) (changedAt (now (ring .entry)) leaving entering (now (counts .entry))) (now (counts .entry)) (now (counts .exit))
         × IsLeast (length (now (ring .entry))) (now (counts .exit)) (z .least)
         × (z .looks ≡ stepLooks (length (now (ring .entry)))) ⌝ }
@@ -55,9 +56,9 @@ fn change(counts: &mut [u16; MOST_COUNTS], ring: &[u8], leaving: u8, entering: u
     Least { least: low, looks }
 }
 
-// Each count moves on to the next rotation's number, from the last down so that none is overwritten before it is moved.
+// Moves each count to the next rotation's number, from the last down, so that none is overwritten before it is moved.
 fn renumber(counts: &mut [u16; MOST_COUNTS], m: usize)
-    requires { ⌜ RingFits m (length (now counts)) ⌝ }
+    requires { ⌜ HasCounts m (length (now counts)) ⌝ }
     ensures { λ _. ⌜ StoredFirst m (λ r. getD (now (counts .entry)) (earlier m r) 0) (now (counts .entry)) (now (counts .exit)) ⌝ }
 {
     let last = counts[m - 1];
@@ -69,9 +70,9 @@ fn renumber(counts: &mut [u16; MOST_COUNTS], m: usize)
     counts[0] = last;
 }
 
-// One step. The least is found before the renumbering, which leaves it: it only moves the counts.
+// One step. The least is found before the renumbering, which does not change it: it only moves the counts.
 fn step(counts: &mut [u16; MOST_COUNTS], ring: &[u8], leaving: u8, entering: u8) -> Least
-    requires { ⌜ RingFits (length (now ring)) (length (now counts)) ⌝ }
+    requires { ⌜ HasCounts (length (now ring)) (length (now counts)) ⌝ }
     ensures { λ z. ⌜ IsStepped (now (ring .entry)) leaving entering (now (counts .entry)) (now (counts .exit)) z ⌝ }
 {
     let least = change(counts, ring, leaving, entering);
@@ -79,15 +80,15 @@ fn step(counts: &mut [u16; MOST_COUNTS], ring: &[u8], leaving: u8, entering: u8)
     least
 }
 
-// The start reached by a move, the least of its counts, and the looks of the steps.
+// The result of a move: the start reached, the least of its counts, and the looks of all steps.
 pub struct Reached {
     pub start: LinePlace,
     pub least: usize,
     pub looks: usize,
 }
 
-// Moves the counts along the line: `steps` steps, or to the first start on the way whose least count is below `below`. The
-// leaving edge is the first of the window that is left, the entering edge the last of the next one.
+// Moves the counts along the line: `steps` steps, or fewer if a start reached on the way has a least count below
+// `below`. The leaving edge is the first of the window at i, the entering edge the last of the window at i + 1.
 pub fn move_along(
     counts: &mut [u16; MOST_COUNTS],
     ring: &[u8],

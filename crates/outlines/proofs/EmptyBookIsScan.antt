@@ -4,13 +4,11 @@ use Prim.Native.Nat.{ℕ}
 use mathlib.Core.Path.{_≡_, refl, sym, ap, subst, _∙_}
 use mathlib.Core.List.{List, [], _∷_}
 use mathlib.Core.Option.{Option, none, some}
-use native.Mathlib.Omega.{arith}
 use lib.ListN.{length}
 use Rattle.lists.specs.Areas.{written}
 use Rattle.meaning.specs.Findings.{Finding, findings, wordsOf}
 use Rattle.meaning.specs.Looks.{quickLooks}
 use Rattle.answers.specs.declared.refusals.Refusal.{Refusal}
-use Rattle.answers.specs.Refusals.{numberOf}
 use Rattle.answers.proofs.OneAnswer.{number-in}
 use Rattle.answers.proofs.AnswerByRows.{row-place-iff, refused-area}
 use Rattle.silences.specs.Silences.{names}
@@ -19,7 +17,6 @@ use Rattle.silences.specs.Reading.{bookRefusal, silencesRead}
 use Rattle.silences.proofs.BookRows.{book-accepted-iff}
 use Rattle.findings.specs.declared.searching.Searched.{Searched}
 use Rattle.findings.specs.declared.searching.Searched.the-variants.{Counts as ScanCase, Refused as ScanRefused}
-use Rattle.findings.specs.Admitting.{refusalOf}
 use Rattle.findings.specs.Searching.{LineSearched}
 use Rattle.findings.proofs.AdmitRows.{no-row-iff}
 use Rattle.findings.proofs.SearchAnswers.{refused-search, accepted-search}

@@ -104,7 +104,7 @@ module _ {cell ringNumber : ℕ} {ring doubled table line : List ℕ} {k : ℕ} 
 
       -- The next window is a later one: the starts that are left fall.
       pub quick-less : FitsInLine ring line (at .start .0) → length line + 1 - next .start .0 < length line + 1 - at .start .0
-      quick-less fits = rw is-next at (turn .less fits)
+      quick-less in-line = rw is-next at (turn .less in-line)
 
       -- A turn that finds nothing.
       pub quick-none : foundOf r ≡ [] → QuickLoop cell ringNumber ring doubled table line k book counts₀ area next asked counts′ words

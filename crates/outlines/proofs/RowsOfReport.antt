@@ -16,7 +16,7 @@ use Rattle.answers.specs.Refusals.{numberOf, placeOf}
 use Rattle.answers.specs.Paper.{Paper, answerPaper}
 use Rattle.answers.specs.Rows.{answerBy}
 use Rattle.answers.proofs.AnswerByRows.{row-number-iff, row-place-iff, accepted-number-iff, number-by, refused-counts, refused-area}
-use Rattle.silences.specs.Reading.{silencesRead, bookRefusal}
+use Rattle.silences.specs.Reading.{silencesRead}
 use Rattle.silences.proofs.BookRows.{refusal-5-iff, refusal-6-iff, refusal-7-iff, refusal-has}
 use Rattle.silences.proofs.AcceptedIsLayout.{no-refusal-iff}
 use Rattle.findings.proofs.AdmitRows.{row-1-iff, row-2-iff, row-3-iff, row-4-iff, row-numbers, row-places}

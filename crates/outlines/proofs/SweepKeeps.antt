@@ -68,7 +68,7 @@ module _ {ring doubled table line : List ℕ} {k : ℕ} {book counts₀ area : L
     can-sweep : CanSweepOn ring doubled table line counts at
     can-sweep = record {
       can-sweep = record {
-        windows = record {
+        can-read = record {
           some-edge = can .admitted .some-edge;
           most = can .admitted .most-ring;
           most-line = omega (arith, can .admitted .most-line);
@@ -102,7 +102,7 @@ module _ {ring doubled table line : List ℕ} {k : ℕ} {book counts₀ area : L
               start-le = omega (arith, left-start-le ring line k (at .start .0) (h .start-le) (on .left-to));
             };
             later = omega arith;
-            less = λ fits. omega (arith, e .past);
+            less = λ in-line. omega (arith, e .past);
             found = λ f none-is. absurd (let z : _≡_ {A = ℕ} 0 1 = cc in omega arith);
           }
 
@@ -122,7 +122,7 @@ module _ {ring doubled table line : List ℕ} {k : ℕ} {book counts₀ area : L
               start-le = omega (arith, c .start-is, c .in-line);
             };
             later = omega (arith, c .start-is);
-            less = λ fits. omega (arith, c .start-is, c .in-line);
+            less = λ in-line. omega (arith, c .start-is, c .in-line);
             found = λ f is.
                 let small = found-small ring line k (on .stop) f (can .admitted .some-edge) (sym (c .found-are) ∙ is) in
                 record {

@@ -1,6 +1,9 @@
--- Laws behind the survey, one module for each idea; the functions' proofs cite them. In the order in which they build on each other.
+-- The laws of this crate, one module for each idea, in the order in which they build on each other. The proofs that the functions meet their contracts cite
+-- them; each stands in a folder with the function's name: plain/verify_on, plain/survey_starts, plain/survey.
+--
+-- What `verify_on` does, and the loop over it.
 pub mod SurveyCases
 pub mod SurveyLoop
--- What any answer that meets the contract gives.
+-- What follows for every answer that meets the contract; any two such answers are equal.
 pub mod SurveyGives
 pub mod OneAnswer

@@ -1,5 +1,5 @@
--- The survey's starts from i on: "the first afresh and each next by one step". The first is counted afresh. From a later one on the tally of the start before is moved, to
--- a finding or to the last start.
+-- The two cases of `verify_on`, "the first afresh and each next by one step". Start 0 is counted afresh. For i above 0 the tally of start i − 1 is moved, to the
+-- next finding or to the last start.
 use Prim.Native.Nat.{ℕ, _+_, _-_, _*_, _≤_, _<_}
 use mathlib.Core.Path.{_≡_, ap, _∙_}
 use mathlib.Core.List.{List}
@@ -19,12 +19,12 @@ use Rattle.moves.specs.Moves.{IsMoved, IsReached}
 use Rattle.survey.specs.Survey.{CanVerifyOn, IsVerifiedOn}
 
 module _ {ring doubled line : List ℕ} {k i : ℕ} {old : List ℕ} (can : CanVerifyOn ring doubled line k i old) where
-  -- The first start is counted afresh.
+  -- If i is 0 and its window is counted afresh, the contract of `verify_on` is met.
   pub first-verified : {edges counts : List ℕ} {z : Least} → i ≡ 0 → IsWindow line i (length ring) edges → IsCounted doubled edges old counts z
       → IsVerifiedOn ring line k i counts (record { start = record { 0 = i }; least = z .least; looks = z .looks })
   unfolding surveyLooksBelow
   first-verified {edges} {counts} {z} first handed counted =
-      let v = counted-verified ring line i doubled old counts edges z (can .fits .size) (can .fits .some-edge) (can .fits .most) (can .twice) (can .in-line) handed counted in
+      let v = counted-verified ring line i doubled old counts edges z (can .can-tally .size) (can .can-tally .some-edge) (can .can-tally .most) (can .twice) (can .in-line) handed counted in
       record {
         start-ge = omega arith;
         in-line = can .in-line;
@@ -34,7 +34,7 @@ module _ {ring doubled line : List ℕ} {k i : ℕ} {old : List ℕ} (can : CanV
         passed = λ j lo hi. absurd (omega arith);
       }
 
-  -- the looks of the starts below i, and one step for each start from i to j
+  -- the survey's looks for the starts below i, and a step for each start from i to j, are its looks for the starts up to j
   steps-cost : (j : ℕ) → 0 < i → i ≤ j → FitsInLine ring line j
       → surveyLooksBelow ring line i + (j - (i - 1)) * stepLooks (length ring) ≡ surveyLooksBelow ring line (j + 1)
   steps-cost j after l in-line =
@@ -47,12 +47,12 @@ module _ {ring doubled line : List ℕ} {k i : ℕ} {old : List ℕ} (can : CanV
         ap (λ (x : ℕ). x * stepLooks (length ring)) all,
       )
 
-  -- From a later one on the tally of the start before is moved, at most to the last start.
+  -- If i is above 0 and the tally of start i − 1 is moved, at most to the last start, the contract of `verify_on` is met.
   pub moved-verified : {counts : List ℕ} {r : Reached} → 0 < i → IsMoved ring line (i - 1) (length line - length ring - (i - 1)) (k + 1) old counts r
       → IsVerifiedOn ring line k i counts r
   moved-verified {counts} {r} after moved =
       let reached : IsReached ring line (i - 1) (length line - length ring - (i - 1)) (k + 1) counts r =
-      moved-tallied ring line (k + 1) (can .fits .some-edge) (can .fits .most) (i - 1) (length line - length ring - (i - 1)) old (can .before after)
+      moved-tallied ring line (k + 1) (can .can-tally .some-edge) (can .can-tally .most) (i - 1) (length line - length ring - (i - 1)) old (can .before after)
       (omega (arith, can .in-line)) (omega (arith, can .in-line)) (omega (arith, can .most-line)) counts r moved in
       let in-line : FitsInLine ring line (r .start .0) = omega (arith, can .in-line, reached .start-le) in
       record {

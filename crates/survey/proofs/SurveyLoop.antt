@@ -1,5 +1,6 @@
--- The survey's loop. Before start i the words of the findings below i are put, the looks are those of the starts below i, and the counts hold the tally of the start before.
--- A turn verifies the starts from i to the one reached; only that one may be a finding. Where no window fits any more, all is found.
+-- The loop of `survey_starts`. Before start i the words of the findings below i are put, the looks are those of the starts below i, and the counts are the tally of
+-- start i − 1. A turn verifies the starts from i to the one reached; only that one may be a finding. When no window fits in the line any more, all findings are
+-- found.
 use Prim.Native.Nat.{ℕ, _+_, _-_, _*_, _≤_, _<_}
 use mathlib.Core.Path.{_≡_, refl, sym, ap, _∙_}
 use mathlib.Core.List.{List, [], _∷_, _++_, append-nil}
@@ -26,7 +27,7 @@ use Rattle.findings.specs.Putting.{findingOf, IsFindingPut}
 use Rattle.survey.specs.Survey.{CanVerifyOn, IsVerifiedOn, CanSurvey, LineSurveyed}
 use Rattle.findings.proofs.WordsSoFar.{admitted-words, WordsSoFar, so-far-none, so-far-length, so-far-more}
 
--- What the loop keeps before start i.
+-- The invariant before start i.
 pub record SurveyKeeps (ring doubled line : List ℕ) (k : ℕ) (area : List ℕ) (i found looks : ℕ) (counts words : List ℕ) : Type 0 where
   pub can : CanSurvey ring doubled line k counts area
   pub start-le : i ≤ length line
@@ -35,7 +36,7 @@ pub record SurveyKeeps (ring doubled line : List ℕ) (k : ℕ) (area : List ℕ
   pub looks-are : looks ≡ surveyLooksBelow ring line i
   pub before : 0 < i → Tallied ring line (i - 1) counts
 
--- Before the first start nothing is found, and the words are as they were lent.
+-- The invariant holds before start 0: nothing is found, and the words are as they were lent.
 pub survey-start : {ring doubled line : List ℕ} {k : ℕ} {counts area : List ℕ} → CanSurvey ring doubled line k counts area
     → SurveyKeeps ring doubled line k area 0 0 0 counts area
 unfolding findingsBelow surveyLooksBelow
@@ -50,11 +51,11 @@ survey-start {area = area} can = record {
 
 module _ {ring doubled line : List ℕ} {k : ℕ} {area : List ℕ} {i found looks : ℕ} {counts words : List ℕ}
     (keeps : SurveyKeeps ring doubled line k area i found looks counts words) where
-  -- what the call is known to be
+  -- the call is accepted
   admitted : Admitted (length ring) k (length line) (length area)
   admitted = keeps .can .admitted
 
-  -- Past the last start all is found.
+  -- If no window fits in the line at i, the contract is met.
   pub survey-end : IsPastLine ring line i → LineSurveyed ring line k area found looks words
   survey-end past =
       let all : findingsBelow ring line k i ≡ findings ring line k = sym (findings-below ring line k i (keeps .start-le) past) in
@@ -64,15 +65,15 @@ module _ {ring doubled line : List ℕ} {k : ℕ} {area : List ℕ} {i found loo
         written = keeps .put .words-are ∙ ap (λ (l : List Finding). written (wordsOf l) area) all;
       }
 
-  -- No more findings than starts so far.
+  -- At most i findings are found.
   pub survey-found-le : found ≤ i
   survey-found-le = omega (arith, keeps .put .count-is, below-length-le ring line k i)
 
   module _ (in-line : FitsInLine ring line i) where
-    -- The next start can be verified.
+    -- If a window fits in the line at i, the precondition of `verify_on` holds.
     pub survey-can-verify : CanVerifyOn ring doubled line k i counts
     survey-can-verify = record {
-      fits = record { size = keeps .can .size; some-edge = admitted .some-edge; most = admitted .most-ring };
+      can-tally = record { size = keeps .can .size; some-edge = admitted .some-edge; most = admitted .most-ring };
       allowed = admitted .allowed;
       twice = keeps .can .twice;
       in-line = in-line;
@@ -84,12 +85,12 @@ module _ {ring doubled line : List ℕ} {k : ℕ} {area : List ℕ} {i found loo
     room-behind : wordsEach * found + wordsEach ≤ length area
     room-behind = omega (arith, survey-found-le, admitted .room-for (omega arith))
 
-    -- The starts from i to the one reached are verified.
+    -- A turn: the starts from i to the one reached are verified.
     module _ {counts′ : List ℕ} {reached : Reached} (verified : IsVerifiedOn ring line k i counts′ reached) where
       abbrev start : ℕ
       start = reached .start .0
 
-      -- The looks with those of the starts verified: m ≤ 256 and n ≤ 65,536.
+      -- The looks after the turn are at most 256·256 + 65,536·512, because m ≤ 256 and n ≤ 65,536.
       pub survey-looks-le : looks + reached .looks ≤ afreshLooks mostCounts + mostLine * stepLooks mostCounts
       survey-looks-le =
           let steps : stepLooks (length ring) ≤ stepLooks mostCounts = omega (arith, admitted .most-ring) in
@@ -103,15 +104,15 @@ module _ {ring doubled line : List ℕ} {k : ℕ} {area : List ℕ} {i found loo
             mul-le-mul starts steps,
           )
 
-      -- The next start is in the line, or just past the last.
+      -- The place after the start reached is at most n.
       pub survey-next-le : start + 1 ≤ length line
       survey-next-le = omega (arith, verified .in-line, admitted .some-edge)
 
-      -- The places that are left fall.
+      -- The turn makes the measure n + 1 - i smaller.
       pub survey-less : length line + 1 - (start + 1) < length line + 1 - i
       survey-less = omega (arith, verified .start-ge)
 
-      -- the starts passed are no findings
+      -- the starts passed are no findings, so only the start reached adds to them
       below-turn : findingsBelow ring line k (start + 1) ≡ findingsBelow ring line k i ++ foundAt ring line k start
       unfolding findingsBelow
       below-turn =
@@ -122,7 +123,7 @@ module _ {ring doubled line : List ℕ} {k : ℕ} {area : List ℕ} {i found loo
           in
           rw (add-one start, passed)
 
-      -- what the loop keeps after them, finding or not
+      -- the invariant after the turn, finding or not
       survey-turn : {fs : List Finding} {found′ : ℕ} {words′ : List ℕ} → foundAt ring line k start ≡ fs → WordsSoFar area (findingsBelow ring line k i ++ fs) found′ words′
           → length words′ ≡ length area → SurveyKeeps ring doubled line k area (start + 1) found′ (looks + reached .looks) counts′ words′
       survey-turn here put length-is =
@@ -136,13 +137,13 @@ module _ {ring doubled line : List ℕ} {k : ℕ} {area : List ℕ} {i found loo
             before = λ _. rw back (verified .tallied);
           }
 
-      -- The start reached is no finding.
+      -- If the least count of the start reached is above k, it is no finding, and the invariant holds with the same words.
       pub survey-none : k < reached .least → SurveyKeeps ring doubled line k area (start + 1) found (looks + reached .looks) counts′ words
       survey-none far =
           survey-turn (least-no ring line k start counts′ (reached .least) (admitted .some-edge) (verified .tallied) (verified .least-is) far)
           (rw append-nil (keeps .put)) (keeps .length-is)
 
-      -- The start reached is a finding, whose words are put behind the others.
+      -- If the least count is at most k, the start reached is a finding, and the invariant holds once its words are put.
       pub survey-found : {f : FindingStruct} {out : List ℕ} → reached .least ≤ k → IsFindingAt (length ring) counts′ (reached .start) (reached .least) f
           → IsFindingPut words found (findingOf f) out → SurveyKeeps ring doubled line k area (start + 1) (found + 1) (looks + reached .looks) counts′ out
       survey-found {f} near carried put =

@@ -1,2 +1,2 @@
--- The plain survey: its contract, and the preconditions and contracts of its private functions.
+-- The plain survey. Survey has its contract, `IsSurveyed`, and then the preconditions and contracts of its private functions.
 pub mod Survey

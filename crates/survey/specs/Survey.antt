@@ -1,10 +1,10 @@
--- Document 01, the plain survey: it "verifies every start, the first afresh and each next by one step, at m = 1 too: 2·m·n − m·m looks for n ≥ m, else 0. It gives the
--- same findings." Refusals, counts and words are those of every search (specs/Searching.antt of crates/findings); only the looks are its own, `surveyLooks` of
--- crates/meaning.
+-- Document 01, the plain survey: it "verifies every start, the first afresh and each next by one step, at m = 1 too: 2·m·n − m·m looks for n ≥ m, else 0.
+-- It gives the same findings." Refusals, found and words are those of every search (specs/Searching.antt of crates/findings). Only the looks are its own:
+-- `surveyLooks` of crates/meaning.
 --
 --   IsSurveyed                   the contract of `survey`
---   CanVerifyOn, IsVerifiedOn    starts verified, to the next finding or the last start
---   CanSurvey, LineSurveyed      a line surveyed, once a call is accepted
+--   CanVerifyOn, IsVerifiedOn    precondition and contract of `verify_on`, which verifies starts up to the next finding or the last start
+--   CanSurvey, LineSurveyed      precondition and contract of `survey_starts`, which surveys the line of an accepted call
 use Prim.Native.Nat.{ℕ, _+_, _-_, _≤_, _<_}
 use mathlib.Core.Path.{_≡_}
 use mathlib.Core.List.{List}
@@ -13,29 +13,29 @@ use Rattle.meaning.specs.Meanings.{FitsInLine, leastDistance}
 use Rattle.meaning.specs.Looks.{surveyLooksBelow, surveyLooks}
 use Rattle.moves.specs.declared.steps.Reached.{Reached}
 use Rattle.tally.specs.Counts.{mostCounts, IsDoubled, IsLeast}
-use Rattle.tally.specs.Tallied.{Tallied, TallyFits}
+use Rattle.tally.specs.Tallied.{Tallied, CanTally}
 use Rattle.findings.specs.declared.searching.Searched.{Searched}
 use Rattle.findings.specs.Admitting.{mostLine, Admitted}
 use Rattle.findings.specs.Searching.{LineSearched, IsSearched}
 
--- The contract of `survey`: it is a search with the survey's looks.
+-- The contract of `survey`, for ring, line, allowance and lent words, the answer r and the words at exit: it is a search with the survey's looks.
 abbrev pub IsSurveyed : List ℕ → List ℕ → ℕ → List ℕ → Searched → List ℕ → Type 0
 IsSurveyed ring line k words r out = IsSearched ring line k (surveyLooks ring line) words r out
 
 -- From here on: preconditions and contracts of private functions.
 
--- Precondition of `verify_on` at start i: a ring, an allowance and a line within the limits, the ring's double, a window in the line, and after the first start the tally of
--- the start before.
+-- Precondition of `verify_on` at start i: ring, allowance and line are within the limits, the ring's double is lent, a window fits in the line at i, and for i
+-- above 0 the counts are the tally of start i − 1.
 pub record CanVerifyOn (ring doubled line : List ℕ) (k i : ℕ) (counts : List ℕ) : Type 0 where
-  pub fits : TallyFits ring counts
+  pub can-tally : CanTally ring counts
   pub allowed : k < length ring
   pub twice : IsDoubled ring doubled
   pub in-line : FitsInLine ring line i
   pub most-line : length line ≤ mostLine
   pub before : 0 < i → Tallied ring line (i - 1) counts
 
--- Contract of `verify_on`: the starts from i on are verified, up to the one reached. The counts hold its tally, and those passed are no findings. The looks are the
--- survey's for these starts, "the first afresh and each next by one step".
+-- Contract of `verify_on`: the starts from i to the one reached are verified. The counts are the tally of the start reached, r has their least, and the starts
+-- passed are no findings. The looks are the survey's for these starts, "the first afresh and each next by one step".
 pub record IsVerifiedOn (ring line : List ℕ) (k i : ℕ) (counts : List ℕ) (r : Reached) : Type 0 where
   pub start-ge : i ≤ r .start .0
   pub in-line : FitsInLine ring line (r .start .0)
@@ -44,12 +44,12 @@ pub record IsVerifiedOn (ring line : List ℕ) (k i : ℕ) (counts : List ℕ) (
   pub looks-are : surveyLooksBelow ring line i + r .looks ≡ surveyLooksBelow ring line (r .start .0 + 1)
   pub passed : (j : ℕ) → i ≤ j → j < r .start .0 → k < leastDistance ring line j
 
--- Precondition of `survey_starts`: the call is accepted, the ring's double is lent, and 256 counts, whatever they hold.
+-- Precondition of `survey_starts`: the call is accepted, and the ring's double and 256 counts are lent. The counts may hold anything.
 pub record CanSurvey (ring doubled line : List ℕ) (k : ℕ) (counts words : List ℕ) : Type 0 where
   pub admitted : Admitted (length ring) k (length line) (length words)
   pub twice : IsDoubled ring doubled
   pub size : length counts ≡ mostCounts
 
--- Contract of `survey_starts` and `survey_line`: all findings are found and written, with the survey's looks.
+-- Contract of `survey_starts` and `survey_line`: all findings are counted and written, and the looks are the survey's.
 abbrev pub LineSurveyed : List ℕ → List ℕ → ℕ → List ℕ → ℕ → ℕ → List ℕ → Type 0
 LineSurveyed ring line k words found looks out = LineSearched ring line k (surveyLooks ring line) words found looks out

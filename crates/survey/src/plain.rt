@@ -1,6 +1,6 @@
 // The plain survey: every start is verified, the first afresh and each next by one step.
 use answers::LinePlace;
-use findings::Counted;
+use findings::SearchCounts;
 use findings::Searched;
 use findings::Verdict;
 use findings::admit;
@@ -16,8 +16,9 @@ ghost use lib.ListN.{length};
 ghost use Rattle.findings.specs.Admitting.{Admitted};
 ghost use Rattle.survey.specs.Survey.{CanVerifyOn, IsVerifiedOn, CanSurvey, LineSurveyed, IsSurveyed};
 
-// "the first afresh and each next by one step, at m = 1 too": rule 5's test 2·s > m is not made here. The tally is moved on
-// to the next finding, or to the last start, so that it is copied once for a finding and not for each start.
+// Verifies the starts from `start` on, "the first afresh and each next by one step, at m = 1 too": rule 5's test 2·s > m
+// is not made here. The tally is moved on to the next finding, or to the last start, so it is copied once for each
+// finding and not once for each start.
 fn verify_on(
     counts: &mut [u16; MOST_COUNTS],
     ring: &[u8],
@@ -50,7 +51,7 @@ fn verify_on(
     }
 }
 
-// Finding after finding, while a window fits in the line.
+// Surveys from finding to finding, while a window fits in the line.
 fn survey_starts(
     ring: &[u8],
     doubled: &[u8],
@@ -58,7 +59,7 @@ fn survey_starts(
     k: usize,
     counts: &mut [u16; MOST_COUNTS],
     words: &mut [u32],
-) -> Counted
+) -> SearchCounts
     requires { ⌜ CanSurvey (now ring) (now doubled) (now line) k (now counts) (now words) ⌝ }
     ensures { λ z. ⌜ LineSurveyed (now (ring .entry)) (now (line .entry)) k (now (words .entry)) (z .found) (z .looks) (now (words .exit)) ⌝ }
 {
@@ -77,11 +78,11 @@ fn survey_starts(
             found += 1;
         }
     }
-    Counted { found, looks }
+    SearchCounts { found, looks }
 }
 
-// The ring's double and the counts are made once for a call. Making them reads no line edge.
-fn survey_line(ring: &[u8], line: &[u8], k: usize, words: &mut [u32]) -> Counted
+// Makes the ring's double and the counts, once for each call, and surveys the line. Making them reads no line edge.
+fn survey_line(ring: &[u8], line: &[u8], k: usize, words: &mut [u32]) -> SearchCounts
     requires { ⌜ Admitted (length (now ring)) k (length (now line)) (length (now words)) ⌝ }
     ensures { λ z. ⌜ LineSurveyed (now (ring .entry)) (now (line .entry)) k (now (words .entry)) (z .found) (z .looks) (now (words .exit)) ⌝ }
 {
@@ -90,7 +91,7 @@ fn survey_line(ring: &[u8], line: &[u8], k: usize, words: &mut [u32]) -> Counted
     survey_starts(ring, &doubled, line, k, &mut counts, words)
 }
 
-// Every start, whatever a quick scan would pass over.
+// The plain survey: every start is verified, also those that a quick scan would skip.
 pub fn survey(ring: &[u8], line: &[u8], k: usize, words: &mut [u32]) -> Searched
     ensures { λ r. ⌜ IsSurveyed (now (ring .entry)) (now (line .entry)) k (now (words .entry)) r (now (words .exit)) ⌝ }
 {

@@ -22,14 +22,14 @@ unfolding canSweep
 can-sweep-iff m n start looks =
     let all = and-iff (and-iff (lt-iff 0 m) (le-iff m mostCounts)) (and-iff (lt-iff n mostPlaces) (and-iff (le-iff start (n + 1)) (le-iff looks mostLooks))) in (
       λ e. let is = all .0 e in
-          record { windows = record { some-edge = is .0 .0; most = is .0 .1; most-line = is .1 .0; start-le = is .1 .1 .0 }; looks-le = is .1 .1 .1 },
-      λ can. all .1 ((can .windows .some-edge, can .windows .most), (can .windows .most-line, (can .windows .start-le, can .looks-le))),
+          record { can-read = record { some-edge = is .0 .0; most = is .0 .1; most-line = is .1 .0; start-le = is .1 .1 .0 }; looks-le = is .1 .1 .1 },
+      λ can. all .1 ((can .can-read .some-edge, can .can-read .most), (can .can-read .most-line, (can .can-read .start-le, can .looks-le))),
     )
 
 -- Where nothing else lacks, the test is whether there is room for more looks.
 pub can-sweep-last : (m n start looks : ℕ) → CanReadWindows m n start → leb looks mostLooks ≡ canSweep m n start looks
-can-sweep-last m n start looks windows =
-    test-same (le-iff looks mostLooks) (can-sweep-iff m n start looks) (λ room. record { windows = windows; looks-le = room }, λ can. can .looks-le)
+can-sweep-last m n start looks can-read =
+    test-same (le-iff looks mostLooks) (can-sweep-iff m n start looks) (λ room. record { can-read = can-read; looks-le = room }, λ can. can .looks-le)
 
 module _ (ring doubled table line : List ℕ) (k : ℕ) (at : Sweep) (old : List ℕ) where
   abbrev test : Bool

@@ -23,15 +23,15 @@ use Rattle.sweep.proofs.TallyWays.{mostTally, tally-looks}
 module _ (ring table line : List ℕ) (k : ℕ) (at : Sweep) (can : CanSweep (length ring) (length line) (at .start .0) (at .looks)) (read : WindowsRead)
     (read-is : read ≡ windowsBy ring table line k (at .start .0)) where
   within : WindowsGo (length line) 0 (length line + 1 - at .start .0) read
-  within = rw read-is (windows-within ring table line k (at .start .0) (can .windows))
+  within = rw read-is (windows-within ring table line k (at .start .0) (can .can-read))
 
   -- The looks with those of the windows read.
   pub sweep-looks-le : at .looks + read .looks ≤ mostLooks + mostCounts * mostPlaces
-  sweep-looks-le = omega (arith, within .looks-le, can .looks-le, can .windows .most-line)
+  sweep-looks-le = omega (arith, within .looks-le, can .looks-le, can .can-read .most-line)
 
   -- The start fits.
   pub sweep-start-le : read .start .0 ≤ mostPlaces
-  sweep-start-le = omega (arith, within .start-le, can .windows .most-line)
+  sweep-start-le = omega (arith, within .start-le, can .can-read .most-line)
 
 module _ (ring doubled table line : List ℕ) (k : ℕ) (at : Sweep) (old : List ℕ) where
   abbrev m : ℕ
@@ -53,7 +53,7 @@ module _ (ring doubled table line : List ℕ) (k : ℕ) (at : Sweep) (old : List
             arith,
             sweep-looks-le ring table line k at can read read-is,
             ap (λ (t : TallyTo). t .looks) (tallied .is),
-            tally-looks ring doubled line (read .start .0) old (at .last) (can .windows .most),
+            tally-looks ring doubled line (read .start .0) old (at .last) (can .can-read .most),
           )
 
       abbrev next : Sweep

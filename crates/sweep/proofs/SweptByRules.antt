@@ -31,8 +31,8 @@ use Rattle.sweep.proofs.TallyByRules.{before-later, tally-by-rules}
 
 module _ (ring doubled table line : List ℕ) (k : ℕ) (old : List ℕ) (at : Sweep) (can : CanSweepOn ring doubled table line old at) where
   -- a ring within the limit, a line that has places for its starts, and a start in it or just past it
-  windows : CanReadWindows (length ring) (length line) (at .start .0)
-  windows = can .can-sweep .windows
+  can-read : CanReadWindows (length ring) (length line) (at .start .0)
+  can-read = can .can-sweep .can-read
 
   abbrev m : ℕ
   m = length ring
@@ -47,7 +47,7 @@ module _ (ring doubled table line : List ℕ) (k : ℕ) (old : List ℕ) (at : S
   reads : IsWindowsRead ring line k (at .start .0) read
   reads =
       windows-by-rules ring table line k (at .start .0)
-      (record { some-edge = windows .some-edge; most = windows .most; occurs = can .occurs }) (windows .start-le)
+      (record { some-edge = can-read .some-edge; most = can-read .most; occurs = can .occurs }) (can-read .start-le)
 
   -- The counts still hold the tally of the last verified start.
   tallied-here : TalliedBefore ring line i old (lastOf (at .last))
@@ -80,7 +80,7 @@ module _ (ring doubled table line : List ℕ) (k : ℕ) (old : List ℕ) (at : S
     verified : Verified ring line i (tallyLooks m (lastOf (at .last)) i) (tally .counts) (tally .least) (tally .looks)
     verified =
         tally-by-rules ring doubled line i old (at .last)
-        (record { fits = record { size = can .size; some-edge = windows .some-edge; most = windows .most }; twice = can .twice; in-line = read-is .in-line; most-line = windows .most-line; before = tallied-here })
+        (record { can-tally = record { size = can .size; some-edge = can-read .some-edge; most = can-read .most }; twice = can .twice; in-line = read-is .in-line; most-line = can-read .most-line; before = tallied-here })
 
     abbrev next : Sweep
     next = record { start = read .next; last = At (read .start); looks = at .looks + read .looks + tally .looks }
@@ -108,14 +108,14 @@ module _ (ring doubled table line : List ℕ) (k : ℕ) (old : List ℕ) (at : S
     none : k < tally .least → IsSweptOn ring line k at (NoFinding next) (tally .counts)
     none far =
         after (NoFinding next) refl refl
-        (sym (least-no ring line k i (tally .counts) (tally .least) (windows .some-edge) (verified .tallied) (verified .least-is) far))
+        (sym (least-no ring line k i (tally .counts) (tally .least) (can-read .some-edge) (verified .tallied) (verified .least-is) far))
 
     -- A finding.
     found : tally .least ≤ k → IsSweptOn ring line k at (Found next (findingWith m (tally .counts) (read .start) (tally .least))) (tally .counts)
     found near =
         after _ refl refl
-        (sym (least-yes ring line k i (tally .counts) (tally .least) (windows .some-edge) (verified .tallied) (verified .least-is)
-        (findingWith m (tally .counts) (read .start) (tally .least)) (windows .most) (record { is = refl }) (fits-is-start ring line i (read-is .in-line)) near))
+        (sym (least-yes ring line k i (tally .counts) (tally .least) (can-read .some-edge) (verified .tallied) (verified .least-is)
+        (findingWith m (tally .counts) (read .start) (tally .least)) (can-read .most) (record { is = refl }) (fits-is-start ring line i (read-is .in-line)) near))
 
   -- The sweep by the rules, of its answer and the counts.
   abbrev SweptOn : SweptTo → Type 0

@@ -41,7 +41,7 @@ module _ (ring doubled line : List ℕ) (i : ℕ) (old : List ℕ) where
   afresh-by-rules last can =
       let t : TallyTo = countedTo doubled (windowAt m line i) old in
       counted-verified ring line i doubled old (t .counts) (windowAt m line i) (record { least = t .least; looks = t .looks })
-      (can .fits .size) (can .fits .some-edge) (can .fits .most) (can .twice) (can .in-line) (record { is = refl })
+      (can .can-tally .size) (can .can-tally .some-edge) (can .can-tally .most) (can .twice) (can .in-line) (record { is = refl })
       (record { written = refl; least-is = refl; looks-are = refl })
 
   -- Moved from the last verified start.
@@ -52,7 +52,7 @@ module _ (ring doubled line : List ℕ) (i : ℕ) (old : List ℕ) where
       let to : CountsAt = movedFrom ring line from (i - from) 0 old in
       let r : Reached = record { start = record { 0 = to .start }; least = to .least; looks = to .looks } in
       let reached : IsReached ring line from (i - from) 0 (to .counts) r =
-      moved-tallied ring line 0 (can .fits .some-edge) (can .fits .most) from (i - from) old (can .before .1) (omega arith)
+      moved-tallied ring line 0 (can .can-tally .some-edge) (can .can-tally .most) from (i - from) old (can .before .1) (omega arith)
       (omega (arith, can .in-line)) (omega (arith, can .most-line)) (to .counts) r (record { is = refl }) in
       let there : to .start ≡ i =
       ⊎-elim (λ l. omega (arith, reached .start-le)) (λ l. absurd (omega (arith, reached .stopped l))) (le-or-lt (from + (i - from)) (to .start)) in

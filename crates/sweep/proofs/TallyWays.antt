@@ -65,7 +65,7 @@ module _ (ring doubled line : List ℕ) (i : ℕ) (old : List ℕ) where
   unfolding countedTo
   afresh-looks window =
       by-test (λ (t : TallyTo). t .looks ≤ mostTally) (canCount (length window) (length old) (length doubled))
-      (λ e. let most = can-count-iff (length window) (length old) (length doubled) .0 e .fits .most in mul-le-mul most most)
+      (λ e. let most = can-count-iff (length window) (length old) (length doubled) .0 e .has-counts .most in mul-le-mul most most)
       (λ _. omega arith)
 
   moved-looks : (from : ℕ) → m ≤ mostCounts → 2 * (i - from) ≤ m → movedTo ring line from (i - from) old .looks ≤ mostTally

@@ -32,8 +32,8 @@ pub record StillWindows (ring table line : List ℕ) (k from i looks : ℕ) : Ty
 -- A window in the line has m edges; one at least is read, and each read is one look.
 window-reads : (table : List ℕ) (k : ℕ) {ring line edges : List ℕ} {i : ℕ} → 0 < length ring → FitsInLine ring line i → IsWindow line i (length ring) edges
     → (readBy table edges k .looks + readBy table edges k .left ≡ length ring) × (readBy table edges k .left < length ring)
-window-reads table k {ring} {edges = edges} some-edge fits handed =
-    let size : length edges ≡ length ring = fitting-length handed fits in
+window-reads table k {ring} {edges = edges} some-edge in-line handed =
+    let size : length edges ≡ length ring = fitting-length handed in-line in
     let words : ℕ = wordCount (length edges) in
     (read-sum table edges k words ∙ size, omega (arith, read-some table edges k words (omega arith)))
 
@@ -59,9 +59,9 @@ module _ {ring table line : List ℕ} {k from i looks : ℕ} (known : StillWindo
   pub windows-end : IsPastLine ring line i → noneLeft i looks ≡ windowsBy ring table line k from
   windows-end past = sym (windows-none ring table line k (known .left) i looks past) ∙ known .still
 
-  module _ (fits : FitsInLine ring line i) {edges : List ℕ} (handed : IsWindow line i m edges) {r : WindowRead} (reads : r ≡ readBy table edges k) where
+  module _ (in-line : FitsInLine ring line i) {edges : List ℕ} (handed : IsWindow line i m edges) {r : WindowRead} (reads : r ≡ readBy table edges k) where
     is-read : readBy table (window m line i) k ≡ r
-    is-read = sym (reads ∙ ap (λ (w : List ℕ). readBy table w k) (fitting-window handed fits))
+    is-read = sym (reads ∙ ap (λ (w : List ℕ). readBy table w k) (fitting-window handed in-line))
 
     from-here : windowsOn ring table line k (suc (known .left - 1)) i looks ≡ windowsBy ring table line k from
     from-here =
@@ -69,7 +69,7 @@ module _ {ring table line : List ℕ} {k from i looks : ℕ} (known : StillWindo
         ap (λ (x : ℕ). windowsOn ring table line k x i looks) (sym one-more) ∙ known .still
 
     reads-fit : (r .looks + r .left ≡ m) × (r .left < m)
-    reads-fit = rw reads (window-reads table k (known .can .some-edge) fits handed)
+    reads-fit = rw reads (window-reads table k (known .can .some-edge) in-line handed)
 
     -- The next start is in the line or just past it.
     pub windows-next-le : i + r .left + 1 ≤ n + 1
@@ -83,7 +83,7 @@ module _ {ring table line : List ℕ} {k from i looks : ℕ} (known : StillWindo
     pub windows-stop : r .breaks ≤ k
         → record { start = record { 0 = i }; next = record { 0 = i + r .left + 1 }; looks = looks + r .looks; candidate = true } ≡ windowsBy ring table line k from
     unfolding windowsOn
-    windows-stop few = rw (fits-line-iff ring line i .1 fits, is-read, le-leb (r .breaks) k few) at from-here
+    windows-stop few = rw (fits-line-iff ring line i .1 in-line, is-read, le-leb (r .breaks) k few) at from-here
 
     -- A window that is left.
     pub windows-turn : k < r .breaks → StillWindows ring table line k from (i + r .left + 1) (looks + r .looks)
@@ -94,7 +94,7 @@ module _ {ring table line : List ℕ} {k from i looks : ℕ} (known : StillWindo
       enough = omega (arith, known .enough);
       start-le = windows-next-le;
       looks-le = windows-looks-le;
-      still = rw (fits-line-iff ring line i .1 fits, is-read, lt-leb (r .breaks) k many) at from-here;
+      still = rw (fits-line-iff ring line i .1 in-line, is-read, lt-leb (r .breaks) k many) at from-here;
     }
 
 -- How far `left` windows go: to a start in the line or just past it, with at most 256 looks for each.
@@ -109,9 +109,9 @@ module _ (ring table line : List ℕ) (k from : ℕ) (can : CanReadWindows (leng
   windows-go (suc left) i looks l =
       by-test (WindowsGo (length line) looks (suc left)) (fitsInLine ring line i)
       (λ e.
-      let fits = fits-line-iff ring line i .0 e in
+      let in-line = fits-line-iff ring line i .0 e in
       let r : WindowRead = readBy table (windowAt (length ring) line i) k in
-      let reads = window-reads table k (can .some-edge) fits (record { is = refl }) in
+      let reads = window-reads table k (can .some-edge) in-line (record { is = refl }) in
       by-test (WindowsGo (length line) looks (suc left)) (leb (r .breaks) k)
       (λ _. record { start-le = l; looks-le = omega (arith, reads .0, can .most) })
       (λ _.

@@ -38,12 +38,12 @@ module _ (ring table line : List ℕ) (k from : ℕ) (own : OwnVectors ring tabl
     ended : IsPastLine ring line i → IsWindowsRead ring line k from (noneLeft i looks)
     ended past = record { looks = looks; left-to = h; candidate-is = λ e. absurd (true≢false (sym e)); ended = λ _. (past, refl, refl) }
 
-    module _ (fits : FitsInLine ring line i) where
+    module _ (in-line : FitsInLine ring line i) where
       alone : windowAt m line i ≡ window m line i
-      alone = fitting-window (record { is = refl }) fits
+      alone = fitting-window (record { is = refl }) in-line
 
       by-rules : IsWindowRead ring (windowAt m line i) k (read i)
-      by-rules = read-by-rules ring (windowAt m line i) table k own (fitting-length (record { is = refl }) fits)
+      by-rules = read-by-rules ring (windowAt m line i) table k own (fitting-length (record { is = refl }) in-line)
 
       -- The window's reading in the line.
       reads-are : read i .looks ≡ readWindow ring line k i .read
@@ -57,7 +57,7 @@ module _ (ring table line : List ℕ) (k from : ℕ) (own : OwnVectors ring tabl
 
       -- The window is left at break k + 1.
       left-here : k < read i .breaks → LeftTo ring line k from (i + read i .left + 1) (looks + read i .looks)
-      left-here many = rw (next-is, reads-are) (one-left h fits (omega (arith, breaks-are)))
+      left-here many = rw (next-is, reads-are) (one-left h in-line (omega (arith, breaks-are)))
 
       -- It is the candidate.
       stops-here : read i .breaks ≤ k
@@ -65,7 +65,7 @@ module _ (ring table line : List ℕ) (k from : ℕ) (own : OwnVectors ring tabl
       stops-here few = record {
         looks = looks;
         left-to = h;
-        candidate-is = λ _. record { in-line = fits; few = omega (arith, breaks-are); next-is = next-is; looks-are = omega (arith, reads-are) };
+        candidate-is = λ _. record { in-line = in-line; few = omega (arith, breaks-are); next-is = next-is; looks-are = omega (arith, reads-are) };
         ended = λ e. absurd (true≢false e);
       }
 
@@ -77,12 +77,12 @@ module _ (ring table line : List ℕ) (k from : ℕ) (own : OwnVectors ring tabl
   windows-on (suc left) i looks enough h =
       by-test (IsWindowsRead ring line k from) (fitsInLine ring line i)
       (λ passed.
-      let fits = fits-line-iff ring line i .0 passed in
+      let in-line = fits-line-iff ring line i .0 passed in
       by-test (IsWindowsRead ring line k from) (leb (read i .breaks) k)
-      (λ few. stops-here i looks h fits (leb-true (read i .breaks) k few))
+      (λ few. stops-here i looks h in-line (leb-true (read i .breaks) k few))
       (λ many.
       windows-on left (i + read i .left + 1) (looks + read i .looks) (omega arith)
-      (left-here i looks h fits (leb-false (read i .breaks) k many))))
+      (left-here i looks h in-line (leb-false (read i .breaks) k many))))
       (λ out. ended i looks h (past-line-iff ring line i .0 out))
 
   -- Windows read with the ring's vectors are read by the rules, to the next candidate.

@@ -83,7 +83,7 @@ pub record IsTallied (ring doubled line : List ℕ) (i : ℕ) (last : LastVerifi
 
 -- What `canSweep` tests, as facts; the precondition of `to_candidate`.
 pub record CanSweep (m n start looks : ℕ) : Type 0 where
-  pub windows : CanReadWindows m n start
+  pub can-read : CanReadWindows m n start
   pub looks-le : looks ≤ mostLooks
 
 -- The contract of `to_candidate`: the sweep to the next candidate.

@@ -10,7 +10,7 @@ use mathlib.Core.Option.{Option, none, some}
 use lib.ListN.{length}
 use Rattle.meaning.specs.Meanings.{FitsInLine}
 use Rattle.tally.specs.Counts.{IsDoubled}
-use Rattle.tally.specs.Tallied.{Tallied, TallyFits}
+use Rattle.tally.specs.Tallied.{Tallied, CanTally}
 use Rattle.moves.specs.Moves.{mostPlaces}
 use Rattle.sweep.specs.declared.verifying.LastVerified.{LastVerified}
 use Rattle.sweep.specs.declared.verifying.LastVerified.the-variants.{Nothing, At}
@@ -27,7 +27,7 @@ TalliedBefore ring line i counts (some last) = (last < i) × Tallied ring line l
 
 -- Start i can be verified by rule 5: its window is in the line, and the counts hold the tally of the last verified start.
 pub record CanVerify (ring doubled line : List ℕ) (i : ℕ) (counts : List ℕ) (last : Option ℕ) : Type 0 where
-  pub fits : TallyFits ring counts
+  pub can-tally : CanTally ring counts
   pub twice : IsDoubled ring doubled
   pub in-line : FitsInLine ring line i
   pub most-line : length line < mostPlaces

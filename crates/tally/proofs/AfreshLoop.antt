@@ -1,6 +1,6 @@
--- The loop of `count_edges`: after q edges of the window the count of rotation r is the number of the first q places where window and rotation
--- r differ. A turn counts one edge for every rotation, at the ring place that rotation 0 has over it. A count is at most q, so sixteen bits hold
--- it; the looks are q·m, at most 256·q. `place-under-is` says that `to_ring` gives that ring place.
+-- The loop of `count_edges`. After q edges of the window, the count of rotation r is the number of the first q places where window and rotation r differ. A turn
+-- compares one edge with every rotation, from the ring place that rotation 0 has over it; `place-under-is` proves that `to_ring` gives that place. A count is at
+-- most q, so sixteen bits hold it. The looks are q·m, at most 256·q.
 use Prim.Native.Nat.{ℕ, _+_, _*_, _%_, _≤_, _<_}
 use mathlib.Core.Path.{_≡_, refl, sym, ap, _∙_}
 use mathlib.Core.List.{List}
@@ -19,7 +19,7 @@ use Rattle.lists.proofs.StoreLoop.{stored-again, stored-is}
 use Rattle.tally.specs.Counts.{mostCounts, differsThere, afreshCount, afreshCounts, edgeCounted, CanCount, IsLeast, IsCountedAfresh}
 use Rattle.tally.proofs.LeastIsOne.{leastOf-only}
 
--- Before turn q, of counts that were cleared: each rotation's count is that of the first q places.
+-- The invariant before turn q, for counts that were cleared first: each of the m counts is that of the first q places, and q·m looks are taken.
 pub record CountingAfresh (doubled window cleared counts : List ℕ) (looks q : ℕ) : Type 0 where
   pub turn-le : q ≤ length window
   pub stored : StoredFirst (length window) (λ r. count (differsThere doubled window r) 0 q) cleared counts
@@ -41,18 +41,18 @@ module _ (doubled window old cleared : List ℕ) (can : CanCount (length window)
   }
 
   module _ {counts : List ℕ} {looks q : ℕ} (known : CountingAfresh doubled window cleared counts looks q) where
-    -- The counts stay as many, so the window can still be counted.
+    -- In every turn the window can still be counted, because the number of counts does not change.
     pub counting-afresh-can : CanCount m (length counts) (length doubled)
     counting-afresh-can = record {
-      fits = record { some-edge = can .fits .some-edge; most = can .fits .most; room = omega (arith, known .stored .size, none .size, can .fits .room) };
+      has-counts = record { some-edge = can .has-counts .some-edge; most = can .has-counts .most; room = omega (arith, known .stored .size, none .size, can .has-counts .room) };
       twice = can .twice;
     }
 
-    -- No count is above 256.
+    -- In every turn each of the m counts is at most 256.
     pub counting-afresh-le : (r : ℕ) → r < m → getD counts r 0 ≤ mostCounts
-    counting-afresh-le r l = omega (arith, known .stored .first r l, known .turn-le, can .fits .most, count-le (differsThere doubled window r) 0 q)
+    counting-afresh-le r l = omega (arith, known .stored .first r l, known .turn-le, can .has-counts .most, count-le (differsThere doubled window r) 0 q)
 
-    -- A turn counts the window's edge at q for every rotation.
+    -- A turn counts the window's edge at q for every rotation and takes m looks.
     pub counting-afresh-turn : {new : List ℕ} {place looked : ℕ} → q < m → place ≡ q
         → StoredFirst m (edgeCounted doubled counts place (getD window q 0)) counts new × (looked ≡ m) → CountingAfresh doubled window cleared new (looks + looked) (q + 1)
     counting-afresh-turn h placed counted = record {
@@ -61,10 +61,10 @@ module _ (doubled window old cleared : List ℕ) (can : CanCount (length window)
           (λ r l. rw (placed, known .stored .first r l, add-one q)
           (sym (count-last (differsThere doubled window r) 0 q ∙ ap (λ (p : ℕ). count (differsThere doubled window r) 0 q + oneIf (differsThere doubled window r p)) (zero-add q))));
       looks-are = omega (arith, known .looks-are, counted .1, add-mul q 1 m);
-      looks-le = omega (arith, known .looks-le, counted .1, can .fits .most);
+      looks-le = omega (arith, known .looks-le, counted .1, can .has-counts .most);
     }
 
-    -- At the end the counts are those of the window, at m·m looks.
+    -- After the last turn the window is counted afresh, at m·m looks.
     pub counting-afresh-end : {least : ℕ} → m ≤ q → IsLeast m counts least → IsCountedAfresh doubled window old counts (record { least = least; looks = looks })
     unfolding afreshCount
     counting-afresh-end {least} h is-least =
@@ -76,7 +76,7 @@ module _ (doubled window old cleared : List ℕ) (can : CanCount (length window)
           looks-are = known .looks-are ∙ ap (λ (n : ℕ). n * m) all;
         }
 
--- The ring place under the window's place q, for rotation 0, is q.
+-- For the window's place q and rotation 0, `to_ring` gives ring place q.
 pub place-under-is : (place start : LinePlace) (under : RingPlace) (m q : ℕ) → place .0 ≡ start .0 + q → q < m
     → IsRingPlace place start (record { 0 = 0 }) m under → under .0 ≡ q
 place-under-is place start under m q along h converted =

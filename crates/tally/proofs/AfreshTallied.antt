@@ -1,5 +1,6 @@
--- A window counted afresh over the doubled ring gives its tally: the doubled ring's edge at q + r is the ring's at (r + q) mod m, rotation r's at q. So each count
--- is the distance of the window, read as a line of its own from place 0 on, under its rotation; and that is its distance at its start in the line.
+-- A fresh count of a start's window gives the start's tally. The doubled ring's edge at q + r is the ring's at (r + q) mod m, which is rotation r's at q. So each
+-- count is the distance of the window, read as a line of its own from place 0 on, under its rotation. This is also its distance at its start in the line
+-- (`alone-distance` of crates/meaning).
 use Prim.Native.Nat.{ℕ, _+_, _≤_, _<_}
 use mathlib.Core.Path.{_≡_, sym, ap, _∙_}
 use mathlib.Core.Bool.{true}
@@ -27,13 +28,13 @@ module _ (ring doubled window : List ℕ) (some : 0 < length ring) (most : lengt
   abbrev m : ℕ
   m = length ring
 
-  -- Window and rotation r differ at q.
+  -- Window and rotation r differ at q over the doubled ring exactly when they do over the ring.
   there-differs : (r q : ℕ) → r < m → q < m → differsThere doubled window r q ≡ differs ring window 0 r q
   unfolding differs
   there-differs r q below in-window =
       rw (zero-add q, add-comm r q) (ap (unequal (getD window q 0)) (doubled-edge ring most doubled twice (q + r) (omega arith)))
 
-  -- A count is a distance.
+  -- The fresh count of rotation r is the distance of the window under r.
   count-distance : (r : ℕ) → r < m → afreshCount doubled window r ≡ distance ring window 0 r
   unfolding afreshCount distance
   count-distance r below =
@@ -44,9 +45,9 @@ module _ (ring doubled window : List ℕ) (some : 0 < length ring) (most : lengt
   can-be : (old : List ℕ) → length old ≡ mostCounts → canCount (length window) (length old) (length doubled) ≡ true
   can-be old size =
       can-count-iff (length window) (length old) (length doubled) .1
-      (record { fits = record { some-edge = omega (arith, long); most = omega (arith, long); room = omega (arith, long) }; twice = omega (arith, long, doubled-length ring doubled twice) })
+      (record { has-counts = record { some-edge = omega (arith, long); most = omega (arith, long); room = omega (arith, long) }; twice = omega (arith, long, doubled-length ring doubled twice) })
 
-  -- The window is verified.
+  -- The window, as a line of its own, is verified at start 0.
   afresh-verified : (old new : List ℕ) (z : Least) → length old ≡ mostCounts → IsCounted doubled window old new z
       → Verified ring window 0 (afreshLooks m) new (z .least) (z .looks)
   unfolding countedTo
@@ -64,16 +65,16 @@ module _ (ring doubled window : List ℕ) (some : 0 < length ring) (most : lengt
         looks-are = (rw can at (counted .looks-are)) ∙ ap afreshLooks long;
       }
 
--- A window counted afresh is verified: alone, as a line of its own, and so in the line.
+-- If the window of start i is counted afresh over the ring's double, start i is verified: the counts are its tally, `least` is their least, and m·m looks are taken.
 pub counted-verified : (ring line : List ℕ) (i : ℕ) (doubled old new edges : List ℕ) (z : Least) → length old ≡ mostCounts → 0 < length ring
     → length ring ≤ mostCounts → IsDoubled ring doubled → FitsInLine ring line i → IsWindow line i (length ring) edges
     → IsCounted doubled edges old new z → Verified ring line i (afreshLooks (length ring)) new (z .least) (z .looks)
-counted-verified ring line i doubled old new edges z size some most twice fits handed counted =
-    let alone = afresh-verified ring doubled edges some most twice (fitting-length handed fits) old new z size counted in
+counted-verified ring line i doubled old new edges z size some most twice in-line handed counted =
+    let alone = afresh-verified ring doubled edges some most twice (fitting-length handed in-line) old new z size counted in
     record {
       tallied = record {
         size = alone .tallied .size;
-        each = λ r l. alone .tallied .each r l ∙ ap (λ (xs : List ℕ). distance ring xs 0 r) (fitting-window handed fits)
+        each = λ r l. alone .tallied .each r l ∙ ap (λ (xs : List ℕ). distance ring xs 0 r) (fitting-window handed in-line)
             ∙ alone-distance ring line i r;
       };
       least-is = alone .least-is;

@@ -1,5 +1,5 @@
--- The loop of `double`: a turn stores the ring's edge p twice, at p and a whole ring further on; past both rings nothing is stored. A place past the first
--- ring is a ring's length and a place of the second, and that sum mod m is the place.
+-- The loop of `double`. A turn stores the ring's edge p twice, at p and at m + p; past 2·m nothing is stored. So at the end the edge at s is the ring's at s mod m:
+-- for s below m this is s, and for s from m on it is s − m.
 use Prim.Native.Nat.{ℕ, _+_, _-_, _*_, _%_, _≤_, _<_}
 use mathlib.Core.Path.{_≡_, refl, sym, ap, _∙_}
 use mathlib.Core.List.{List}
@@ -15,7 +15,7 @@ use Rattle.lists.proofs.Cases.{by-test}
 use Rattle.tally.specs.Counts.{mostCounts, doubledEdge, IsDoubled}
 use Rattle.lists.proofs.ByPlace.{listOf-is, listOf-at, listOf-length}
 
--- Before turn p: both rings are there below p, and past them nothing.
+-- The invariant before turn p: in both rings the edges below p are stored, and past 2·m all is 0.
 pub record Doubling (ring doubled : List ℕ) (p : ℕ) : Type 0 where
   pub turn-le : p ≤ length ring
   pub size : length doubled ≡ 2 * mostCounts
@@ -27,7 +27,7 @@ module _ (ring : List ℕ) where
   abbrev m : ℕ
   m = length ring
 
-  -- A ring with more edges than there are counts is not doubled.
+  -- For a ring of more than 256 edges, all zeros meet the contract of `double`.
   pub not-doubled : mostCounts < m → IsDoubled ring (replicate (2 * mostCounts) 0)
   unfolding doubledEdge
   not-doubled long = record {
@@ -67,7 +67,7 @@ module _ (ring : List ℕ) where
           past = λ s l below. others s (λ e. omega arith) (λ e. omega arith) ∙ known .past s l below;
         }
 
-    -- An edge of the ring twice.
+    -- After the last turn the edge at s is the ring's at s mod m.
     edge-in : (doubled : List ℕ) (p : ℕ) → Doubling ring doubled p → m ≤ p → (s : ℕ) → s < 2 * m → getD doubled s 0 ≡ getD ring (s % m) 0
     edge-in doubled p known h s l = dite (decLt s m)
         (λ in-first. rw (mod-eq-of-lt in-first) (known .first s (omega arith)))
@@ -78,7 +78,7 @@ module _ (ring : List ℕ) where
         ap (λ (t : ℕ). getD doubled t 0) whole ∙ known .second q (omega arith)
         ∙ ap (λ (t : ℕ). getD ring t 0) (sym (ap (λ (t : ℕ). t % m) whole ∙ add-mod-left m q ∙ mod-eq-of-lt in-second)))
 
-    -- At the end it is the ring twice.
+    -- After the last turn the contract of `double` is met.
     pub doubling-end : (doubled : List ℕ) (p : ℕ) → Doubling ring doubled p → m ≤ p → IsDoubled ring doubled
     unfolding doubledEdge
     doubling-end doubled p known h = record {
@@ -89,13 +89,13 @@ module _ (ring : List ℕ) where
           (λ e. known .past s (ltb-false s (2 * m) e) l)));
     }
 
-    -- The edges of a doubled ring.
+    -- A doubled ring has at place s, for s below 2·m, the ring's edge at s mod m.
     pub doubled-edge : (doubled : List ℕ) → IsDoubled ring doubled → (s : ℕ) → s < 2 * m → getD doubled s 0 ≡ getD ring (s % m) 0
     unfolding doubledEdge
     doubled-edge doubled twice s l =
         ap (λ (xs : List ℕ). getD xs s 0) (twice .is) ∙ listOf-at (2 * mostCounts) (doubledEdge ring) s (omega arith)
         ∙ rw (le-leb m mostCounts most, lt-ltb s (2 * m) l) refl
 
-  -- A doubled ring has as many edges as the longest twice.
+  -- A doubled ring has 512 places, whatever the ring.
   pub doubled-length : (doubled : List ℕ) → IsDoubled ring doubled → length doubled ≡ 2 * mostCounts
   doubled-length doubled twice = ap length (twice .is) ∙ listOf-length (2 * mostCounts) (doubledEdge ring)

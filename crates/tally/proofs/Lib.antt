@@ -1,14 +1,18 @@
--- Laws behind the tally, one module for each idea; the functions' proofs cite them. In the order in which they build on each other.
+-- The laws of this crate, one module for each idea, in the order in which they build on each other. The proofs that the functions meet their contracts cite
+-- them; each stands in a folder with the function's name, as counts/least_of. The theorem of the crate is `counted-verified` (AfreshTallied): a fresh count of a
+-- start's window gives that start's tally.
+--
+-- The edges of a window.
 pub mod WindowEdges
--- Loops over counts.
+-- Loops over counts: the least count, and the lowest rotation that has it.
 pub mod LeastSoFar
 pub mod LeastIsOne
 pub mod LowestLoop
--- The tally counted afresh.
+-- The fresh count: what `double` and `count_edges` compute.
 pub mod DoubledLoop
 pub mod AfreshLoop
 pub mod CountCases
--- What the counts hold at a start, and what a start's tally says of it.
+-- A start's tally decides whether it is a finding; a fresh count gives that tally.
 pub mod TallyFinding
 pub mod AfreshTallied
 -- Any two answers that meet a contract are equal.

@@ -1,7 +1,7 @@
--- The loop of `lowest_rotation`: before turn r no rotation below r has the count. So the rotation at which it ends, or the number of rotations where none has the
--- count, is `lowestFrom`. For the least count it is the lowest rotation at which the counts are least.
+-- The loop of `lowest_rotation`. Before turn r no rotation below r has the given count. So the loop ends at the lowest rotation that has it, or past the last one if
+-- none has it, and this is `lowestFrom`. If the given count is the least, this is the lowest rotation at which the counts are least.
 use Prim.Native.Nat.{ℕ, zero, suc, _+_, _-_, _≤_, _<_, min}
-use mathlib.Core.Path.{_≡_, refl, sym, ap, _∙_}
+use mathlib.Core.Path.{_≡_, refl, sym, _∙_}
 use mathlib.Core.List.{List}
 use mathlib.Core.Logic.{dite}
 use native.Mathlib.Nat.{zero-add}
@@ -15,7 +15,7 @@ use Rattle.tally.specs.Counts.{mostCounts, leastOf, lowestFrom, lowestWi
 use Rattle.tally.proofs.LeastIsOne.{leastOf-only}
 
 module _ (counts : List ℕ) (least : ℕ) where
-  -- Of n rotations from a on the first d do not have the count, and the next one has it or there is none: a + d.
+  -- If of n rotations from a on the first d do not have the count, and the next one has it or there is no next one, then `lowestFrom` is a + d.
   lowest-after : (n a d : ℕ) → d ≤ n → ((s : ℕ) → a ≤ s → s < a + d → getD counts s 0 ≡ least → ⊥) → (d < n → getD counts (a + d) 0 ≡ least)
       → lowestFrom counts least n a ≡ a + d
   unfolding lowestFrom
@@ -34,12 +34,12 @@ module _ (counts : List ℕ) (least : ℕ) where
   lowest-first n d le none has =
       lowest-after n 0 d le (λ s _ l. none s (omega arith)) (λ l. rw (zero-add d) (has l)) ∙ zero-add d
 
-  -- The loop ends at a rotation that has the count, or past the last.
+  -- If no rotation below r has the count, and r has it or is past the last rotation, then returning r meets the contract of `lowest_rotation`.
   pub seeking-ends : {m all r : ℕ} → all ≡ min m mostCounts → r ≤ all → ((s : ℕ) → s < r → getD counts s 0 ≡ least → ⊥) → (r < all → getD counts r 0 ≡ least)
       → IsLowestWith m counts least r
   seeking-ends {m} {all} {r} all-is le none has = record { is = sym (rw all-is at (lowest-first all r le none has)) }
 
-  -- For the least count of at most 256 rotations it is the lowest rotation at which the counts are least.
+  -- For m of at most 256 and the least of the first m counts, `lowestWith` is the lowest rotation at which the counts are least.
   pub lowest-least : {m : ℕ} → m ≤ mostCounts → IsLeast m counts least → lowestWith m counts least ≡ lowest (λ r. getD counts r 0) m
   unfolding leastOf
   lowest-least {m} most is-least =

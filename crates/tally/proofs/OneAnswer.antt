@@ -1,4 +1,4 @@
--- Any two answers that meet a contract of this crate are equal, and the counts at exit too: each contract is an equation for every part of the answer.
+-- Any two answers that meet a contract of this crate are equal, and so are the counts at exit, because each contract is an equation for every part of the answer.
 use Prim.Native.Nat.{ℕ}
 use mathlib.Core.Path.{_≡_, sym, _∙_}
 use mathlib.Core.List.{List}
@@ -8,19 +8,19 @@ use Rattle.tally.specs.declared.counts.Least.{Least}
 use Rattle.tally.specs.Windows.{IsWindow}
 use Rattle.tally.specs.Counts.{IsComparison, IsDoubled, IsCounted, IsFindingAt}
 
--- Any two answers of `differing` are equal.
+-- Any two numbers that meet the contract of `differing` are equal.
 pub one-comparison : (a b r r′ : ℕ) → IsComparison a b r → IsComparison a b r′ → r ≡ r′
 one-comparison a b r r′ x y = x .is ∙ sym (y .is)
 
--- Any two answers of `window` are equal.
+-- Any two windows that meet the contract of `window` are equal.
 pub one-window : (line : List ℕ) (i m : ℕ) (edges edges′ : List ℕ) → IsWindow line i m edges → IsWindow line i m edges′ → edges ≡ edges′
 one-window line i m edges edges′ a b = a .is ∙ sym (b .is)
 
--- Any two answers of `double` are equal.
+-- Any two doubled rings that meet the contract of `double` are equal.
 pub one-doubled : (ring doubled doubled′ : List ℕ) → IsDoubled ring doubled → IsDoubled ring doubled′ → doubled ≡ doubled′
 one-doubled ring doubled doubled′ a b = a .is ∙ sym (b .is)
 
--- Any two answers of `count_afresh` are equal, and any two counts at exit.
+-- Any two answers that meet the contract of `count_afresh` are equal, and so are the counts at exit.
 pub one-count : (doubled window old new new′ : List ℕ) (z z′ : Least) → IsCounted doubled window old new z → IsCounted doubled window old new′ z′
     → (z ≡ z′) × (new ≡ new′)
 one-count doubled window old new new′ z z′ a b = (
@@ -28,7 +28,7 @@ one-count doubled window old new new′ z z′ a b = (
   a .written ∙ sym (b .written),
 )
 
--- Any two answers of `finding_at` are equal.
+-- Any two findings that meet the contract of `finding_at` are equal.
 pub one-finding : (m : ℕ) (counts : List ℕ) (start : LinePlace) (least : ℕ) (f f′ : FindingStruct) → IsFindingAt m counts start least f
     → IsFindingAt m counts start least f′ → f ≡ f′
 one-finding m counts start least f f′ a b = a .is ∙ sym (b .is)

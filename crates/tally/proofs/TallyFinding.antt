@@ -1,7 +1,7 @@
--- What a start's tally tells of it: the least count is the least distance, and the lowest rotation with that count is the lowest that reaches it.
--- So a start is a finding exactly when its least count is at most k, and it carries that rotation and that count.
+-- A start's tally decides whether it is a finding. Its counts are the distances, so the least count is the least distance, and the lowest rotation with that count
+-- is the lowest that reaches it. So a start is a finding exactly when its least count is at most k, and it carries that rotation and that count.
 use Prim.Native.Nat.{ℕ, _≤_, _<_}
-use mathlib.Core.Path.{_≡_, refl, sym, ap, _∙_}
+use mathlib.Core.Path.{_≡_, sym, ap, _∙_}
 use mathlib.Core.List.{List, [], _∷_}
 use native.Mathlib.Omega.{arith}
 use lib.ListN.{length, getD}
@@ -44,11 +44,11 @@ module _ (ring line : List ℕ) (k i : ℕ) (counts : List ℕ) (least : ℕ) (p
       ∙ t .each place (lowest-is (λ (r : ℕ). getD counts r 0) (length ring) pos .below)
       ∙ ap (distance ring line i) rotation-is
 
-  -- A least count above k: no finding.
+  -- If the least count is above k, the start is no finding.
   pub least-no : k < least → foundAt ring line k i ≡ []
   least-no h = found-no ring line k i (omega (arith, least-is))
 
-  -- A start whose least count is at most k: the finding that `finding_at` returns.
+  -- If the least count of a start is at most k, the finding at that start is the one that `finding_at` returns.
   pub least-yes : (f : FindingStruct) → length ring ≤ mostCounts → IsFindingAt (length ring) counts (record { 0 = i }) least f → IsStart ring line i → least ≤ k
       → foundAt ring line k i ≡ findingOf f ∷ []
   unfolding findingWith

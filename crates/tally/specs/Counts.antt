@@ -1,20 +1,21 @@
--- Counts of differing edges, one for each rotation: the tally counted afresh, its least count, and the lowest rotation that has it.
+-- Counts of differing edges, one for each rotation. A window is counted afresh by comparing its edges with those of every rotation. The rotations are read off
+-- the doubled ring, so no place is taken mod m. Then the least count is found, and the lowest rotation that has it.
 --
---   mostCounts           one count for each rotation of the longest ring
---   leastOf              the least of the first m counts
---   lowestWith           the lowest rotation that has a given count
---   doubledRing          the ring twice, end to end: each rotation is a part of it, so no place is taken mod m
---   afreshCount          how many edges of a window differ from a rotation's
---   afreshCounts         the counts after a window: one for each rotation, the others kept
---   canCount, CanCount   whether a window can be counted: the test, and the same as facts
---   countedTo            the result of a fresh count: the counts, their least, the looks
---   findingWith          the finding at a start with a given least count
+--   mostCounts                 256: one count for each rotation of the longest ring
+--   leastOf                    the least of the first m counts
+--   lowestFrom, lowestWith     the lowest rotation that has a given count
+--   doubledEdge, doubledRing   the ring twice, end to end: rotation r is its m edges from place r on
+--   differsThere, afreshCount  the number of places where a window and a rotation differ
+--   afreshCounts               the counts after a fresh count: one for each rotation, the others kept
+--   canCount, CanCount         whether a window can be counted: the test, and the same as facts
+--   TallyTo, countedTo         the result of a fresh count: the counts, their least, the looks
+--   findingWith                the finding at a start with a given least count
 --   IsComparison, IsDoubled, IsCounted, IsFindingAt   the contracts of `differing`, `double`, `count_afresh` and `finding_at`
---   RingFits, edgeCounted, IsLeast, IsLowestWith, IsCountedAfresh    preconditions and contracts of private functions
+--   IsLowestWith, HasCounts, edgeCounted, IsLeast, IsCountedAfresh   preconditions and contracts of private functions
 use Prim.Native.Nat.{ℕ, zero, suc, _+_, _*_, _%_, _≤_, _<_, min}
 use mathlib.Core.Path.{_≡_}
 use mathlib.Core.Bool.{Bool, cond, _&&_}
-use mathlib.Core.List.{List, [], _∷_}
+use mathlib.Core.List.{List}
 use lib.Dec.{ltb, leb, eqb}
 use lib.ListN.{length, getD}
 use Rattle.lists.specs.ByPlace.{listOf, storedFirst}
@@ -26,34 +27,34 @@ use Rattle.meaning.specs.Looks.{afreshLooks}
 use Rattle.findings.specs.Admitting.{mostRing}
 use Rattle.tally.specs.declared.counts.Least.{Least}
 
--- One count for each rotation of the longest ring.
+-- The number of counts: one for each rotation of the longest ring.
 abbrev pub mostCounts : ℕ
 mostCounts = mostRing
 
--- The least of the first m counts.
+-- The least of the first m counts. (With m = 0 it is the first count.)
 unfoldable pub leastOf : ℕ → List ℕ → ℕ
 leastOf m counts = getD counts (lowest (λ r. getD counts r 0) m) 0
 
--- The lowest of the n rotations from r on that has this count; r + n where none has it.
+-- The lowest of the n rotations from r on whose count is `least`; r + n if none has it.
 unfoldable pub lowestFrom : List ℕ → ℕ → ℕ → ℕ → ℕ
 lowestFrom counts least zero r = r
 lowestFrom counts least (suc n) r =
     let later : ℕ = lowestFrom counts least n (r + 1) in
     cond (eqb (getD counts r 0) least) r later
 
--- The lowest of m rotations that has this count; m where none has it. There are 256 counts, so a larger m counts as 256.
+-- The lowest of the first m rotations whose count is `least`; m if none has it. There are 256 counts, so a larger m is taken as 256.
 abbrev pub lowestWith : ℕ → List ℕ → ℕ → ℕ
 lowestWith m counts least = lowestFrom counts least (min m mostCounts) 0
 
--- The edge at place p of the ring twice, end to end; past both rings 0. A ring with more edges than there are counts is not doubled.
+-- The edge at place p of the ring twice, end to end; 0 past the second ring. For a ring of more than 256 edges it is 0 everywhere.
 unfoldable pub doubledEdge : List ℕ → ℕ → ℕ
 doubledEdge ring p = cond (leb (length ring) mostCounts && ltb p (2 * length ring)) (getD ring (p % length ring) 0) 0
 
--- The ring twice, end to end, with room for the longest.
+-- The ring twice, end to end, followed by zeros: 512 places, the longest ring twice.
 abbrev pub doubledRing : List ℕ → List ℕ
 doubledRing ring = listOf (2 * mostCounts) (doubledEdge ring)
 
--- Rotation r has at its place q the doubled ring's edge at q + r: window and rotation r differ there.
+-- Window and rotation r differ at place q. The edge of rotation r at q is that of the doubled ring at q + r.
 abbrev pub differsThere : List ℕ → List ℕ → ℕ → ℕ → Bool
 differsThere doubled window r q = unequal (getD window q 0) (getD doubled (q + r) 0)
 
@@ -61,22 +62,22 @@ differsThere doubled window r q = unequal (getD window q 0) (getD doubled (q + r
 unfoldable pub afreshCount : List ℕ → List ℕ → ℕ → ℕ
 afreshCount doubled window r = count (differsThere doubled window r) 0 (length window)
 
--- The counts after a window of m edges: m are counted, the others are kept.
+-- The counts after a fresh count of a window of m edges: count r is that of rotation r for r below m, and the others are kept.
 abbrev pub afreshCounts : List ℕ → List ℕ → List ℕ → List ℕ
 afreshCounts doubled window old = storedFirst (length window) (afreshCount doubled window) old
 
--- Whether a window of m edges can be counted with `room` counts and `long` edges of a doubled ring: at least one edge, at most 256, at most as many as there are
--- counts, and a ring of m edges twice.
+-- Whether a window of m edges can be counted with `room` counts and a doubled ring of `long` edges: m is 1 to 256, there are m counts, and there are 2·m edges
+-- of the doubled ring.
 unfoldable pub canCount : ℕ → ℕ → ℕ → Bool
 canCount m room long = (ltb 0 m && leb m mostCounts) && (leb m room && leb (2 * m) long)
 
--- The result of a fresh count: the counts, their least, the looks.
+-- The result of computing a tally: the counts, their least, the looks.
 pub record TallyTo : Type 0 where
   pub counts : List ℕ
   pub least : ℕ
   pub looks : ℕ
 
--- A window counted afresh, at m·m looks. Where it cannot be counted, no count changes and no look is taken.
+-- The result of a fresh count of a window, at m·m looks. If the window cannot be counted, no count changes, and least and looks are 0.
 unfoldable pub countedTo : List ℕ → List ℕ → List ℕ → TallyTo
 countedTo doubled window old =
     let new : List ℕ = afreshCounts doubled window old in
@@ -84,11 +85,11 @@ countedTo doubled window old =
     let unchanged : TallyTo = record { counts = old; least = 0; looks = 0 } in
     cond (canCount (length window) (length old) (length doubled)) counted unchanged
 
--- The contract of `differing`: 1 where the two edges differ.
+-- The contract of `differing`: it returns 1 if the two edges differ, else 0.
 pub record IsComparison (a b r : ℕ) : Type 0 where
   pub is : r ≡ oneIf (unequal a b)
 
--- The contract of `double`.
+-- The contract of `double`: it returns the doubled ring.
 pub record IsDoubled (ring doubled : List ℕ) : Type 0 where
   pub is : doubled ≡ doubledRing ring
 
@@ -98,43 +99,44 @@ pub record IsCounted (doubled window old new : List ℕ) (z : Least) : Type 0 wh
   pub least-is : z .least ≡ countedTo doubled window old .least
   pub looks-are : z .looks ≡ countedTo doubled window old .looks
 
--- "It carries start, rotation, distance: the least distance, and the lowest r that reaches it": the finding at a start with this least count.
+-- "It carries start, rotation, distance: the least distance, and the lowest r that reaches it": the finding at a start, given its counts and the least of them.
 unfoldable pub findingWith : ℕ → List ℕ → LinePlace → ℕ → FindingStruct
 findingWith m counts start least = record { start = start; rotation = record { 0 = lowestWith m counts least }; distance = least }
 
--- The contract of `finding_at`.
+-- The contract of `finding_at`, which returns f.
 pub record IsFindingAt (m : ℕ) (counts : List ℕ) (start : LinePlace) (least : ℕ) (f : FindingStruct) : Type 0 where
   pub is : f ≡ findingWith m counts start least
 
 -- From here on: preconditions and contracts of private functions.
 
--- The contract of `lowest_rotation`: r is the number of the ring place returned.
+-- The contract of `lowest_rotation`; r is the number of the ring place that it returns.
 pub record IsLowestWith (m : ℕ) (counts : List ℕ) (least r : ℕ) : Type 0 where
   pub is : r ≡ lowestWith m counts least
 
--- A ring of m edges, and room for its rotations in so many counts.
-pub record RingFits (m counts : ℕ) : Type 0 where
+-- A ring of m edges, 1 to 256, has a count for each of its rotations among `counts` counts.
+pub record HasCounts (m counts : ℕ) : Type 0 where
   pub some-edge : 0 < m
   pub most : m ≤ mostCounts
   pub room : m ≤ counts
 
--- What `canCount` tests, as facts.
+-- What `canCount` tests, as facts: a window of m edges can be counted with `room` counts and a doubled ring of `long` edges.
 pub record CanCount (m room long : ℕ) : Type 0 where
-  pub fits : RingFits m room
+  pub has-counts : HasCounts m room
   pub twice : 2 * m ≤ long
 
--- Rotation r's count after one window edge: the edge is compared with the doubled ring's at place + r, `place` the ring place that rotation 0 has over it.
+-- The count of rotation r after one window edge more. The edge is compared with the doubled ring's at place + r; `place` is the ring place whose edge rotation 0
+-- has over it.
 abbrev pub edgeCounted : List ℕ → List ℕ → ℕ → ℕ → ℕ → ℕ
 edgeCounted doubled old place edge r = getD old r 0 + oneIf (unequal edge (getD doubled (place + r) 0))
 
--- The least of the first m counts: none is below it, and one is as low.
+-- `least` is the least of the first m counts: none of them is below it, and the one at `place` equals it.
 pub record IsLeast (m : ℕ) (counts : List ℕ) (least : ℕ) : Type 0 where
   pub le : (r : ℕ) → r < m → least ≤ getD counts r 0
   pub place : ℕ
   pub place-lt : place < m
   pub is : getD counts place 0 ≡ least
 
--- A window is counted: the counts, their least, the looks.
+-- The contract of `count_edges`: a window that can be counted is counted afresh, at m·m looks. `old` and `new` are the counts at entry and exit, z is returned.
 pub record IsCountedAfresh (doubled window old new : List ℕ) (z : Least) : Type 0 where
   pub written : new ≡ afreshCounts doubled window old
   pub least-is : z .least ≡ leastOf (length window) (afreshCounts doubled window old)

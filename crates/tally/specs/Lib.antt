@@ -1,4 +1,5 @@
--- The tally of rule 5. Windows and Counts say what each function answers, on every input; Tallied says what the counts hold at a start.
+-- The tally of rule 5: one count of differing edges for each rotation. Windows and Counts have the contracts of the functions, on every input, whatever the
+-- counts hold. Tallied says when counts are the tally of a start; `counted-verified` of proofs/AfreshTallied.antt joins the two. Read them in this order.
 pub mod Windows
 pub mod Counts
 pub mod Tallied

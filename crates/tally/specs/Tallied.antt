@@ -1,8 +1,9 @@
--- The counts that are a start's tally. `Tallied` alone says under which number a rotation's count is kept: under the rotation's own. So a step renumbers.
+-- When counts are the tally of a start. The count of rotation r is kept under the number r. The same ring edge belongs to another rotation at the next start, so
+-- a step along the line renumbers the counts (crates/moves).
 --
---   Tallied       "the tally of one count per rotation", at a start
---   TallyFits     a ring that a tally has room for
---   Verified      a start's tally, its least count and its looks
+--   Tallied     the counts are "the tally of one count per rotation" at a start
+--   CanTally    256 counts, and a ring of 1 to 256 edges
+--   Verified    the counts are a start's tally, with their least and the looks
 use Prim.Native.Nat.{ℕ, _≤_, _<_}
 use mathlib.Core.Path.{_≡_}
 use mathlib.Core.List.{List}
@@ -15,13 +16,13 @@ pub record Tallied (ring line : List ℕ) (i : ℕ) (counts : List ℕ) : Type 0
   pub size : length counts ≡ mostCounts
   pub each : (r : ℕ) → r < length ring → getD counts r 0 ≡ distance ring line i r
 
--- A ring that a tally has room for.
-pub record TallyFits (ring counts : List ℕ) : Type 0 where
+-- A tally of this ring has room: there are 256 counts, and the ring has 1 to 256 edges.
+pub record CanTally (ring counts : List ℕ) : Type 0 where
   pub size : length counts ≡ mostCounts
   pub some-edge : 0 < length ring
   pub most : length ring ≤ mostCounts
 
--- A verified start: its tally, the least of its counts, and the looks of its verification.
+-- Start i is verified: `counts` are its tally, `least` is the least of them, and the looks taken, `looked`, are `looks`.
 pub record Verified (ring line : List ℕ) (i looks : ℕ) (counts : List ℕ) (least looked : ℕ) : Type 0 where
   pub tallied : Tallied ring line i counts
   pub least-is : IsLeast (length ring) counts least

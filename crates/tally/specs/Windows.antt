@@ -1,4 +1,4 @@
--- The window at a line place, as `window` returns it.
+-- The window at a line place: the contract of the function `window`, on every line, place and m.
 use Prim.Native.Nat.{ℕ, _+_}
 use mathlib.Core.Path.{_≡_}
 use mathlib.Core.Bool.{cond}
@@ -7,7 +7,7 @@ use lib.Dec.{leb}
 use lib.ListN.{length}
 use Rattle.meaning.specs.Meanings.{window}
 
--- "Its window is the m edges from i." At a place from which m edges do not fit in the line it is empty.
+-- "Its window is the m edges from i." If m edges from i on do not fit in the line, the window is empty.
 abbrev pub windowAt : ℕ → List ℕ → ℕ → List ℕ
 windowAt m line i = cond (leb (i + m) (length line)) (window m line i) []
 

@@ -17,8 +17,8 @@ ghost use Rattle.tally.specs.Counts.{mostCounts, canCount, CanCount, IsD
 // Room for the longest ring twice.
 const DOUBLED: usize = 2 * MOST_COUNTS;
 
-// The ring twice, end to end, so that every rotation is a part of it. A ring with more edges than there are counts is not
-// doubled: the answer is all zeros.
+// The ring twice, end to end: rotation r is its m edges from place r on. For a ring of more than 256 edges the result
+// is all zeros.
 pub fn double(ring: &[u8]) -> [u8; DOUBLED]
     ensures { λ r. ⌜ IsDoubled (now (ring .entry)) r ⌝ }
 {
@@ -37,8 +37,8 @@ pub fn double(ring: &[u8]) -> [u8; DOUBLED]
     doubled
 }
 
-// One window edge against every rotation's edge over it. Rotation 0 has the ring's edge at `place` there, rotation r the doubled
-// ring's at place + r.
+// Compares one window edge with every rotation's edge over it and counts the differences. Rotation 0 has the ring's
+// edge at `place` there, rotation r the doubled ring's edge at place + r.
 fn count_edge(
     counts: &mut [u16; MOST_COUNTS],
     doubled: &[u8],
@@ -60,8 +60,9 @@ fn count_edge(
     looks
 }
 
-// Every rotation counted afresh: m edges, each against m ring edges. The window is read as a line of its own, from place 0 on.
-// `to_ring` gives the ring place that rotation 0 has over an edge, once for each edge and outside the loop over the rotations.
+// Counts every rotation afresh: m edges, each against m ring edges. The window is read as a line of its own, from place
+// 0 on. `to_ring` gives the ring place that rotation 0 has over an edge. It is called once for each edge, outside the
+// loop over the rotations.
 fn count_edges(counts: &mut [u16; MOST_COUNTS], doubled: &[u8], window: &[u8]) -> Least
     requires { ⌜ CanCount (length (now window)) (length (now counts)) (length (now doubled)) ⌝ }
     ensures { λ z. ⌜ IsCountedAfresh (now (doubled .entry)) (now (window .entry)) (now (counts .entry)) (now (counts .exit)) z ⌝ }
@@ -79,8 +80,9 @@ fn count_edges(counts: &mut [u16; MOST_COUNTS], doubled: &[u8], window: &[u8]) -
     Least { least, looks }
 }
 
-// Whether a window of m edges can be counted: at least one edge, at most as many as there are counts, and the ring twice.
-// There are always 256 counts; their number is a parameter because a contract does not know the length of a lent array.
+// Whether a window of m edges can be counted: m is 1 to 256, `room` counts are enough for m rotations, and `long` edges
+// of the doubled ring are enough for 2·m. There are always 256 counts; their number is a parameter because a contract
+// does not know the length of a lent array.
 fn can_count(m: usize, room: usize, long: usize) -> bool
     ensures { λ r. ⌜ r ≡ canCount m room long ⌝ }
 {
@@ -96,8 +98,8 @@ fn can_count(m: usize, room: usize, long: usize) -> bool
     2 * m <= long
 }
 
-// The tally of a window: its edges against those of every rotation of the doubled ring. Where the window cannot be counted, no
-// count changes and no look is taken.
+// Counts the tally of a window: its edges are compared with those of every rotation. If the window cannot be counted,
+// no count changes and no look is taken.
 pub fn count_afresh(counts: &mut [u16; MOST_COUNTS], doubled: &[u8], window: &[u8]) -> Least
     ensures { λ z. ⌜ IsCounted (now (doubled .entry)) (now (window .entry)) (now (counts .entry)) (now (counts .exit)) z ⌝ }
 {

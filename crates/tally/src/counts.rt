@@ -1,4 +1,5 @@
-// Counts of differing edges, one for each rotation. A count is at most 256, which eight bits do not hold.
+// Counts of differing edges, one for each rotation. A count is at most 256, one more than eight bits hold, so it is a
+// u16.
 use answers::LinePlace;
 use answers::RingPlace;
 use findings::Finding;
@@ -7,34 +8,34 @@ ghost use mathlib.Core.Path.{_≡_};
 ghost use Prim.Native.Nat.{min};
 ghost use lib.ListN.{length};
 ghost use Rattle.lists.specs.ByPlace.{StoredFirst};
-ghost use Rattle.tally.specs.Counts.{mostCounts, IsComparison, IsFindingAt, RingFits, IsLeast, IsLowestWith};
+ghost use Rattle.tally.specs.Counts.{mostCounts, IsComparison, IsFindingAt, HasCounts, IsLeast, IsLowestWith};
 
 // One count for each rotation of the longest ring.
 pub const MOST_COUNTS: usize = MOST_RING;
 
-// The least of a start's counts, and the looks that its tally took.
+// The least of a start's counts, and the looks taken to compute them.
 pub struct Least {
     pub least: usize,
     pub looks: usize,
 }
 
-// One comparison: 1 where the two edges differ.
+// One comparison: 1 if the two edges differ, else 0.
 pub fn differing(a: u8, b: u8) -> u16
     ensures { λ r. ⌜ IsComparison a b r ⌝ }
 {
     if a == b { 0 } else { 1 }
 }
 
-// A count as a distance: it is compared with the allowance and goes into a finding.
+// A count as a usize: it is compared with the allowance and becomes the distance of a finding.
 pub fn count_value(count: u16) -> usize
     ensures { λ r. ⌜ r ≡ count ⌝ }
 {
     count as usize
 }
 
-// The counts of m rotations start at 0.
+// Sets the counts of m rotations to 0.
 pub fn clear(counts: &mut [u16; MOST_COUNTS], m: usize)
-    requires { ⌜ RingFits m (length (now counts)) ⌝ }
+    requires { ⌜ HasCounts m (length (now counts)) ⌝ }
     ensures { λ _. ⌜ StoredFirst m (λ _. 0) (now (counts .entry)) (now (counts .exit)) ⌝ }
 {
     let mut r = 0;
@@ -46,7 +47,7 @@ pub fn clear(counts: &mut [u16; MOST_COUNTS], m: usize)
 
 // The least of the first m counts.
 pub fn least_of(counts: &[u16; MOST_COUNTS], m: usize) -> u16
-    requires { ⌜ RingFits m (length (now counts)) ⌝ }
+    requires { ⌜ HasCounts m (length (now counts)) ⌝ }
     ensures { λ z. ⌜ IsLeast m (now (counts .entry)) z ⌝ }
 {
     let mut least = counts[0];
@@ -61,14 +62,14 @@ pub fn least_of(counts: &[u16; MOST_COUNTS], m: usize) -> u16
     least
 }
 
-// As many rotations as there are counts for.
+// The number of rotations that have a count: m, but at most 256.
 fn rotations(m: usize) -> usize
     ensures { λ r. ⌜ r ≡ min m mostCounts ⌝ }
 {
     if m < MOST_COUNTS { m } else { MOST_COUNTS }
 }
 
-// The lowest of m rotations whose count is the least, and m where none has that count; a larger m counts as 256.
+// The lowest of m rotations whose count is `least`; m if none has that count. A larger m is taken as 256.
 fn lowest_rotation(counts: &[u16; MOST_COUNTS], m: usize, least: usize) -> RingPlace
     ensures { λ r. ⌜ IsLowestWith m (now (counts .entry)) least (r .0) ⌝ }
 {
@@ -83,8 +84,9 @@ fn lowest_rotation(counts: &[u16; MOST_COUNTS], m: usize, least: usize) -> RingP
     RingPlace(rotation)
 }
 
-// "It carries start, rotation, distance: the least distance, and the lowest r that reaches it": the finding at a start with
-// this least count. The rotation is looked for only where a start is a finding.
+// "It carries start, rotation, distance: the least distance, and the lowest r that reaches it": the finding at a start
+// whose least count is `least`. Callers call it only for a start that is a finding, so the rotation is searched only
+// then.
 pub fn finding_at(counts: &[u16; MOST_COUNTS], m: usize, start: LinePlace, least: usize) -> Finding
     ensures { λ f. ⌜ IsFindingAt m (now (counts .entry)) start least f ⌝ }
 {

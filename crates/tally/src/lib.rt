@@ -1,8 +1,8 @@
-// The tally of one count per rotation: counted afresh for a window, and asked for a start's finding. crates/moves moves it
-// along the line.
+// The tally of one count per rotation: `count_afresh` counts it for a window, `finding_at` makes a start's finding of
+// it. crates/moves moves it along the line.
 //
-// specs/Windows.antt and specs/Counts.antt have the functions' contracts, specs/Tallied.antt says which counts are the tally
-// of a start. No public function has a `requires`: each takes every input, whatever the counts hold.
+// The contracts are in specs/Windows.antt and specs/Counts.antt; specs/Tallied.antt says when counts are the tally of a
+// start. No public function has a `requires`: each takes every input, whatever the counts hold.
 mod afresh;
 mod counts;
 mod windows;

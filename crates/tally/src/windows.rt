@@ -1,9 +1,9 @@
-// A window of the line. Everything that reads the line reads it through here.
+// A window of the line. All code that reads line edges gets them from here.
 use answers::LinePlace;
 ghost use Rattle.tally.specs.Windows.{IsWindow};
 
-// "Its window is the m edges from i". At a place from which m edges do not fit in the line, the window is empty. The place is
-// compared before anything is added to it, so nothing overflows.
+// "Its window is the m edges from i". If m edges from i on do not fit in the line, the window is empty. i is compared
+// before m is added to it, so nothing overflows.
 pub fn window(line: &[u8], start: LinePlace, m: usize) -> &[u8]
     ensures { λ r. ⌜ IsWindow (now (line .entry)) (start .0) m (now r) ⌝ }
 {

@@ -9,7 +9,7 @@ use Rattle.moves.proofs.moving.move_counts.Tie as tie
 can-move-requires : tie.Need-can-move-requires
 can-move-requires c κs = search needs
 
--- They cannot be moved.
+-- The counts cannot be moved.
 returns : tie.Need-returns
 returns c = moved-no _ _ _ _ _ _ (sym (c .before .can-move .ensures) ∙ not-true _ (c .if1 .taken))
 
@@ -18,7 +18,7 @@ moved-tally-requires c κs =
     let tested = c .before in
     can-move-iff _ _ _ _ _ .0 (sym (tested .before .can-move .ensures) ∙ not-false _ (tested .if1 .left))
 
--- They are moved.
+-- The counts are moved.
 returns-2 : tie.Need-returns-2
 returns-2 c =
     let moved = c .before .before .before in

@@ -1,6 +1,6 @@
--- `moves::moving::move_tally` meets its contract: a walk of its MIR, by hand, since it takes a reference to a struct. The borrow of the tally is
--- opened and its one field is taken out in memory; the counts are lent to `move_along` for a lifetime that is made for the call, and come back as that left
--- them; the field is put back, and the borrow is closed at the new tally. All that the proof knows of `move_along` is that it meets its contract.
+-- `moves::moving::move_tally` meets its contract, by a hand walk of its MIR, because it takes a reference to a struct. The walk opens the borrow of the tally and
+-- takes its one field, the counts, out of memory. It lends the counts to `move_along` for a lifetime made for this call, and gets them back as the callee left them.
+-- It puts the field back and closes the borrow at the new tally. Of `move_along` the walk uses only the contract.
 use mathlib.Core.Path.{refl, sym}
 use Prim.Native.Nat.{ℕ, _<_, _^_, _+_}
 use mathlib.Core.List.{[], _∷_, List, map, map-id}
@@ -68,7 +68,7 @@ use Rattle.moves.proofs.moving.move_tally as this
 use Rattle.moves.proofs.moving.move_tally.Statement as stated
 use Rattle.moves.proofs.moving.move_tally.Code as code
 
--- What the body still has of each parameter at exit: the tally, lent; nothing of the others.
+-- What the body still owns of each parameter at exit: the lent tally, and nothing of the others.
 abbrev stayed : Stays (this.ended .signature .params) (this.ended .kept)
 stayed = (
   stay-ref (0 ∷ []) tt (plain (λ _. T.the-row)),
@@ -88,14 +88,14 @@ Counts = Array u16 mostCounts
 abbrev members : List Member
 members = record { row = Counts; ty = tyArray (tyInt w16) mostCounts } ∷ []
 
--- The contract that the proof cites.
+-- The contract of the callee, which the walk cites.
 abbrev Called : {M : Type 1} (𝓤 : URA M) (H : Heap 𝓤) (A : Atoms 𝓤) (mem : Memory → SProp 𝓤) (run : Routine → Fun 𝓤) → Contract 𝓤
 Called 𝓤 H A mem run = tripleOf 𝓤 H A callee.signature (callee.spec 𝓤 H A mem run)
 
 module _ {M : Type 1} (𝓤 : URA M) (H : Heap 𝓤) (A : Atoms 𝓤) (W : Given 𝓤 H A) (at-mem : Memory → SProp 𝓤) (run : Routine → Fun 𝓤)
     (κ κ′ κ″ : Lft) (bounds : AllOutlive 3 (this.signature .outlives) (κ, (κ′, (κ″, tt)))) (q q′ q″ : Share)
     (b o : ℕ) (γ : GName) (counts : List ℕ) (ring line : RefT (List ℕ)) (start : LinePlace) (steps below : ℕ)
-    (is-start : Is Place.the-row start (placeVal start ∷ [])) (steps-fits : steps < 2 ^ 64) (below-fits : below < 2 ^ 64) where
+    (is-start : Is Place.the-row start (placeVal start ∷ [])) (steps-lt : steps < 2 ^ 64) (below-lt : below < 2 ^ 64) where
   abbrev R : RattleType
   R = T.the-row
 
@@ -135,14 +135,14 @@ module _ {M : Type 1} (𝓤 : URA M) (H : Heap 𝓤) (A : Atoms 𝓤) (W : Given
   abbrev Lent : ℕ → GName → Fml
   Lent ν δ = MutRef (named 0) (ν ∷ []) Counts .own (lent δ) (vptr b (o + 0) ∷ [])
 
-  -- What is kept of the struct while its field is out.
+  -- What stays of the struct while its field is out.
   abbrev Rest : List ℕ → Fml
   Rest l = restAt fullShare members 0 (T.the-type .to (tallyOf l)) b o 0
 
   abbrev Back : SProp 𝓤
   Back = PartsBack 𝓤 H A fullShare (T.struct .name) members b o
 
-  -- What the callee's triple binds outside.
+  -- The values of the outer variables of the callee's triple.
   abbrev to-callee : ℕ → GName → Called 𝓤 H A at-mem run .Ghost
   to-callee ν δ = (
     (
@@ -155,7 +155,7 @@ module _ {M : Type 1} (𝓤 : URA M) (H : Heap 𝓤) (A : Atoms 𝓤) (W : Given
     tt,
   )
 
-  -- What is had for the call, and that it is what the call asks.
+  -- What the walk owns before the call; `goes`: this is the callee's precondition.
   abbrev had : ℕ → GName → List (Item 𝓤)
   had ν δ = (‵ (flft (ν ∷ []) fullShare) ⊛ Tokens) ∷ ‵ (Lent ν δ) ∷ (‵ OwnRing ⊛ ‵ OwnLine) ∷ []
 
@@ -163,13 +163,13 @@ module _ {M : Type 1} (𝓤 : URA M) (H : Heap 𝓤) (A : Atoms 𝓤) (W : Given
       → ent 𝓤 (⋆ 𝓤 H A (had ν δ)) (Called 𝓤 H A at-mem run .pre (to-callee ν δ))
   goes ν δ can =
       qed W (had ν δ) ∵
-      says ! can $ frame ! $ six-owned ! start steps below is-start steps-fits below-fits $ done !
+      says ! can $ frame ! $ six-owned ! start steps below is-start steps-lt below-lt $ done !
 
-  -- What the callee ensures, and so what the function does.
+  -- What the callee ensures, which is also what this function ensures.
   abbrev Said : Reached → List ℕ → Type 0
   Said r after = IsMovedOn (ring .now) (line .now) (start .0) steps below counts after r
 
-  -- What is had at exit, and that it is what the contract says.
+  -- What the walk owns at exit; `exits`: this is the function's postcondition.
   abbrev left : Reached → Val → List ℕ → List (Item 𝓤)
   left r w after =
       ‵ (fobs γ (R .coded .code (tallyOf after))) ∷ ‵ (fbor κ (Body (mem R) b o γ)) ∷ ‵ (flft κ q) ∷ Tokens ∷ ‵ (Out.the-row .own r (w ∷ [])) ∷ ‵ OwnLine ∷ ‵ OwnRing ∷ []
@@ -182,7 +182,7 @@ module _ {M : Type 1} (𝓤 : URA M) (H : Heap 𝓤) (A : Atoms 𝓤) (W : Given
       (tallyOf after, (tt, (tt, (tt, (tt, (tt, tt)))))) (tt, (tt, (tt, (tt, (tt, (tt, tt)))))))
       $ says ! e $
       move ! (2 ∷ 3 ∷ []) $ join ! $ frame ! $ feqI ! (List Val) (vptr b o ∷ []) (vptr b o ∷ []) refl $ fjoin3 ! $
-      move ! (3 ∷ 2 ∷ []) $ join ! $ move ! (1 ∷ 0 ∷ []) $ six-owned ! start steps below is-start steps-fits below-fits $ frame ! $ done !
+      move ! (3 ∷ 2 ∷ []) $ join ! $ move ! (1 ∷ 0 ∷ []) $ six-owned ! start steps below is-start steps-lt below-lt $ frame ! $ done !
 
   module _ (C : Calls 𝓤 H) (Λ : Loops 𝓤 H) (fm : FmC 𝓤 H (W .laws) C) (known : Triple 𝓤 (C #move-along) (Called 𝓤 H A at-mem run)) where
     walk : Is (ShrSlice (named 1) κ′ u8) ring (ringVal ∷ []) → Is (ShrSlice (named 2) κ″ u8) line (lineVal ∷ []) → CanMove (length (ring .now)) (length counts) (length (line .now)) (start .0) steps
@@ -196,16 +196,16 @@ module _ {M : Type 1} (𝓤 : URA M) (H : Heap 𝓤) (A : Atoms 𝓤) (W : Given
         pass1 ! (init ! 12 refl (tt, tt)) $
         pass1 ! (init ! 10 refl (shr-slice-lawful 𝓤 H A W (named 1) κ′ u8 .typed ring (ringVal ∷ []) is-ring .0)) $
         pass1 ! (init ! 8 refl (shr-slice-lawful 𝓤 H A W (named 2) κ″ u8 .typed line (lineVal ∷ []) is-line .0)) $
-        pass1 ! (init ! 6 refl (laws.lawful Place.the-type Place′.the-laws 𝓤 H A W .typed start _ is-start .0)) $ pass1 ! (init ! 4 refl (tt, record { fits = steps-fits })) $
-        pass1 ! (init ! 2 refl (tt, record { fits = below-fits })) $ pass0 ! $
-        -- the parameters are taken apart, the slices are had twice, and the borrow is opened
+        pass1 ! (init ! 6 refl (laws.lawful Place.the-type Place′.the-laws 𝓤 H A W .typed start _ is-start .0)) $ pass1 ! (init ! 4 refl (tt, record { fits = steps-lt })) $
+        pass1 ! (init ! 2 refl (tt, record { fits = below-lt })) $ pass0 ! $
+        -- split the parameters, copy the slices, open the borrow
         move ! (17 ∷ []) $ fsplit ! $ fsplit3 ! $ drop ! $ move ! (2 ∷ []) $ fsplit ! $
         use1 W (‵ OwnRing ⊛ ‵ OwnRing) (shr-slice-copy 𝓤 H A W (named 1) κ′ u8 .twice ring (ringVal ∷ [])) $ split ! $
         move ! (2 ∷ []) $ fsplit ! $ use1 W (‵ OwnLine ⊛ ‵ OwnLine) (shr-slice-copy 𝓤 H A W (named 2) κ″ u8 .twice line (lineVal ∷ [])) $ split ! $
         move ! (23 ∷ []) $ split ! $ move ! (7 ∷ 8 ∷ 0 ∷ []) $ open-ref ! tt (mem R) {b = b} {o = o} $
         -- [the tally in memory; the open borrow; obs; auth; the tokens; the line; the line; what is left; the ring; the ring; _7; …]
         assigns ! (addr ! (from ! (hop ! (look ! 22 refl) (fld ! refl (stop !))))) (from ! (stop !)) (init ! 10 refl (tt, tt)) $
-        -- the field is taken out, and lent for a lifetime ν of the call
+        -- take the field out, and lend it for a lifetime ν of the call
         use1 W (‵ (partAt Counts fullShare (map (λ (x : ℕ). x) counts) b (o + 0)) ⊛ (‵ (Rest counts) ⊛ raw Back))
         (record-field-out 𝓤 H A W fullShare (T.struct .name) members Tally (T.the-type .to) (T.the-type .to-one)
         (laws.lawfuls 𝓤 H A W (T.struct .parts) T′.the-laws) (tallyOf counts) b o 0)
@@ -216,7 +216,7 @@ module _ {M : Type 1} (𝓤 : URA M) (H : Heap 𝓤) (A : Atoms 𝓤) (W : Given
         -- [the counts' reference; the lender's part; the token ν; the rest of the struct; the open borrow; obs; auth; the tokens; the line; the line; what is left; the ring; the ring; _7; …]
         move ! (2 ∷ 7 ∷ []) $ join ! $ move ! (10 ∷ 7 ∷ []) $ join ! $ move ! (1 ∷ 2 ∷ 0 ∷ []) $
         use3 W (raw (Called 𝓤 H A at-mem run .pre (to-callee ν δ))) (goes ν δ can) $
-        -- [what the callee asks; the lender's part; the rest of the struct; the open borrow; obs; auth; the line; what is left; the ring; _7; …]
+        -- [the callee's precondition; the lender's part; the rest of the struct; the open borrow; obs; auth; the line; what is left; the ring; _7; …]
         calls-at ! fm (Called 𝓤 H A at-mem run) known (to-callee ν δ)
         (and-then ! (load ! (from ! (stop !)) (look ! 9 refl)) (and-then ! (load ! (from ! (stop !)) (look ! 19 refl))
         (and-then ! (load ! (from ! (stop !)) (look ! 17 refl)) (and-then ! (load ! (from ! (stop !)) (look ! 15 refl))
@@ -230,7 +230,7 @@ module _ {M : Type 1} (𝓤 : URA M) (H : Heap 𝓤) (A : Atoms 𝓤) (W : Given
         move ! (2 ∷ []) $ split ! $ move ! (1 ∷ []) $ peeks ! Out.the-row (Is Out.the-row) (shows 𝓤 H A Out.the-row) r (w ∷ []) (λ is.
         -- [the result; the tokens; the last counts; …; the lender's part; the rest of the struct; the open borrow; obs; auth; the line; what is left; the ring; _7; …]
         land ! (from ! (stop !)) (init ! 26 refl (laws.lawful Out.the-type Out′.the-laws 𝓤 H A W .typed r _ is .0)) $
-        -- the lifetime is ended, the counts come back, and the struct is put together
+        -- end the lifetime, take the counts back, put the struct together
         move ! (1 ∷ []) $ split ! $ lft-end ! tt $ move ! (0 ∷ 5 ∷ 3 ∷ []) $
         use3 W (later (‵ (mem Counts .lies (ends .0) b (o + 0)))) (ref-back 𝓤 H A W Counts (ν ∷ []) δ (ends .0) b (o + 0)) $ await ! tt $
         rewrite ! 0 (λ (l : List ℕ). ‵ (partAt Counts fullShare l b (o + 0))) (sym (map-id (ends .0))) refl $ move ! (0 ∷ 4 ∷ []) $
@@ -244,7 +244,7 @@ module _ {M : Type 1} (𝓤 : URA M) (H : Heap 𝓤) (A : Atoms 𝓤) (W : Given
         keep ! (0 ∷ 1 ∷ 2 ∷ 3 ∷ 4 ∷ 6 ∷ 8 ∷ []) $ by ! (exits r w (ends .0) e))))))))))))))))
 
 module _ {M : Type 1} (𝓤 : URA M) (H : Heap 𝓤) (A : Atoms 𝓤) (W : Given 𝓤 H A) (mem : Memory → SProp 𝓤) (run : Routine → Fun 𝓤) where
-  -- The walk, at every choice of lifetimes, shares and arguments.
+  -- The walk, for every choice of lifetimes, shares and arguments.
   walks : (C : Calls 𝓤 H) (Λ : Loops 𝓤 H) → FmC 𝓤 H (W .laws) C → Triple 𝓤 (C #move-along) (Called 𝓤 H A mem run)
       → Walks 𝓤 H A this.ended stayed (WpFn 𝓤 H C Λ code.function) (this.clauses 𝓤 H A mem run)
   walks C Λ fm known =
@@ -262,7 +262,7 @@ module _ {M : Type 1} (𝓤 : URA M) (H : Heap 𝓤) (A : Atoms 𝓤) (W : Given
       (a .1 .0) (a .1 .1 .0) (a .1 .1 .1 .0) (a .1 .1 .1 .1 .0) (a .1 .1 .1 .1 .1 .0)
       (are .1 .1 .1 .0) (are .1 .1 .1 .1 .0 .1) (are .1 .1 .1 .1 .1 .0 .1) C Λ fm known (are .1 .0) (are .1 .1 .0)))
 
--- Taken to the contract.
+-- From the walk to the contract.
 meets : {M : Type 1} (𝓤 : URA M) (H : Heap 𝓤) (A : Atoms 𝓤) → Given 𝓤 H A → (mem : Memory → SProp 𝓤) (run : Routine → Fun 𝓤) (𝓣 : Tables 𝓤 H)
     → Triple 𝓤 (𝓣 .C #move-along) (Called 𝓤 H A mem run) → Meets 𝓤 H A this.signature (WpFn 𝓤 H (𝓣 .C) (𝓣 .Λ) code.function) (this.spec 𝓤 H A mem run)
 meets 𝓤 H A W mem run 𝓣 known =

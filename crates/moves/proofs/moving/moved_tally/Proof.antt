@@ -1,6 +1,6 @@
--- `moves::moving::moved_tally` meets its contract: a walk of its MIR, by hand, since it makes a reference to a struct. The tally is copied to a local, which is
--- lent to `move_tally` for a lifetime that is made for the call, and comes back as that left it; it is copied into the result. All that the proof knows
--- of `move_tally` is that it meets its contract.
+-- `moves::moving::moved_tally` meets its contract, by a hand walk of its MIR, because it makes a reference to a struct. The walk copies the tally to a local. It lends
+-- the local to `move_tally` for a lifetime made for this call, gets it back as the callee left it, and copies it into the result. Of `move_tally` the walk uses only
+-- the contract.
 use mathlib.Core.Path.{refl}
 use Prim.Native.Nat.{ℕ, _<_, _^_}
 use mathlib.Core.List.{[], _∷_, List}
@@ -68,7 +68,7 @@ use Rattle.moves.proofs.moving.moved_tally as this
 use Rattle.moves.proofs.moving.moved_tally.Statement as stated
 use Rattle.moves.proofs.moving.moved_tally.Code as code
 
--- What the body still has of each parameter at exit: nothing.
+-- What the body still owns of each parameter at exit: nothing.
 abbrev stayed : Stays (this.ended .signature .params) (this.ended .kept)
 stayed = (
   stay-none (λ _. T.the-row) yes,
@@ -81,13 +81,13 @@ stayed = (
   ),
 )
 
--- The contract that the proof cites.
+-- The contract of the callee, which the walk cites.
 abbrev Called : {M : Type 1} (𝓤 : URA M) (H : Heap 𝓤) (A : Atoms 𝓤) (mem : Memory → SProp 𝓤) (run : Routine → Fun 𝓤) → Contract 𝓤
 Called 𝓤 H A mem run = tripleOf 𝓤 H A callee.signature (callee.spec 𝓤 H A mem run)
 
 module _ {M : Type 1} (𝓤 : URA M) (H : Heap 𝓤) (A : Atoms 𝓤) (W : Given 𝓤 H A) (at-mem : Memory → SProp 𝓤) (run : Routine → Fun 𝓤)
     (κ κ′ : Lft) (q q′ : Share) (tally : Tally) (ring line : RefT (List ℕ)) (start : LinePlace) (steps below : ℕ)
-    (is-start : Is Place.the-row start (placeVal start ∷ [])) (steps-fits : steps < 2 ^ 64) (below-fits : below < 2 ^ 64) where
+    (is-start : Is Place.the-row start (placeVal start ∷ [])) (steps-lt : steps < 2 ^ 64) (below-lt : below < 2 ^ 64) where
   abbrev R : RattleType
   R = T.the-row
 
@@ -127,7 +127,7 @@ module _ {M : Type 1} (𝓤 : URA M) (H : Heap 𝓤) (A : Atoms 𝓤) (W : Given
   abbrev Lent : ℕ → ℕ → GName → Fml
   Lent l ν δ = MutRef (named 0) (ν ∷ []) R .own (lent l δ) (vptr l 0 ∷ [])
 
-  -- What the callee's triple binds outside.
+  -- The values of the outer variables of the callee's triple.
   abbrev to-callee : ℕ → ℕ → GName → Called 𝓤 H A at-mem run .Ghost
   to-callee l ν δ = (
     (
@@ -140,7 +140,7 @@ module _ {M : Type 1} (𝓤 : URA M) (H : Heap 𝓤) (A : Atoms 𝓤) (W : Given
     tt,
   )
 
-  -- What is had for the call, and that it is what the call asks.
+  -- What the walk owns before the call; `goes`: this is the callee's precondition.
   abbrev had : ℕ → ℕ → GName → List (Item 𝓤)
   had l ν δ = (‵ (flft (ν ∷ []) fullShare) ⊛ Tokens) ∷ ‵ (Lent l ν δ) ∷ (‵ OwnRing ⊛ ‵ OwnLine) ∷ []
 
@@ -148,7 +148,7 @@ module _ {M : Type 1} (𝓤 : URA M) (H : Heap 𝓤) (A : Atoms 𝓤) (W : Given
       → ent 𝓤 (⋆ 𝓤 H A (had l ν δ)) (Called 𝓤 H A at-mem run .pre (to-callee l ν δ))
   goes l ν δ can =
       qed W (had l ν δ) ∵
-      says ! can $ frame ! $ six-owned ! start steps below is-start steps-fits below-fits $ done !
+      says ! can $ frame ! $ six-owned ! start steps below is-start steps-lt below-lt $ done !
 
   -- What the callee ensures.
   abbrev Said : Reached → Tally → Type 0
@@ -161,7 +161,7 @@ module _ {M : Type 1} (𝓤 : URA M) (H : Heap 𝓤) (A : Atoms 𝓤) (W : Given
   abbrev fields : Reached → Tally → List Val × (List Val × Unit {0}) → Fml
   fields r after vss = fsep (R .own after (vss .0)) (fsep (To.the-row .own r (vss .1 .0)) ftrue)
 
-  -- What is had at exit, and that it is what the contract says.
+  -- What the walk owns at exit; `exits`: this is the function's postcondition.
   abbrev left : Reached → Tally → Val → List (Item 𝓤)
   left r after w = ‵ (Out.the-row .own (made r after) (w ∷ [])) ∷ Tokens ∷ ‵ OwnLine ∷ ‵ OwnRing ∷ ‵ (R .own tally (tallyVal ∷ [])) ∷ []
 
@@ -172,7 +172,7 @@ module _ {M : Type 1} (𝓤 : URA M) (H : Heap 𝓤) (A : Atoms 𝓤) (W : Given
       (ends-at 𝓤 H A this.ended stayed (this.clauses 𝓤 H A at-mem run) W (((κ, (κ′, tt)), (q, (q′, tt)), tt, args, vals), tt) w (made r after)
       (tt, (tt, (tt, (tt, (tt, (tt, tt)))))) (tt, (tt, (tt, (tt, (tt, (tt, tt)))))))
       $ says ! e $
-      move ! (1 ∷ []) $ frame ! $ move ! (2 ∷ 1 ∷ []) $ join ! $ move ! (2 ∷ 0 ∷ []) $ six-owned ! start steps below is-start steps-fits below-fits $ frame ! $ done !
+      move ! (1 ∷ []) $ frame ! $ move ! (2 ∷ 1 ∷ []) $ join ! $ move ! (2 ∷ 0 ∷ []) $ six-owned ! start steps below is-start steps-lt below-lt $ frame ! $ done !
 
   module _ (C : Calls 𝓤 H) (Λ : Loops 𝓤 H) (fm : FmC 𝓤 H (W .laws) C) (known : Triple 𝓤 (C #move-tally) (Called 𝓤 H A at-mem run)) where
     walk : Is R tally (tallyVal ∷ []) → Holds (hasTy T′.mir tallyVal) × WT tallyVal → Is (ShrSlice (named 0) κ u8) ring (ringVal ∷ [])
@@ -188,16 +188,16 @@ module _ {M : Type 1} (𝓤 : URA M) (H : Heap 𝓤) (A : Atoms 𝓤) (W : Given
         pass1 ! (init ! 18 refl typed) $
         pass1 ! (init ! 16 refl (shr-slice-lawful 𝓤 H A W (named 0) κ u8 .typed ring (ringVal ∷ []) is-ring .0)) $
         pass1 ! (init ! 14 refl (shr-slice-lawful 𝓤 H A W (named 1) κ′ u8 .typed line (lineVal ∷ []) is-line .0)) $
-        pass1 ! (init ! 12 refl (laws.lawful Place.the-type Place′.the-laws 𝓤 H A W .typed start _ is-start .0)) $ pass1 ! (init ! 10 refl (tt, record { fits = steps-fits })) $
-        pass1 ! (init ! 8 refl (tt, record { fits = below-fits })) $ pass0 ! $
-        -- the parameters are taken apart, and the slices are had twice
+        pass1 ! (init ! 12 refl (laws.lawful Place.the-type Place′.the-laws 𝓤 H A W .typed start _ is-start .0)) $ pass1 ! (init ! 10 refl (tt, record { fits = steps-lt })) $
+        pass1 ! (init ! 8 refl (tt, record { fits = below-lt })) $ pass0 ! $
+        -- split the parameters, copy the slices
         move ! (23 ∷ []) $ fsplit ! $ move ! (1 ∷ []) $ fsplit ! $
         use1 W (‵ OwnRing ⊛ ‵ OwnRing) (shr-slice-copy 𝓤 H A W (named 0) κ u8 .twice ring (ringVal ∷ [])) $ split ! $
         move ! (2 ∷ []) $ fsplit ! $ use1 W (‵ OwnLine ⊛ ‵ OwnLine) (shr-slice-copy 𝓤 H A W (named 1) κ′ u8 .twice line (lineVal ∷ [])) $ split ! $
         -- [the line; the line; what is left; the ring; the ring; what the tally owns; _10; …; _9; …; _8; …; _7; …; … _1; …; room for _0; …; the tokens]
         assigns ! (of-opd ! (load ! (from ! (stop !)) (look ! 24 refl))) (from ! (stop !)) (init ! 12 refl typed) $
         assigns ! (addr ! (from ! (stop !))) (from ! (stop !)) (init ! 8 refl (tt, tt)) $
-        -- the local is lent for a lifetime ν of the call
+        -- lend the local for a lifetime ν of the call
         move ! (12 ∷ []) $ owned ! R (Is R) (laws.makes T.the-type T′.the-plain 𝓤 H A) tally _ is-tally $ move ! (1 ∷ 0 ∷ []) $
         use2 W (‵ (mem R .lies tally l₇ 0)) (part-in-at 𝓤 H A W R refl fullShare tally l₇ 0 T′.mir refl tallyVal) $
         lft-new ! tt (λ ν. move ! (1 ∷ []) $
@@ -206,7 +206,7 @@ module _ {M : Type 1} (𝓤 : URA M) (H : Heap 𝓤) (A : Atoms 𝓤) (W : Given
         -- [the reference; the lender's part; the token ν; the line; the line; what is left; the ring; the ring; what the tally owns; _10; …; … of _7; …; the tokens]
         move ! (2 ∷ 30 ∷ []) $ join ! $ move ! (6 ∷ 3 ∷ []) $ join ! $ move ! (1 ∷ 2 ∷ 0 ∷ []) $
         use3 W (raw (Called 𝓤 H A at-mem run .pre (to-callee l₇ ν δ))) (goes l₇ ν δ can) $
-        -- [what the callee asks; the lender's part; the line; what is left; the ring; what the tally owns; _10; …]
+        -- [the callee's precondition; the lender's part; the line; what is left; the ring; what the tally owns; _10; …]
         calls-at ! fm (Called 𝓤 H A at-mem run) known (to-callee l₇ ν δ)
         (and-then ! (load ! (from ! (stop !)) (look ! 8 refl)) (and-then ! (load ! (from ! (stop !)) (look ! 21 refl))
         (and-then ! (load ! (from ! (stop !)) (look ! 19 refl)) (and-then ! (load ! (from ! (stop !)) (look ! 17 refl))
@@ -220,7 +220,7 @@ module _ {M : Type 1} (𝓤 : URA M) (H : Heap 𝓤) (A : Atoms 𝓤) (W : Given
         move ! (2 ∷ []) $ split ! $ move ! (1 ∷ []) $ peeks ! To.the-row (Is To.the-row) (shows 𝓤 H A To.the-row) r (w ∷ []) (λ is.
         -- [the result; the tokens; the last tally; true; the lender's part; the line; what is left; the ring; what the tally owns; _10; …]
         land ! (from ! (stop !)) (init ! 13 refl (laws.lawful To.the-type To′.the-laws 𝓤 H A W .typed r _ is .0)) $
-        -- the lifetime is ended, and the local comes back
+        -- end the lifetime, take the local back
         move ! (1 ∷ []) $ split ! $ lft-end ! tt $ move ! (0 ∷ 5 ∷ 3 ∷ []) $
         use3 W (later (‵ (mem R .lies (ends .0) l₇ 0))) (ref-back 𝓤 H A W R (ν ∷ []) δ (ends .0) l₇ 0) $ await ! tt $
         use1 W (some (λ (u : Val). ‵ (fat fullShare T′.mir l₇ 0 u) ⊛ ‵ (R .own (ends .0) (u ∷ [])))) (part-out-at 𝓤 H A W R refl fullShare (ends .0) l₇ 0 T′.mir refl) $
@@ -242,7 +242,7 @@ module _ {M : Type 1} (𝓤 : URA M) (H : Heap 𝓤) (A : Atoms 𝓤) (W : Given
         keep ! (0 ∷ 1 ∷ 2 ∷ 4 ∷ 5 ∷ []) $ by ! (exits r (ends .0) _ e))))))))))))))))))))))
 
 module _ {M : Type 1} (𝓤 : URA M) (H : Heap 𝓤) (A : Atoms 𝓤) (W : Given 𝓤 H A) (mem : Memory → SProp 𝓤) (run : Routine → Fun 𝓤) where
-  -- The walk, at every choice of lifetimes, shares and arguments.
+  -- The walk, for every choice of lifetimes, shares and arguments.
   walks : (C : Calls 𝓤 H) (Λ : Loops 𝓤 H) → FmC 𝓤 H (W .laws) C → Triple 𝓤 (C #move-tally) (Called 𝓤 H A mem run)
       → Walks 𝓤 H A this.ended stayed (WpFn 𝓤 H C Λ code.function) (this.clauses 𝓤 H A mem run)
   walks C Λ fm known =
@@ -260,7 +260,7 @@ module _ {M : Type 1} (𝓤 : URA M) (H : Heap 𝓤) (A : Atoms 𝓤) (W : Given
       (are .1 .1 .1 .0) (are .1 .1 .1 .1 .0 .1) (are .1 .1 .1 .1 .1 .0 .1) C Λ fm known
       (are .0) (laws.lawful T.the-type T′.the-laws 𝓤 H A W .typed (a .0) _ (are .0) .0) (are .1 .0) (are .1 .1 .0)))
 
--- Taken to the contract.
+-- From the walk to the contract.
 meets : {M : Type 1} (𝓤 : URA M) (H : Heap 𝓤) (A : Atoms 𝓤) → Given 𝓤 H A → (mem : Memory → SProp 𝓤) (run : Routine → Fun 𝓤) (𝓣 : Tables 𝓤 H)
     → Triple 𝓤 (𝓣 .C #move-tally) (Called 𝓤 H A mem run) → Meets 𝓤 H A this.signature (WpFn 𝓤 H (𝓣 .C) (𝓣 .Λ) code.function) (this.spec 𝓤 H A mem run)
 meets 𝓤 H A W mem run 𝓣 known =

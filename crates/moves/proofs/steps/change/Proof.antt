@@ -1,7 +1,7 @@
--- `moves::steps::change` meets its contract: before turn r the counts below r are changed and their least is known (`ChangeLoop`). What is left of
--- the ring falls.
+-- `moves::steps::change` meets its contract: before turn r the counts below r are changed, and their least is known (`ChangeLoop`). The measure is the number of ring
+-- edges left.
 use Prim.Native.Nat.{_-_, _*_, _≤_}
-use mathlib.Core.Path.{_≡_, refl}
+use mathlib.Core.Path.{_≡_}
 use mathlib.Core.Logic.{⊎-elim}
 use native.Mathlib.Omega.{arith}
 use borrow.Author.Needs.{needs}
@@ -60,7 +60,7 @@ add-r c = search needs
 loop-less : tie.Need-loop-less Inv-loop μ-loop
 loop-less c = search needs
 
--- The least is the count just changed, or stays.
+-- The count just changed is the new least, or the least is kept.
 loop-again : tie.Need-loop-again Inv-loop μ-loop
 loop-again c =
     let changed = c .before in

@@ -1,9 +1,9 @@
--- `moves::steps::move_along` meets its contract: its loop is `Moving`, a turn goes on or ends the move, and the steps that are left fall.
-use Prim.Native.Nat.{_+_, _-_}
+-- `moves::steps::move_along` meets its contract: the loop keeps `Moving`, and a turn goes on or ends the move. The measure is the number of steps left.
+use Prim.Native.Nat.{_-_}
 use borrow.Author.Needs.{needs}
 use native.Mathlib.Omega.{arith}
 use Rattle.tally.proofs.WindowEdges.{fitting-length}
-use Rattle.moves.proofs.MoveLoop.{Moving, moving-start, moving-fits, moving-turn, moving-stops, moving-end}
+use Rattle.moves.proofs.MoveLoop.{Moving, moving-start, moving-has-counts, moving-turn, moving-stops, moving-end}
 use Rattle.moves.proofs.steps.move_along.Statement.{statement}
 use Rattle.moves.proofs.steps.move_along.Tie as tie
 
@@ -44,17 +44,17 @@ shared-slice-read-step-2 c =
 step-requires : tie.Need-step-requires Inv-loop μ-loop
 step-requires c κs =
     let at-loop = c .before .before .before .before .before .before in
-    moving-fits _ _ _ _ _ _ (at-loop .before .before .before .before .pre) _ _ _ _ (at-loop .loop .inv)
+    moving-has-counts _ _ _ _ _ _ (at-loop .before .before .before .before .pre) _ _ _ _ (at-loop .loop .inv)
 
 add-looks : tie.Need-add-looks Inv-loop μ-loop
 add-looks c =
     let here = c .before .before .before .before .before .before in
-    omega (arith, here .before .before .loop .inv .looks-le, c .before .step .ensures .looks-are, here .before .before .before .before .before .before .pre .fits .most)
+    omega (arith, here .before .before .loop .inv .looks-le, c .before .step .ensures .looks-are, here .before .before .before .before .before .before .pre .has-counts .most)
 
 add-i : tie.Need-add-i Inv-loop μ-loop
 add-i c = search needs
 
--- The move ends here.
+-- The least count is below the bound: the move ends here.
 returns : tie.Need-returns Inv-loop μ-loop
 returns c =
     let stepped = c .before .before in
@@ -76,7 +76,7 @@ loop-again c =
     moving-turn _ _ _ _ _ _ (at-loop .before .before .before .before .pre) _ _ _ _ (at-loop .loop .inv) (here .before .loop-test .taken)
     _ _ _ _ (here .window .ensures) (next .window2 .ensures) (stepped .step .ensures) (c .if1 .left)
 
--- All steps are made.
+-- All steps are taken.
 returns-2 : tie.Need-returns-2 Inv-loop μ-loop
 returns-2 c = moving-end _ _ _ _ _ _ (c .before .before .before .before .before .pre) _ _ _ _ (c .before .loop .inv) (c .loop-test .left)
 

@@ -1,4 +1,4 @@
--- `moves::steps::renumber` meets its contract: its loop is `Renumbering`, and r falls.
+-- `moves::steps::renumber` meets its contract: the loop keeps `Renumbering`, and the measure is r.
 use borrow.Author.Needs.{needs}
 use native.Mathlib.Omega.{arith}
 use mathlib.Core.Path.{refl}

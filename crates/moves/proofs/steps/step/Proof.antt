@@ -1,4 +1,4 @@
--- `moves::steps::step` meets its contract: the counts are changed, then renumbered, and renumbering leaves the least.
+-- `moves::steps::step` meets its contract: the counts are changed and then renumbered, and renumbering does not change their least (`SteppedCounts`).
 use borrow.Author.Needs.{needs}
 use Rattle.moves.proofs.SteppedCounts.{stepped-is}
 use Rattle.moves.proofs.steps.step.Statement.{statement}

@@ -1,5 +1,5 @@
--- `survey::plain::survey` meets its contract: the call is refused by a row, or the line is surveyed. These are the two answers of a search (`SearchAnswers` of
--- crates/findings).
+-- `survey::plain::survey` meets its contract: a row is given and the call is refused, or the line is surveyed. These are the two ways in which a search meets its
+-- contract (`SearchAnswers` of crates/findings).
 use mathlib.Core.Path.{sym, ap, _∙_}
 use borrow.Author.Needs.{needs}
 use Rattle.findings.specs.Admitting.{verdictOf}

@@ -1,4 +1,4 @@
--- `survey::plain::survey_starts` meets its contract: the loop keeps `SurveyKeeps`. In a turn the start reached is a finding or not. The places up to the line's end fall.
+-- `survey::plain::survey_starts` meets its contract: the loop keeps `SurveyKeeps`, and in a turn the start reached is a finding or not. The measure is n + 1 - i.
 use Prim.Native.Nat.{_+_, _-_}
 use native.Mathlib.Omega.{arith}
 use borrow.Author.Needs.{needs}
@@ -13,10 +13,11 @@ Inv-loop ring doubled line k counts₀ words₀ m found₀ looks₀ i₀ counts 
 abbrev μ-loop : tie.MeasureT-loop
 μ-loop ring doubled line k counts₀ words₀ m found₀ looks₀ i₀ counts words found looks i = length line + 1 - i
 
--- the start of the turn, from where the starts are verified, and from where the one reached is tested
+-- the context at the start of the turn, seen from after `verify_on`
 abbrev at-turn : tie.After-verify-on Inv-loop μ-loop → tie.In-loop Inv-loop μ-loop
 at-turn c = c .before .before
 
+-- the context after `verify_on`, seen from the test of the start reached
 abbrev at-verified : tie.After-struct-known2 Inv-loop μ-loop → tie.After-verify-on Inv-loop μ-loop
 at-verified c = c .before .before .before
 
@@ -47,7 +48,7 @@ finding-at-requires c κs = search needs
 put-finding-requires : tie.Need-put-finding-requires Inv-loop μ-loop
 put-finding-requires c κs = search needs
 
--- the test of the finding, from where its words are put
+-- the context where the start reached is known to be a finding, seen from after its words are put
 abbrev at-found : tie.After-slice-known2 Inv-loop μ-loop → tie.Then1 Inv-loop μ-loop
 at-found c = c .before .before .before .before .before .before
 

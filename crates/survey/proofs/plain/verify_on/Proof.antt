@@ -1,5 +1,4 @@
--- `survey::plain::verify_on` meets its contract: the first start is counted afresh, and from a later one on the tally of the start before is moved
--- (`SurveyCases`).
+-- `survey::plain::verify_on` meets its contract: start 0 is counted afresh, and for a later start the tally of the start before is moved (`SurveyCases`).
 use native.Mathlib.Omega.{arith}
 use borrow.Author.Needs.{needs}
 use Rattle.survey.proofs.SurveyCases.{first-verified, moved-verified}
@@ -27,18 +26,18 @@ add-move-counts c = search needs
 move-counts-requires : tie.Need-move-counts-requires
 move-counts-requires c κs = search needs
 
--- the function's entry, from the test whether it is the first start
+-- the context at the function's entry, seen from the test whether this is start 0
 abbrev at-entry : tie.After-struct-known → tie.Start
 at-entry c = c .before .before .before .before
 
--- The first start.
+-- Start 0.
 returns : tie.Need-returns
 returns c =
     let at-window = c .before in
     let tested = at-window .before .before in
     first-verified (at-entry (tested .before) .pre) (omega (arith, tested .if1 .taken)) (at-window .window .ensures) (c .count-afresh .ensures)
 
--- A later one, and those after it.
+-- A later start, and those after it.
 returns-2 : tie.Need-returns-2
 returns-2 c =
     let tested = c .before .before .before in

@@ -8,22 +8,22 @@ use Rattle.sweep.proofs.sweeping.can_sweep.Tie as tie
 
 -- No edge.
 returns : tie.Need-returns
-returns c = test-fails (can-sweep-iff _ _ _ _) (λ can. omega (arith, can .windows .some-edge, c .if1 .taken))
+returns c = test-fails (can-sweep-iff _ _ _ _) (λ can. omega (arith, can .can-read .some-edge, c .if1 .taken))
 
 -- More than a ring has.
 returns-2 : tie.Need-returns-2
-returns-2 c = test-fails (can-sweep-iff _ _ _ _) (λ can. omega (arith, can .windows .most, c .if2 .taken))
+returns-2 c = test-fails (can-sweep-iff _ _ _ _) (λ can. omega (arith, can .can-read .most, c .if2 .taken))
 
 -- More places than a line has.
 returns-3 : tie.Need-returns-3
-returns-3 c = test-fails (can-sweep-iff _ _ _ _) (λ can. omega (arith, can .windows .most-line, c .if3 .taken))
+returns-3 c = test-fails (can-sweep-iff _ _ _ _) (λ can. omega (arith, can .can-read .most-line, c .if3 .taken))
 
 add-if4 : tie.Need-add-if4
 add-if4 c = search needs
 
 -- Past the line.
 returns-4 : tie.Need-returns-4
-returns-4 c = test-fails (can-sweep-iff _ _ _ _) (λ can. omega (arith, can .windows .start-le, c .if4 .taken))
+returns-4 c = test-fails (can-sweep-iff _ _ _ _) (λ can. omega (arith, can .can-read .start-le, c .if4 .taken))
 
 -- All that is left is room for more looks.
 returns-5 : tie.Need-returns-5

@@ -7,7 +7,7 @@ use Rattle.sweep.proofs.sweeping.to_candidate.Statement.{statement}
 use Rattle.sweep.proofs.sweeping.to_candidate.Tie as tie
 
 read-windows-requires : tie.Need-read-windows-requires
-read-windows-requires c κs = c .before .before .before .pre .windows
+read-windows-requires c κs = c .before .before .before .pre .can-read
 
 -- the windows read, from where the test of the candidate stands, and the function's entry
 abbrev at-read : tie.After-struct-known3 → tie.After-read-windows

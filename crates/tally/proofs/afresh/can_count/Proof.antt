@@ -1,4 +1,4 @@
--- `tally::afresh::can_count` meets its contract: it returns false where one of the test's comparisons fails, and else the last of them (`SizesTested` of crates/lists).
+-- `tally::afresh::can_count` meets its contract: it returns false at the first comparison that fails, else the result of the last (`SizesTested` of crates/lists).
 use native.Mathlib.Omega.{arith}
 use borrow.Author.Needs.{needs}
 use Rattle.lists.proofs.SizesTested.{test-fails}
@@ -6,22 +6,22 @@ use Rattle.tally.proofs.CountCases.{can-count-iff, can-count-last}
 use Rattle.tally.proofs.afresh.can_count.Statement.{statement}
 use Rattle.tally.proofs.afresh.can_count.Tie as tie
 
--- No edge.
+-- The window has no edge.
 returns : tie.Need-returns
-returns c = test-fails (can-count-iff _ _ _) (λ can. omega (arith, can .fits .some-edge, c .if1 .taken))
+returns c = test-fails (can-count-iff _ _ _) (λ can. omega (arith, can .has-counts .some-edge, c .if1 .taken))
 
--- More than there are counts.
+-- The window has more than 256 edges.
 returns-2 : tie.Need-returns-2
-returns-2 c = test-fails (can-count-iff _ _ _) (λ can. omega (arith, can .fits .most, c .if2 .taken))
+returns-2 c = test-fails (can-count-iff _ _ _) (λ can. omega (arith, can .has-counts .most, c .if2 .taken))
 
--- More than the counts at hand.
+-- The window has more edges than there are counts.
 returns-3 : tie.Need-returns-3
-returns-3 c = test-fails (can-count-iff _ _ _) (λ can. omega (arith, can .fits .room, c .if3 .taken))
+returns-3 c = test-fails (can-count-iff _ _ _) (λ can. omega (arith, can .has-counts .room, c .if3 .taken))
 
 mul-result : tie.Need-mul-result
 mul-result c = search needs
 
--- All that is left is the ring twice.
+-- Only the length of the doubled ring is left to test.
 returns-4 : tie.Need-returns-4
 returns-4 c =
     let most = c .before in

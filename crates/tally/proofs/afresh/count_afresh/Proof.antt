@@ -9,7 +9,7 @@ use Rattle.tally.proofs.afresh.count_afresh.Tie as tie
 can-count-requires : tie.Need-can-count-requires
 can-count-requires c κs = search needs
 
--- It cannot be counted.
+-- The window cannot be counted.
 returns : tie.Need-returns
 returns c = counted-no _ _ _ (sym (c .before .can-count .ensures) ∙ not-true _ (c .if1 .taken))
 
@@ -18,7 +18,7 @@ count-edges-requires c κs =
     let tested = c .before in
     can-count-iff _ _ _ .0 (sym (tested .before .can-count .ensures) ∙ not-false _ (tested .if1 .left))
 
--- It is counted.
+-- The window is counted.
 returns-2 : tie.Need-returns-2
 returns-2 c =
     let tested = c .before .before in

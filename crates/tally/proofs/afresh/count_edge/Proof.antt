@@ -1,5 +1,5 @@
--- `tally::afresh::count_edge` meets its contract: a turn stores rotation r's count with the comparison added (`StoreLoop` of crates/lists). A count of at most 256
--- and one comparison are at most 257, which sixteen bits hold. m - r falls.
+-- `tally::afresh::count_edge` meets its contract: a turn stores rotation r's count with the comparison added (`StoreLoop` of crates/lists). A count is at most 256
+-- and a comparison adds at most 1; sixteen bits hold 257. The measure is m - r.
 use Prim.Native.Nat.{ℕ, _-_, _≤_}
 use mathlib.Core.Path.{_≡_, refl}
 use native.Mathlib.Omega.{arith}
@@ -12,7 +12,7 @@ use Rattle.tally.specs.Counts.{IsComparison, edgeCounted}
 use Rattle.tally.proofs.afresh.count_edge.Statement.{statement}
 use Rattle.tally.proofs.afresh.count_edge.Tie as tie
 
--- A comparison counts one at most.
+-- A comparison is at most 1.
 comparison-le : {a b d : ℕ} → IsComparison a b d → d ≤ 1
 comparison-le {a} {b} one = omega (arith, one .is, oneIf-le (unequal a b))
 

@@ -1,5 +1,4 @@
--- `tally::afresh::count_edges` meets its contract: its loop is `CountingAfresh`, and m - q falls. Before it the counts are cleared, after it
--- the least is taken.
+-- `tally::afresh::count_edges` meets its contract: the counts are cleared, the loop keeps `CountingAfresh`, and then the least is taken. The measure is m - q.
 use Prim.Native.Nat.{_-_}
 use mathlib.Core.Path.{sym}
 use native.Mathlib.Omega.{arith}
@@ -16,7 +15,7 @@ abbrev μ-loop : tie.MeasureT-loop
 μ-loop counts₀ doubled window m looks₀ q₀ counts looks q = m - q
 
 clear-requires : tie.Need-clear-requires Inv-loop μ-loop
-clear-requires c κs = c .before .before .before .pre .fits
+clear-requires c κs = c .before .before .before .pre .has-counts
 
 loop-holds : tie.Need-loop-holds Inv-loop μ-loop
 loop-holds c = counting-afresh-start _ _ _ _ (c .before .before .before .before .pre) (c .clear .ensures)
@@ -42,7 +41,7 @@ add-looks : tie.Need-add-looks Inv-loop μ-loop
 add-looks c =
     let turn = c .before .before .before .before in
     let pre = turn .before .before .before .before .before .before .pre in
-    omega (arith, turn .before .loop .inv .looks-le, turn .before .loop .inv .turn-le, pre .fits .most, c .count-edge .ensures .1)
+    omega (arith, turn .before .loop .inv .looks-le, turn .before .loop .inv .turn-le, pre .has-counts .most, c .count-edge .ensures .1)
 
 add-q : tie.Need-add-q Inv-loop μ-loop
 add-q c = search needs
@@ -63,7 +62,7 @@ least-of-requires c κs =
     let at-loop = c .before .before in
     let cleared = at-loop .before in
     let pre = cleared .before .before .before .before .pre in
-    counting-afresh-can _ _ _ _ pre (cleared .clear .ensures) (at-loop .loop .inv) .fits
+    counting-afresh-can _ _ _ _ pre (cleared .clear .ensures) (at-loop .loop .inv) .has-counts
 
 count-value-requires : tie.Need-count-value-requires Inv-loop μ-loop
 count-value-requires c κs = search needs

@@ -1,4 +1,4 @@
--- `tally::afresh::double` meets its contract: its loop is `Doubling`, and m - p falls.
+-- `tally::afresh::double` meets its contract: the loop keeps `Doubling`, and the measure is m - p.
 use Prim.Native.Nat.{_-_}
 use borrow.Author.Needs.{needs}
 use Rattle.tally.proofs.DoubledLoop.{Doubling, not-doubled, doubling-start, doubling-turn, doubling-end}

@@ -1,4 +1,4 @@
--- `tally::counts::clear` meets its contract: a turn stores 0 at r (`StoreLoop` of crates/lists), and m - r falls.
+-- `tally::counts::clear` meets its contract: a turn stores 0 at r (`StoreLoop` of crates/lists). The measure is m - r.
 use Prim.Native.Nat.{_-_, _≤_}
 use mathlib.Core.Path.{refl}
 use native.Mathlib.Omega.{arith}

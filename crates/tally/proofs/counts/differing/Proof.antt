@@ -7,7 +7,7 @@ use Rattle.tally.proofs.counts.differing.Tie as tie
 returns : tie.Need-returns
 returns c = record { is = simp (eq-eqb _ _ (c .if1 .taken)) }
 
--- They differ.
+-- The edges differ.
 returns-2 : tie.Need-returns-2
 returns-2 c = record { is = simp (ne-eqb _ _ (c .if1 .left)) }
 

@@ -1,4 +1,4 @@
--- `tally::counts::finding_at` meets its contract: its rotation is what `lowest_rotation` returns.
+-- `tally::counts::finding_at` meets its contract: start and distance are passed on, and the rotation is the one that `lowest_rotation` returns.
 use Prim.Native.Nat.{ℕ}
 use mathlib.Core.Path.{ap}
 use borrow.Author.Needs.{needs}

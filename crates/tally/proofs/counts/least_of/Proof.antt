@@ -1,4 +1,4 @@
--- `tally::counts::least_of` meets its contract: the least begins with the first count, each turn is one of `LeastSoFar`, and m - r falls.
+-- `tally::counts::least_of` meets its contract: the least begins with the first count, and the loop keeps `LeastSoFar`. The measure is m - r.
 use Prim.Native.Nat.{_-_, _≤_, _<_}
 use mathlib.Core.Path.{sym}
 use mathlib.Core.Logic.{⊎-elim}
@@ -32,7 +32,7 @@ add-r c = search needs
 loop-less : tie.Need-loop-less Inv-loop μ-loop
 loop-less c = search needs
 
--- The count is less, or it is not.
+-- The count is less and is taken, or it is not and the least is kept.
 loop-again : tie.Need-loop-again Inv-loop μ-loop
 loop-again c =
     let so-far = c .before .before .before .loop .inv .2 in (

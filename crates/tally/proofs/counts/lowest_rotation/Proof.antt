@@ -1,5 +1,5 @@
--- `tally::counts::lowest_rotation` meets its contract: before turn r no rotation below r has the count, and the loop ends as `LowestLoop` says. What is left of the
--- rotations falls.
+-- `tally::counts::lowest_rotation` meets its contract: before turn r no rotation below r has the count, so the loop ends at the right rotation (`LowestLoop`). The
+-- measure is the number of rotations left.
 use Prim.Native.Nat.{ℕ, _-_, _≤_, _<_}
 use mathlib.Core.Path.{_≡_, _∙_, sym}
 use native.Mathlib.Omega.{arith}
@@ -31,6 +31,7 @@ element-copy-out-count-value c = search needs
 count-value-requires : tie.Need-count-value-requires Inv-loop μ-loop
 count-value-requires c κs = search needs
 
+-- Rotation r has the count.
 returns : tie.Need-returns Inv-loop μ-loop
 returns c =
     let turn = c .before .before .before in
@@ -48,6 +49,7 @@ loop-again c =
     let at-loop = c .before .before .before .before in
     (omega arith, below-more _ _ (at-loop .loop .inv .1) (λ same. c .if1 .left (c .before .count-value .ensures ∙ same)))
 
+-- No rotation has the count.
 returns-2 : tie.Need-returns-2 Inv-loop μ-loop
 returns-2 c = seeking-ends _ _ (c .before .before .rotations .ensures) (omega arith) (c .before .loop .inv .1) (λ l. absurd (omega (arith, c .loop-test .left)))
 

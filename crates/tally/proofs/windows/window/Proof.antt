@@ -1,4 +1,4 @@
--- `tally::windows::window` meets its contract: its returns are the two cases of `WindowEdges`, and the two tests say which case it is.
+-- `tally::windows::window` meets its contract: the two tests decide whether m edges from i on fit in the line, and the returns are these two cases (`WindowEdges`).
 use native.Mathlib.Omega.{arith}
 use borrow.Author.Needs.{needs}
 use Rattle.tally.proofs.WindowEdges.{no-window, part-window}
@@ -14,7 +14,7 @@ part-result-start c = search needs
 part-result-end : tie.Need-part-result-end
 part-result-end c = search needs
 
--- The line is too short.
+-- The line has fewer than m edges.
 returns : tie.Need-returns
 returns c = no-window _ _ _ (omega (arith, c .before .if1 .taken))
 
@@ -30,7 +30,7 @@ part-result-start-2 c = search needs
 part-result-end-2 : tie.Need-part-result-end-2
 part-result-end-2 c = search needs
 
--- The window does not end in the line.
+-- A window at i would end past the line.
 returns-2 : tie.Need-returns-2
 returns-2 c = no-window _ _ _ (omega (arith, c .before .if2 .taken, c .before .before .if1 .left))
 
@@ -46,7 +46,7 @@ part-result-start-3 c = search needs
 part-result-end-3 : tie.Need-part-result-end-3
 part-result-end-3 c = search needs
 
--- A start.
+-- The window fits in the line.
 returns-3 : tie.Need-returns-3
 returns-3 c = part-window _ _ _ (omega (arith, c .before .if2 .left, c .before .before .if1 .left))
 
