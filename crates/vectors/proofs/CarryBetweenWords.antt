@@ -1,5 +1,5 @@
--- The shift down by one. In a word shifted with its carry (`x >> 1 | next << 63`) each bit but the top is the next higher one, and the top
--- is the next word's lowest. So in the vector bit i is what bit i + 1 was, within a word, between two, and past the last.
+-- The shift down by one. In a word shifted with its carry (`x >> 1 | next << 63`) each bit below the top is the next higher one, and the top is the next
+-- word's lowest. So bit i of the shifted vector is what bit i + 1 was: within a word, between two words, and past the last.
 use mathlib.Core.Path.{_≡_, refl, sym, _∙_}
 use mathlib.Core.List.{List}
 use mathlib.Core.Logic.{dite}
@@ -36,7 +36,7 @@ pub shifted-length : (ws : List ℕ) → length (shifted ws) ≡ length ws
 unfolding shifted
 shifted-length ws = listOf-length (length ws) (λ w. shiftedWord (getD ws w 0) (getD ws (w + 1) 0))
 
--- Each of its words is shifted with its carry.
+-- Each word of the shifted vector is shifted with its carry.
 pub shifted-word : (ws : List ℕ) (w : ℕ) → w < length ws → getD (shifted ws) w 0 ≡ shiftedWord (getD ws w 0) (getD ws (w + 1) 0)
 unfolding shifted
 shifted-word ws w h = listOf-at (length ws) (λ w. shiftedWord (getD ws w 0) (getD ws (w + 1) 0)) w h
@@ -59,11 +59,11 @@ module _ (ws : List ℕ) (i : ℕ) where
       ) refl
       ∙ sym (isSet-word ws (i + 1) (i / wordBits + 1) 0 (omega arith) (omega arith)))
 
-  -- Past the last word there is none before and none after.
+  -- Past the last word no bit is set, before or after.
   from-nowhere : wordBits * length ws ≤ i → isSet (shifted ws) i ≡ isSet ws (i + 1)
   from-nowhere h = isSet-past (shifted ws) i (omega (arith, shifted-length ws)) ∙ sym (isSet-past ws (i + 1) (omega arith))
 
--- The shifted vector is shifted.
+-- Bit i of the shifted vector is what bit i + 1 was.
 pub shifted-is : (ws : List ℕ) → Vector ws → Shifted ws (shifted ws)
 shifted-is ws vector = record {
   each = λ i. dite (decLt i (wordBits * length ws))

@@ -1,6 +1,6 @@
--- The loop that makes every code's occurrence vector in one pass over the ring, in a table of vectors laid one behind the other by code: at place r,
--- bit r of the vector of the code there is put in. For that code it is the turn of a place with the code; every other code's vector
--- lies elsewhere in the table, since its first word is at least a whole vector away.
+-- The loop that makes the occurrence vectors of all codes in one pass over the ring, in a table of vectors, one after the other by rising code. Turn r puts in
+-- bit r of the vector of the code at place r. For that code this is the turn of OneCodeOccurs. The vectors of all other codes lie elsewhere in the table, a
+-- whole vector away or more, and stay as they are.
 use mathlib.Core.Path.{_≡_, sym}
 use mathlib.Core.List.{List}
 use mathlib.Core.Logic.{dite}
@@ -22,18 +22,18 @@ vectors-apart code other count i j differ h l e = dite (decLt code other)
     (λ below. omega (arith, mul-le-mul-right count below, suc-mul code count))
     (λ above. let over : other < code = omega (arith, above, differ) in omega (arith, mul-le-mul-right count over, suc-mul other count))
 
--- Before turn r of the loop over the ring's places: each code's vector is right below r.
+-- The invariant before turn r: each code's vector is right below r (`OccursBelow`).
 pub record TableBelow (ring : List ℕ) (count : ℕ) (table : List ℕ) (r : ℕ) : Type 0 where
   pub each : (code : ℕ) → OccursBelow ring code (vectorAt table (code * count) count) r
 
 module _ (ring : List ℕ) (count : ℕ) (room : length ring ≤ wordBits * count) where
-  -- Before the first turn no bit of the table is set.
+  -- The invariant holds before the first turn, if no bit of the table is set.
   pub table-below-start : (table : List ℕ) → NoBit table → TableBelow ring count table 0
   table-below-start table no-bit = record {
     each = λ code. occurs-below-start ring code (vectorAt table (code * count) count) (part-no-bit table (code * count) count no-bit);
   }
 
-  -- A place's turn, however the bit is put in: bit r of the vector of the code at place r.
+  -- Turn r keeps the invariant, if it puts in bit r of the vector of the code at place r, in whatever way.
   table-below-put : (table new : List ℕ) (r : ℕ) → TableBelow ring count table r → r < length ring
       → Put table (wordBits * (getD ring r 0 * count) + r) 1 new → TableBelow ring count new (r + 1)
   table-below-put table new r known h put = record {
@@ -51,7 +51,7 @@ module _ (ring : List ℕ) (count : ℕ) (room : length ring ≤ wordBits * coun
   table-word-lt : (codes code r : ℕ) → code < codes → r < length ring → code * count + r / wordBits < codes * count
   table-word-lt codes code r h l = omega (arith, mul-le-mul-right count h, suc-mul code count)
 
-  -- A turn stores the word that holds the place's bit, with that bit put in.
+  -- Turn r keeps the invariant by storing the word that holds that bit, with the bit put in.
   pub table-below-turn : (codes : ℕ) (table : List ℕ) (r at : ℕ) → TableBelow ring count table r → r < length ring → getD ring r 0 < codes
       → codes * count ≤ length table → at ≡ getD ring r 0 * count + r / wordBits
       → TableBelow ring count (set table at (putWord (getD table at 0) (r % wordBits) 1)) (r + 1)

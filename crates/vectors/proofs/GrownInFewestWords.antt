@@ -1,5 +1,5 @@
--- Where a vector of m bits is kept in as few words as hold them, growing word by word is growing: every word but the last is shifted with its carry; the
--- last has no bit above it to take, so what comes into it is what was bit 0, at bit m − 1; and the words behind are 0 before and after.
+-- If a vector of m bits is kept in the fewest words that hold them, growing it word by word (`grownWords`) is growing it (`grown`). Every word but the last is
+-- shifted with its carry. No bit above the last word comes into it, only what was bit 0, at bit m − 1. The words behind are 0 before and after.
 use mathlib.Core.Path.{_≡_, refl, sym, _∙_}
 use mathlib.Core.List.{List}
 use mathlib.Core.Logic.{dite}
@@ -21,14 +21,14 @@ module _ (m count : ℕ) (occurs held : List ℕ) (some : 0 < m) (most : m ≤ v
   held-spare : (w : ℕ) → count ≤ w → getD held w 0 ≡ 0
   held-spare w h = within-spare m held (is .words) (is .within) w (omega arith)
 
-  -- A word that does not hold bit m − 1, of the first `count`.
+  -- The two agree in a word of the first `count` that does not hold bit m − 1.
   word-inner : (w : ℕ) → w + 1 < count → getD (grownWords m count occurs held) w 0 ≡ getD (grown m occurs held) w 0
   word-inner w h =
       let all : min count vectorWords ≡ count = omega arith in
       grown-words-word m count occurs held w (omega arith)
       ∙ rw (all, carry-next m count held w h) (sym (grown-word-inner m occurs held w (omega arith) (λ e. omega arith)))
 
-  -- The word that holds bit m − 1.
+  -- The two agree in the word that holds bit m − 1.
   word-last : (w : ℕ) → w + 1 ≡ count → getD (grownWords m count occurs held) w 0 ≡ getD (grown m occurs held) w 0
   word-last w h =
       let all : min count vectorWords ≡ count = omega arith in
@@ -38,13 +38,13 @@ module _ (m count : ℕ) (occurs held : List ℕ) (some : 0 < m) (most : m ≤ v
       (sym (grown-word-last m occurs held w (omega arith) (omega arith)
       ∙ rw (held-spare (w + 1) (omega arith), or-zero-r (getD held w 0 / 2 ^ 1)) refl))
 
-  -- The words behind.
+  -- The two agree in the words behind.
   word-spare : (w : ℕ) → count ≤ w → w < vectorWords → getD (grownWords m count occurs held) w 0 ≡ getD (grown m occurs held) w 0
   word-spare w h l =
       grown-words-past m count occurs held w (omega arith)
       ∙ sym (grown-word-inner m occurs held w (omega arith) (λ e. omega arith) ∙ rw (held-spare w h, held-spare (w + 1) (omega arith)) refl)
 
-  -- Grown word by word it is the grown vector.
+  -- The vector grown word by word is the grown vector.
   grown-words-are : grownWords m count occurs held ≡ grown m occurs held
   grown-words-are = ext-getD 0 (grownWords m count occurs held) (grown m occurs held)
       (grown-words-length m count occurs held ∙ (sym (is .size) ∙ sym (grown-length m occurs held)))
@@ -52,6 +52,6 @@ module _ (m count : ℕ) (occurs held : List ℕ) (some : 0 < m) (most : m ≤ v
       (λ not-inner. dite (decLt w count) (λ last. word-last w (omega (arith, not-inner)))
       (λ past. word-spare w (omega (arith, past)) (omega (arith, grown-words-length m count occurs held)))))
 
-  -- So bit r of it is set exactly when bit (r + 1) mod m was and the edge occurs at r, and no bit from m on is.
+  -- In the vector grown word by word, bit r below m is set exactly when bit (r + 1) mod m was and the edge occurs at r, and no bit from m on is set.
   pub grown-words-is : Grown m occurs held (grownWords m count occurs held)
   grown-words-is = rw grown-words-are (grown-is m occurs held (is .words) some (omega (arith, is .size)) (is .within))

@@ -1,5 +1,5 @@
--- The held vector grown by one edge: rotated, then AND. A bit of `x & y` is set where both are; so a bit below m is set exactly when the rotated
--- one is and the edge occurs there, and from m on the rotated vector has none. Which machine word gives each word is said at the end.
+-- The held vector grown by one edge: rotated, then AND the edge's occurrence vector. A bit of `x & y` is set exactly when it is set in both. So a bit below m is
+-- set exactly when the rotated one is and the edge occurs there; from m on the rotated vector has no bit. The last two laws give the grown vector word by word.
 use mathlib.Core.Path.{_≡_, refl, _∙_}
 use mathlib.Core.List.{List}
 use mathlib.Core.Logic.{dite}
@@ -17,17 +17,17 @@ use Rattle.lists.proofs.ByPlace.{listOf-length, listOf-at}
 use Rattle.vectors.proofs.WrapToLastBit.{rotated-is, rotated-length, rotated-word-inner, rotated-word-last}
 
 module _ (xs ys : List ℕ) where
-  -- The vector of both has as many words as the first.
+  -- `both xs ys` has as many words as xs.
   both-length : length (both xs ys) ≡ length xs
   unfolding both
   both-length = listOf-length (length xs) (λ w. bitAnd (getD xs w 0) (getD ys w 0))
 
-  -- Each of its words is the AND of the two.
+  -- Each word of `both xs ys` is the AND of the two words.
   both-word : (w : ℕ) → w < length xs → getD (both xs ys) w 0 ≡ bitAnd (getD xs w 0) (getD ys w 0)
   unfolding both
   both-word w h = listOf-at (length xs) (λ w. bitAnd (getD xs w 0) (getD ys w 0)) w h
 
-  -- In it a bit is set exactly when it is set in both.
+  -- A bit of `both xs ys` is set exactly when it is set in both.
   both-is : Both xs ys (both xs ys)
   unfolding both
   both-is = record {
@@ -39,7 +39,7 @@ module _ (xs ys : List ℕ) where
         ∙ rw (isSet-past xs i (omega (arith, past))) refl);
   }
 
--- Rotated, and then AND the occurrence vector: grown, however the words are kept.
+-- A vector rotated, and then AND the occurrence vector, is grown, however it is computed.
 grown-of : (m : ℕ) (occurs old mid new : List ℕ) → Rotated m old mid → Both mid occurs new → Grown m occurs old new
 grown-of m occurs old mid new turn and = record {
   each = λ r h. and .each r ∙ rw (turn .next r h) refl;
@@ -47,29 +47,29 @@ grown-of m occurs old mid new turn and = record {
 }
 
 module _ (m : ℕ) (occurs held : List ℕ) where
-  -- The grown vector is grown.
+  -- `grown` gives the grown vector: bit r below m is set exactly when bit (r + 1) mod m was and the edge occurs at r, and no bit from m on is set.
   pub grown-is : Vector held → 0 < m → m ≤ wordBits * length held → WithinBits m held → Grown m occurs held (grown m occurs held)
   unfolding grown
   grown-is vector some room within =
       grown-of m occurs held (rotated m held) (both (rotated m held) occurs) (rotated-is m held vector some room within) (both-is (rotated m held) occurs)
 
-  -- What has grown still has m bits.
+  -- The grown vector has no bit from m on.
   pub grown-within : (new : List ℕ) → Grown m occurs held new → WithinBits m new
   grown-within new g = record { rest = g .rest }
 
-  -- The grown vector has as many words.
+  -- The grown vector has as many words as the held one.
   pub grown-length : length (grown m occurs held) ≡ length held
   unfolding grown
   grown-length = both-length (rotated m held) occurs ∙ rotated-length m held
 
-  -- A word that does not hold bit m − 1: `(x >> 1 | next << 63) & occurs`.
+  -- A word of the grown vector that does not hold bit m − 1 is `(x >> 1 | next << 63) & occurs`.
   pub grown-word-inner : (w : ℕ) → w < length held → (w ≡ (m - 1) / wordBits → ⊥)
       → getD (grown m occurs held) w 0 ≡ bitAnd (shiftedWord (getD held w 0) (getD held (w + 1) 0)) (getD occurs w 0)
   unfolding grown
   grown-word-inner w h inner =
       both-word (rotated m held) occurs w (omega (arith, rotated-length m held)) ∙ rw (rotated-word-inner m w held h inner) refl
 
-  -- The word that holds bit m − 1: `(x >> 1 | next << 63 | first << (m - 1) % 64) & occurs`.
+  -- The word of the grown vector that holds bit m − 1 is `(x >> 1 | next << 63 | first << (m - 1) % 64) & occurs`.
   pub grown-word-last : (w : ℕ) → w < length held → w ≡ (m - 1) / wordBits
       → getD (grown m occurs held) w 0
       ≡ bitAnd (putWord (shiftedWord (getD held w 0) (getD held (w + 1) 0)) ((m - 1) % wordBits) (bit (getD held 0 0) 0)) (getD occurs w 0)

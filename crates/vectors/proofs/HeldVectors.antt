@@ -1,6 +1,6 @@
--- What a caller of this crate's functions cites: their answers are what `Bits` and `Holding` mean, for a vector of m bits in as few words as hold
--- them. Such a vector (`HeldVector`) is what `first_bits` hands out and what `grown` hands on, so a loop keeps it. All is proved elsewhere
--- and gathered here: nothing past this file looks at a word.
+-- What a caller of this crate's functions cites: for a vector of m bits in the fewest words that hold them, the functions return what `Bits` and `Holding` mean.
+-- `first_bits` returns such a vector (`HeldVector`), and `grown` keeps it one, so it is a loop's invariant. The proofs are in the other modules; who uses this
+-- one need not look at words.
 use mathlib.Core.Path.{_≡_, refl, _∙_}
 use mathlib.Core.Bool.{true, false, _&&_}
 use mathlib.Core.List.{List}
@@ -21,7 +21,7 @@ use Rattle.vectors.proofs.GrownInFewestWords.{grown-words-is}
 use Rattle.vectors.proofs.PartOfTable.{part-vector}
 
 module _ (m : ℕ) (most : m ≤ vectorBits) where
-  -- What `first_bits` answers is a vector of m bits.
+  -- `first_bits` returns a vector of m bits.
   pub first-held : HeldVector m (firstBits m vectorWords)
   first-held = record {
     size = first-bits-length m vectorWords;
@@ -29,12 +29,12 @@ module _ (m : ℕ) (most : m ≤ vectorBits) where
     within = first-bits-within m (firstBits m vectorWords) (first-bits-is m vectorWords most);
   }
 
-  -- Each of them is set.
+  -- In what `first_bits` returns, each of the m bits is set.
   pub first-set : (r : ℕ) → r < m → isSet (firstBits m vectorWords) r ≡ true
   first-set r h = first-bits-is m vectorWords most .low r h
 
 module _ (m count : ℕ) (occurs held : List ℕ) (some : 0 < m) (most : m ≤ vectorBits) (few : count ≡ wordCount m) (is : HeldVector m held) where
-  -- What `grown` answers is again a vector of m bits.
+  -- `grown` returns a vector of m bits again.
   grown-held : Vector occurs → HeldVector m (grownWords m count occurs held)
   grown-held vector = record {
     size = grown-words-length m count occurs held;
@@ -43,30 +43,30 @@ module _ (m count : ℕ) (occurs held : List ℕ) (some : 0 < m) (most : m ≤ v
   }
 
 module _ (m count : ℕ) (held : List ℕ) (few : count ≡ wordCount m) (is : HeldVector m held) where
-  -- `no_bit` says yes exactly when none of the m bits is set.
+  -- `no_bit` returns true exactly when none of the m bits is set.
   pub no-bit-iff : (noBit held count ≡ true) ↔ ((r : ℕ) → r < m → isSet held r ≡ false)
   no-bit-iff = rw few (noBit-iff m held (is .words) (is .within))
 
-  -- Where `no_bit` says no, here is one that is.
+  -- If `no_bit` returns false, one of the m bits is set.
   pub no-bit-no : noBit held count ≡ false → (r : ℕ) × (r < m) × (isSet held r ≡ true)
   no-bit-no said = noBit-no m held (is .words) (is .within) (rw few at said)
 
 module _ (ring table : List ℕ) (code : ℕ) (is : Occurrences ring table) where
-  -- What `vector_of` answers, of a ring that a vector has a bit for each edge of, is the code's occurrence vector.
+  -- `vector_of` returns the code's occurrence vector, if the ring has at most as many edges as a vector has bits.
   pub vector-occurs : length ring ≤ vectorBits → Occurs ring code (vectorAt table (code * vectorWords) vectorWords)
   vector-occurs most = rw (take-all vectorBits ring most) at (is .each .each code)
 
-  -- Its words are machine words.
+  -- The words of what `vector_of` returns are machine words.
   vector-words : Vector (vectorAt table (code * vectorWords) vectorWords)
   vector-words = part-vector table (code * vectorWords) vectorWords (is .words)
 
--- One turn of the loop that reads a window: the grown vector is again one of m bits, and its bit r is set exactly when bit (r + 1) mod m was and
--- the ring has the edge that was read at place r.
+-- One turn of the loop that reads a window: `new` is again a vector of m bits, and its bit r is set exactly when bit (r + 1) mod m of `held` was set and the
+-- ring has the edge code at place r.
 pub record GrownByEdge (m : ℕ) (ring : List ℕ) (code : ℕ) (held new : List ℕ) : Type 0 where
   pub vector : HeldVector m new
   pub each : (r : ℕ) → r < m → isSet new r ≡ (isSet held ((r + 1) % m) && eqb (getD ring r 0) code)
 
--- The answers of `occurrences`, `vector_of` and `grown` together make it.
+-- What `occurrences`, `vector_of` and `grown` return makes one such turn.
 pub grown-by-edge : (m count code : ℕ) (ring table occurs held new : List ℕ) → m ≡ length ring → 0 < m → m ≤ vectorBits → count ≡ wordCount m
     → Occurrences ring table → HeldVector m held → occurs ≡ vectorAt table (code * vectorWords) vectorWords → new ≡ grownWords m count occurs held
     → GrownByEdge m ring code held new

@@ -1,5 +1,5 @@
--- The words of a vector joined by `|`, as the code joins them: four of them one by one, those from the count on as 0. A word that is 0 joins nothing, so the join is
--- that of the first words, as many as are asked and the vector has; compared with 0 it is the test `noBit`.
+-- The words of a vector joined by `|`, as the code joins them: all four one by one, those from the count on as 0. A word that is 0 changes nothing, so this is
+-- the join of the first `asked` words, or of all four if `asked` is more. Compared with 0 it is the test `noBit`.
 use mathlib.Core.Path.{_≡_, refl, sym, _∙_}
 use mathlib.Core.Bool.{cond}
 use mathlib.Core.List.{List}
@@ -14,23 +14,23 @@ use borrow.Author.Tests.{lt-ltb, le-ltb}
 use Rattle.vectors.specs.Bits.{orBelow, noBit}
 use Rattle.vectors.specs.ByValue.{vectorWords}
 
--- A word that is 0 joins nothing.
+-- A word that is 0 does not change the join.
 or-below-more : (ws : List ℕ) (count : ℕ) → getD ws count 0 ≡ 0 → orBelow ws (suc count) ≡ orBelow ws count
 unfolding orBelow
 or-below-more ws count e = rw (e, or-zero-r (orBelow ws count)) refl
 
--- Nor do the words past the last.
+-- Nor do words past the last.
 or-below-past : (ws : List ℕ) (count : ℕ) → length ws ≤ count → orBelow ws count ≡ orBelow ws (length ws)
 or-below-past ws zero h = let e : length ws ≡ 0 = omega arith in rw e refl
 or-below-past ws (suc count) h = dite (ℕ-discrete (length ws) (suc count)) (λ e. rw e refl)
     (λ longer. or-below-more ws count (List·getD-eq-default ws 0 {n = count} (omega (arith, longer))) ∙ or-below-past ws count (omega (arith, longer)))
 
--- Word w where it is one of the first `words`, else 0.
+-- Word w if it is one of the first `words`, else 0.
 abbrev pub wordBelow : List ℕ → ℕ → ℕ → ℕ
 wordBelow ws words w = cond (ltb w words) (getD ws w 0) 0
 
 module _ (ws : List ℕ) (words : ℕ) where
-  -- The join of the first words, w at most, with word w is that of w + 1 at most.
+  -- The join of the first min(w, words) words, with word w joined, is the join of the first min(w + 1, words).
   join-more : (w : ℕ) → bitOr (orBelow ws (min w words)) (wordBelow ws words w) ≡ orBelow ws (min (suc w) words)
   unfolding orBelow
   join-more w = dite (decLt w words)
@@ -41,8 +41,8 @@ module _ (ws : List ℕ) (words : ℕ) where
       let new : min (suc w) words ≡ words = omega (arith, past) in
       rw (le-ltb w words (omega (arith, past)), old, new) (or-zero-r (orBelow ws words)))
 
-  -- Four words, those from the count on as 0, joined one by one and compared with 0, are the test of the first `asked` words, of which the vector has
-  -- `words`.
+  -- The four words, those from `words` on as 0, joined one by one and compared with 0, are the test `noBit` of the first `asked` words; `words` is `asked`, at
+  -- most 4.
   pub joined-is : (asked a b c d : ℕ) → length ws ≡ vectorWords → words ≡ min asked vectorWords → a ≡ wordBelow ws words 0 → b ≡ wordBelow ws words 1 → c ≡ wordBelow ws words 2
       → d ≡ wordBelow ws words 3 → eqb (bitOr (bitOr (bitOr a b) c) d) 0 ≡ noBit ws asked
   unfolding noBit orBelow

@@ -1,5 +1,5 @@
--- The loop over a ring's first places that makes the table of its occurrence vectors, four words each, out of a table of zeros: before turn r each code's
--- vector is right below r (`TableBelow`), and the table is still one of as many machine words.
+-- The loop of `occurrences`, over a ring's first 256 places: it makes the table of occurrence vectors, four words each, from a table of zeros. Before turn r each
+-- code's vector is right below r (`TableBelow`), and the table still has its length and machine words.
 use mathlib.Core.Path.{_≡_, refl, sym, _∙_}
 use mathlib.Core.List.{List}
 use mathlib.Core.Logic.{dite}
@@ -17,7 +17,7 @@ use Rattle.vectors.proofs.VectorBits.{vector-set}
 use Rattle.vectors.proofs.NoBitIsSet.{no-bit-of-words}
 use Rattle.vectors.proofs.EveryCodeOccurs.{TableBelow, table-below-start, table-below-turn, table-below-end}
 
--- Before turn r of the loop over the ring's places.
+-- The invariant before turn r.
 pub record OccurrencesBelow (ring table : List ℕ) (r : ℕ) : Type 0 where
   pub size : length table ≡ edgeCodes * vectorWords
   pub words : Vector table
@@ -28,12 +28,12 @@ zeros-word : (n w : ℕ) → getD (replicate {A = ℕ} n 0) w 0 ≡ 0
 zeros-word n w = dite (decLt w n) (getD-replicate {A = ℕ} n w 0 0)
     (λ past. List·getD-eq-default {A = ℕ} (replicate n 0) 0 {n = w} (omega (arith, past, length-replicate {A = ℕ} n 0)))
 
--- A vector has room for the places that count.
+-- A vector has a bit for each of the first 256 places.
 room : (ring : List ℕ) → length (take vectorBits ring) ≤ wordBits * vectorWords
 room ring = simp length-take (omega arith)
 
 module _ (ring : List ℕ) where
-  -- Before the first turn every word is 0.
+  -- The invariant holds before the first turn, with every word 0.
   pub occurrences-start : OccurrencesBelow ring (replicate (edgeCodes * vectorWords) 0) 0
   occurrences-start = record {
     size = length-replicate {A = ℕ} (edgeCodes * vectorWords) 0;
@@ -42,7 +42,7 @@ module _ (ring : List ℕ) where
         (no-bit-of-words (replicate (edgeCodes * vectorWords) 0) (zeros-word (edgeCodes * vectorWords)));
   }
 
-  -- A turn stores the word that holds the place's bit, with that bit put in.
+  -- Turn r keeps the invariant by storing the word that holds bit r of the vector of the code at place r, with the bit put in.
   pub occurrences-turn : (table : List ℕ) (r code at : ℕ) → OccurrencesBelow ring table r → r < length ring → r < vectorBits → code ≡ getD ring r 0
       → code < edgeCodes → at ≡ code * vectorWords + r / wordBits
       → OccurrencesBelow ring (set table at (putWord (getD table at 0) (r % wordBits) 1)) (r + 1)
@@ -56,7 +56,7 @@ module _ (ring : List ℕ) where
             (simp length-take (omega arith)) (omega arith) (omega (arith, known .size)) (there ∙ rw (sym edge) refl);
       }
 
-  -- At the end it is the table of the ring's occurrence vectors.
+  -- At the end the table is the table of the ring's occurrence vectors.
   pub occurrences-end : (table : List ℕ) (r : ℕ) → OccurrencesBelow ring table r → length (take vectorBits ring) ≤ r → Occurrences ring table
   occurrences-end table r known h = record {
     size = known .size;

@@ -1,5 +1,5 @@
--- Any two answers of a function on vectors are equal. Of those held by value each contract is one equation; a table of occurrence vectors is known by its bits, so only
--- one is the ring's.
+-- Any two answers of a function of this crate are equal. The contracts of `first_bits`, `grown`, `no_bit` and `vector_of` are one equation each. The contract of
+-- `occurrences` gives every bit of the table, and two vectors with the same bits and word count are equal.
 use mathlib.Core.Path.{_≡_, sym, _∙_}
 use mathlib.Core.Bool.{Bool}
 use mathlib.Core.List.{List}
@@ -33,7 +33,7 @@ pub vector-of-unique : (table : List ℕ) (code : ℕ) (a b : List ℕ) → a �
 vector-of-unique table code a b p q = p ∙ sym q
 
 module _ (ring a b : List ℕ) (is-a : Occurrences ring a) (is-b : Occurrences ring b) where
-  -- bit q of a code's vector is the same in two tables of one ring
+  -- Bit q of a code's vector is the same in two tables of one ring.
   same-bit : (code q : ℕ) → q < vectorBits → isSet a (wordBits * (code * vectorWords) + q) ≡ isSet b (wordBits * (code * vectorWords) + q)
   same-bit code q h =
       let at-a : Occurs (take vectorBits ring) code (vectorAt a (code * vectorWords) vectorWords) = is-a .each .each code in
@@ -44,7 +44,7 @@ module _ (ring a b : List ℕ) (is-a : Occurrences ring a) (is-b : Occurrences r
       (λ past. at-a .rest q (omega (arith, past)) ∙ sym (at-b .rest q (omega (arith, past))))
       ∙ part-isSet b (code * vectorWords) vectorWords q h)
 
-  -- Any two tables that `occurrences` leaves are equal: a ring has one only.
+  -- Any two tables that meet the contract of `occurrences` are equal.
   pub occurrences-unique : a ≡ b
   occurrences-unique = vector-unique a b (is-a .words) (is-b .words) (is-a .size ∙ sym (is-b .size))
       (λ i. let e : wordBits * (i / vectorBits * vectorWords) + i % vectorBits ≡ i = omega arith in

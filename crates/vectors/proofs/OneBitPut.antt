@@ -1,5 +1,5 @@
--- One bit put into a vector. In its word `b << j` is b at place j and 0 elsewhere, so `x | b << j` has that bit set if it was or if b is 1, and
--- every other bit as it was; every other word is kept.
+-- One bit put into a vector. In a word, `b << j` is b at place j and 0 elsewhere. So in `x | b << j` bit j is set if it was or if b is 1, and every other bit is
+-- as it was. All other words are kept.
 use mathlib.Core.Path.{_≡_, refl, sym, _∙_}
 use mathlib.Core.Bool.{_||_, or-false}
 use mathlib.Core.List.{List}
@@ -15,16 +15,16 @@ use Rattle.vectors.proofs.WordBits.{bit-mod, bit-lone-there, bit-lone-e
 use Rattle.vectors.proofs.VectorBits.{isSet-word, isSet-set-same, isSet-set-other, test-or}
 
 module _ (x j b : ℕ) (bit-b : b < 2) where
-  -- In a word, the place put in is set if it was or if b is 1.
+  -- In the word, bit j is set if it was or if b is 1.
   put-word-there : j < wordBits → eqb (bit (putWord x j b) j) 1 ≡ (eqb (bit x j) 1 || eqb b 1)
   put-word-there h = test-or x (b * 2 ^ j % 2 ^ wordBits) j ∙ rw (bit-mod (b * 2 ^ j) j wordBits h, bit-lone-there b j bit-b) refl
 
-  -- In a word, every other place is as it was.
+  -- In the word, every other bit is as it was.
   put-word-else : (l : ℕ) → l < wordBits → (l ≡ j → ⊥) → eqb (bit (putWord x j b) l) 1 ≡ eqb (bit x l) 1
   put-word-else l h other =
       test-or x (b * 2 ^ j % 2 ^ wordBits) l ∙ rw (bit-mod (b * 2 ^ j) l wordBits h, bit-lone-else b j l bit-b other) (or-false (eqb (bit x l) 1))
 
--- The vector with one bit put in has it, and no other bit has changed.
+-- In `putBit ws i b`, bit i is set if it was or if b is 1, and no other bit has changed, if the vector has a bit i.
 pub put-is : (ws : List ℕ) (i b : ℕ) → b < 2 → i < wordBits * length ws → Put ws i b (putBit ws i b)
 unfolding putBit
 put-is ws i b bit-b h =

@@ -1,5 +1,5 @@
--- The loop over the ring's places that makes an edge code's occurrence vector out of one with no bit set: before turn r the bits below r are right
--- and no other is set. A place with the code has its bit put in, which was not set; any other place has its bit right already.
+-- The loop over the ring's places that makes one edge code's occurrence vector from a vector with no bit set. Before turn r the bits below r are right, and no
+-- other bit is set. If place r has the code, bit r is put in; if not, bit r is not set, which is right.
 use mathlib.Core.Path.{_≡_, sym, _∙_}
 use mathlib.Core.Bool.{false}
 use mathlib.Core.List.{List}
@@ -13,18 +13,18 @@ use borrow.Author.Tests.{eq-eqb, ne-eqb}
 use Rattle.vectors.specs.Bits.{isSet, Put, NoBit}
 use Rattle.vectors.specs.Holding.{Occurs}
 
--- Before turn r: the bits below r tell where the ring has the code, and no other bit is set.
+-- The invariant before turn r: bit q below r is set exactly when the ring has the code at place q, and no bit from r on is set.
 pub record OccursBelow (ring : List ℕ) (code : ℕ) (ws : List ℕ) (r : ℕ) : Type 0 where
   pub turn-le : r ≤ length ring
   pub below : (q : ℕ) → q < r → isSet ws q ≡ eqb (getD ring q 0) code
   pub rest : (i : ℕ) → r ≤ i → isSet ws i ≡ false
 
 module _ (ring : List ℕ) (code : ℕ) where
-  -- Before the first turn no bit is set.
+  -- The invariant holds before the first turn, with no bit set.
   pub occurs-below-start : (ws : List ℕ) → NoBit ws → OccursBelow ring code ws 0
   occurs-below-start ws no-bit = record { turn-le = omega arith; below = λ q h. absurd (omega arith); rest = λ i h. no-bit .none i }
 
-  -- A place with the code has its bit put in.
+  -- If place r has the code, putting in bit r keeps the invariant.
   pub occurs-below-turn-yes : (ws new : List ℕ) (r : ℕ) → OccursBelow ring code ws r → r < length ring → getD ring r 0 ≡ code → Put ws r 1 new
       → OccursBelow ring code new (r + 1)
   occurs-below-turn-yes ws new r known h same put = record {
@@ -35,7 +35,7 @@ module _ (ring : List ℕ) (code : ℕ) where
     rest = λ i l. put .others i (λ e. omega arith) ∙ known .rest i (omega arith);
   }
 
-  -- A place with another code leaves the vector as it is.
+  -- If place r has another code, leaving the vector as it is keeps the invariant.
   pub occurs-below-turn-no : (ws : List ℕ) (r : ℕ) → OccursBelow ring code ws r → r < length ring → (getD ring r 0 ≡ code → ⊥)
       → OccursBelow ring code ws (r + 1)
   occurs-below-turn-no ws r known h differs = record {
@@ -46,10 +46,10 @@ module _ (ring : List ℕ) (code : ℕ) where
     rest = λ i l. known .rest i (omega arith);
   }
 
-  -- At the end it is the code's occurrence vector.
+  -- At the end the vector is the code's occurrence vector.
   pub occurs-below-end : (ws : List ℕ) (r : ℕ) → OccursBelow ring code ws r → length ring ≤ r → Occurs ring code ws
   occurs-below-end ws r known h = record { each = λ q l. known .below q (omega arith); rest = λ i l. known .rest i (omega (arith, known .turn-le)) }
 
-  -- What is known of a vector before a turn is known of one with the same bits.
+  -- If the invariant holds for a vector, it holds for every vector with the same bits.
   pub occurs-below-same : (ws new : List ℕ) (r : ℕ) → OccursBelow ring code ws r → ((i : ℕ) → isSet new i ≡ isSet ws i) → OccursBelow ring code new r
   occurs-below-same ws new r known same = record { turn-le = known .turn-le; below = λ q h. same q ∙ known .below q h; rest = λ i h. same i ∙ known .rest i h }

@@ -1,6 +1,6 @@
--- The bits of a vector, from those of its words. A bit is found by its word and its place there (`isSet-word`); past the last word none is set.
--- As tests, the lesser of two bits is `&&` and the greater is `||`. A vector is known by its bits and its word count.
--- The width 64 stands in proofs only as `wordBits`, which `omega` reads for `/` and `%`.
+-- The bits of a vector, from the bits of its words. A bit is given by its word and its place there (`isSet-word`); past the last word none is set. As tests, the
+-- smaller of two bits is `&&` and the greater is `||`. Two vectors with the same bits and word count are equal. Proofs write the width 64 only as `wordBits`;
+-- `omega` uses its value for `/` and `%`.
 use mathlib.Core.Path.{_≡_, refl, sym, _∙_}
 use mathlib.Core.Bool.{false, _&&_, _||_}
 use mathlib.Core.List.{List}
@@ -17,12 +17,12 @@ use borrow.Author.Tests.{eqb-true, eq-eqb}
 use Rattle.vectors.specs.Bits.{wordBits, Vector, bit, isSet}
 use Rattle.vectors.proofs.WordBits.{bit-lt, bit-and, bit-or, bit-zero, bit-high, bits-unique}
 
--- Bit i of a vector is bit j of word w, where w is i / 64 and j is i mod 64.
+-- Bit i of a vector is bit j of word w, for w = i / 64 and j = i mod 64.
 pub isSet-word : (ws : List ℕ) (i w j : ℕ) → i / wordBits ≡ w → i % wordBits ≡ j → isSet ws i ≡ eqb (bit (getD ws w 0) j) 1
 unfolding isSet
 isSet-word ws i w j e f = rw (e, f) refl
 
--- Bit j of word w is bit 64 · w + j of the vector.
+-- Bit j of word w is bit 64·w + j of the vector.
 pub isSet-at : (ws : List ℕ) (w j : ℕ) → j < wordBits → isSet ws (wordBits * w + j) ≡ eqb (bit (getD ws w 0) j) 1
 isSet-at ws w j h = isSet-word ws (wordBits * w + j) w j (omega arith) (omega arith)
 
@@ -55,7 +55,7 @@ vector-set ws w x vector h = record {
       (λ other. rw (getD-set-other ws w v x 0 other) (vector .word-lt v));
 }
 
--- Two bits are both 1 exactly when the lesser is.
+-- Two bits are both 1 exactly when the smaller is.
 min-test : (a b : ℕ) → a < 2 → b < 2 → eqb (min a b) 1 ≡ (eqb a 1 && eqb b 1)
 min-test a b h l = dite (decLt a 1)
     (λ z. let e : a ≡ 0 = omega arith in rw (e, zero-min b) refl)
@@ -75,7 +75,7 @@ test-and x y j = rw (bit-and x y j) (min-test (bit x j) (bit y j) (bit-lt x j) (
 pub test-or : (x y j : ℕ) → eqb (bit (bitOr x y) j) 1 ≡ (eqb (bit x j) 1 || eqb (bit y j) 1)
 test-or x y j = rw (bit-or x y j) (max-test (bit x j) (bit y j) (bit-lt x j) (bit-lt y j))
 
--- The crossing between a bit as a number and as a test: two bits with the same test are equal.
+-- From a bit as a test to a bit as a number: two bits for which the test is the same are equal.
 pub bit-of-test : (x y i j : ℕ) → eqb (bit x i) 1 ≡ eqb (bit y j) 1 → bit x i ≡ bit y j
 bit-of-test x y i j e = dite (ℕ-discrete (bit x i) 1)
     (λ one. omega (arith, eqb-true (bit y j) 1 (sym e ∙ eq-eqb (bit x i) 1 one)))
@@ -83,7 +83,7 @@ bit-of-test x y i j e = dite (ℕ-discrete (bit x i) 1)
     (λ one. absurd (not-one (eqb-true (bit x i) 1 (e ∙ eq-eqb (bit y j) 1 one))))
     (λ neither. omega (arith, not-one, neither, bit-lt x i, bit-lt y j)))
 
--- Two vectors of one word count with the same bits are equal.
+-- Two vectors with the same word count and the same bits are equal.
 pub vector-unique : (xs ys : List ℕ) → Vector xs → Vector ys → length xs ≡ length ys → ((i : ℕ) → isSet xs i ≡ isSet ys i) → xs ≡ ys
 vector-unique xs ys vx vy size same = ext-getD 0 xs ys size (λ w h. bits-unique (getD xs w 0) (getD ys w 0) (λ j. dite (decLt j wordBits)
     (λ l. bit-of-test (getD xs w 0) (getD ys w 0) j j (sym (isSet-at xs w j l) ∙ (same (wordBits * w + j) ∙ isSet-at ys w j l)))

@@ -1,6 +1,6 @@
--- The bits of one word under `&`, `|`, `>>`, `<<` and the cut to a width. A bit is the lowest digit of the word shifted down, so each law is the
--- kit's law of that shift, and then one of lowest digits. A width is an argument everywhere: no number of bits is written here.
--- At the end: a word is known by its bits, by induction on the digits of one of the two.
+-- The bits of one word under `&`, `|`, `>>`, `<<` and the cut to a width (mod 2^width). Bit j is the lowest binary digit of the word shifted down by j, so each
+-- law is the kit's law for the shift, and then one for lowest digits. The width is an argument everywhere. The last two laws say that a word is determined by
+-- its bits, by induction on binary digits.
 use mathlib.Core.Path.{_≡_, refl, sym, _∙_}
 use mathlib.Core.Logic.{dite}
 use Prim.Native.Nat.{ℕ, suc, _+_, _-_, _*_, _/_, _%_, _^_, _≤_, _<_, min, max}
@@ -23,19 +23,19 @@ pub bit-first : (x : ℕ) → bit x 0 ≡ x % 2
 unfolding bit
 bit-first x = rw (div-one x) refl
 
--- The lowest bit of `a & b` is the lesser of the two,
+-- The lowest bit of `a & b` is the smaller of the two lowest bits.
 and-low : (a b : ℕ) → bitAnd a b % 2 ≡ min (a % 2) (b % 2)
 and-low a b =
     rw (and-step a b) (digits-mod (bitAnd (a / 2) (b / 2)) (omega (arith, min-le-left (a % 2) (b % 2), mod-lt a {m = 2} (omega arith))))
 
--- and that of `a | b` the greater.
+-- The lowest bit of `a | b` is the greater of the two lowest bits.
 or-low : (a b : ℕ) → bitOr a b % 2 ≡ max (a % 2) (b % 2)
 or-low a b =
     let a-lt : a % 2 < 2 = mod-lt a (omega arith) in
     let b-lt : b % 2 < 2 = mod-lt b (omega arith) in
     rw (or-step a b) (digits-mod (bitOr (a / 2) (b / 2)) (omega (arith, max-le {a = a % 2} {b = b % 2} {k = 1} (omega arith) (omega arith))))
 
--- A bit of `a & b` is the lesser of the two bits.
+-- A bit of `a & b` is the smaller of the two bits.
 pub bit-and : (a b j : ℕ) → bit (bitAnd a b) j ≡ min (bit a j) (bit b j)
 unfolding bit
 bit-and a b j = rw (and-shr a b j) (and-low (a / 2 ^ j) (b / 2 ^ j))
@@ -59,7 +59,7 @@ bit-shl-low x s j h =
     (rw (pow-add 2 (suc (s - suc j)) j, sym (mul-assoc x (2 ^ suc (s - suc j)) (2 ^ j)), shl-shr (x * 2 ^ suc (s - suc j)) j)
     (shifted-even x (s - suc j)))
 
--- Bit j comes to bit s + j in `x << s`.
+-- Bit s + j of `x << s` is bit j of x.
 pub bit-shl-high : (x s j : ℕ) → bit (x * 2 ^ s) (s + j) ≡ bit x j
 unfolding bit
 bit-shl-high x s j = rw (sym (shr-shr (x * 2 ^ s) s j)) (rw (shl-shr x s) refl)
@@ -75,7 +75,7 @@ bit-mod x j width h =
     let e : suc (width - suc j) + j ≡ width = omega arith in
     rw (sym e) (rw (field x (suc (width - suc j)) j) (mod-low (x / 2 ^ j) (width - suc j)))
 
--- A number below 2 to the power of a width has no bit from that width on.
+-- A number below 2^width has no bit from that width on.
 pub bit-high : (x width j : ℕ) → x < 2 ^ width → width ≤ j → bit x j ≡ 0
 unfolding bit
 bit-high x width j h l = rw (div-eq-of-lt (lt-of-lt-of-le h (pow-mono {i = width} {j = j} l))) refl
@@ -84,26 +84,26 @@ bit-high x width j h l = rw (div-eq-of-lt (lt-of-lt-of-le h (pow-mono {i = width
 pub bit-zero : (j : ℕ) → bit 0 j ≡ 0
 bit-zero j = bit-high 0 0 j (pow-pos 0) (omega arith)
 
--- In 2 ^ s - 1 the lowest bit is set, for an s of 1 or more.
+-- In 2^s − 1 the lowest bit is set, for s of 1 or more.
 ones-odd : (s : ℕ) → (2 ^ suc s - 1) % 2 ≡ 1
 ones-odd s = rw (sym (add-one s)) (rw (ones-split s 1) (digits-mod (2 ^ s - 1) {m = 2} {r = 1} (omega arith)))
 
--- The bits below s of 2 ^ s - 1 are all set.
+-- The bits below s of 2^s − 1 are all set.
 pub bit-ones : (s j : ℕ) → j < s → bit (2 ^ s - 1) j ≡ 1
 unfolding bit
 bit-ones s j h =
     let e : suc (s - suc j) + j ≡ s = omega arith in
     rw (sym e) (rw (ones-split (suc (s - suc j)) j, high (2 ^ suc (s - suc j) - 1) j (ones-lt j)) (ones-odd (s - suc j)))
 
--- The bits of 2 ^ s - 1 from s on are all 0.
+-- The bits of 2^s − 1 from s on are all 0.
 pub bit-ones-past : (s j : ℕ) → s ≤ j → bit (2 ^ s - 1) j ≡ 0
 bit-ones-past s j h = bit-high (2 ^ s - 1) s j (ones-lt s) h
 
--- One bit shifted to place s is found there.
+-- One bit b, shifted up by s, is b at place s.
 pub bit-lone-there : (b s : ℕ) → b < 2 → bit (b * 2 ^ s) s ≡ b
 bit-lone-there b s h = rw (add-zero s) at (bit-shl-high b s 0) ∙ (bit-first b ∙ mod-eq-of-lt h)
 
--- One bit shifted to place s is found nowhere else.
+-- One bit b, shifted up by s, is 0 at every other place.
 pub bit-lone-else : (b s j : ℕ) → b < 2 → (j ≡ s → ⊥) → bit (b * 2 ^ s) j ≡ 0
 bit-lone-else b s j h other = dite (decLt j s) (bit-shl-low b s j)
     (λ l. let e : s + suc (j - suc s) ≡ j = omega (arith, l, other) in

@@ -1,4 +1,4 @@
--- A vector given word by word: `listOf count f` has f w at word w and nothing behind.
+-- A vector given word by word: `listOf count f` has the word f w at place w, for w below count, and no bit past its words.
 use mathlib.Core.Path.{_≡_, refl, _∙_}
 use mathlib.Core.Bool.{false}
 use mathlib.Core.Logic.{dite}
@@ -11,17 +11,17 @@ use Rattle.lists.specs.ByPlace.{listOf}
 use Rattle.lists.proofs.ByPlace.{listOf-length, listOf-at, listOf-past}
 use Rattle.vectors.proofs.VectorBits.{isSet-word, isSet-past}
 
--- Its bits are those of the words f w.
+-- Bit i of `listOf count f` is bit i mod 64 of the word f (i / 64).
 pub vectorOf-isSet : (count : ℕ) (f : ℕ → ℕ) (i : ℕ) → i < wordBits * count
     → isSet (listOf count f) i ≡ eqb (bit (f (i / wordBits)) (i % wordBits)) 1
 vectorOf-isSet count f i h =
     isSet-word (listOf count f) i (i / wordBits) (i % wordBits) refl refl ∙ rw (listOf-at count f (i / wordBits) (omega arith)) refl
 
--- Past its words no bit is set.
+-- Past the words of `listOf count f` no bit is set.
 pub vectorOf-isSet-past : (count : ℕ) (f : ℕ → ℕ) (i : ℕ) → wordBits * count ≤ i → isSet (listOf count f) i ≡ false
 vectorOf-isSet-past count f i h = isSet-past (listOf count f) i (omega (arith, listOf-length count f))
 
--- They are machine words where each f w is one.
+-- The words of `listOf count f` are machine words, if each f w is one.
 pub vectorOf-vector : (count : ℕ) (f : ℕ → ℕ) → ((w : ℕ) → w < count → f w < 2 ^ wordBits) → Vector (listOf count f)
 vectorOf-vector count f each-lt = record {
   word-lt = λ w. dite (decLt w count) (λ h. rw (listOf-at count f w h) (each-lt w h))

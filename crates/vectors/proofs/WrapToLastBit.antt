@@ -1,5 +1,5 @@
--- Shift and wrap together rotate. In the shifted vector bit m − 1 is what bit m was, and none was set there; so putting what was bit 0 in at
--- bit m − 1 gives exactly that bit, every other bit below m comes from the next higher one, and from m on nothing comes in.
+-- A shift down by one, and bit 0 put in at bit m − 1, are a rotation. In the shifted vector bit m − 1 is what bit m was, which was not set; so putting in what
+-- was bit 0 there gives exactly that bit. Every other bit below m comes from the next higher one, and from m on no bit is set.
 use mathlib.Core.Path.{_≡_, refl, sym, _∙_}
 use mathlib.Core.List.{List}
 use mathlib.Core.Logic.{dite}
@@ -29,7 +29,7 @@ module _ (m b : ℕ) (old mid new : List ℕ) (some : 0 < m) (within : WithinBit
       let e : m - 1 + 1 ≡ m = omega arith in
       wrap .there ∙ rw (shift .each (m - 1), e, within .rest m (omega arith)) first
 
-  -- Shifted, and then what was bit 0 put in at bit m − 1: rotated, however the words are kept.
+  -- A vector shifted, with what was bit 0 then put in at bit m − 1, is rotated, however it is computed.
   rotated-of : Rotated m old new
   rotated-of = record {
     next = λ r h. dite (decLt (r + 1) m) (below-last r)
@@ -38,12 +38,12 @@ module _ (m b : ℕ) (old mid new : List ℕ) (some : 0 < m) (within : WithinBit
     rest = λ i h. wrap .others i (λ e. omega arith) ∙ (shift .each i ∙ within .rest (i + 1) (omega arith));
   }
 
--- The rotated vector has as many words.
+-- The rotated vector has as many words as before.
 pub rotated-length : (m : ℕ) (ws : List ℕ) → length (rotated m ws) ≡ length ws
 unfolding rotated putBit
 rotated-length m ws = simp length-set (shifted-length ws)
 
--- The rotated vector is rotated.
+-- `rotated` rotates a vector of m bits: bit r below m is what bit (r + 1) mod m was, and no bit from m on is set.
 pub rotated-is : (m : ℕ) (ws : List ℕ) → Vector ws → 0 < m → m ≤ wordBits * length ws → WithinBits m ws → Rotated m ws (rotated m ws)
 unfolding rotated
 rotated-is m ws vector some room within =
@@ -52,14 +52,14 @@ rotated-is m ws vector some room within =
     (sym (isSet-word ws 0 0 0 refl refl))
 
 module _ (m w : ℕ) (ws : List ℕ) (h : w < length ws) where
-  -- A word that does not hold bit m − 1 is only shifted.
+  -- A word of the rotated vector that does not hold bit m − 1 is only shifted.
   pub rotated-word-inner : (w ≡ (m - 1) / wordBits → ⊥) → getD (rotated m ws) w 0 ≡ shiftedWord (getD ws w 0) (getD ws (w + 1) 0)
   unfolding rotated putBit
   rotated-word-inner inner =
       let new : ℕ = putWord (getD (shifted ws) ((m - 1) / wordBits) 0) ((m - 1) % wordBits) (bit (getD ws 0 0) 0) in
       getD-set-other (shifted ws) ((m - 1) / wordBits) w new 0 inner ∙ shifted-word ws w h
 
-  -- The word that holds bit m − 1 is shifted and has what was bit 0 put in.
+  -- The word of the rotated vector that holds bit m − 1 is shifted and has what was bit 0 put in.
   pub rotated-word-last : w ≡ (m - 1) / wordBits
       → getD (rotated m ws) w 0 ≡ putWord (shiftedWord (getD ws w 0) (getD ws (w + 1) 0)) ((m - 1) % wordBits) (bit (getD ws 0 0) 0)
   unfolding rotated putBit

@@ -1,8 +1,8 @@
--- Vectors of bits kept in machine words, for any word count: what they hold, one bit set, the first m bits set, no bit set.
+-- Vectors of bits kept in machine words, for any word count: their bits, one bit put in, the first m bits set, no bit set.
 -- Document 01 names them in rule 2: "003 decides the fit with one occurrence vector of m bits per edge code, rotated at each edge".
--- Their rotating is in `Rotating`, what the scan does with them in `Holding`.
--- A list of words stands for itself with any number of zero words behind it: past its end every bit is 0.
--- The word's width is written once, in `wordBits`. Words are numbers; `>>`, `<<`, `|` and `&` on them are what the code's are:
+-- `Rotating` rotates them, and `Holding` has what the scan does with them.
+-- Past the end of a list of words every bit is 0, so zero words at its end change no bit.
+-- The width of a word is written once, in `wordBits`. Words are numbers. The code's `>>`, `<<`, `|` and `&` are here
 -- `x / 2 ^ j`, `x * 2 ^ j % 2 ^ wordBits`, `bitOr` and `bitAnd`.
 -- Letters: ws a vector, w the number of a word, x a word, j a place in a word, i a place in a vector, m a number of bits.
 --     wordBits     the bits of a machine word           Vector     a list of machine words
@@ -23,7 +23,7 @@ use Rattle.lists.specs.ByPlace.{listOf}
 abbrev pub wordBits : ℕ
 wordBits = 64
 
--- A vector is a list of machine words: each word is below 2 to the power of its width.
+-- A vector is a list of machine words: each word is below 2^wordBits.
 pub record Vector (ws : List ℕ) : Type 0 where
   pub word-lt : (w : ℕ) → getD ws w 0 < 2 ^ wordBits
 
@@ -47,12 +47,12 @@ putWord x j b = bitOr x (b * 2 ^ j % 2 ^ wordBits)
 unfoldable pub putBit : List ℕ → ℕ → ℕ → List ℕ
 putBit ws i b = set ws (i / wordBits) (putWord (getD ws (i / wordBits) 0) (i % wordBits) b)
 
--- The bit b is put in at place i: where b is 1 that bit is now set, and no other bit has changed.
+-- The bit b is put in at place i: that bit is now set if it was set or if b is 1, and no other bit has changed.
 pub record Put (old : List ℕ) (i b : ℕ) (new : List ℕ) : Type 0 where
   pub there : isSet new i ≡ (isSet old i || eqb b 1)
   pub others : (p : ℕ) → (p ≡ i → ⊥) → isSet new p ≡ isSet old p
 
--- Word w of the vector whose first m bits are set: as many low bits as are left of m, at most a word.
+-- Word w of the vector whose first m bits are set: its lowest m − 64·w bits are set (none if m is at most 64·w, and at most all 64).
 unfoldable pub firstWord : ℕ → ℕ → ℕ
 firstWord m w = 2 ^ min wordBits (m - wordBits * w) - 1
 

@@ -1,11 +1,11 @@
--- What the functions of this crate answer. They take and hand out vectors by value, four machine words each: room for 256 bits, as many as the
--- longest ring has edges ("Ring: m edges, 1 to 256"). Each takes every input. For a vector of m bits in as few words as hold them
--- their answers are what `Bits` and `Holding` mean: the laws are in proofs/HeldVectors.
+-- What the functions of this crate return. They take and return vectors by value, four machine words each: room for 256 bits, as many as the
+-- longest ring has edges ("Ring: m edges, 1 to 256"). Every input has a result. For a vector of m bits in the fewest words that hold them, the
+-- results mean what `Bits` and `Holding` say; proofs/HeldVectors has the laws.
 --     vectorWords, vectorBits     a vector's words and bits            HeldVector     a vector of m bits held by value
 --     edgeCodes     "every byte value 0 to 255 is an edge code"
 --     lastBitPlace, carryInto, grownWord, grownWords     the held vector grown by one edge, word by word
 --     Occurrences     the occurrence vectors of a ring's edge codes, in one table
--- `first_bits` answers `firstBits`, `no_bit` answers `noBit`, both of `Bits`, and `vector_of` answers `vectorAt` of `Holding`.
+-- `first_bits` returns `firstBits` and `no_bit` returns `noBit`, both of `Bits`; `vector_of` returns `vectorAt` of `Holding`.
 use mathlib.Core.Path.{_≡_}
 use mathlib.Core.Bool.{cond}
 use mathlib.Core.List.{List}
@@ -22,11 +22,11 @@ use Rattle.vectors.specs.Holding.{OccurrenceTable}
 abbrev pub vectorWords : ℕ
 vectorWords = 4
 
--- How many bits it has.
+-- How many bits a vector held by value has.
 abbrev pub vectorBits : ℕ
 vectorBits = wordBits * vectorWords
 
--- A vector of m bits held by value: as many machine words as every one has, and no bit from m on.
+-- A vector of m bits held by value: it has `vectorWords` machine words, and no bit from m on is set.
 pub record HeldVector (m : ℕ) (ws : List ℕ) : Type 0 where
   pub size : length ws ≡ vectorWords
   pub words : Vector ws
@@ -36,12 +36,12 @@ pub record HeldVector (m : ℕ) (ws : List ℕ) : Type 0 where
 abbrev pub edgeCodes : ℕ
 edgeCodes = 256
 
--- The place of bit m − 1 in its word; where m is 0, the top of a word.
+-- The place of bit m − 1 in its word; if m is 0, the top of a word.
 abbrev pub lastBitPlace : ℕ → ℕ
 lastBitPlace m = (m % wordBits + (wordBits - 1)) % wordBits
 
--- What comes into word w of the first `count` as they are shifted down by one: the next word's lowest bit, at the top; into the last of them
--- what was bit 0, at the place of bit m − 1.
+-- What comes into word w when the first `count` words are shifted down by one: the next word's lowest bit, at the top; into the last word, what was
+-- bit 0, at the place of bit m − 1.
 unfoldable pub carryInto : ℕ → ℕ → List ℕ → ℕ → ℕ
 carryInto m count held w =
     let next : ℕ = getD held (w + 1) 0 * 2 ^ (wordBits - 1) % 2 ^ wordBits in
@@ -54,12 +54,12 @@ grownWord m count occurs held w =
     let word : ℕ = bitAnd (bitOr (getD held w 0 / 2 ^ 1) (carryInto m count held w)) (getD occurs w 0) in
     cond (ltb w count) word 0
 
--- The held vector of m bits, kept in its first `count` words, grown by one edge; a count above a vector's words counts as all of them.
+-- The held vector of m bits, kept in its first `count` words, grown by one edge. A count above `vectorWords` is taken as `vectorWords`.
 unfoldable pub grownWords : ℕ → ℕ → List ℕ → List ℕ → List ℕ
 grownWords m count occurs held = listOf vectorWords (grownWord m (min count vectorWords) occurs held)
 
--- The table of a ring's occurrence vectors: a vector of machine words for each edge code, by rising code. Of a ring with more edges than a vector
--- has bits only the first count.
+-- The table of a ring's occurrence vectors: a vector of machine words for each edge code, by rising code. If the ring has more edges than a vector
+-- has bits, only the first `vectorBits` edges count.
 pub record Occurrences (ring table : List ℕ) : Type 0 where
   pub size : length table ≡ edgeCodes * vectorWords
   pub words : Vector table

@@ -1,6 +1,6 @@
 -- What the scan does with vectors. Rule 2: "A stretch is held, empty at first, and grows to the left by each edge read"; "003 decides the fit
--- with one occurrence vector of m bits per edge code, rotated at each edge". Nothing here knows a stretch: that bit r tells whether the
--- held stretch is the beginning of rotation r is said where stretches are.
+-- with one occurrence vector of m bits per edge code, rotated at each edge". No definition here mentions a stretch; that bit r says whether the
+-- held stretch is the beginning of rotation r is proved in WindowLoop of crates/meaning.
 --     Occurs     the occurrence vector of an edge code        vectorAt, OccurrenceTable     one for each code, in one list
 --     both, Both     AND, bit for bit
 --     grown, Grown     the held vector rotated, AND the read edge's occurrence vector
@@ -24,7 +24,7 @@ pub record Occurs (ring : List ℕ) (code : ℕ) (ws : List ℕ) : Type 0 where
 abbrev pub vectorAt : List ℕ → ℕ → ℕ → List ℕ
 vectorAt table base count = listOf count (λ w. getD table (base + w) 0)
 
--- "one occurrence vector of m bits per edge code": vectors of `count` words, laid one behind the other by rising code.
+-- "one occurrence vector of m bits per edge code": vectors of `count` words, one after the other by rising code.
 pub record OccurrenceTable (ring : List ℕ) (count : ℕ) (table : List ℕ) : Type 0 where
   pub each : (code : ℕ) → Occurs ring code (vectorAt table (code * count) count)
 

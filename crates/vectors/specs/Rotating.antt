@@ -1,7 +1,7 @@
 -- A vector of m bits rotated by one place, in words: shifted down by one with the carry between words, and what was bit 0 put in at bit m − 1.
--- m need not be a multiple of the word's width; it is at most all the bits that the words have, and the bits from m on are 0.
+-- m need not be a multiple of the word's width. The words have room for m bits, and the bits from m on are 0.
 --     shiftedWord, shifted, Shifted      down by one        WithinBits      no bit from m on
---     rotated, Rotated                   the whole turn
+--     rotated, Rotated                   rotated by one place
 use mathlib.Core.Path.{_≡_}
 use mathlib.Core.Bool.{false}
 use mathlib.Core.List.{List}
@@ -11,7 +11,7 @@ use lib.Bits.{bitOr}
 use Rattle.vectors.specs.Bits.{wordBits, bit, isSet, putBit}
 use Rattle.lists.specs.ByPlace.{listOf}
 
--- A word shifted down by one, the next word's lowest bit coming in at its top: `x >> 1 | next << 63`.
+-- A word shifted down by one, with the next word's lowest bit coming in at its top: `x >> 1 | next << 63`.
 abbrev pub shiftedWord : ℕ → ℕ → ℕ
 shiftedWord x next = bitOr (x / 2 ^ 1) (next * 2 ^ (wordBits - 1) % 2 ^ wordBits)
 

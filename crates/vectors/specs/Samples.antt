@@ -1,6 +1,6 @@
--- Vectors of one to four words, worked out by hand: one table of named rows, and one claim that the checker computes; and calls with other counts.
+-- Vectors of one to four words, worked out by hand: one table of named rows under one claim, which antt computes. Then calls with unusual counts.
 -- A row gives m, the held vector and an edge's occurrence vector; then the held vector rotated and the places of its set bits, the held vector
--- grown and whether that leaves no bit set, and the vector of the first m bits in as many words.
+-- grown and whether no bit of it is set, and the vector of the same word count with its first m bits set.
 use mathlib.Core.Path.{_≡_, refl}
 use mathlib.Core.Bool.{Bool, true, false, cond}
 use mathlib.Core.List.{List, [], _∷_, _++_, map}
@@ -12,7 +12,7 @@ use Rattle.vectors.specs.Rotating.{shifted, rotated}
 use Rattle.vectors.specs.Holding.{both, grown}
 use Rattle.vectors.specs.ByValue.{carryInto, grownWord, grownWords}
 
--- What a row gives.
+-- A row of the table.
 pub record VectorSample : Type 0 where
   pub m : ℕ
   pub held : List ℕ
@@ -28,7 +28,7 @@ unfoldable pub placesBelow : List ℕ → ℕ → List ℕ
 placesBelow ws zero = []
 placesBelow ws (suc n) = placesBelow ws n ++ cond (isSet ws n) (n ∷ []) []
 
--- A row as the definitions have it.
+-- The row with its results computed from the definitions.
 unfoldable pub computed : VectorSample → VectorSample
 computed s = record {
   m = s .m;
@@ -45,7 +45,7 @@ computed s = record {
 abbrev one-bit : VectorSample
 one-bit = record { m = 1; held = 1 ∷ []; occurs = 0 ∷ []; rotated = 1 ∷ []; places = 0 ∷ []; grown = 0 ∷ []; noBit = true; firstBits = 1 ∷ [] }
 
--- Five bits in one word: bits 0, 1 and 4 come to 4, 0 and 3.
+-- Five bits in one word: bits 0, 1 and 4 become bits 4, 0 and 3.
 abbrev part-of-a-word : VectorSample
 part-of-a-word = record {
   m = 5;
@@ -58,7 +58,7 @@ part-of-a-word = record {
   firstBits = 0b11111 ∷ [];
 }
 
--- A whole word: bit 0 comes to its top.
+-- A whole word: bit 0 becomes bit 63.
 abbrev whole-word : VectorSample
 whole-word = record {
   m = 64;
@@ -71,7 +71,7 @@ whole-word = record {
   firstBits = 0xffff_ffff_ffff_ffff ∷ [];
 }
 
--- Seventy bits in two words: bits 0, 64 and 69 come to 69, 63 and 68, the second across the words.
+-- Seventy bits in two words: bits 0, 64 and 69 become bits 69, 63 and 68. Bit 64 crosses from one word to the other.
 abbrev carry-between-words : VectorSample
 carry-between-words = record {
   m = 70;
@@ -84,7 +84,7 @@ carry-between-words = record {
   firstBits = 0xffff_ffff_ffff_ffff ∷ 0x3f ∷ [];
 }
 
--- 130 bits in three words: bits 64, 128 and 129 come to 63, 127 and 128.
+-- 130 bits in three words: bits 64, 128 and 129 become bits 63, 127 and 128.
 abbrev three-words : VectorSample
 three-words = record {
   m = 130;
@@ -114,20 +114,20 @@ words-to-spare = record {
 abbrev pub samples : List VectorSample
 samples = one-bit ∷ part-of-a-word ∷ whole-word ∷ carry-between-words ∷ three-words ∷ words-to-spare ∷ []
 
--- Every row is as the definitions have it.
+-- Computed from the definitions, every row is right.
 pub all-samples-right : map computed samples ≡ samples
 unfolding computed placesBelow rotated shifted putBit listOf bit isSet both grown orBelow noBit firstBits firstWord
 all-samples-right = refl
 
--- A vector with bit 0 alone.
+-- The vector with only bit 0 set.
 abbrev bit-zero : List ℕ
 bit-zero = 1 ∷ 0 ∷ 0 ∷ 0 ∷ []
 
--- A vector with every bit.
+-- The vector with every bit set.
 abbrev every-bit : List ℕ
 every-bit = 0xffff_ffff_ffff_ffff ∷ 0xffff_ffff_ffff_ffff ∷ 0xffff_ffff_ffff_ffff ∷ 0xffff_ffff_ffff_ffff ∷ []
 
--- Word counts and bit counts that no scan asks for are answered too: no word; seven words, which count as four; and no bit.
+-- Word counts and bit counts that no scan uses: no word; seven words, which are taken as four; and no bit.
 pub other-counts-right : grownWords 5 0 every-bit bit-zero ∷ grownWords 256 7 every-bit bit-zero ∷ grownWords 0 1 every-bit bit-zero ∷ []
     ≡ (0 ∷ 0 ∷ 0 ∷ 0 ∷ []) ∷ (0 ∷ 0 ∷ 0 ∷ 0x8000_0000_0000_0000 ∷ []) ∷ (0x8000_0000_0000_0000 ∷ 0 ∷ 0 ∷ 0 ∷ []) ∷ []
 unfolding grownWords grownWord carryInto listOf bit

@@ -1,4 +1,4 @@
-// A vector of four words held by value, of which a caller may use the first `count`; a larger count is four.
+// Vectors of four words, held by value. A caller may use only the first `count` words; a count above 4 is taken as 4.
 use crate::widths::VECTOR_WORDS;
 use crate::widths::WORD_BITS;
 ghost use mathlib.Core.Path.{_≡_};
@@ -15,7 +15,7 @@ const TOP: usize = 63;
 // A word with every bit set.
 const ALL_BITS: u64 = 0xffff_ffff_ffff_ffff;
 
-// A word with its lowest `count` bits set, or with all of them where it has no more.
+// A word with its lowest `count` bits set; with every bit set if `count` is 64 or more.
 fn low_bits(count: usize) -> u64
     ensures { λ r. ⌜ r ≡ 2 ^ min wordBits count - 1 ⌝ }
 {
@@ -26,7 +26,7 @@ fn low_bits(count: usize) -> u64
     }
 }
 
-// The vector whose first m bits are set: an empty stretch is the beginning of every rotation.
+// The vector whose first m bits are set. It stands for the empty stretch, which is the beginning of every rotation.
 pub fn first_bits(m: usize) -> [u64; VECTOR_WORDS]
     ensures { λ r. ⌜ r ≡ firstBits m vectorWords ⌝ }
 {
@@ -41,7 +41,7 @@ pub fn first_bits(m: usize) -> [u64; VECTOR_WORDS]
     new
 }
 
-// The word count, or all the words of a vector where it is more.
+// The word count, and at most the words of a vector.
 fn within_words(count: usize) -> usize
     ensures { λ r. ⌜ r ≡ min count vectorWords ⌝ }
 {
@@ -52,7 +52,8 @@ fn within_words(count: usize) -> usize
     }
 }
 
-// What comes into word w of the first `words` as they are shifted down by one.
+// What comes into word w when the first `words` words are shifted down by one: the next word's lowest bit at the top, or
+// into the last word what was bit 0, at the place of bit m - 1.
 fn carry_into(held: [u64; VECTOR_WORDS], m: usize, words: usize, w: usize) -> u64
     requires { ⌜ (w < vectorWords) × (words ≤ vectorWords) ⌝ }
     ensures { λ r. ⌜ r ≡ carryInto m words held w ⌝ }
@@ -60,7 +61,7 @@ fn carry_into(held: [u64; VECTOR_WORDS], m: usize, words: usize, w: usize) -> u6
     if w + 1 < words {
         held[w + 1] << TOP
     } else {
-        // to bit m - 1 of the vector, by a sum: m may be 0
+        // 63 is added in place of subtracting 1, because m may be 0
         (held[0] % 2) << ((m % WORD_BITS + (WORD_BITS - 1)) % WORD_BITS)
     }
 }
@@ -83,8 +84,9 @@ fn grown_word(
     }
 }
 
-// The held vector of m bits, kept in its first `count` words, grown by one edge: rotated, AND the edge's occurrence vector. Word by word and not in a
-// loop: so the compiler keeps a vector in registers, and makes straight code for each count of a caller's loop.
+// The held vector of m bits, kept in its first `count` words, grown by one edge: rotated by one place, AND the edge's
+// occurrence vector. It is written word by word, without a loop, so that the compiler keeps a vector in registers and
+// makes straight code for each count of a caller's loop.
 pub fn grown(
     held: [u64; VECTOR_WORDS],
     occurs: [u64; VECTOR_WORDS],
@@ -102,7 +104,7 @@ pub fn grown(
     ]
 }
 
-// Word w where it is one of the first `words`, else 0.
+// Word w if it is one of the first `words`, else 0.
 fn word_below(held: [u64; VECTOR_WORDS], words: usize, w: usize) -> u64
     requires { ⌜ w < vectorWords ⌝ }
     ensures { λ r. ⌜ r ≡ cond (ltb w words) (getD held w 0) 0 ⌝ }
@@ -110,7 +112,8 @@ fn word_below(held: [u64; VECTOR_WORDS], words: usize, w: usize) -> u64
     if w < words { held[w] } else { 0 }
 }
 
-// Whether no bit of the first `count` words is set. All are joined before the one test, so that a caller has one branch and not `count`.
+// Whether no bit of the first `count` words is set. The words are joined before the one test, so that a caller has one
+// branch and not `count`.
 pub fn no_bit(held: [u64; VECTOR_WORDS], count: usize) -> bool
     ensures { λ r. ⌜ r ≡ noBit held count ⌝ }
 {

@@ -1,4 +1,4 @@
-// The occurrence vectors of a ring's edge codes, one behind the other in a table by rising code.
+// The occurrence vectors of a ring's edge codes, one after the other in a table, by rising code.
 use crate::widths::TABLE_WORDS;
 use crate::widths::VECTOR_BITS;
 use crate::widths::VECTOR_WORDS;
@@ -15,7 +15,8 @@ fn code_index(code: u8) -> usize
     code as usize
 }
 
-// The table of a ring's occurrence vectors, whatever the table held. Of a ring with more edges than a vector has bits only the first count.
+// Writes the table of a ring's occurrence vectors, whatever the table held before. If the ring has more edges than a
+// vector has bits, only the first 256 count.
 pub fn occurrences(ring: &[u8], table: &mut [u64; TABLE_WORDS])
     ensures { λ _. ⌜ Occurrences (now (ring .entry)) (now (table .exit)) ⌝ }
 {

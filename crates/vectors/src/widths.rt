@@ -4,8 +4,8 @@ pub const WORD_BITS: usize = 64;
 // How many words a vector has.
 pub const VECTOR_WORDS: usize = 4;
 
-// How many bits they have: "Ring: m edges, 1 to 256".
+// How many bits a vector has: "Ring: m edges, 1 to 256".
 pub const VECTOR_BITS: usize = 256;
 
-// "Every byte value 0 to 255 is an edge code": a table has a vector for each.
+// How many words a table has: "every byte value 0 to 255 is an edge code", and each has a vector.
 pub const TABLE_WORDS: usize = 1024;

@@ -1,4 +1,4 @@
--- `vectors::held::carry_into` meets its contract: the next word's lowest bit, or what was bit 0 (`GrownWords`).
+-- `vectors::held::carry_into` meets its contract: it returns the next word's lowest bit, or what was bit 0 (`carry-next` and `carry-last` of GrownWords).
 use mathlib.Core.Path.{refl, sym, _∙_}
 use native.Mathlib.Omega.{arith}
 use Rattle.vectors.proofs.WordBits.{bit-first}

@@ -1,5 +1,5 @@
--- `vectors::held::first_bits` meets its contract. Before turn w the words below w are those of the first m bits (`StoreLoop` of crates/lists); a turn stores as
--- many low bits as are left of m. What is left of the words falls.
+-- `vectors::held::first_bits` meets its contract. Before turn w the words below w are `firstWord m` (`StoreLoop` of crates/lists). Turn w sets the lowest
+-- m − 64·w bits of word w. `vectorWords - w` falls.
 use mathlib.Core.Path.{_≡_, _∙_}
 use mathlib.Core.Logic.{⊎-elim}
 use native.Mathlib.Omega.{arith}

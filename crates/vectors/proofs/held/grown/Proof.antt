@@ -1,4 +1,4 @@
--- `vectors::held::grown` meets its contract: its four words are those of the definition, one by one.
+-- `vectors::held::grown` meets its contract: each of its four words is the definition's.
 use Rattle.vectors.proofs.GrownWords.{grown-of-words}
 use borrow.Author.Needs.{needs}
 use Rattle.vectors.proofs.held.grown.Statement.{statement}

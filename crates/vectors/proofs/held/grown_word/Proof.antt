@@ -1,4 +1,5 @@
--- `vectors::held::grown_word` meets its contract: a word below the count is shifted with what comes in, AND the occurrence vector's; the others are 0.
+-- `vectors::held::grown_word` meets its contract: a word below the count is shifted, joined with what comes in, and AND the occurrence vector's word; the others
+-- are 0.
 use mathlib.Core.Path.{sym}
 use native.Mathlib.Omega.{arith}
 use Rattle.vectors.proofs.GrownWords.{grown-word-below, grown-word-past}

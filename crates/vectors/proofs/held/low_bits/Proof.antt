@@ -1,4 +1,4 @@
--- `vectors::held::low_bits` meets its contract: less than a word of bits is `(1 << count) - 1`, where the shift loses nothing; else all are set.
+-- `vectors::held::low_bits` meets its contract: for a count below 64 it is `(1 << count) - 1`, and the shift loses nothing; else every bit is set.
 use lib.Pow.{pow-pos}
 use Rattle.vectors.proofs.FirstBitsAreSet.{shl-one, low-bits-some, low-bits-full}
 use borrow.Author.Needs.{needs}

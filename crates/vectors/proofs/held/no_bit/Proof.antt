@@ -1,4 +1,4 @@
--- `vectors::held::no_bit` meets its contract: the four words, those from the count on as 0, are joined one by one (`JoinedWords`).
+-- `vectors::held::no_bit` meets its contract: it joins the four words one by one, those from the count on as 0 (`joined-is` of JoinedWords).
 use Rattle.vectors.proofs.JoinedWords.{joined-is}
 use borrow.Author.Needs.{needs}
 use Rattle.vectors.proofs.held.no_bit.Statement.{statement}

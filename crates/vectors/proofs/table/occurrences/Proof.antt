@@ -1,5 +1,5 @@
--- `vectors::table::occurrences` meets its contract. Before turn r each code's vector is right below r (`OccurrencesBelow`); a turn puts in bit r of
--- the vector of the code at place r. What is left of the ring falls.
+-- `vectors::table::occurrences` meets its contract. Before turn r each code's vector is right below r (`OccurrencesBelow`). Turn r puts in bit r of the vector
+-- of the code at place r. `length ring - r` falls.
 use mathlib.Core.Path.{refl}
 use native.Mathlib.Omega.{arith}
 use borrow.Author.Tests.{ltb-true, ltb-false}

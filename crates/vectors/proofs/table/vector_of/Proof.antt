@@ -1,4 +1,4 @@
--- `vectors::table::vector_of` meets its contract: it reads the four words one behind the other.
+-- `vectors::table::vector_of` meets its contract: it reads the four words from the code's place in the table on (`part-words` of PartOfTable).
 use Prim.Native.Nat.{_*_}
 use borrow.Author.Needs.{needs}
 use Rattle.vectors.specs.ByValue.{vectorWords}
