@@ -97,8 +97,8 @@ class Definition:
     its own depth taken off; depth."""
 
     def given(self):
-        """what the modules around it take"""
-        return [given for head in self.modules for given in binders(head) or []]
+        """what the modules around it take, and its own head before the colon"""
+        return [given for head in self.modules + [self.takes] if head for given in binders(head) or [Given(head, [], head, False)]]
 
     def names(self):
         """the names that its modules' heads, its own and its type bind, also inside"""
@@ -158,11 +158,9 @@ def definitions(text, path=""):
 def modules_of(tree):
     """{module: {crate: {name: definition}}} of a tree {path: text}, from what stands in specs/ and proofs/ of its crates"""
     found = {}
-    for path in sorted(tree, reverse=True):  # a name that stands in both is that of specs/
-        if m := re.fullmatch(r"crates/(\w+)/(specs|proofs)/(\w+)\.antt", path):
-            names = found.setdefault(m[3], {}).setdefault(m[1], {})
-            for d in definitions(tree[path], path):
-                names[d.name] = d
+    for path in sorted(tree):
+        if m := re.fullmatch(r"crates/(\w+)/(?:specs|proofs)/(\w+)\.antt", path):
+            found.setdefault(m[2], {}).setdefault(m[1], {}).update((d.name, d) for d in definitions(tree[path], path))
     return found
 
 
