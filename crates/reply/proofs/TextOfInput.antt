@@ -15,7 +15,7 @@ pub fault-text-is : (input : List ℕ) (place : ℕ) → IsInputFault input plac
 unfolding answerText
 fault-text-is input place fault = ap textBy (row-11-iff input place .1 fault)
 
--- Where it is a request laid down, the text is that of the request.
+-- Where the input is a request laid down, the text is that of the request.
 pub laid-down-text-is : (q : Request) → CanLayDown q → answerText (laidDown q) ≡ requestText q
 unfolding answerText
 laid-down-text-is q can = ap textBy (laid-down-read q can)
