@@ -1,4 +1,4 @@
-/* The calls by C's convention, where it is not x86-64's: the lowered call takes the place for its answer as its first argument. See tools/native. */
+/* The calls by the C convention of processors other than x86-64. The lowered calls take the place for their answer as their first argument. See tools/native. */
 #include "outlines.h"
 
 struct outlines_answer *lowered_outlines_survey(struct outlines_answer *, const uint8_t *, size_t, const uint8_t *, size_t, size_t, uint32_t *, size_t);

@@ -1,16 +1,16 @@
-"""How a log of the prover shows that a change was refused: at a fact, or only because a text no longer fits. For tools/refused and tools/mutants.
+"""Judges from the prover's log why a change was refused: because a fact fails, or only because a text no longer fits. For tools/refused and tools/mutants.
 
 A log has an error on a line `FILE:LINE:COLUMN: error: ..` and in the indented lines after it. An error is one of
-  - a consequence: a declaration that it rests on was not admitted. It says nothing by itself,
-  - a shape: the text of a proof or a file no longer fits, whatever holds. GONE and OTHER_NEEDS have each by the words of the prover,
-  - a fact: all else, as a failed `omega` with its values, or two sides that differ.
-A need of a function without a proof file is no error: the log says "it is not proved that ..". That is a fact too.
+  - a consequence: a declaration that it depends on was not admitted. It says nothing by itself,
+  - a shape: the text of a proof or a file no longer fits, whether or not the facts hold. GONE and OTHER_NEEDS list the prover's words for these,
+  - a fact: all else, such as a failed `omega` with its values, or two sides that differ.
+An unproved need of a function without a proof file gives no error line; the log says "it is not proved that ..". That is a fact too.
 
-Where a text names what is gone, the change shows nothing: other errors may only follow from that. Where the function's needs are others than those that its
-proof file lists, the change shows nothing unless a fact fails before. Each need is proved by itself, so that fact does not follow from the list; and a need may
-be new just because the change broke what made it plain: `n - m` asks nothing behind a test that n is at least m.
+Where a text names something that is gone, the change shows nothing: the other errors may follow from that alone. Where the function's needs are not those that its
+proof file lists, the change shows nothing unless a fact fails before. Each need is proved by itself, so that fact does not follow from the list. And a need may
+be new just because the change broke what made it trivial: `n - m` gives no need after a test that n is at least m.
 
-A definition that got another type is taken for a fact: a log does not tell it from a claim that is false.
+A definition with a changed type is taken for a fact: a log does not distinguish it from a false claim.
 """
 import re
 

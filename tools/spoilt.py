@@ -2,7 +2,7 @@
 reason; the tree itself must have no fault.
 
 The places to spoil are looked up in the tree at hand: the first look, the first count that starts or is added, a public function that has the line, a function
-that reads an edge. So no other line of the source is known here by its text.
+that reads an edge. No other line of the source is quoted here.
 """
 import re
 
@@ -16,7 +16,7 @@ NO_ROW = "has no row for what it takes of the line"
 
 
 def copies(tree, check):
-    """(what is wrong, the copy, a part of the line that is to be printed)"""
+    """(what is wrong, the copy, a part of the fault that must be reported)"""
     page = "docs/LOOKS.md"
     file = next(path for path in sorted(tree) if path != page and LOOK.search(tree[path]))
     adder = next(path for path in sorted(tree) if ADDED.search(tree[path]))
@@ -28,7 +28,7 @@ def copies(tree, check):
         return {**tree, path: text}
 
     def at_look(new, more=""):
-        """what stands in place of the first look, which may name it by {look}; and functions more at the file's end"""
+        """the file with its first look replaced by `new`, in which {look} stands for it, and with more functions at its end"""
         return with_text(file, LOOK.sub(lambda m: new.replace("{look}", m[0]), tree[file], count=1) + more)
 
     def at_start(new):
@@ -67,15 +67,15 @@ def copies(tree, check):
     yield "the line read under a name of that name", in_public("let edges: &[u8] = &line[..];\nlet others = edges;\nlet first = others[0] + 1;"), NO_LOOK
     yield "an edge compared without a look", in_public("if line[0] == 7 {\n    return;\n}"), NO_LOOK
     yield "an edge of a window read without a look", in_public(f"let first = {giver}(line, 0, 1)[0] as usize;"), NO_LOOK
-    yield "an edge read in a function that the line is given to", in_public("let first = first_of(line);", "fn first_of(edges: &[u8]) -> u8 {\n    edges[0]\n}\n"), NO_LOOK
-    yield "an edge compared in a function that it is given to", in_public("let same = is_it(line[0]);", "fn is_it(edge: u8) -> bool {\n    edge == 7\n}\n"), NO_LOOK
+    yield "an edge read in a function that the line is passed to", in_public("let first = first_of(line);", "fn first_of(edges: &[u8]) -> u8 {\n    edges[0]\n}\n"), NO_LOOK
+    yield "an edge compared in a function that it is passed to", in_public("let same = is_it(line[0]);", "fn is_it(edge: u8) -> bool {\n    edge == 7\n}\n"), NO_LOOK
     yield "the line as a field", in_public("let kept = Kept { line };"), NOT_FOLLOWED
     yield "the line in a pair", in_public("let pair = (line, 0);"), NOT_FOLLOWED
     yield "the line of a branch", in_public("let edges = if k == 0 { line } else { ring };"), NOT_FOLLOWED
-    yield "the line asked by a method", in_public("let first = line.first();"), NOT_FOLLOWED
-    yield "the line given to a function of elsewhere", in_public("let sum = checksum(line);"), NOT_FOLLOWED
-    yield "the line gone over by a loop", in_public("for edge in line {\n}"), NOT_FOLLOWED
-    yield "the line lent to be changed", in_public("let mut edges = line;\nnext_part(&mut edges);"), NOT_FOLLOWED
+    yield "a method called on the line", in_public("let first = line.first();"), NOT_FOLLOWED
+    yield "the line passed to a function outside these crates", in_public("let sum = checksum(line);"), NOT_FOLLOWED
+    yield "a loop over the line", in_public("for edge in line {\n}"), NOT_FOLLOWED
+    yield "the line lent by &mut", in_public("let mut edges = line;\nnext_part(&mut edges);"), NOT_FOLLOWED
     yield "the line under another name in a public function", with_text(public.path, re.sub(r"\bline\b", "edges", tree[public.path])), "is neither the line nor"
     yield "the line under the book's name in a public function", with_text(public.path, re.sub(r"\bline\b", "book", tree[public.path])), "has no line"
     yield "the line cut in another function", in_public("let part = &line[1..];"), NO_ROW
@@ -84,8 +84,8 @@ def copies(tree, check):
     yield "no row for a read", without_row(r"\| `%s` \(" % reader.name), NO_ROW
     yield "no row for a look", without_row(r"\| crates/[^|]*`looks \+= 1; // one look"), "has not one row for each"
     yield "a row for a look that is not there", with_text(page, re.sub(r"(?m)^\| crates/[^|]*`looks \+= 1; // one look.*\n", lambda m: m[0] * 2, tree[page], count=1)), "has not one row for each"
-    yield "no word of a function that hands a count on", with_text(page, tree[page].replace(f"`{public.name}`", "it").replace(f"::{public.name}`", "::it`")), "does not name it"
-    yield "a word of a function that is gone", with_text(page, tree[page] + "`gone_from_here`\n"), "is no function"
+    yield "a function that passes a count on is not named", with_text(page, tree[page].replace(f"`{public.name}`", "it").replace(f"::{public.name}`", "::it`")), "does not name it"
+    yield "a function is named that is gone", with_text(page, tree[page] + "`gone_from_here`\n"), "is no function"
 
 
 def main(tree, Check, copies=copies):
