@@ -1,5 +1,5 @@
--- A field is put by putting its numbers one after the other: tag, length, cell, ring number, start. Each begins where the one before it ends, and together they are
--- the field's bytes (`fieldOf-is`).
+-- Writing a field number by number: tag, length, cell, ring number, start. Each number begins where the one before it ends, and together their bytes are the
+-- field's bytes (`fieldOf-is`).
 use Prim.Native.Nat.{ℕ, _+_, _≤_}
 use mathlib.Core.Path.{_≡_, sym, ap, _∙_}
 use mathlib.Core.List.{List, _++_, append-assoc}
@@ -15,7 +15,7 @@ use Rattle.packing.specs.Putting.{AreBytesPut}
 use Rattle.fields.proofs.NumberBytes.{bytesOf-length}
 use Rattle.silences.proofs.FieldBytes.{fieldOf-is}
 
--- Bytes are put, and then more just past them: both are put.
+-- If bytes a are written, and then bytes b just past them, a ++ b are written.
 pub put-append : {at next last : ℕ} {a b area mid out : List ℕ} → at + length a ≤ length area → AreBytesPut at a area next mid → AreBytesPut next b mid last out
     → AreBytesPut at (a ++ b) area last out
 put-append {at} {next} {last} {a} {b} {area} {mid} {out} room first then =
@@ -26,7 +26,7 @@ put-append {at} {next} {last} {a} {b} {area} {mid} {out} room first then =
           ∙ writtenAt-append at a b area room;
     }
 
--- What comes behind a number begins as many bytes on as the number has.
+-- The byte offset just past a number of `count` bytes is `at + count`.
 pub number-next : {at next : ℕ} {area out : List ℕ} (count number : ℕ) → AreBytesPut at (bytesOf count number) area next out → next ≡ at + count
 number-next {at} count number is-put = is-put .next-is ∙ ap (λ (n : ℕ). at + n) (bytesOf-length count number)
 
@@ -41,7 +41,7 @@ module _ (s : Silence) where
       ∙ append-assoc head address (bytesOf startBytes (s .start))
       ∙ sym (fieldOf-is s)
 
-  -- Its numbers put one after the other, it is put.
+  -- If the five numbers of a field are written one after the other, the field is written.
   pub field-put : {at length-at value-at ring-at start-at next : ℕ} {area a b c d out : List ℕ} → at + length (fieldOf s) ≤ length area
       → AreBytesPut at (bytesOf tagBytes silenceTag) area length-at a → AreBytesPut length-at (bytesOf lengthBytes valueLength) a value-at b → AreBytesPut value-at (bytesOf cellBytes (s .cell)) b ring-at c
       → AreBytesPut ring-at (bytesOf ringNumberBytes (s .ringNumber)) c start-at d → AreBytesPut start-at (bytesOf startBytes (s .start)) d next out → AreBytesPut at (fieldOf s) area next out

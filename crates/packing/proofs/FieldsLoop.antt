@@ -1,5 +1,5 @@
--- The loop that writes the fields. Before each turn the silences of the words from `at` on are to be written yet: their layout, written from `to` on over what the
--- area holds now, gives the whole layout over the area as it was. A turn puts the first of their fields (`writtenAt-append`).
+-- The loop of `put_fields`. Before each turn the silences of the words from `at` on are still to be written. Their layout, written from `to` on into the area
+-- as it is now, gives the whole layout written into the area as it was at the start. A turn writes the first of their fields (`writtenAt-append`).
 --
 --   words, area    the words, and the area as it was at the start
 --   at, to, out    the word to read next, the byte offset to write next, the area now
@@ -21,7 +21,7 @@ use Rattle.silences.proofs.WordsOfSilences.{silenceFrom, silencesOf-step, silen
 abbrev pub layoutFrom : List ℕ → ℕ → List ℕ
 layoutFrom words at = layout (silencesOf (drop at words))
 
--- What the loop keeps.
+-- The loop's invariant.
 pub record PutFields (words area : List ℕ) (at to : ℕ) (out : List ℕ) : Type 0 where
   pub at-le : at ≤ length words
   pub length-is : length out ≡ length area
@@ -29,12 +29,12 @@ pub record PutFields (words area : List ℕ) (at to : ℕ) (out : List ℕ) : Ty
   pub whole-is : writtenAt to (layoutFrom words at) out ≡ written (layout (silencesOf words)) area
 
 module _ {words area : List ℕ} where
-  -- At the start all fields are left.
+  -- The invariant holds at the start: all fields are still to be written.
   pub fields-start : length (layout (silencesOf words)) ≤ length area → PutFields words area 0 0 area
   fields-start h = record { at-le = omega arith; length-is = refl; room = omega arith; whole-is = writtenAt-zero (layout (silencesOf words)) area }
 
   module _ {at to : ℕ} {out : List ℕ} (now : PutFields words area at to out) where
-    -- The layout from a record on is its field, and the layout from the next one on.
+    -- the layout from a record on is its field and then the layout from the next record on
     layout-step : at + recordWords ≤ length words → layoutFrom words at ≡ fieldOf (silenceFrom words at) ++ layoutFrom words (at + recordWords)
     unfolding wordsOfEach
     layout-step h = ap layout (silencesOf-step words at h)
@@ -50,7 +50,7 @@ module _ {words area : List ℕ} where
           length-append (fieldOf (silenceFrom words at)) (layoutFrom words (at + recordWords)),
         )
 
-    -- A turn puts the next field.
+    -- The invariant holds again once the next field is written.
     pub fields-turn : {next : ℕ} {put : List ℕ} → at + recordWords ≤ length words → length put ≡ length out
         → AreBytesPut to (fieldOf (silenceFrom words at)) out next put → PutFields words area (at + recordWords) next put
     fields-turn {next} {put} h same is-put =
@@ -66,7 +66,7 @@ module _ {words area : List ℕ} where
               ∙ now .whole-is;
         }
 
-    -- At the end no field is left: the whole layout is written.
+    -- When fewer than three words are left, the whole layout is written.
     pub fields-end : length words < at + recordWords → out ≡ written (layout (silencesOf words)) area
     unfolding wordsOfEach
     fields-end h =

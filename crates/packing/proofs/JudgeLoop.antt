@@ -1,8 +1,8 @@
--- The loop that judges the records. Before each turn the records before `at` are passed: they ascend, no ring number is above 65,535, and their number and the bytes of
--- their fields are counted. Where a record is refused, or none is left, the walk so far is the whole one (`packs-as-is`).
+-- The loop of `judge`. Before each turn the records before word `at` are passed: they ascend, none has a ring number above 65,535, and they and the bytes of
+-- their fields are counted. Where a record is refused, or none is left, the walk so far is the whole walk (`packs-as-is`).
 --
 --   words                        the words to pack
---   last, records, bytes, at     the record before the next one, the records and bytes passed, the word to read next
+--   last, records, bytes, at     the last record passed, the numbers of records and bytes passed, the word to read next
 use Prim.Native.Nat.{ℕ, _+_, _*_, _≤_, _<_}
 use mathlib.Core.Path.{_≡_, refl, sym, ap, subst, _∙_}
 use mathlib.Core.Bool.{true, false}
@@ -27,7 +27,7 @@ use Rattle.silences.proofs.WordsOfSilences.{silenceFrom, silencesOf-step, silen
 use Rattle.silences.proofs.AscendingAfter.{AscendingAfter, lastAfter, lastAfter-end, ascends-more}
 use Rattle.silences.proofs.RecordsPacked.{RecordStands, packed-all, stopped-ring, stopped-order, ring-numbers-more, packs-as-is}
 
--- What the loop keeps. The two bounds are for the sums to fit: there are no more records than words.
+-- The loop's invariant. `records-le` and `bytes-le` show that the two sums do not overflow: there are no more records than words.
 pub record JudgedTo (words : List ℕ) (last : Option Silence) (records bytes at : ℕ) : Type 0 where
   pub at-le : at ≤ length words
   pub records-le : records ≤ at
@@ -40,16 +40,16 @@ pub record JudgedTo (words : List ℕ) (last : Option Silence) (records bytes at
   pub records-is : records ≡ length passed
   pub bytes-is : bytes ≡ length (layout passed)
 
--- What judging the records gives.
+-- what `judge` must return, as an answer
 abbrev judgement : List ℕ → Answer Sizes
 judgement words = answerBy (recordFault words) (sizes (silencesOf words))
 
--- It goes by the first faulty record.
+-- the refusal of the first faulty record decides it
 judged-by : (words : List ℕ) {o : Option Refusal} → recordFault words ≡ o → judgement words ≡ answerBy o (sizes (silencesOf words))
 judged-by words e = ap (λ (o : Option Refusal). answerBy o (sizes (silencesOf words))) e
 
 module _ {words : List ℕ} where
-  -- At the start no record is passed.
+  -- The invariant holds at the start: no record is passed.
   pub judge-start : JudgedTo words none 0 0 0
   unfolding wordsOfEach
   judge-start =
@@ -72,7 +72,7 @@ module _ {words : List ℕ} where
       all-from : silencesOf words ≡ now .passed ++ silenceFrom words at ∷ silencesOf (drop (at + recordWords) words)
       all-from = now .all-are ∙ ap (λ (l : List Silence). now .passed ++ l) (silencesOf-step words at h)
 
-      -- and stands after those passed
+      -- its number is `records`, and those before it are passed
       stands-here : RecordStands none 0 (silencesOf words) (now .passed) records (silenceFrom words at)
       stands-here =
           record {
@@ -83,17 +83,17 @@ module _ {words : List ℕ} where
             ascends = now .ascends;
           }
 
-      -- Row 9 at this record.
+      -- If this record's ring number is above 65,535, refusal 9 with its number is the answer.
       pub judge-ring-number : mostRingNumber < silenceFrom words at .ringNumber → refused (RingNumber records) ≡ judgement words
       judge-ring-number high = sym (judged-by words (packs-as-is (stopped-ring stands-here high)))
 
       module _ (low : silenceFrom words at .ringNumber ≤ mostRingNumber) where
-        -- Row 7 at this record.
+        -- If this record is not above the last, refusal 7 with its number is the answer.
         pub judge-not-above : isAbove last (silenceFrom words at) ≡ false → refused (NotAbove records) ≡ judgement words
         judge-not-above e =
             sym (judged-by words (packs-as-is (stopped-order stands-here low (subst (λ (l : Option Silence). isAbove l (silenceFrom words at) ≡ false) (now .last-is) e))))
 
-        -- A turn takes this record.
+        -- If this record is above the last, the invariant holds again with it passed and counted.
         pub judge-turn : {field : ℕ} → isAbove last (silenceFrom words at) ≡ true → length (fieldOf (silenceFrom words at)) ≡ field
             → JudgedTo words (some (silenceFrom words at)) (records + 1) (bytes + field) (at + recordWords)
         unfolding wordsOfEach
@@ -119,7 +119,7 @@ module _ {words : List ℕ} where
                   );
             }
 
-    -- At the end no record is left: the sizes are those of all.
+    -- When fewer than three words are left, the sizes counted are the answer.
     pub judge-end : length words < at + recordWords → accepted (sized records bytes) ≡ judgement words
     judge-end h =
         let all : silencesOf words ≡ now .passed =

@@ -1,11 +1,15 @@
--- Laws of packing: the meaning of its answer, and what the functions' proofs cite. Read RoundTripsOfCalls, OneAnswer and RowsOfPacking first: they are the
--- theorems, and their heads name what they rest on; the laws of a book's definitions stand in the crate silences.
+-- The theorems about `pack`, and the laws that the proofs of functions cite. The theorems about the definitions are in crates/silences/proofs. A function's own
+-- proof is in a folder by its file and name, as packing/pack/Proof.antt. The theorems to read first (their heads name what they use):
+--
+--   RowsOfPacking        when each refusal is given, and where
+--   RoundTripsOfCalls    `pack` and `unpack` undo each other
+--   OneAnswer            the contract has one answer
 
--- answers, the rows, and the round trips with unpacking
+-- the theorems
 pub mod OneAnswer
 pub mod RowsOfPacking
 pub mod RoundTripsOfCalls
--- what each function's proof cites: bytes written from an offset on, loops, and the cases of the call
+-- what the proofs of functions cite: writing a number and a field, invariants of loops, and the cases of `pack`
 pub mod NumberPut
 pub mod FieldPut
 pub mod FieldsLoop

@@ -1,5 +1,4 @@
--- Any two answers of `pack` that meet its contract are equal, and so are the lent areas at exit: the paper determines the answer (`paper-unique` of the
--- book).
+-- The contract of `pack` has one answer and one area at exit: any two that meet it are equal. The paper determines the answer (`paper-unique` of crates/book).
 use Prim.Native.Nat.{ℕ}
 use mathlib.Core.Path.{_≡_, sym, _∙_}
 use mathlib.Core.List.{List}

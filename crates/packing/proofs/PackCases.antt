@@ -1,5 +1,5 @@
--- What packing gives by its cases, as code goes by them: row 8, the first refusal among the records, row 10, or all bytes written. Each is a row of PackRows; what
--- the records were judged to be (`WordsJudged`) is known by its sizes.
+-- The cases of `pack`, as its code tests them: row 8, the refusal of the first faulty record, row 10, or all bytes written. In each the contract is met, by the
+-- laws of PackRows. What `judge` returned about the words is `WordsJudged`.
 use Prim.Native.Nat.{ℕ, _≤_, _<_}
 use mathlib.Core.Path.{_≡_, refl, sym, ap, _∙_}
 use mathlib.Core.List.{List}
@@ -24,47 +24,47 @@ use Rattle.packing.specs.declared.judging.Judged.the-variants.{Accepted,
 use Rattle.packing.specs.Calls.{IsPacked}
 use Rattle.packing.specs.Judging.{Sizes, sized, sizes, judgedOf}
 
--- What is known of the words once their records are judged: row 8 is not given, and what was judged.
+-- What is known of the words once `judge` has returned r: row 8 is not given, and r meets the contract of `judge`.
 pub record WordsJudged (words : List ℕ) (r : Judged) : Type 0 where
   pub word-count : HasWordCount words
   pub is : judgedOf r ≡ answerBy (recordFault words) (sizes (silencesOf words))
 
 module _ {words : List ℕ} {r : Judged} (judged : WordsJudged words r) {records bytes : ℕ} (told : r ≡ Accepted records bytes) where
-  -- no record is faulty, and the sizes are those of all
+  -- if `judge` accepted, the words can be packed, and the sizes are those of their output
   all-accepted : IsPackable words × (sizes (silencesOf words) ≡ sized records bytes)
   all-accepted =
       let gives = answer-gives-iff (sizes (silencesOf words)) (sized records bytes) (recordFault words) .0 (sym (judged .is) ∙ ap judgedOf told) in
       (packable-iff words (length words) {P = Unit {0}} .0 (judged .word-count, (gives .0, tt)) .0, gives .1)
 
-  -- The bytes judged are those of the whole output.
+  -- The number of bytes that `judge` counted is the length of the whole output.
   pub judged-bytes-are : bytes ≡ length (layout (silencesOf words))
   judged-bytes-are = sym (ap (λ (s : Sizes). s .bytes) (all-accepted .1))
 
 module _ (words area : List ℕ) where
-  -- a call that is refused, and leaves the area as it was
+  -- if q is the first row that is given, refusing with q and writing nothing meets the contract
   is-refused : {q : Refusal} → packRefusal words (length area) ≡ some q → IsPacked words area (Refused q) area
   unfolding packed
   is-refused {q} e =
       let is : packed words (length area) ≡ refused q = answer-refused-iff (silencesOf words) (packRefusal words (length area)) q .1 e in
       record { paper = sym (ap recordsPaper is); written = sym (ap (λ (a : Answer (List Silence)). areaAtExit layout a area) is) }
 
-  -- Row 8: not a multiple of 3, or too many.
+  -- If the number of words is wrong, refusing with 8 and writing nothing meets the contract.
   pub pack-word-count : HasWrongCount words → IsPacked words area (Refused WordCount) area
   pack-word-count wrong = is-refused (pack-8-iff words (length area) .1 wrong)
 
   module _ {r : Judged} (judged : WordsJudged words r) where
-    -- Row 9 or 7, at the record that was judged so.
+    -- If `judge` refused with q, refusing with q and writing nothing meets the contract.
     pub pack-refused : {q : Refusal} → r ≡ RefusedBy q → IsPacked words area (Refused q) area
     pack-refused {q} told =
         is-refused (pack-fault words (length area) (judged .word-count) q
         (answer-refused-iff (sizes (silencesOf words)) (recordFault words) q .0 (sym (judged .is) ∙ ap judgedOf told)))
 
     module _ {records bytes : ℕ} (told : r ≡ Accepted records bytes) where
-      -- Row 10.
+      -- If there is less room than `judge` counted bytes, refusing with 10 and writing nothing meets the contract.
       pub pack-no-room : length area < bytes → IsPacked words area (Refused OutputRoom) area
       pack-no-room h = is-refused (pack-10-iff words (length area) .1 (all-accepted judged told .0, omega (arith, judged-bytes-are judged told)))
 
-      -- There is room, and the whole output is written.
+      -- If there is room and the whole output is written, returning the number of records meets the contract.
       pub pack-written : {out : List ℕ} → bytes ≤ length area → out ≡ written (layout (silencesOf words)) area → IsPacked words area (Records records) out
       pack-written {out} h w =
           let all : IsPackable words × (sizes (silencesOf words) ≡ sized records bytes) = all-accepted judged told in

@@ -1,6 +1,7 @@
--- Round trips, of any answers that meet the contracts: the book that `pack` writes, given to `unpack` with room, comes back as the words at the front of
--- its area; the words that `unpack` writes, given to `pack` with room, come back as the book at the front of its area. Both give the same number of
--- records. What an accepted call gives and writes is stated once for the two (`gives-records`); that the definitions undo each other is RoundTrips of the silences.
+-- Round trips, for any answers that meet the contracts. If `pack` accepts words and `unpack` is given the book that it wrote, with room, then `unpack` accepts
+-- and writes those words (`pack-unpack`). If `unpack` accepts a book and `pack` is given the words that it wrote, with room, then `pack` accepts and writes
+-- that book (`unpack-pack`). Both return the same number of records. The definitions undo each other by RoundTrips of crates/silences; what an accepted call
+-- returns and writes is proved once for both calls (`gives-records`, `gave`).
 use Prim.Native.Nat.{ℕ, _*_, _≤_}
 use mathlib.Core.Path.{_≡_, refl, sym, ap, _∙_}
 use mathlib.Core.List.{List}
@@ -28,7 +29,7 @@ use Rattle.packing.specs.Calls.{IsPacked}
 
 module _ (output : List Silence → List ℕ) (each : ℕ) (length-is : (ss : List Silence) → length (output ss) ≡ each * length ss) (o : Option Refusal)
     (ss : List Silence) (area : List ℕ) (n : ℕ) (out : List ℕ) (wrote : out ≡ areaAtExit output (answerBy o ss) area) where
-  -- where its definition gives n silences, a call gives n records, and their output stands at the front of its area
+  -- if the definition gives n silences, the call returns n records, and the area at exit begins with their output
   gives-records : (ts : List Silence) → answerBy o ss ≡ accepted ts → length ts ≡ n → (r : BookAnswer) → paperOf r ≡ recordsPaper (answerBy o ss)
       → (r ≡ Records n) × (take (each * n) out ≡ output ts)
   gives-records ts is records-is r paper =
@@ -37,14 +38,14 @@ module _ (output : List Silence → List ℕ) (each : ℕ) (length-is : (ss : Li
         ap (take (each * n)) wrote ∙ area-front output area (answerBy o ss) ts (each * n) is (length-is ts ∙ ap (λ (i : ℕ). each * i) records-is),
       )
 
-  -- where it gave n records, its definition gives n silences, and their output stands at the front
+  -- if the call returned n records, the definition gives n silences, and the area at exit begins with their output
   gave : paperOf (Records n) ≡ recordsPaper (answerBy o ss) → (answerBy o ss ≡ accepted ss) × (length ss ≡ n) × (take (each * n) out ≡ output ss)
   gave paper =
       let has = records-iff o ss (Records n) paper n .0 refl in
       let is = answer-gives-iff ss ss o .1 (has .0, refl) in
       (is, has .1, gives-records ss is (has .1) (Records n) paper .1)
 
--- Packed and unpacked, there are as many records, and the words come back, word for word.
+-- If `pack` returned n records, `unpack` with room, given the 13·n bytes that `pack` wrote, returns n records and writes the same words.
 pub pack-unpack : (words area : List ℕ) (n : ℕ) (out : List ℕ) → IsWords words → IsPacked words area (Records n) out
     → (area′ : List ℕ) (r : BookAnswer) (out′ : List ℕ) → recordWords * n ≤ length area′ → IsUnpacked (take (fieldLength * n) out) area′ r out′
     → (r ≡ Records n) × (take (recordWords * n) out′ ≡ words)
@@ -62,7 +63,7 @@ pack-unpack words area n out are-words pack area′ r out′ room unpack =
     (unpack .paper) in
     (back .0, back .1 ∙ words-are)
 
--- Unpacked and packed, there are as many records, and the book comes back, byte for byte.
+-- If `unpack` returned n records, `pack` with room, given the 3·n words that `unpack` wrote, returns n records and writes the same book.
 pub unpack-pack : (book area : List ℕ) (n : ℕ) (out : List ℕ) → IsBytes book → IsUnpacked book area (Records n) out
     → (area′ : List ℕ) (r : BookAnswer) (out′ : List ℕ) → fieldLength * n ≤ length area′ → IsPacked (take (recordWords * n) out) area′ r out′
     → (r ≡ Records n) × (take (fieldLength * n) out′ ≡ book)

@@ -1,6 +1,6 @@
--- The rows of `pack`, for any answer that meets its contract: rows 8, 9, 7 and 10 of document 01's table as an iff each, number and place written out, that it gives
--- no other row, that a refusal counts and writes nothing, and that it is accepted, and gives n records, exactly for the words of n silences with room for
--- their fields. From PackRows of the silences, by AnswerByRows of the answers.
+-- The rows of `pack`, for any answer `r` and area at exit `out` that meet its contract. Rows 8, 9, 7 and 10 of document 01's table are given exactly when the
+-- table says, each with its number and place; no other row is given; a refusal counts and writes nothing; n records are returned exactly for words of n
+-- silences that can be packed, with room for their fields. From PackRows of crates/silences, by AnswerByRows of crates/answers.
 use Prim.Native.Nat.{ℕ, _*_, _≤_, _<_}
 use mathlib.Core.Logic.{_⊎_, inl, inr, _↔_, Iff·rfl, Iff·trans, Iff·and}
 use mathlib.Core.Path.{_≡_, refl, _∙_}
@@ -33,43 +33,43 @@ module _ (words area : List ℕ) (r : BookAnswer) (out : List ℕ) (meets : IsPa
   abbrev o : Option Refusal
   o = packRefusal words (length area)
 
-  -- as many records as silences
+  -- the number of silences of the words
   abbrev records : ℕ
   records = length (silencesOf words)
 
-  -- its paper, by the first row that is given
+  -- the paper of `r`, by the first row that is given
   paper : paperOf r ≡ answerPaper 0 (answerBy o records)
   unfolding packed
   paper = paper-by o (silencesOf words) (meets .paper)
 
-  -- Row 8: "words to pack aren't a multiple of 3, or exceed 3,000".
+  -- Row 8 is given exactly when the "words to pack aren't a multiple of 3, or exceed 3,000".
   pub pack-row-8 : (paperOf r .number ≡ 8) ↔ HasWrongCount words
   pack-row-8 = Iff·trans (row-number-iff 0 records o paper WordCount (omega arith)) (pack-8-iff words (length area))
 
-  -- Its place: 0.
+  -- The place of refusal 8 is 0.
   pub pack-row-8-place : paperOf r .number ≡ 8 → paperOf r .place ≡ 0
   pack-row-8-place = refusal-place-is 0 (answerBy o records) paper WordCount (omega arith)
 
-  -- Row 9: "a ring number to pack is above 65,535", its record number.
+  -- Row 9, "a ring number to pack is above 65,535", is given at record number i exactly if row 8 is not and it is the first fault.
   pub pack-row-9 : (i : ℕ) → ((paperOf r .number ≡ 9) × (paperOf r .place ≡ i)) ↔ (HasWordCount words × IsRingFault words i)
   pack-row-9 i = Iff·trans (row-place-iff 0 records o paper (RingNumber i)) (pack-9-iff words (length area) i)
 
-  -- Row 7: "a record isn't above the one before it", its record number.
+  -- Row 7, "a record isn't above the one before it", is given at record number i exactly if row 8 is not and it is the first fault.
   pub pack-row-7 : (i : ℕ) → ((paperOf r .number ≡ 7) × (paperOf r .place ≡ i)) ↔ (HasWordCount words × IsRecordFault words i)
   pack-row-7 i = Iff·trans (row-place-iff 0 records o paper (NotAbove i)) (pack-7-iff words (length area) i)
 
-  -- Row 10: "packing lacks room for its whole output", 13 bytes for each silence.
+  -- Row 10, packing "lacks room for its whole output", is given exactly for words that can be packed with less room than 13 bytes for each silence.
   pub pack-row-10 : (paperOf r .number ≡ 10) ↔ (IsPackable words × (length area < fieldLength * records))
   pack-row-10 =
       Iff·trans (row-number-iff 0 records o paper OutputRoom (omega arith))
       (Iff·trans (pack-10-iff words (length area))
       (Iff·and Iff·rfl (λ h. omega (arith, layout-length (silencesOf words)), λ h. omega (arith, layout-length (silencesOf words)))))
 
-  -- Its place: 0.
+  -- The place of refusal 10 is 0.
   pub pack-row-10-place : paperOf r .number ≡ 10 → paperOf r .place ≡ 0
   pack-row-10-place = refusal-place-is 0 (answerBy o records) paper OutputRoom (omega arith)
 
-  -- No other row: its number is 0, 8, 9, 7 or 10.
+  -- No other row is given: the number is 0, 8, 9, 7 or 10.
   pub pack-numbers : (paperOf r .number ≡ 0) ⊎ ((paperOf r .number ≡ 8) ⊎ ((paperOf r .number ≡ 9) ⊎ ((paperOf r .number ≡ 7) ⊎ (paperOf r .number ≡ 10))))
   pack-numbers =
       number-by 0 records o paper (λ (n : ℕ). (n ≡ 0) ⊎ ((n ≡ 8) ⊎ ((n ≡ 9) ⊎ ((n ≡ 7) ⊎ (n ≡ 10))))) (inl refl)
@@ -77,11 +77,11 @@ module _ (words area : List ℕ) (r : BookAnswer) (out : List ℕ) (meets : IsPa
       (λ (q : Refusal). (numberOf q ≡ 0) ⊎ ((numberOf q ≡ 8) ⊎ ((numberOf q ≡ 9) ⊎ ((numberOf q ≡ 7) ⊎ (numberOf q ≡ 10)))))
       (inr (inl refl)) (λ j. inr (inr (inl refl))) (λ j. inr (inr (inr (inl refl)))) (inr (inr (inr (inr refl)))))
 
-  -- "A refusal carries .. zero in every count".
+  -- "A refusal carries .. zero in every count": its number of records is 0.
   pub pack-refused-none : 0 < paperOf r .number → paperOf r .counts ≡ 0
   pack-refused-none = refused-counts 0 records o paper
 
-  -- A refusal "writes nothing to any lent area".
+  -- A refusal "writes nothing to any lent area": the area at exit is the area at entry.
   pub pack-refused-area : 0 < paperOf r .number → out ≡ area
   unfolding packed
   pack-refused-area =
@@ -93,11 +93,11 @@ module _ (words area : List ℕ) (r : BookAnswer) (out : List ℕ) (meets : IsPa
       Iff·trans (pack-none-iff words (length area))
       (Iff·and Iff·rfl (λ h. omega (arith, layout-length (silencesOf words)), λ h. omega (arith, layout-length (silencesOf words))))
 
-  -- It is accepted exactly then.
+  -- `pack` accepts exactly words that can be packed, with room for 13 bytes for each silence.
   pub pack-accepted : (paperOf r .number ≡ 0) ↔ (IsPackable words × (fieldLength * records ≤ length area))
   pack-accepted = Iff·trans (accepted-number-iff 0 records o paper) none-iff
 
-  -- It gives n records exactly for words that can be packed, of n silences, with room for 13 bytes each.
+  -- `pack` returns n records exactly for words of n silences that can be packed, with room for 13 bytes for each silence.
   pub pack-records : (n : ℕ) → (r ≡ Records n) ↔ ((IsPackable words × (fieldLength * records ≤ length area)) × (records ≡ n))
   unfolding packed
   pack-records n = Iff·trans (records-iff o (silencesOf words) r (meets .paper) n) (Iff·and none-iff Iff·rfl)

@@ -1,5 +1,5 @@
--- The contract of packing, one record as for the calls on a book: the answer as document 01's number, place and counts (`paper`), and the lent area at
--- exit (`written`), on every input, accepted or refused. "Packer and unpacker return the number of records".
+-- The contract of `pack`, for every input, accepted or refused. As for the calls of crates/book, `paper` is the returned value as document 01's number, place
+-- and number of records; `written` is the lent area at exit. "Packer and unpacker return the number of records".
 use Prim.Native.Nat.{ℕ}
 use mathlib.Core.Path.{_≡_}
 use mathlib.Core.List.{List}

@@ -1,5 +1,8 @@
--- The packer of the silence book. Calls is the contract of the public call, Judging and Putting those of private functions. What packing gives stands in the
--- crate silences.
+-- The packer of the silence book. What packing gives is defined in crates/silences/specs (Packing); read that first.
+--
+--   Calls      the contract of `pack`, the one public function
+--   Judging    definitions for the contract of the private `judge`
+--   Putting    the contract of the private functions that write bytes
 pub mod Calls
 pub mod Judging
 pub mod Putting

@@ -1,4 +1,4 @@
-// What packing tests before it writes a byte: rows 9 and 7, record by record. It also counts the sizes of the output.
+// What packing tests before it writes a byte: rows 9 and 7, record by record. It also counts the records and the bytes.
 use answers::Refusal;
 use silences::Address;
 use silences::FIELD_LENGTH;
@@ -15,13 +15,13 @@ ghost use Rattle.packing.specs.Judging.{judgedOf, sizes};
 // "a ring number to pack is above 65,535": the largest ring number.
 const MOST_RING_NUMBER: u32 = 65535;
 
-// What judging the records found: how many records and bytes the output has, or the first refusal.
+// What `judge` returns: how many records and bytes the output has, or the refusal of the first faulty record.
 pub enum Judged {
     Accepted { records: usize, bytes: usize },
     Refused(Refusal),
 }
 
-// Each record "9 before 7", and the bytes of its field. One or two words at the end are no record.
+// Tests each record, "9 before 7", and counts it and the bytes of its field. One or two words left over are no record.
 pub fn judge(words: &[u32]) -> Judged
     requires { ⌜ length (now words) ≤ mostWords ⌝ }
     ensures { λ r. ⌜ judgedOf r ≡ answerBy (recordFault (now (words .entry))) (sizes (silencesOf (now (words .entry)))) ⌝ }

@@ -1,5 +1,5 @@
-// Packing: document 01's packer of the silence book, over the crates silences and book. What it answers and writes on every
-// input stands in specs/. It has no `requires`: it takes every input.
+// Packing: document 01's packer of the silence book, over the crates silences and book. What `pack` returns and writes,
+// on every input, is its contract in specs/. It has no `requires`.
 mod judging;
 mod packing;
 mod putting;

@@ -1,4 +1,4 @@
-// Packing: words to a book. First every refusal, then every byte, so that a refusal writes nothing.
+// Packing words into a book. Every refusal comes before the first byte is written, so that a refusal writes nothing.
 use crate::judging::Judged;
 use crate::judging::judge;
 use crate::putting::put_fields;
@@ -8,10 +8,11 @@ use silences::MOST_SILENCES;
 use silences::RECORD_WORDS;
 ghost use Rattle.packing.specs.Calls.{IsPacked};
 
-// "words to pack aren't a multiple of 3, or exceed 3,000": the most words that are packed.
+// "words to pack aren't a multiple of 3, or exceed 3,000": the most words that can be packed.
 const MOST_WORDS: usize = RECORD_WORDS * MOST_SILENCES;
 
-// Packs silences, three words each (cell, ring number, start), into a book, and answers the number of records.
+// Packs silences, three words each (cell, ring number, start), into a book and returns the number of records; or refuses
+// with 8, 9, 7 or 10: "packer 8, then each record 9 before 7, then 10".
 pub fn pack(words: &[u32], out: &mut [u8]) -> BookAnswer
     ensures { λ r. ⌜ IsPacked (now (words .entry)) (now (out .entry)) r (now (out .exit)) ⌝ }
 {

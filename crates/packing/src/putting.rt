@@ -1,4 +1,4 @@
-// Writing a book's bytes, number after number and field after field.
+// Writing a book's bytes: numbers, fields of numbers, and a book of fields.
 use fields::LENGTH_BYTES;
 use fields::TAG_BYTES;
 use silences::CELL_BYTES;
@@ -17,8 +17,8 @@ ghost use Rattle.silences.specs.Layout.{fieldOf, layout};
 ghost use Rattle.silences.specs.Packing.{silencesOf};
 ghost use Rattle.packing.specs.Putting.{AreBytesPut};
 
-// Writes a number into `count` bytes from `at` on, high byte first, and answers the byte offset just past them. It goes
-// from the last byte to the first: the last is the number mod 256, and the others are what is left of it.
+// Writes a number into `count` bytes from `at` on, high byte first, and returns the byte offset just past them. It
+// writes the last byte first: that is the number mod 256, and the bytes before it are the number divided by 256.
 fn put_number(out: &mut [u8], at: usize, count: usize, number: u32) -> usize
     requires { ⌜ at + count ≤ length (now out) ⌝ }
     ensures { λ r. ⌜ AreBytesPut at (bytesOf count number) (now (out .entry)) r (now (out .exit)) ⌝ }
@@ -33,7 +33,7 @@ fn put_number(out: &mut [u8], at: usize, count: usize, number: u32) -> usize
     at + count
 }
 
-// Writes a silence's field from `at` on: "one-byte tag, two-byte length, value". Answers the byte offset just past it.
+// Writes a silence's field from `at` on: "one-byte tag, two-byte length, value". Returns the byte offset just past it.
 fn put_field(out: &mut [u8], at: usize, cell: u32, ring_number: u32, start: u32) -> usize
     requires { ⌜ at + length (fieldOf (silence cell «ring_number» start)) ≤ length (now out) ⌝ }
     ensures { λ r. ⌜ AreBytesPut at (fieldOf (silence cell «ring_number» start)) (now (out .entry)) r (now (out .exit)) ⌝ }

@@ -1,5 +1,5 @@
--- `packing::judging::judge` meets its contract. Its loop keeps `JudgedTo`: the records before `at` are passed and counted. Each return is one case of the record
--- there, or that none is left. The words left fall.
+-- `packing::judging::judge` meets its contract. The loop's invariant is `JudgedTo`: the records before `at` are passed and counted. Each return is one case of
+-- the record there, or that none is left. The number of words left falls.
 use Prim.Native.Nat.{_-_}
 use mathlib.Core.Path.{sym, _∙_}
 use native.Mathlib.Omega.{arith}
@@ -77,7 +77,7 @@ add-at c = omega arith
 loop-less : tie.Need-loop-less Inv-loop μ-loop
 loop-less c = omega arith
 
--- this record is taken
+-- this record is passed
 loop-again : tie.Need-loop-again Inv-loop μ-loop
 loop-again c =
     let at-loop = c .before .before .before .before .before .before .before in

@@ -1,5 +1,5 @@
--- `packing::packing::pack` meets its contract: each return is one case of packing (`PackCases`), and what is known once the records are judged (`judged`) is what
--- the two tests of the word count left and what `judge` ensures.
+-- `packing::packing::pack` meets its contract: each return is one case of PackCases. Past the two tests of the word count and the call of `judge`, `judged`
+-- says what is known of the words.
 use mathlib.Core.Logic.{inl, inr}
 use native.Mathlib.Omega.{arith}
 use borrow.Author.Needs.{needs}

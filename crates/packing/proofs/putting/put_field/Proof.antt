@@ -1,5 +1,5 @@
--- `packing::putting::put_field` meets its contract: each number begins where the one before it ends, and all five are the field (`field-put`). Room for the
--- field is known at the beginning; what is left of it behind each number follows from what was left behind the one before.
+-- `packing::putting::put_field` meets its contract: each number begins where the one before it ends, and all five are the field (`field-put`). There is room
+-- for the field at the start; the room left after each number follows from the room left after the one before.
 use Prim.Native.Nat.{_+_, _≤_}
 use native.Mathlib.Omega.{arith}
 use borrow.Author.Needs.{needs}
@@ -12,16 +12,16 @@ use Rattle.packing.proofs.FieldPut.{number-next, field-put}
 use Rattle.packing.proofs.putting.put_field.Statement.{statement}
 use Rattle.packing.proofs.putting.put_field.Tie as tie
 
--- the silence whose field is put
+-- the silence whose field is written
 here : tie.Start → Silence
 here c = silence (c .args .cell) (c .args .ring-number) (c .args .start)
 
--- behind the tag there is room for the length and the value
+-- after the tag there is room for the length and the value
 behind-tag : (c : tie.After-put-number) → c .put-number .result + lengthBytes + valueLength ≤ length (c .put-number .last .0)
 unfolding here
 behind-tag c = omega (arith, field-length (here (c .before .before .before)), number-next tagBytes _ (c .put-number .ensures))
 
--- behind each next number there is room for what was left but that number
+-- after each further number there is room for the rest
 behind-length : (c : tie.After-put-number2) → c .put-number2 .result + valueLength ≤ length (c .put-number2 .last .0)
 behind-length c = omega (arith, behind-tag (c .before .before .before .before), number-next lengthBytes _ (c .put-number2 .ensures))
 

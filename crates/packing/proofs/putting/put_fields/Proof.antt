@@ -1,5 +1,5 @@
--- `packing::putting::put_fields` meets its contract. Its loop keeps `PutFields`: what is to be written yet, written over the area as it is, gives the whole. The
--- words left fall.
+-- `packing::putting::put_fields` meets its contract. The loop's invariant is `PutFields`: the fields left, written into the area as it is now, give the whole
+-- layout. The number of words left falls.
 use Prim.Native.Nat.{_-_}
 use native.Mathlib.Omega.{arith}
 use lib.ListN.{length}

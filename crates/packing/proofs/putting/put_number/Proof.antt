@@ -1,5 +1,5 @@
--- `packing::putting::put_number` meets its contract. Its loop keeps `PutNumber`: the bytes left, written over the area as it is, give the whole number. The
--- bytes left fall.
+-- `packing::putting::put_number` meets its contract. The loop's invariant is `PutNumber`: the bytes left, written into the area as it is now, give the whole
+-- number. The number of bytes left falls.
 use native.Mathlib.Omega.{arith}
 use Rattle.packing.proofs.NumberPut.{PutNumber, put-number-start, put-number-turn, put-number-end}
 use Rattle.packing.proofs.putting.put_number.Statement.{statement}
