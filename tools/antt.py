@@ -1,5 +1,5 @@
 """antt source read as text: what a file of specs/ or proofs/ defines, with its comment, its type and the parameters of the modules that it stands in; and how the
-docs cite it. For tools/names and tools/statements."""
+docs cite it. For tools/names, tools/statements and tools/contracts."""
 import functools, os, re
 
 COMMENT = re.compile(r"\{-.*?-\}|(?:(?<=\s)|^)--(?=\s|$)[^\n]*|(\"[^\"\n]*\")", re.S | re.M)
@@ -85,20 +85,17 @@ def binders(text):
 def telescope(type):
     """what a type takes, one after the other, and what it ends in"""
     *taken, end = parted(type, "→")
-    found = []
-    for part in taken:
-        found += binders(part) or [Given(part, [], part, False)]
-    return found, end
+    return [given for part in taken for given in binders(part) or [Given(part, [], part, False)]], end
 
 
 class Definition:
     """name; before, the words that stand before it (`pub`, `abbrev`); kind, record, data or nothing; path and line; comment, that above it as one text, or nothing;
     modules, the heads of those that it stands in, outermost first; takes, what its own head takes before the colon; type; text, all of it with its body,
-    its own depth taken off; depth."""
+    its own depth taken off."""
 
     def given(self):
-        """what the modules around it take, and its own head before the colon"""
-        return [given for head in self.modules + [self.takes] if head for given in binders(head) or [Given(head, [], head, False)]]
+        """what the modules around it take; a head that is not made of binders is one thing"""
+        return [given for head in self.modules if head for given in binders(head) or [Given(head, [], head, False)]]
 
     def names(self):
         """the names that its modules' heads, its own and its type bind, also inside"""
@@ -147,11 +144,20 @@ def definitions(text, path=""):
         names = [m[3]] if m[2] or not re.fullmatch(r"[^(){}]+", takes) else [m[3]] + takes.split()
         for name in names:
             d = Definition()
-            d.name, d.before, d.kind, d.path, d.line, d.depth = name, m[1].split(), (m[2] or "").strip(), path, begun + 1, depth
+            d.name, d.before, d.kind, d.path, d.line = name, m[1].split(), (m[2] or "").strip(), path, begun + 1
             d.comment = " ".join(part.strip().lstrip("-").strip() for part in kept[above:begun])
             d.modules, d.takes, d.type = [head for _, head in modules], "" if len(names) > 1 else takes, type
             d.text = "\n".join(part[depth:].rstrip() for part in kept[begun:end])
             found.append(d)
+    return found
+
+
+def used(text):
+    """(crate, part, module, name) of what a file uses of specs/ or proofs/ of any crate, by the name that it has there"""
+    found = {}
+    for crate, part, module, names in re.findall(r"(?m)^(?:pub |ghost )?use Rattle·(\w+)(?:·(?:specs|proofs))?\.(specs|proofs)\.([^\s{]+)\.\{([^}]*)\}", text):
+        for name, _, own in (word.strip().partition(" as ") for word in names.split(",")):
+            found[own or name] = (crate, part, module, name)
     return found
 
 
