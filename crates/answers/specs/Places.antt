@@ -28,8 +28,8 @@ lastPlace = pred (2 ^ 64)
 unfoldable pub ringPlaceOf : LinePlace → LinePlace → RingPlace → ℕ → RingPlace
 ringPlaceOf place start rotation m = record { 0 = around m (rotation .0 + (place .0 - start .0)) }
 
--- The line place over a ring place: start + (ring place − rotation) mod m, and at most `lastPlace`. Numbers here are never negative, so m − rotation
--- is added in place of − rotation.
+-- The line place over a ring place: start + (ring place − rotation) mod m, and at most `lastPlace`. Numbers here are never negative, so the
+-- definition adds m − rotation instead of subtracting the rotation.
 unfoldable pub linePlaceOf : RingPlace → LinePlace → RingPlace → ℕ → LinePlace
 linePlaceOf place start rotation m = record { 0 = min (start .0 + around m (place .0 + (m - rotation .0 % m))) lastPlace }
 

@@ -1,5 +1,5 @@
 -- Document 01, "What each call returns": what a lent area holds after numbers are written into it. "Words after the last one written keep their
--- values"; a packed book leaves "room beyond [its] output unwritten". Neither definition tests for room: who uses one shows that the numbers fit.
+-- values"; a packed book leaves "room beyond [its] output unwritten". Neither definition tests for room: its users show that the numbers fit.
 use Prim.Native.Nat.{ℕ}
 use mathlib.Core.List.{List, _++_}
 use lib.ListN.{length, take, drop}

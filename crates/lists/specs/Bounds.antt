@@ -18,7 +18,7 @@ allBelow bound (number ∷ numbers) = ltb number bound && allBelow bound numbers
 abbrev pub IsBytes : List ℕ → Type 0
 IsBytes = AllBelow (2 ^ 8)
 
--- Every number of the list fits one of the "32-bit words".
+-- Every number of the list fits a 32-bit word.
 abbrev pub IsWords : List ℕ → Type 0
 IsWords = AllBelow (2 ^ 32)
 

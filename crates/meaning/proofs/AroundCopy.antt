@@ -1,6 +1,6 @@
--- One stored copy gives several findings. A step of one place changes a distance by at most 1, if the rotation moves along with it (`distance-step`): at most one edge that
--- agreed leaves the window, and at most one that differs enters. So s places from a copy with d differing edges, some rotation differs in at most d + s places: every start within
--- k − d places of the copy, on either side, is found. An exact copy gives 2·k + 1 findings away from the line's ends.
+-- One stored copy gives several findings. A step of one place changes a distance by at most 1, if the rotation moves along with it (`distance-step`): at most
+-- one edge that agreed leaves the window, and at most one that differs enters. So s places from a copy with d differing edges, some rotation differs in at most
+-- d + s places. Every start within k − d places of the copy, on either side, is found; an exact copy gives at least 2·k + 1 findings away from the line's ends.
 use Prim.Native.Nat.{ℕ, zero, suc, _+_, _-_, _%_, _≤_, _<_}
 use mathlib.Core.Path.{_≡_, sym, ap, _∙_, subst}
 use mathlib.Core.List.{List, List·Memᴰ}

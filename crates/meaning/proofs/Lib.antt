@@ -1,4 +1,4 @@
--- Theorems about the meanings and rules. Other crates cite them as Rattle.meaning.proofs.NAME. Read the statements of these seven modules first:
+-- Theorems about the meanings and rules. Other crates cite them as Rattle.meaning.proofs.NAME. Read the statements of these eight modules first:
 --
 --   FoundExactly    `findings-iff`, `found-iff`            the list `findings` has exactly the findings
 --   Rising          `findings-rising`, `findings-unique`   they are listed by strictly rising start, at most one for each start
@@ -7,6 +7,7 @@
 --   QuickFindsAll   `quick-finds-all`                      the rules report exactly the findings
 --   LookBound       `quickLooks-le`                        the quick scan takes at most 3·m·n − 2·m·m + m looks
 --   SurveyLooks     `surveyLooks-is`                       the plain survey takes 2·m·n − m·m looks
+--   AroundCopy      `found-after`, `found-before`          every start within k − d places of a copy with d differing edges is found
 --
 -- The other modules are their lemmas, and what the proofs of code cite. Each group below uses only itself and the groups above it.
 
@@ -38,5 +39,5 @@ pub mod WindowAlone
 pub mod TallyStep
 pub mod WindowLoop
 pub mod ScanLoop
--- how many findings one stored copy gives
+-- the findings around one stored copy
 pub mod AroundCopy

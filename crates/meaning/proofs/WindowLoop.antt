@@ -20,9 +20,9 @@ use Rattle.meaning.proofs.Some.{some-same}
 use Rattle.meaning.proofs.FitDecided.{begins-mod}
 
 module _ (ring : List ℕ) where
-  -- Bit r says whether the stretch is the beginning of rotation r, for every r below m.
-  unfoldable pub Bits : (ℕ → Bool) → List ℕ → Type 0
-  Bits bits s = (r : ℕ) → r < length ring → bits r ≡ begins ring r s
+  -- The bits of a stretch: bit r says whether it is the beginning of rotation r, for every r below m.
+  unfoldable pub BitsOf : (ℕ → Bool) → List ℕ → Type 0
+  BitsOf bits s = (r : ℕ) → r < length ring → bits r ≡ begins ring r s
 
   -- Every bit below m is set.
   unfoldable pub AllSet : (ℕ → Bool) → Type 0
@@ -33,8 +33,8 @@ module _ (ring : List ℕ) where
   GrownBy x bits bits′ = (r : ℕ) → r < length ring → bits′ r ≡ (bits ((r + 1) % length ring) && eqb (getD ring r 0) x)
 
   -- If bits stand for a stretch, the bits grown by an edge stand for the grown stretch.
-  bits-grown : (x : ℕ) (bits bits′ : ℕ → Bool) (s : List ℕ) → Bits bits s → GrownBy x bits bits′ → Bits bits′ (x ∷ s)
-  unfolding Bits GrownBy begins
+  bits-grown : (x : ℕ) (bits bits′ : ℕ → Bool) (s : List ℕ) → BitsOf bits s → GrownBy x bits bits′ → BitsOf bits′ (x ∷ s)
+  unfolding BitsOf GrownBy begins
   bits-grown x bits bits′ s h g r l =
       let m : ℕ = length ring in
       let here : eqb (getD ring r 0) x ≡ eqb x (getD ring (r % m) 0) =
@@ -46,8 +46,8 @@ module _ (ring : List ℕ) where
       g r l ∙ and-comm (bits ((r + 1) % m)) (eqb (getD ring r 0) x) ∙ ap₂ (λ (a b : Bool). a && b) here rest
 
   -- A stretch of at most m edges fits exactly when some bit is set.
-  bits-fit : (bits : ℕ → Bool) (s : List ℕ) → length s ≤ length ring → Bits bits s → fits ring s ≡ someBelow bits (length ring)
-  unfolding Bits fits
+  bits-fit : (bits : ℕ → Bool) (s : List ℕ) → length s ≤ length ring → BitsOf bits s → fits ring s ≡ someBelow bits (length ring)
+  unfolding BitsOf fits
   bits-fit bits s short h =
       and-yes _ _ (le-leb (length s) (length ring) short) ∙ sym (some-same bits (λ r. begins ring r s) (length ring) h)
 
@@ -62,12 +62,12 @@ module _ (ring line : List ℕ) (k i : ℕ) where
     pub left-is : so-far .read + left ≡ m
     pub breaks-is : breaks ≡ so-far .breaks
     pub held-le : length (so-far .held) ≤ so-far .read
-    pub bits-are : Bits ring bits (so-far .held)
+    pub bits-are : BitsOf ring bits (so-far .held)
     pub goes-on : readLeft ring line k i left so-far ≡ readWindow ring line k i
 
   -- The invariant holds before the first edge, with every bit set.
   pub window-start : (bits : ℕ → Bool) → AllSet ring bits → WindowLoop m 0 bits
-  unfolding Bits AllSet begins readWindow
+  unfolding BitsOf AllSet begins readWindow
   window-start bits all = record {
     so-far = unread i;
     left-is = omega arith;
@@ -93,7 +93,7 @@ module _ (ring line : List ℕ) (k i : ℕ) where
     x = windowEdge line i left
 
     -- The grown bits stand for the grown stretch,
-    grown-bits : Bits ring bits′ (x ∷ h .so-far .held)
+    grown-bits : BitsOf ring bits′ (x ∷ h .so-far .held)
     grown-bits = bits-grown ring x bits bits′ (h .so-far .held) (h .bits-are) g
 
     -- so it fits exactly when some bit is left.
@@ -119,7 +119,7 @@ module _ (ring line : List ℕ) (k i : ℕ) where
 
     -- If no bit is set, the edge is a break: one break more, and every bit is set again.
     pub window-breaks : someBelow bits′ m ≡ false → (all : ℕ → Bool) → AllSet ring all → WindowLoop left (suc breaks) all
-    unfolding readEdge Bits AllSet begins
+    unfolding readEdge BitsOf AllSet begins
     window-breaks e all all-set = record {
       so-far = record { start = h .so-far .start; read = suc (h .so-far .read); breaks = suc (h .so-far .breaks); held = [] };
       left-is = omega (arith, h .left-is);

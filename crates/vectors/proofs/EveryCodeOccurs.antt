@@ -9,7 +9,7 @@ use native.Mathlib.Nat.{mul-le-mul-right, suc-mul}
 use native.Mathlib.Decide.{decLt, ℕ-discrete}
 use native.Mathlib.Omega.{arith}
 use lib.ListN.{length, getD, set}
-use Rattle.vectors.specs.Bits.{wordBits, putWord, putBit, Put, NoBit}
+use Rattle.vectors.specs.Bits.{wordBits, putWord, putBit, PutBit, NoBit}
 use Rattle.vectors.specs.Holding.{vectorAt, OccurrenceTable}
 use Rattle.vectors.proofs.OneCodeOccurs.{OccursBelow, occurs-below-start, occurs-below-turn-yes, occurs-below-turn-no, occurs-below-end, occurs-below-same}
 use Rattle.vectors.proofs.PartOfTable.{part-no-bit, part-put, part-put-outside, part-put-word}
@@ -35,7 +35,7 @@ module _ (ring : List ℕ) (count : ℕ) (room : length ring ≤ wordBits * coun
 
   -- Turn r keeps the invariant, if it puts in bit r of the vector of the code at place r, in whatever way.
   table-below-put : (table new : List ℕ) (r : ℕ) → TableBelow ring count table r → r < length ring
-      → Put table (wordBits * (getD ring r 0 * count) + r) 1 new → TableBelow ring count new (r + 1)
+      → PutBit table (wordBits * (getD ring r 0 * count) + r) 1 new → TableBelow ring count new (r + 1)
   table-below-put table new r known h put = record {
     each = λ code. dite (ℕ-discrete (getD ring r 0) code)
         (λ same. occurs-below-turn-yes ring code (vectorAt table (code * count) count) (vectorAt new (code * count) count) r (known .each code) h same

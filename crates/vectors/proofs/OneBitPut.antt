@@ -10,7 +10,7 @@ use native.Mathlib.Decide.{ℕ-discrete}
 use native.Mathlib.Omega.{arith}
 use lib.ListN.{length, getD}
 use lib.Dec.{eqb}
-use Rattle.vectors.specs.Bits.{wordBits, bit, putWord, putBit, Put}
+use Rattle.vectors.specs.Bits.{wordBits, bit, putWord, putBit, PutBit}
 use Rattle.vectors.proofs.WordBits.{bit-mod, bit-lone-there, bit-lone-else}
 use Rattle.vectors.proofs.VectorBits.{isSet-word, isSet-set-same, isSet-set-other, test-or}
 
@@ -25,7 +25,7 @@ module _ (x j b : ℕ) (bit-b : b < 2) where
       test-or x (b * 2 ^ j % 2 ^ wordBits) l ∙ rw (bit-mod (b * 2 ^ j) l wordBits h, bit-lone-else b j l bit-b other) (or-false (eqb (bit x l) 1))
 
 -- In `putBit ws i b`, bit i is set if it was or if b is 1, and no other bit has changed, if the vector has a bit i.
-pub put-is : (ws : List ℕ) (i b : ℕ) → b < 2 → i < wordBits * length ws → Put ws i b (putBit ws i b)
+pub put-is : (ws : List ℕ) (i b : ℕ) → b < 2 → i < wordBits * length ws → PutBit ws i b (putBit ws i b)
 unfolding putBit
 put-is ws i b bit-b h =
     let within : i / wordBits < length ws = omega arith in

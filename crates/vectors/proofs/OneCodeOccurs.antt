@@ -10,7 +10,7 @@ use native.Mathlib.Omega.{arith}
 use lib.ListN.{length, getD}
 use lib.Dec.{eqb}
 use borrow.Author.Tests.{eq-eqb, ne-eqb}
-use Rattle.vectors.specs.Bits.{isSet, Put, NoBit}
+use Rattle.vectors.specs.Bits.{isSet, PutBit, NoBit}
 use Rattle.vectors.specs.Holding.{Occurs}
 
 -- The invariant before turn r: bit q below r is set exactly when the ring has the code at place q, and no bit from r on is set.
@@ -25,7 +25,7 @@ module _ (ring : List ℕ) (code : ℕ) where
   occurs-below-start ws no-bit = record { turn-le = omega arith; below = λ q h. absurd (omega arith); rest = λ i h. no-bit .none i }
 
   -- If place r has the code, putting in bit r keeps the invariant.
-  pub occurs-below-turn-yes : (ws new : List ℕ) (r : ℕ) → OccursBelow ring code ws r → r < length ring → getD ring r 0 ≡ code → Put ws r 1 new
+  pub occurs-below-turn-yes : (ws new : List ℕ) (r : ℕ) → OccursBelow ring code ws r → r < length ring → getD ring r 0 ≡ code → PutBit ws r 1 new
       → OccursBelow ring code new (r + 1)
   occurs-below-turn-yes ws new r known h same put = record {
     turn-le = omega arith;

@@ -9,7 +9,7 @@ use native.Mathlib.Nat.{add-zero}
 use native.Mathlib.Decide.{decLt}
 use native.Mathlib.Omega.{arith}
 use lib.ListN.{length, getD, set}
-use Rattle.vectors.specs.Bits.{wordBits, Vector, isSet, putWord, putBit, Put, NoBit}
+use Rattle.vectors.specs.Bits.{wordBits, Vector, isSet, putWord, putBit, PutBit, NoBit}
 use Rattle.lists.specs.ByPlace.{listOf}
 use Rattle.vectors.specs.Holding.{vectorAt}
 use Rattle.vectors.specs.ByValue.{vectorWords}
@@ -55,8 +55,8 @@ unfolding listOf
 part-words table base = rw (add-zero base) refl
 
 -- A bit put into the list at a place of the part is put into the part.
-pub part-put : (table new : List ℕ) (base count i b : ℕ) → i < wordBits * count → Put table (wordBits * base + i) b new
-    → Put (vectorAt table base count) i b (vectorAt new base count)
+pub part-put : (table new : List ℕ) (base count i b : ℕ) → i < wordBits * count → PutBit table (wordBits * base + i) b new
+    → PutBit (vectorAt table base count) i b (vectorAt new base count)
 part-put table new base count i b h put = record {
   there = part-isSet new base count i h ∙ (put .there ∙ rw (part-isSet table base count i h) refl);
   others = λ j other. dite (decLt j (wordBits * count))
@@ -66,7 +66,7 @@ part-put table new base count i b h put = record {
 
 -- A bit put into the list at a place outside the part leaves the part's bits as they were.
 pub part-put-outside : (table new : List ℕ) (base count p b : ℕ) → ((i : ℕ) → i < wordBits * count → wordBits * base + i ≡ p → ⊥)
-    → Put table p b new
+    → PutBit table p b new
     → (j : ℕ) → isSet (vectorAt new base count) j ≡ isSet (vectorAt table base count) j
 part-put-outside table new base count p b outside put j = dite (decLt j (wordBits * count))
     (λ l. part-isSet new base count j l ∙ (put .others (wordBits * base + j) (outside j l) ∙ sym (part-isSet table base count j l)))

@@ -10,14 +10,14 @@ use native.Mathlib.Omega.{arith}
 use lib.ListN.{length, getD, length-set}
 use lib.Seq.{getD-set-same, getD-set-other}
 use lib.Dec.{eqb}
-use Rattle.vectors.specs.Bits.{wordBits, Vector, bit, isSet, putWord, putBit, Put}
+use Rattle.vectors.specs.Bits.{wordBits, Vector, bit, isSet, putWord, putBit, PutBit}
 use Rattle.vectors.specs.Rotating.{shiftedWord, shifted, Shifted, WithinBits, rotated, Rotated}
 use Rattle.vectors.proofs.WordBits.{bit-lt}
 use Rattle.vectors.proofs.VectorBits.{isSet-word}
 use Rattle.vectors.proofs.CarryBetweenWords.{shifted-is, shifted-length, shifted-word}
 use Rattle.vectors.proofs.OneBitPut.{put-is}
 
-module _ (m b : ℕ) (old mid new : List ℕ) (some : 0 < m) (within : WithinBits m old) (shift : Shifted old mid) (wrap : Put mid (m - 1) b new)
+module _ (m b : ℕ) (old mid new : List ℕ) (some : 0 < m) (within : WithinBits m old) (shift : Shifted old mid) (wrap : PutBit mid (m - 1) b new)
     (first : eqb b 1 ≡ isSet old 0) where
   -- A bit below m − 1 comes from the next higher one.
   below-last : (r : ℕ) → r + 1 < m → isSet new r ≡ isSet old ((r + 1) % m)

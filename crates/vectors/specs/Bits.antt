@@ -8,7 +8,7 @@
 --     wordBits     the bits of a machine word           Vector     a list of machine words
 --     wordCount    the words of m bits
 --     bit          bit j of a word, 0 or 1              isSet      whether bit i of a vector is set
---     putBit, Put              one bit put in           orBelow, noBit, NoBit    no bit set
+--     putBit, PutBit           one bit put in           orBelow, noBit, NoBit    no bit set
 --     firstBits, FirstBits     the first m bits set
 use mathlib.Core.Path.{_≡_}
 use mathlib.Core.Bool.{Bool, true, false, _||_}
@@ -48,7 +48,7 @@ unfoldable pub putBit : List ℕ → ℕ → ℕ → List ℕ
 putBit ws i b = set ws (i / wordBits) (putWord (getD ws (i / wordBits) 0) (i % wordBits) b)
 
 -- The bit b is put in at place i: that bit is now set if it was set or if b is 1, and no other bit has changed.
-pub record Put (old : List ℕ) (i b : ℕ) (new : List ℕ) : Type 0 where
+pub record PutBit (old : List ℕ) (i b : ℕ) (new : List ℕ) : Type 0 where
   pub there : isSet new i ≡ (isSet old i || eqb b 1)
   pub others : (p : ℕ) → (p ≡ i → ⊥) → isSet new p ≡ isSet old p
 

@@ -127,7 +127,7 @@ bit-zero = 1 ∷ 0 ∷ 0 ∷ 0 ∷ []
 abbrev every-bit : List ℕ
 every-bit = 0xffff_ffff_ffff_ffff ∷ 0xffff_ffff_ffff_ffff ∷ 0xffff_ffff_ffff_ffff ∷ 0xffff_ffff_ffff_ffff ∷ []
 
--- Word counts and bit counts that no scan uses: no word; seven words, which are taken as four; and no bit.
+-- Word counts and bit counts that no scan uses: count 0; count 7, which is taken as 4; and m = 0.
 pub other-counts-right : grownWords 5 0 every-bit bit-zero ∷ grownWords 256 7 every-bit bit-zero ∷ grownWords 0 1 every-bit bit-zero ∷ []
     ≡ (0 ∷ 0 ∷ 0 ∷ 0 ∷ []) ∷ (0 ∷ 0 ∷ 0 ∷ 0x8000_0000_0000_0000 ∷ []) ∷ (0x8000_0000_0000_0000 ∷ 0 ∷ 0 ∷ 0 ∷ []) ∷ []
 unfolding grownWords grownWord carryInto listOf bit
