@@ -1,5 +1,5 @@
 """antt source read as text: what a file of specs/ or proofs/ defines, with its comment, its type and the parameters of the modules that it stands in; and how the
-docs cite it. For tools/names, tools/statements and tools/contracts."""
+docs cite it. For tools/names, tools/statements, tools/contracts and tools/promises."""
 import functools, os, re
 
 COMMENT = re.compile(r"\{-.*?-\}|(?:(?<=\s)|^)--(?=\s|$)[^\n]*|(\"[^\"\n]*\")", re.S | re.M)
@@ -159,6 +159,11 @@ def used(text):
         for name, _, own in (word.strip().partition(" as ") for word in names.split(",")):
             found[own or name] = (crate, part, module, name)
     return found
+
+
+def used_of_specs(text):
+    """(crate, module, name) of what a file uses of specs/, by the name that it has there"""
+    return {own: (crate, module, name) for own, (crate, part, module, name) in used(text).items() if part == "specs"}
 
 
 def modules_of(tree):

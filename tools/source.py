@@ -1,4 +1,4 @@
-"""Rattle source read as text: its tokens, its functions, and which of them are public. For tools/looks, tools/contracts and tools/names."""
+"""Rattle source read as text: its tokens, its functions, and which of them are public. For tools/looks, tools/contracts, tools/promises and tools/names."""
 import os, re
 
 TOKEN = re.compile(r"\"[^\"\n]*\"|b'(?:\\.|[^'])'|'\w+|\w+|\.\.=?|::|->|=>|[-+*/%&|^<>=!]=|&&|\|\||\S")
@@ -121,18 +121,27 @@ def handed_on(text):
     return names - {""}
 
 
-def public_functions(src):
+def fact(clause):
+    """the tokens between ⌜ and ⌝ of a clause"""
+    return clause[clause.index("⌜") + 1:clause.index("⌝")] if "⌜" in clause else []
+
+
+def read_file(path):
+    return open(path, encoding="utf-8").read() if os.path.isfile(path) else None
+
+
+def public_functions(src, read=read_file):
     """[(path, function)] of a library's src: what is `pub`, and handed on or in modules that are `pub` all the way; and what is for C. A program has none"""
     found, names, todo = [], set(), [(os.path.join(src, "lib.rt"), True)]
-    if not os.path.isfile(todo[0][0]):
+    if read(todo[0][0]) is None:
         return []
     for path, open_way in todo:
-        text = open(path, encoding="utf-8").read()
+        text = read(path)
         names |= handed_on(text)
         found += [(path, open_way, f) for f in functions(text)]
         home = os.path.dirname(path) if os.path.basename(path) in ("lib.rt", "mod.rt") else path[:-len(".rt")]
         for public, module in re.findall(r"(?m)^\s*(pub\s+)?mod\s+(\w+)\s*;", without_comments(text)):
             for file in (os.path.join(home, module + ".rt"), os.path.join(home, module, "mod.rt")):
-                if os.path.isfile(file):
+                if read(file) is not None:
                     todo.append((file, open_way and bool(public)))
     return [(path, f) for path, open_way, f in found if f.for_c or f.public and (open_way or f.name in names or "*" in names)]
