@@ -1,5 +1,10 @@
+<<<<<<< HEAD
 """antt source read as text: what a file of specs/ or proofs/ defines, with its comment, its type and the parameters of the modules that it stands in; and how the
 docs cite it. For tools/names, tools/statements, tools/contracts and tools/promises."""
+=======
+"""antt source read as text: the definitions of a file of specs/ or proofs/, each with its comment, its type and the parameters of the modules around it; and the
+citations of the docs resolved to definitions. For tools/names, tools/statements and tools/contracts."""
+>>>>>>> 3c107ba (tools/statements, tools/antt.py: heads and messages in plain English)
 import functools, os, re
 
 COMMENT = re.compile(r"\{-.*?-\}|(?:(?<=\s)|^)--(?=\s|$)[^\n]*|(\"[^\"\n]*\")", re.S | re.M)
@@ -24,7 +29,7 @@ def depth_of(line):
 
 
 def outside(text):
-    """the atoms that stand in no bracket, with the brackets themselves: [(place, atom)]"""
+    """the atoms outside brackets, and the outermost brackets: [(place, atom)]"""
     found, depth = [], 0
     for m in ATOM.finditer(text):
         depth -= m[0] in (")", "}")
@@ -35,7 +40,7 @@ def outside(text):
 
 
 def parted(text, sign):
-    """the text cut at each such sign that stands in no bracket; behind a `λ` or `let` that stands in none all is one part"""
+    """the text cut at each such sign outside brackets; it is not cut behind a `λ` or `let` outside brackets"""
     parts, begun = [], 0
     for at, atom in outside(text):
         if atom in ("λ", "let"):
@@ -47,12 +52,12 @@ def parted(text, sign):
 
 
 def words_of(text):
-    """the names, numbers and signs of a text, and not the fields behind a dot"""
+    """the names, numbers and signs of a text without the fields behind dots"""
     return re.findall(r"(?<![^\s(){}])[^\s(){}.\"]+", text)
 
 
 def groups(text):
-    """the bracketed parts that the text is made of, or None where there is anything else"""
+    """the bracketed parts of a text that has nothing else, or None"""
     found, begun = [], None
     for at, atom in outside(text):
         if atom in ("(", "{"):
@@ -65,14 +70,14 @@ def groups(text):
 
 
 class Given:
-    """one thing that a theorem is given: names, [] where it has none, and its type; hidden, where it stands in braces; text, as it stands in the source"""
+    """a parameter or hypothesis: its names ([] if it has none), its type, hidden (it is in braces), and its text in the source"""
 
     def __init__(self, text, names, type, hidden):
         self.text, self.names, self.type, self.hidden = text, names, type, hidden
 
 
 def binders(text):
-    """the parts `(names : type)` and `{names : type}` that the text is made of, or None where there is anything else"""
+    """the parts `(names : type)` and `{names : type}` of a text that has nothing else, or None"""
     found = []
     for group in groups(text) or []:
         names, colon, type = group[1:-1].partition(" : ")
@@ -83,29 +88,29 @@ def binders(text):
 
 
 def telescope(type):
-    """what a type takes, one after the other, and what it ends in"""
+    """the parameters and hypotheses of a type, in order, and its conclusion"""
     *taken, end = parted(type, "→")
     return [given for part in taken for given in binders(part) or [Given(part, [], part, False)]], end
 
 
 class Definition:
-    """name; before, the words that stand before it (`pub`, `abbrev`); kind, record, data or nothing; path and line; comment, that above it as one text, or nothing;
-    modules, the heads of those that it stands in, outermost first; takes, what its own head takes before the colon; type; text, all of it with its body,
-    its own depth taken off."""
+    """name; before: the words before the name (`pub`, `abbrev`); kind: "record", "data" or ""; path and line; comment: the one above it, as one line, or "";
+    modules: the parameters of each module around it, outermost first; takes: its own parameters before the colon; type; text: all of it with its body, indented
+    from 0."""
 
     def given(self):
-        """what the modules around it take; a head that is not made of binders is one thing"""
+        """the parameters of the modules around it; a head that cannot be cut is kept whole"""
         return [given for head in self.modules if head for given in binders(head) or [Given(head, [], head, False)]]
 
     def names(self):
-        """the names that its modules' heads, its own and its type bind, also inside"""
+        """the names that its modules and its type bind, at any depth"""
         whole = " ".join(self.modules + [self.takes, self.type])
         return {name for names in re.findall(r"[({]([^(){}:]+?) : ", whole) + re.findall(r"λ ([^.]+)\.", whole) for name in names.split()}
 
 
 @functools.lru_cache(maxsize=None)
 def definitions(text, path=""):
-    """what a file defines, also within its modules; the fields of a record and what a body defines for itself are left out"""
+    """the definitions of a file, also those in its modules; fields of records and definitions local to a body are left out"""
     bare, kept = without_comments(text).split("\n"), text.split("\n")
     found, modules, at = [], [], 0
     while at < len(bare):
@@ -153,7 +158,7 @@ def definitions(text, path=""):
 
 
 def used(text):
-    """(crate, part, module, name) of what a file uses of specs/ or proofs/ of any crate, by the name that it has there"""
+    """{name in this file: (crate, specs or proofs, module, name there)} for what the `use` lines bring from the repository's crates"""
     found = {}
     for crate, part, module, names in re.findall(r"(?m)^(?:pub |ghost )?use Rattle·(\w+)(?:·(?:specs|proofs))?\.(specs|proofs)\.([^\s{]+)\.\{([^}]*)\}", text):
         for name, _, own in (word.strip().partition(" as ") for word in names.split(",")):
@@ -167,7 +172,7 @@ def used_of_specs(text):
 
 
 def modules_of(tree):
-    """{module: {crate: {name: definition}}} of a tree {path: text}, from what stands in specs/ and proofs/ of its crates"""
+    """{module: {crate: {name: definition}}} for specs/ and proofs/ of a tree {path: text}"""
     found = {}
     for path in sorted(tree):
         if m := re.fullmatch(r"crates/(\w+)/(?:specs|proofs)/(\w+)\.antt", path):
@@ -176,7 +181,7 @@ def modules_of(tree):
 
 
 def cited(span, modules):
-    """(the definition, None) of `Module.name` or `crate/Module.name`, or (None, why there is none)"""
+    """(the definition, None) for `Module.name` or `crate/Module.name`, or (None, why there is none)"""
     crate, module, name = CITED.fullmatch(span).groups()
     having = {c: names[name] for c, names in modules.get(module, {}).items() if name in names and crate in (None, c)}
     if len(having) > 1:
@@ -185,7 +190,7 @@ def cited(span, modules):
 
 
 def tree_of(root, more=()):
-    """{path: text} of specs/ and proofs/ of every crate, and of the files named"""
+    """{path: text} for specs/ and proofs/ of every crate and for the named files"""
     tree = {}
     for crate in sorted(os.listdir(os.path.join(root, "crates"))):
         for part in ("specs", "proofs"):
