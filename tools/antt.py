@@ -1,10 +1,5 @@
-<<<<<<< HEAD
-"""antt source read as text: what a file of specs/ or proofs/ defines, with its comment, its type and the parameters of the modules that it stands in; and how the
-docs cite it. For tools/names, tools/statements, tools/contracts and tools/promises."""
-=======
 """antt source read as text: the definitions of a file of specs/ or proofs/, each with its comment, its type and the parameters of the modules around it; and the
-citations of the docs resolved to definitions. For tools/names, tools/statements and tools/contracts."""
->>>>>>> 3c107ba (tools/statements, tools/antt.py: heads and messages in plain English)
+citations of the docs resolved to definitions. For tools/names, tools/statements, tools/contracts and tools/promises."""
 import functools, os, re
 
 COMMENT = re.compile(r"\{-.*?-\}|(?:(?<=\s)|^)--(?=\s|$)[^\n]*|(\"[^\"\n]*\")", re.S | re.M)
