@@ -96,7 +96,7 @@ static void seek(struct book book, struct field *held, size_t at, struct address
         *held = field_at(book, held->next);
 }
 
-// Whether the book has the address, for one who asks with rising addresses and holds the last field: none is read twice.
+// Whether the book has the address. The caller asks for rising addresses and keeps the field held, so no field is read twice.
 static bool ask(struct book book, struct field *held, struct address address)
 {
     if (held->there && is_below(held->address, address))

@@ -1,4 +1,4 @@
-// The quick scan, the plain survey and the report. What each part does is said in the header that has it.
+// The quick scan, the plain survey and the report. The headers have the parts and say what each does.
 #include "rules.h"
 
 #include "book.h"
@@ -62,7 +62,7 @@ static struct finding finding_at(const struct search *search, struct reached rea
     return (struct finding){reached.start, lowest_rotation(&search->tally, search->m, reached.least), reached.least};
 }
 
-// One window: read, and verified if it is a candidate. True where it is a finding.
+// Reads one window and verifies it if it is a candidate. True if it is a finding.
 STRAIGHT bool sweep_window(struct search *search, struct sweep *at, struct finding *finding)
 {
     size_t i = at->start;

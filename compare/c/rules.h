@@ -1,4 +1,4 @@
-// The calls of document 01 in C, in the shape of the library's own code: what the benchmark's ratios are against.
+// The calls of document 01 in C, built like the library's own code. The benchmark's ratios are to these.
 #ifndef RULES_H
 #define RULES_H
 
@@ -22,7 +22,7 @@ struct rules_answer rules_scan(const uint8_t *ring, size_t m, const uint8_t *lin
 struct rules_answer rules_survey(const uint8_t *ring, size_t m, const uint8_t *line, size_t n, size_t k,
                                  uint32_t *words, size_t room);
 
-// The quick scan with the silence book asked for each finding before it is written.
+// The quick scan; each finding is looked up in the silence book before it is written.
 struct rules_answer rules_report(uint32_t cell, uint16_t ring_number, const uint8_t *ring, size_t m,
                                  const uint8_t *line, size_t n, size_t k, const uint8_t *book, size_t length,
                                  uint32_t *words, size_t room);

@@ -13,7 +13,7 @@ struct tally {
     uint16_t counts[MOST_RING];
 };
 
-// The start that a tally came to, the least of its counts, and the looks that this took.
+// The start that a tally has reached, the least of its counts, and the looks that it took.
 struct reached {
     size_t start;
     size_t least;
@@ -95,7 +95,7 @@ static void renumber(uint16_t *counts, size_t m)
     counts[0] = last;
 }
 
-// So many steps along the line, or to the first start on the way whose least count is below `below`.
+// Moves the tally `steps` steps along the line, or only to the first start on the way whose least count is below `below`.
 static struct reached move_along(struct tally *tally, const uint8_t *ring, size_t m, const uint8_t *line, size_t from,
                                  size_t steps, size_t below)
 {

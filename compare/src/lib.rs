@@ -1,5 +1,6 @@
-//! The library of closed outlines, compared with a second program that was written from document 01 alone (`second`, `cases`,
-//! `check`, `rows`), and timed beside the same rules in C and Rust and what a user would pick instead (`peers`, `bench`).
+//! Compares the library with a second program that was written from document 01 alone and shares no code with it (`second`,
+//! `cases`, `check`, `rows`). Times the library against the same rules in C and in Rust, and against what a user might pick
+//! instead (`peers`, `bench`). Document 01 is the customer's scope page; docs/SPEC.md states it in our words.
 
 pub mod bench;
 pub mod cases;

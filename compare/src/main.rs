@@ -11,13 +11,13 @@ const USAGE: &str =
     "usage: compare [--seed S] [--case N] [--long] [--try] [--samples FOLDER] (--calls-only | --program COMMAND..)
        compare --make-samples FOLDER
   --seed S         another seed than the fixed one
-  --case N         only the case of this number, told in full
+  --case N         only the case of this number, printed in full
   --long           20,000 long rings and lines, and nothing else
-  --try            spoil copies of the answers and see each noticed
+  --try            spoil copies of the answers and check that each is noticed
   --samples ..     compare the file stdout of this folder as well, line by line
   --calls-only     leave the report program out
   --program ..     the report program with its arguments, up to the next word of this list
-  --make-samples   print what stdout of this folder has to be";
+  --make-samples   print what stdout of this folder must be";
 
 const WORDS: [&str; 8] =
     ["--seed", "--case", "--long", "--try", "--samples", "--calls-only", "--program", "--make-samples"];
@@ -34,7 +34,7 @@ struct Options {
     make_samples: Option<String>,
     calls_only: bool,
     program: Option<Vec<String>>,
-    /// Not among the words above: the trial starts this program with it, to see it end at a guard.
+    /// Not among the words above: `--try` starts this program with it, to see it end at a guard.
     overstep: Option<String>,
 }
 
@@ -86,7 +86,7 @@ fn one(plan: &Plan, number: u64) -> ExitCode {
     finish(u64::from(difference.is_none()), u64::from(difference.is_some()), true)
 }
 
-/// Prints what came of the samples' lines; returns those that are the same and those that differ.
+/// Prints how many lines of the samples were compared and which differ; returns how many are the same and how many differ.
 fn tell_samples(samples: &Lines) -> (u64, u64) {
     let differences = samples.differences();
     println!("lines of the samples' stored output: {}, differ {}", samples.compared(), differences.len());
@@ -100,7 +100,7 @@ fn all(plan: &Plan, samples: Option<Lines>) -> ExitCode {
     let every_kind = plan.choice != Choice::Long;
     let missing = if every_kind { ledger.refusals_without_case(plan.program.is_some()) } else { Vec::new() };
     if !missing.is_empty() {
-        println!("no case came to these refusals: {missing:?}");
+        println!("no case led to these refusals: {missing:?}");
     }
     let (same, other) = samples.as_ref().map_or((0, 0), tell_samples);
     let (compared, differing) = (ledger.compared(), ledger.differing());

@@ -62,7 +62,7 @@ impl Area {
         assert!(done == 0, "the pages of an area keep their access");
     }
 
-    /// Puts the content down and surrounds it with canaries; `shift` tries the alignments of an open slice.
+    /// Puts the content in place and surrounds it with canaries; `shift` varies the alignment of an open slice.
     pub fn lay(&mut self, placement: Placement, shift: usize, content: &[u8]) {
         assert!(content.len() + 2 * CANARY <= self.capacity, "a case larger than its area");
         self.length = content.len();
@@ -132,16 +132,16 @@ impl Area {
         self.open(if wanted { READ_AND_WRITE } else { READ });
     }
 
-    /// Reads one byte before the slice or behind it, for the trial that an inaccessible page is one.
+    /// Reads one byte before the slice or behind it, to test that the page there is inaccessible.
     pub fn overstep(&self, before: bool) -> u8 {
         let behind = if before { 0 } else { self.length + 1 };
-        // Not sound, and meant so: it runs in a process of its own that has to end here.
+        // Not sound, on purpose: it runs in a process of its own that must end here.
         unsafe { ptr::read_volatile(self.first.add(self.at + behind).sub(1)) }
     }
 
-    /// Writes through the pages of a slice that can only be read, for the trial that they are so.
+    /// Writes to a slice whose pages are read-only, to test that they are.
     pub fn scribble(&self) {
-        // Not sound, and meant so: it runs in a process of its own that has to end here.
+        // Not sound, on purpose: it runs in a process of its own that must end here.
         self.writable(false);
         unsafe { ptr::write_volatile(self.first.add(self.at), 0) };
     }

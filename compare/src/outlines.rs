@@ -1,8 +1,8 @@
-//! The library's C interface behind safe functions. Every unsafe word of the interface stands in this file.
+//! The library's C interface (include/outlines.h) behind safe functions. All unsafe code of the interface is in this file.
 
 use std::ptr;
 
-/// What each call of the interface returns, field by field.
+/// The struct that each call of the interface returns.
 #[repr(C)]
 #[derive(Clone, Copy, Debug, Default, PartialEq, Eq)]
 pub struct Answer {
@@ -129,7 +129,7 @@ pub enum Request<'a> {
     Unpack(&'a [u8], &'a mut [u32]),
 }
 
-/// How an empty slice is handed over. Rust never has a null slice, but a caller in C may.
+/// How an empty slice is passed. Rust never has a null slice, but a caller in C may.
 #[derive(Clone, Copy, PartialEq, Eq)]
 pub enum Empty {
     AsLent,
@@ -154,11 +154,11 @@ impl Empty {
     }
 }
 
-/// Hands one request over and returns all that came back, listed refusal or not.
+/// Makes one call and returns its answer as it is, whether or not its refusal is in the table.
 pub fn ask(request: Request, empty: Empty) -> Answer {
-    // Sound: each pointer comes from a slice that is borrowed until the call returns and is handed over with that
-    // slice's own length, so all the library may touch is alive; what it may write is borrowed mutably, hence
-    // shared with nothing else; it keeps no pointer; and a null pointer goes only with the length 0.
+    // Sound: each pointer comes from a slice that is borrowed until the call returns, and is passed with that slice's
+    // own length, so everything that the library may touch is alive. What it may write is borrowed mutably, hence
+    // shared with nothing else. It keeps no pointer. A null pointer is passed only with the length 0.
     match request {
         Request::Survey(Search { ring, line, allowance }, words) => unsafe {
             let (r, l) = (empty.read(ring), empty.read(line));

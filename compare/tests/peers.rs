@@ -1,5 +1,6 @@
-//! Every peer, and the rules in C and in Rust, beside the definitions on many rings. They meet here what no row of the
-//! benchmark has: rings of one edge, lines shorter than the ring, allowances up to m - 1, widths at a word's end, refusals.
+//! Every peer, and the rules in C and in Rust, compared with the definitions on many rings. These cases have what no row of
+//! the benchmark has: rings of one edge, lines shorter than the ring, allowances up to m - 1, widths at a word's end,
+//! refusals.
 mod common;
 
 use common::{by_definition, field, looks_by_rules, Numbers};
@@ -9,7 +10,7 @@ const VERSIONS: [&Rules; 2] = [&c_rules::RULES, &rules::RULES];
 /// A word that no finding here has.
 const UNWRITTEN: u32 = 77_777;
 
-/// The words that are wanted come first, and those behind them keep their values.
+/// The wanted words come first, and the words behind them keep their values.
 fn check_words(words: &[u32], wanted: &[[u32; 3]], who: &str) {
     let (put, kept) = words.split_at(3 * wanted.len());
     assert_eq!(put, wanted.concat(), "{who}");

@@ -6,14 +6,14 @@ use crate::peers::Answer;
 /// A word that no finding has: it shows where a contender wrote.
 const UNWRITTEN: u32 = u32::MAX;
 
-/// The findings that the book of an input leaves, worked out apart from any report.
+/// The findings that the book of an input does not hide, computed without a report.
 fn shown(findings: &[u32], book: &[u8]) -> Vec<u32> {
     let starts: Vec<u32> = book.chunks(13).map(|f| u32::from_be_bytes([f[9], f[10], f[11], f[12]])).collect();
     let kept = findings.chunks(3).filter(|finding| starts.binary_search(&finding[0]).is_err());
     kept.flatten().copied().collect()
 }
 
-/// One contender's answer and words, refused if it differs from what is wanted.
+/// Runs one contender. An error if its answer or the words after the call differ from what is wanted.
 fn compare(
     contender: &Contender,
     input: &Input,
@@ -36,8 +36,8 @@ fn compare(
     Ok(())
 }
 
-/// Gives the input its book, and compares all contenders on it: findings of each with those of the scan in C, looks of
-/// scans and reports with its looks, looks of surveys with document 01's formula. How many findings and looks there are.
+/// Gives the input its book and compares all contenders on it: findings of each with those of the scan in C, looks of
+/// scans and reports with its looks, looks of surveys with document 01's formula. Returns the answer of the scan in C.
 pub fn agree(contenders: &[Contender], input: &mut Input, words: &mut [u32]) -> Result<Answer, String> {
     let scan = Contender::Rules(Version::C, Call::Scan).run(input, words);
     let findings = words[..3 * scan.found].to_vec();

@@ -1,6 +1,6 @@
 //! Boundaries like real ones. A boundary is closed and runs for some edges along each of sixteen directions, with lengths
-//! that vary little: so its edges come in runs of similar codes. An edge code is 8·length class + octant, as our producers
-//! code edges: document 02, tickets 6 and 7.
+//! that vary little, so its edges come in runs of similar codes. An edge code is 8·length class + octant, as in tickets 6
+//! and 7 of document 02.
 use super::numbers::Numbers;
 
 /// Steps north and east, clockwise from north. The other eight directions are these turned by half a circle.

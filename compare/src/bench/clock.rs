@@ -1,4 +1,4 @@
-//! The processor time that this thread has taken. Others work on a machine too, and their turns are no part of a time.
+//! The processor time of this thread. The time that other programs take on the machine is not counted.
 use std::time::Duration;
 
 /// Linux's `struct timespec` on 64-bit machines.

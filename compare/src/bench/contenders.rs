@@ -3,7 +3,7 @@ use super::inputs::Input;
 use super::ours::OURS;
 use crate::peers::{c_rules, rules, Answer, Peer, Rules, PEERS};
 
-/// A call of the rules. A report is asked with an empty book and with one of 1,000 silences.
+/// A call of the rules. The report is timed with an empty book and with one of 1,000 silences.
 #[derive(Clone, Copy, PartialEq, Eq, Debug)]
 pub enum Call {
     Scan,
@@ -25,7 +25,7 @@ impl Call {
     }
 }
 
-/// Who wrote the rules that are called.
+/// Which implementation of the rules is called.
 #[derive(Clone, Copy, PartialEq, Eq, Debug)]
 pub enum Version {
     C,
@@ -73,7 +73,7 @@ impl Contender {
         }
     }
 
-    /// What a ratio is against: the same call of the rules in C, and for a peer the scan.
+    /// The call of the rules in C that a ratio is to: the same call, and for a peer the scan.
     pub fn against(&self) -> Call {
         match self {
             Contender::Rules(_, call) => *call,
@@ -81,7 +81,7 @@ impl Contender {
         }
     }
 
-    /// Where the rules' calls stand in the list of all.
+    /// The place of a call of the rules in the list of all contenders.
     pub fn place_of(version: Version, call: Call) -> usize {
         VERSIONS.len() * call as usize + version as usize
     }

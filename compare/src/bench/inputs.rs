@@ -7,7 +7,7 @@ pub const CELL: u32 = 7;
 pub const RING_NUMBER: u16 = 2;
 const MOST_LINE: usize = 65_536;
 const COPIES: usize = 10;
-/// As many as a book holds.
+/// As many silences as a book holds.
 const SILENCES: usize = 1000;
 
 /// Which table an input belongs to.
@@ -58,7 +58,7 @@ fn random_edges(numbers: &mut Numbers, length: usize, codes: usize) -> Vec<u8> {
     (0..length).map(|_| numbers.below(codes) as u8).collect()
 }
 
-/// Puts rotated copies of the ring into the line, one in each tenth of it, each with up to k edges made another code.
+/// Puts rotated copies of the ring into the line, one in each tenth of it, each with up to k edges changed.
 fn plant(numbers: &mut Numbers, ring: &[u8], line: &mut [u8], k: usize) {
     let m = ring.len();
     let tenth = line.len() / COPIES;

@@ -51,7 +51,7 @@ fn built_with() -> String {
     format!("{how}: the kit's clang, -O3")
 }
 
-/// Who was built by what.
+/// What each contender was built with.
 pub fn compilers() -> [(&'static str, String); 3] {
     [
         ("outlines", built_with()),

@@ -14,7 +14,7 @@ impl Numbers {
         mixed ^ (mixed >> 31)
     }
 
-    /// A number below the bound. The bounds here are so small that the slight lean to low numbers does not show.
+    /// A number below the bound. The bounds here are so small that the slight bias to low numbers does not matter.
     pub fn below(&mut self, bound: usize) -> usize {
         (self.next() % bound as u64) as usize
     }

@@ -1,4 +1,4 @@
-//! The place where the library is plugged in: its three calls. Nothing else of the benchmark names the library.
+//! The library's three calls as contenders. No other file of the benchmark names the library.
 use crate::outlines::{self, ask, Empty, Request, Search};
 use crate::peers::{Answer, Question, Rules};
 

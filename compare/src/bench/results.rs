@@ -65,7 +65,7 @@ impl Results {
         self.rows_of(main).map(|row| row.ratio(at, contender)).collect()
     }
 
-    /// The contenders that a ratio is given for: all but the rules in C, which it is against.
+    /// The contenders that have a ratio: all but the rules in C, which the ratios are to.
     pub fn rivals(&self) -> impl Iterator<Item = (usize, &Contender)> {
         let rivals = self.contenders.iter().enumerate();
         rivals.filter(|(_, contender)| !matches!(contender, Contender::Rules(Version::C, _)))

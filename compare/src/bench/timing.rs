@@ -6,14 +6,14 @@ use std::hint::black_box;
 use std::time::{Duration, Instant};
 
 const ROUNDS: usize = 8;
-/// Every contender is timed so often, however slow it is.
+/// The rounds in which every contender is timed, however slow it is.
 const ROUNDS_AT_LEAST: usize = 2;
-/// A sample repeats a call until it takes so long, so that the clock's steps do not show.
+/// A sample repeats a call until this time has passed, so that the clock's resolution does not matter.
 const SAMPLE: Duration = Duration::from_micros(500);
-/// A contender that has taken so long on an input leaves the rest of the rounds out.
+/// A contender that has taken this long on an input skips the remaining rounds.
 const ENOUGH: Duration = Duration::from_millis(150);
 
-/// Calls until a sample's time is over: the processor time of one, in nanoseconds, and of all.
+/// One sample: the processor time of one call, in nanoseconds, and of all its calls.
 fn sample(contender: &Contender, input: &Input, words: &mut [u32]) -> (f64, Duration) {
     let begun = Instant::now();
     let from = processor_time();
@@ -26,9 +26,9 @@ fn sample(contender: &Contender, input: &Input, words: &mut [u32]) -> (f64, Dura
     (taken.as_nanos() as f64 / calls as f64, taken)
 }
 
-/// For each contender the best nanoseconds of a call. Before a sample is timed the contender runs as long untimed, unless one
-/// call is longer than a sample: a processor learns the branches of a search, and the first in turn should not teach the
-/// next. The words are not cleared between calls.
+/// For each contender its best time of a call, in nanoseconds. Before a sample is timed the contender runs as long untimed,
+/// unless one call takes longer than a sample: the processor learns the branches of a search, and one contender should not
+/// train it for the next. The words are not cleared between calls.
 pub fn time(contenders: &[Contender], input: &Input, words: &mut [u32]) -> Vec<f64> {
     let mut best = vec![f64::INFINITY; contenders.len()];
     let mut spent = vec![Duration::ZERO; contenders.len()];

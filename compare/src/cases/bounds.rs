@@ -1,4 +1,4 @@
-//! Lines drawn up against the look bound, and the limits that document 01 names.
+//! Lines that come near the look bound, and the limits that document 01 names.
 
 use super::call::{in_turn, in_turn_as_it_is, Call, Search};
 use super::draw::Draw;

@@ -22,7 +22,7 @@ pub enum Call {
 }
 
 impl Search {
-    /// A search with just the room that the table asks for.
+    /// A search with exactly the room that refusal 4 requires.
     pub fn new(ring: Vec<u8>, line: Vec<u8>, allowance: usize) -> Search {
         let room = room(ring.len(), line.len());
         Search { ring, line, allowance, room }
@@ -86,7 +86,7 @@ pub fn in_turn_as_it_is(index: u64, draw: &mut Draw, search: Search) -> Call {
     }
 }
 
-/// The same; now and then with more room than the search asks for.
+/// The same; now and then with more room than is required.
 pub fn in_turn(index: u64, draw: &mut Draw, mut search: Search) -> Call {
     if draw.chance(3) {
         search.room += draw.between(1, 9);

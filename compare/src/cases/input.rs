@@ -14,7 +14,7 @@ pub enum Manner {
     Closed,
     /// Descriptor 0 is an empty file.
     Nothing,
-    /// Descriptor 0 is a folder, of which every reading fails.
+    /// Descriptor 0 is a folder: every read fails.
     Folder,
 }
 
@@ -24,7 +24,7 @@ pub struct Input {
     pub manner: Manner,
 }
 
-/// A field as it will be written: the length it declares may be another than its value's.
+/// A field as it will be written. The length that it declares may differ from that of its value.
 #[derive(Clone)]
 pub struct Field {
     pub tag: u8,

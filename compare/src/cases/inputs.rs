@@ -6,7 +6,7 @@ use super::input::{asked, Asked, Fields, Input, Manner};
 use super::searches::{plant, ring_and_line};
 use crate::second::samples::EXAMPLE_INPUT;
 
-/// A right input; most are short, for each costs a process.
+/// A right input. Most are short, because each costs a process.
 pub fn right_fields(draw: &mut Draw) -> Fields {
     let m = draw.one(&[1, 2, 3, 4, 6, 9, 17, 64, 65, 100]);
     let n = if draw.chance(8) { draw.below(1_000) } else { draw.below(80) };
@@ -86,7 +86,8 @@ pub fn pieces(index: u64, draw: &mut Draw) -> Input {
     Input { bytes, manner: Manner::Pieces(cuts) }
 }
 
-/// Nothing to read, in four manners. Document 01 does not speak of a reading that fails: it is refused as an empty input is.
+/// Nothing to read, in four manners. Document 01 does not mention a read that fails; the program refuses it like an empty
+/// input.
 pub fn none(index: u64, _: &mut Draw) -> Input {
     let manner = [Manner::Whole, Manner::Nothing, Manner::Closed, Manner::Folder][(index % 4) as usize].clone();
     Input { bytes: Vec::new(), manner }

@@ -58,7 +58,7 @@ const fn kind(name: &'static str, count: u64, make: Make) -> Kind {
 const SEARCHES: u64 = 3 * SAMPLES.len() as u64;
 const LIBRARY_SAMPLES: u64 = SEARCHES + SILENCED.len() as u64;
 
-/// P1 to P12 as survey, scan and report; then P2 under its silence.
+/// P1 to P12 as survey, scan and report; then P2 with its silence.
 fn sample(index: u64, draw: &mut Draw) -> Call {
     let search = |sample: &Sample| {
         let (ring, line) = (sample.ring.as_bytes().to_vec(), sample.line.as_bytes().to_vec());

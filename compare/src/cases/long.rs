@@ -1,12 +1,16 @@
 //! Long rings and lines: survey, scan and report of the same search.
 //!
-//! How the spread is chosen. The ring's length: in half of the searches about the bounds of machine words, else anything
-//! from 1 to 256. The line's length: in 4 of 24 searches less than the ring's, the same or a little more, in 14 up to 4,000
-//! edges more, in 4 anything up to 65,536, in 2 65,535 or 65,536; every fiftieth search has the longest ring and the longest
-//! line. The codes: 1 to 256 of them. The allowance: often small, at times anything below m, at times as much as some window
-//! needs to be a candidate or a finding, so that of its neighbours some are and some are not. The line: edges of the ring's
-//! codes, or the ring over and over, and copies of rotations from one end to the other. The second program's time sets the
-//! shares: it takes some 60 ms for a search on average, and 0.8 s for the longest with every window a candidate.
+//! How the searches are spread:
+//! - the ring's length: in half of them near the bounds of machine words, else anything from 1 to 256;
+//! - the line's length: in 4 of 24 below the ring's, equal or a little more, in 14 up to 4,000 edges more, in 4 anything up
+//!   to 65,536, in 2 65,535 or 65,536; every fiftieth search has the longest ring and the longest line;
+//! - the codes: 1 to 256 of them;
+//! - the allowance: often small, at times anything below m, at times just what some window needs to be a candidate or a
+//!   finding, so that some of its neighbours are and some are not;
+//! - the line: edges of the ring's codes, or the ring over and over, and copies of rotations from one end to the other.
+//!
+//! The second program's time sets the shares: on average it takes some 60 ms for a search, and 0.8 s for the longest with
+//! every window a candidate.
 
 use super::call::{book_of, cell_and_ring, silences, Call, Search};
 use super::draw::Draw;
@@ -16,7 +20,7 @@ use crate::second::meaning::nearest;
 use crate::second::refusals::{LONGEST_LINE, LONGEST_RING};
 use crate::second::rules::breaks;
 
-/// One search in so many has the longest ring and the longest line.
+/// Every fiftieth search has the longest ring and the longest line.
 const LONGEST_EVERY: u64 = 50;
 
 fn lengths(index: u64, draw: &mut Draw) -> (usize, usize) {
@@ -62,7 +66,8 @@ fn line_for(draw: &mut Draw, codes: &[u8], ring: &[u8], n: usize) -> Vec<u8> {
     line
 }
 
-/// An allowance below m. Some window's own breaks or distance make neighbouring windows come out on either side of it.
+/// An allowance below m. At times it is the breaks or the distance of some window, so that neighbouring windows fall on
+/// either side of it.
 fn allowance(draw: &mut Draw, ring: &[u8], line: &[u8]) -> usize {
     let m = ring.len();
     let windows = (line.len() + 1).saturating_sub(m);
@@ -79,7 +84,7 @@ fn allowance(draw: &mut Draw, ring: &[u8], line: &[u8]) -> usize {
     k.min(m - 1)
 }
 
-/// So many places below a bound, in any order, none twice.
+/// `count` places below a bound, in any order, none twice.
 fn places(draw: &mut Draw, bound: usize, count: usize) -> Vec<usize> {
     let mut places: Vec<usize> = (0..bound).collect();
     for at in 0..count {
@@ -98,9 +103,9 @@ struct Copies<'a> {
 }
 
 impl Copies<'_> {
-    /// A copy of some rotation with up to k + 1 edits, each at a place of its own. Where k of them, and the edge in front of
-    /// the copy, have the foreign code, a window that reads all these comes to break k + 1 in front of the copy, and the
-    /// scan's next window starts at the copy: at the seam of the jump.
+    /// Plants a copy of some rotation with up to k + 1 edits, each at a place of its own. Where k edits and the edge in front
+    /// of the copy have the foreign code, a window that reads them all meets break k + 1 just in front of the copy, and the
+    /// scan's next window starts exactly at the copy.
     fn plant(&self, draw: &mut Draw, line: &mut [u8], start: usize) {
         let (m, k) = (self.ring.len(), self.allowance);
         let copy = repeated(self.ring, draw.below(m), m);
@@ -133,7 +138,7 @@ impl Copies<'_> {
             start += draw.one(&[overlapping, m, m + 1, near, away, away]);
         }
         for start in [0, last] {
-            // Not always: there it may spoil what was planted before.
+            // Not always: it may spoil a copy planted there before.
             if draw.chance(2) {
                 self.plant(draw, line, start);
                 starts.push(start);

@@ -27,7 +27,7 @@ pub enum Case {
     /// Words packed by the library and unpacked by it again.
     RoundTrip(Vec<u32>),
     Input(Input),
-    /// What document 01 prints, held against the second program.
+    /// What document 01 prints, compared with the second program.
     Sample(usize),
 }
 

@@ -1,4 +1,4 @@
-//! Empty slices that go over as null pointers.
+//! Empty slices passed as null pointers.
 
 use super::call::{room, Call, Search};
 use super::draw::Draw;
@@ -9,7 +9,7 @@ const SLICES: [u64; 5] = [3, 3, 4, 2, 2];
 /// One for each call and each choice of slices that are empty.
 pub const CHOICES: u64 = 8 + 8 + 16 + 4 + 4;
 
-/// Each call with each choice of its slices empty; what is empty goes over as a null pointer.
+/// Each call with each choice of its slices empty. An empty slice is passed as a null pointer.
 pub fn each_choice(index: u64, draw: &mut Draw) -> Call {
     let (mut choice, mut which) = (index % CHOICES, 0);
     while choice >= 1 << SLICES[which] {

@@ -138,8 +138,8 @@ pub fn short_lines(index: u64, draw: &mut Draw) -> Call {
     in_turn(index, draw, Search::new(ring, line, allowance))
 }
 
-/// Lines about the longest that is accepted. Candidates at every start are kept to rings of at most 64 edges, for the
-/// second program's time; the long kind has them for every ring.
+/// Lines about as long as the longest that is accepted. Only rings of at most 64 edges have candidates at every start,
+/// because of the second program's time; the long kind has them for every ring.
 pub fn longest_lines(index: u64, draw: &mut Draw) -> Call {
     let number = (index / 3) as usize;
     let n = [65_535, 65_536, 65_537][number % 3];

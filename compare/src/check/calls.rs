@@ -1,4 +1,4 @@
-//! One call of the library held against the second program.
+//! One call of the library compared with the second program.
 
 use crate::cases::call::{Call, Search};
 use crate::memory::{bytes_of, Area, Placement};
@@ -28,7 +28,7 @@ impl Areas {
         self.inputs().map(|area| area.surrounded().to_vec())
     }
 
-    /// Lays the inputs and the lent area down; open bytes at changing alignments, words on their bounds.
+    /// Puts the inputs and the lent area in place: open bytes at changing alignments, words at multiples of 4.
     fn lay(&mut self, call: &Call, placement: Placement) {
         let (ring, line, book, room) = parts(call);
         let packing = matches!(call, Call::Pack { .. });
@@ -160,22 +160,22 @@ pub fn compare(call: &Call, placement: Placement, areas: &mut Areas) -> Compared
     compare_with(search(call).as_ref(), call, placement, areas)
 }
 
-/// Survey, scan and report of one search, which the second program works out once.
+/// Survey, scan and report of one search, which the second program computes once.
 pub fn compare_three(calls: &[Call; 3], placement: Placement, areas: &mut Areas) -> [Compared; 3] {
     let search = search(&calls[0]);
     calls.each_ref().map(|call| compare_with(search.as_ref(), call, placement, areas))
 }
 
-/// Document 01's own formulas for looks, held against what the library counted.
+/// The library's looks compared with document 01's own formulas.
 fn looks_out_of_bounds(call: &Call, answer: &Answer) -> Option<String> {
     let (Call::Survey(search) | Call::Scan(search) | Call::Report { search, .. }) = call else { return None };
     let (m, n) = (search.ring.len() as u64, search.line.len() as u64);
     if answer.refusal != 0 || n < m {
-        return (answer.looks != 0).then(|| format!("{} looks where none are due", answer.looks));
+        return (answer.looks != 0).then(|| format!("{} looks where there must be none", answer.looks));
     }
     let surveyed = matches!(call, Call::Survey(_)) && answer.looks != 2 * m * n - m * m;
     let beyond = answer.looks > bound(m, n);
-    (surveyed || beyond).then(|| format!("{} looks against the page's formula", answer.looks))
+    (surveyed || beyond).then(|| format!("{} looks, against the formula of document 01", answer.looks))
 }
 
 impl Compared {

@@ -1,4 +1,4 @@
-//! A fault inside the library ends the process; this says in which case it came.
+//! A fault inside the library ends the process; this prints the case in which it happened.
 
 use std::cell::Cell;
 use std::ffi::{c_int, c_void};

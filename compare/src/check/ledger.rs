@@ -8,13 +8,13 @@ use crate::second::refusals::{LONGEST_LINE, LONGEST_RING};
 use crate::second::samples::bound;
 use std::collections::BTreeMap;
 
-/// Differences told in full; the others are counted.
+/// Differences that are printed in full; further ones are only counted.
 const TOLD: usize = 20;
 
 /// How often each refusal came back, 0 for accepted.
 type Answers = BTreeMap<u32, u64>;
 
-/// Sums over the library's answers, which show that the cases have something to compare.
+/// Sums over the library's answers; they show that the cases have something to compare.
 #[derive(Clone, Copy)]
 enum Sum {
     Behind,
@@ -155,7 +155,7 @@ impl Ledger {
         }
     }
 
-    /// A refusal that never came up was not compared, whatever the counts say.
+    /// The refusals that no case led to: they were not compared.
     pub fn refusals_without_case(&self, with_program: bool) -> Vec<u32> {
         let came = |number: &u32| match number {
             11 => !with_program || self.outputs.contains_key(number),

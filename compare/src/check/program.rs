@@ -1,4 +1,4 @@
-//! One run of the report program held against the second program.
+//! One run of the report program compared with the second program.
 
 use crate::cases::input::{Input, Manner};
 use crate::second::program::output;
@@ -35,7 +35,7 @@ fn command(program: &Program, manner: &Manner) -> Command {
     command
 }
 
-/// A program that stops reading is in its rights: the error of the broken pipe is not looked at.
+/// A program may stop reading before the end, so the error of a broken pipe is ignored.
 fn feed(mut pipe: impl Write, input: &Input) {
     let Manner::Pieces(cuts) = &input.manner else {
         let _ = pipe.write_all(&input.bytes);
@@ -62,7 +62,7 @@ pub fn run(program: &Program, input: &Input, slot: &Slot) -> Result<Vec<u8>, Str
     stdout.expect("output is piped").read_to_end(&mut text).map_err(|error| error.to_string())?;
     let child = slot.lock().unwrap().take();
     let status = child.expect("the run under way").wait().map_err(|error| error.to_string())?;
-    // Document 01 says nothing of the exit status, so only an end by a signal counts.
+    // Document 01 does not mention the exit status, so only an end by a signal is an error.
     status.code().map(|_| text).ok_or(format!("the program ended by {status}"))
 }
 

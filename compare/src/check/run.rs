@@ -1,4 +1,4 @@
-//! The whole run: two workers over all cases, and a watch that ends a case which does not.
+//! The whole run: two workers over all cases, and a watch that ends the process if a case does not end.
 
 use super::calls::{compare, compare_three, Areas};
 use super::crash;
@@ -12,7 +12,7 @@ use std::thread;
 use std::time::{Duration, Instant};
 
 const WORKERS: usize = 2;
-/// No case takes the second program nearly as long.
+/// Far more than any case takes the second program.
 const LONGEST_CASE: Duration = Duration::from_secs(60);
 
 pub struct Plan {
@@ -32,7 +32,7 @@ impl Plan {
         Plan { seed, program, choice, kinds: kinds(choice) }
     }
 
-    /// The words with which a case of this run is made again.
+    /// The arguments that make a case of this run again.
     fn words(&self, case: u64) -> String {
         let long = if self.choice == Choice::Long { "--long " } else { "" };
         format!("{long}--seed {} --case {case}", self.seed)
@@ -43,7 +43,7 @@ impl Plan {
     }
 }
 
-/// Where a worker is, for the watch.
+/// The case that a worker is at and the program that it runs, for the watch.
 #[derive(Default)]
 pub struct Post {
     case: AtomicU64,
@@ -126,7 +126,7 @@ fn give_up(posts: &[Post], case: u64) -> ! {
     std::process::exit(1);
 }
 
-/// Ends the process if a worker stays in one case: neither a call nor a program may run for ever.
+/// Ends the process if a worker stays in one case too long: no call and no program may run for ever.
 fn watch(posts: &[Post], finished: impl Fn() -> bool) {
     let mut seen: Vec<(u64, Instant)> = posts.iter().map(|_| (u64::MAX, Instant::now())).collect();
     while !finished() {

@@ -1,4 +1,4 @@
-//! Ways to spoil a copy of what the library left behind, each of which the comparison has to notice.
+//! Ways to spoil a copy of what the library returned and wrote. The comparison must notice each.
 
 use super::calls::Compared;
 use crate::cases::call::Call;

@@ -1,4 +1,4 @@
-//! The comparison on trial: each way of spoiling an answer has to be noticed.
+//! The comparison put to the test: it must notice each way of spoiling an answer.
 
 use super::calls::{compare, compare_three, Areas, Compared};
 use super::crash;
@@ -42,7 +42,7 @@ impl Trial {
         Trial { ways, noticed: vec![Noticed::default(); ways.len()] }
     }
 
-    /// Only an answer that agrees is spoilt: in another one there would be something to notice anyway.
+    /// Only an answer that agrees is spoilt: in another one there is a difference anyway.
     fn spoil(&mut self, call: &Call, compared: &Compared) {
         if compared.difference(call).is_some() {
             return;
@@ -107,7 +107,7 @@ const OVERSTEPS: [(&str, &str); 3] = [
     ("input", "a byte written into a read-only input"),
 ];
 
-/// Steps over a guard. The process is meant to end by it.
+/// Oversteps a guard. The process must end by that.
 pub fn overstep(which: &str) {
     crash::watch();
     let mut area = Area::new(100);

@@ -1,5 +1,5 @@
-//! An Aho-Corasick automaton over fragments of one common length, with every fall-back worked out beforehand: one table
-//! look for each line edge.
+//! An Aho-Corasick automaton over fragments of one common length, with every fall-back computed beforehand: one table
+//! lookup for each line edge.
 
 /// Nodes are numbered level by level, so the nodes of whole fragments are the last ones.
 pub struct Automaton {
@@ -49,7 +49,7 @@ impl Automaton {
         }
     }
 
-    /// The next hit from a line place on, for one who holds the node reached: the place just past the fragment.
+    /// The next hit from a line place on: the place just past the fragment. The caller keeps the node reached.
     fn next_hit(&self, line: &[u8], from: usize, node: &mut usize) -> Option<usize> {
         for (place, &edge) in line.iter().enumerate().skip(from) {
             *node = self.rows[*node + self.column_of[edge as usize] as usize] as usize;

@@ -1,5 +1,5 @@
-//! Peers: what a user would pick in place of the library, and the library's own rules written again in C and in Rust.
-//! Every one gives the same findings: start, the lowest rotation that reaches the least distance, that distance.
+//! Peers: what a user might pick instead of the library, and the library's own rules written again in C and in Rust.
+//! All give the same findings: start, the lowest rotation that reaches the least distance, that distance.
 pub mod acb;
 pub mod acbq;
 pub mod acsmf;
@@ -25,7 +25,7 @@ pub struct Answer {
     pub looks: usize,
 }
 
-/// A report's question: the scan's, the address that the book is asked for, and the book.
+/// The arguments of a report: those of the scan, the cell and ring number to look up in the book, and the book.
 #[derive(Clone, Copy)]
 pub struct Question<'a> {
     pub cell: u32,
@@ -39,14 +39,14 @@ pub struct Question<'a> {
 /// Scan or survey: ring, line, allowance, lent words.
 pub type Search = fn(&[u8], &[u8], usize, &mut [u32]) -> Answer;
 
-/// The three calls of document 01, whoever wrote them.
+/// The three calls of document 01, in one implementation.
 pub struct Rules {
     pub scan: Search,
     pub survey: Search,
     pub report: fn(&Question, &mut [u32]) -> Answer,
 }
 
-/// A peer finds and counts no looks. It takes what a scan accepts.
+/// A peer finds, and counts no looks. It is only given what a scan accepts.
 pub struct Peer {
     pub name: &'static str,
     pub search: fn(&[u8], &[u8], usize, &mut [u32]) -> usize,

@@ -1,4 +1,4 @@
-//! The same rules in Rust: scan, survey and report in the shape of the library's own code. Vectors are held by value in as
+//! The same rules in Rust: scan, survey and report, built like the library's own code. Vectors are held by value in as
 //! few words as m needs, the occurrence table is made once for a call, the tally is moved in two loops, looks are counted
 //! one by one.
 mod book;

@@ -1,9 +1,9 @@
 //! The sliding survey: a tally moved by one step a start, as fast as we know to write it. It is a ceiling for the plain
-//! survey and no form of it: no looks, no renumbering (a count stands under rotation - start modulo m), eight bits a count
-//! where they hold m, and the processor's widest vectors for bytes that the compiler may use.
+//! survey's speed, not a form of it: no looks, no renumbering (a count stands under rotation - start modulo m), eight bits a
+//! count where they hold m, and the processor's widest vectors for bytes that the compiler may use.
 //!
 //! Those come through `#[target_feature]`, not through `-C target-cpu=native`, which would also rebuild every other peer. On
-//! x86-64 that is AVX2 where the processor at hand has it; on AArch64 NEON is in every target, and nothing is to be asked for.
+//! x86-64 that is AVX2 where the processor at hand has it; on AArch64 NEON is in every target and needs no attribute.
 use super::findings::Findings;
 
 const MOST_RING: usize = 256;
@@ -32,8 +32,8 @@ macro_rules! count {
 count!(u8);
 count!(u16);
 
-/// Counts are filled up to a multiple of this, so that vectors leave none over. Those that fill up stand for the first
-/// rotations once more: they change no least count.
+/// Counts are padded to a multiple of this, so that vectors leave none over. The padding repeats the counts of the first
+/// rotations, so it changes no least count.
 const LANES: usize = 32;
 
 /// Both edges against the ring's edge that each count stands over, and the least count then.

@@ -31,8 +31,8 @@ pub fn silence(words: &[u32]) -> Silence {
     Silence { cell: words[0], ring_number: words[1] as u16, start: words[2] }
 }
 
-/// So many bytes of the layout of the words, with one byte of them changed where the row gives a fault. A book that is left
-/// out is empty.
+/// The first bytes of the layout of the words, as many as the row says, with one of them changed where the row gives a
+/// fault. A book that is left out is empty.
 pub fn book(row: &Row) -> Vec<u8> {
     let length = row.number("bytes of their layout").unwrap_or(0);
     let mut book: Vec<u8> = words(row).chunks(3).flat_map(|record| silence(record).field()).collect();

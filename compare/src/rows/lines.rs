@@ -6,7 +6,7 @@ use crate::second::book::{read, Silence, FIELD};
 use crate::second::calls::{pack, unpack, Answered, Outcome, Search};
 use crate::second::program::output;
 
-/// The most bytes or words that are shown one by one; of more there is a checksum.
+/// The most bytes or words that are shown one by one; for more a checksum is shown.
 const MOST_SHOWN: usize = 26;
 
 /// "A room that is left out is more than any call asks."
@@ -17,7 +17,7 @@ fn room(row: &Row) -> usize {
 /// The bytes or the words that a call wrote.
 trait Written {
     fn shown(&self) -> String;
-    /// As the checksum takes them: a byte counts as the word that has it four times.
+    /// What the checksum is taken of: a byte counts as the word of four such bytes.
     fn as_words(&self) -> Vec<u32>;
 }
 
@@ -42,7 +42,7 @@ impl Written for Vec<u32> {
     }
 }
 
-/// 31 times the number before and the next word, mod 1,000,003.
+/// Word by word: 31 times the checksum so far, plus the word, mod 1,000,003.
 fn checksum(words: &[u32]) -> u64 {
     words.iter().fold(0, |sum, &word| (31 * sum + u64::from(word)) % 1_000_003)
 }
@@ -89,7 +89,7 @@ fn has_read(row: &Row) -> String {
 }
 
 /// The first field at or behind the offset that is not below the address, and the offset behind it. Document 01 has no such
-/// call: the report asks it of the book.
+/// call: the report uses it to search the book.
 fn sought(book: &[u8], from: usize, address: Silence) -> Option<(Silence, usize)> {
     let field = book.get(from..)?.get(..FIELD)?;
     let found = *read(field).ok()?.first()?;

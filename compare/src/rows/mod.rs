@@ -1,4 +1,4 @@
-//! The rows of crates/samples, answered by the second program: what crates/samples/stdout has to be, made from the table
+//! The rows of crates/samples, answered by the second program: it makes what crates/samples/stdout must be from the table
 //! crates/samples/stdin and document 01 alone.
 
 mod given;
@@ -8,7 +8,7 @@ mod table;
 use std::path::Path;
 use std::{fs, io};
 
-/// The text that the samples program has to print for a table: a line for each row of each call that its section names.
+/// The text that the samples program must print for a table: a line for each row and each call that its section names.
 fn text_for(table: &str) -> String {
     let mut text = String::new();
     for section in table::sections(table) {

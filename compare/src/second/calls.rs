@@ -21,7 +21,7 @@ pub struct Search<'a> {
     line: &'a [u8],
     allowance: usize,
     room: usize,
-    /// The findings by their meaning and the quick scan: worked out once, however many calls are asked of this search.
+    /// The findings by their meaning, and the quick scan: computed once, however many calls use this search.
     meant: OnceCell<Vec<Finding>>,
     scanned: OnceCell<Searched>,
 }
@@ -44,8 +44,8 @@ impl<'a> Search<'a> {
         refusals::search(self.ring, self.line, self.allowance, self.room)
     }
 
-    /// The findings come from their meaning. That the rules lead to the same ones is document 01's own claim, so a
-    /// second program in which they differ is wrong itself and must not judge anything.
+    /// The findings come from their meaning. Document 01 says that the rules lead to the same ones, so a second program in
+    /// which they differ is wrong itself and must not judge anything.
     fn checked(&self, searched: Searched) -> Searched {
         let meant = self.meant.get_or_init(|| findings(self.ring, self.line, self.allowance));
         assert_eq!(searched.findings, *meant, "the rules and the meaning of a finding differ");

@@ -1,4 +1,4 @@
-//! Rotations, distances and findings, as the meanings say them.
+//! Rotations, distances and findings, by their meanings.
 
 #[derive(Clone, Copy, Debug, PartialEq, Eq)]
 pub struct Finding {
@@ -13,7 +13,7 @@ pub fn rotations(ring: &[u8]) -> Vec<Vec<u8>> {
     (0..m).map(|r| (0..m).map(|q| ring[(r + q) % m]).collect()).collect()
 }
 
-/// Counted in bytes, a part of the window at a time: a wider sum takes the longest lines too long.
+/// Counted in bytes, a part of the window at a time: a wider sum would be too slow on the longest lines.
 pub fn distance(window: &[u8], rotation: &[u8]) -> usize {
     const PART: usize = 128;
     let differing =

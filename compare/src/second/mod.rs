@@ -1,4 +1,4 @@
-//! The second program: document 01 read word for word, slow where that is plainer.
+//! The second program: written from document 01 alone, word for word, and slow where that is plainer.
 
 pub mod book;
 pub mod calls;

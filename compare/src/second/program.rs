@@ -34,7 +34,7 @@ fn reported(input: &[u8]) -> Result<String, Refused> {
     let (values, book) = parts(input)?;
     let (cell, ring_number, allowance) = (number(values[0]), number(values[1]), number(values[2]));
     let (ring, line) = (values[3], values[4]);
-    // The program lends itself room enough, so refusal 4 never comes of it.
+    // The program lends enough words for every line it accepts, so refusal 4 never arises.
     let search = Search::new(ring, line, allowance, 3 * (line.len() + 1));
     let answered = search.report(cell as u32, ring_number as u16, book)?;
     let mut text = format!("cell {cell} ring {ring_number} edges {} allow {allowance}\n", ring.len());

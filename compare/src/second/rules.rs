@@ -15,8 +15,8 @@ fn fits(stretch: &[u8], rotations: &[Vec<u8>]) -> bool {
     rotations.iter().any(|rotation| rotation.starts_with(stretch))
 }
 
-/// The stretch of rule 2 by the rotations that it begins: to try every rotation anew at each edge takes too long where the
-/// ring is long.
+/// The stretch of rule 2, kept as the rotations that it begins: trying every rotation again at each edge would be too slow
+/// for long rings.
 struct Stretch {
     /// By rotation; behind the last one rotation 0 comes again.
     begins: Vec<bool>,

@@ -43,7 +43,7 @@ pub const SAMPLES: [Sample; 12] = [
 
 pub const THE_SILENCE: Silence = Silence { cell: 7, ring_number: 2, start: 10 };
 
-/// P2 under that one silence, as ring 2: asking cell, shown words, hidden.
+/// P2 with that one silence, as ring 2: the report's cell, the shown words, hidden.
 pub const SILENCED: [(u32, &[u32], usize); 2] = [(7, &[9, 3, 1, 11, 5, 1], 1), (8, &[9, 3, 1, 10, 4, 0, 11, 5, 1], 0)];
 
 pub const EXAMPLE_INPUT: [u8; 40] = [

@@ -62,7 +62,7 @@ pub fn seek(book: &[u8], at: usize, address: Address) -> Option<Field> {
     Some(field)
 }
 
-/// The same for one who asks with rising addresses and holds the last answer: no field is read twice.
+/// The same for rising addresses: the caller keeps the last answer, so no field is read twice.
 pub fn seek_on(book: &[u8], held: Option<Field>, address: Address) -> Option<Field> {
     match held {
         Some(field) if field.address < address => seek(book, field.next, address),

@@ -84,7 +84,7 @@ impl<'a> Sweep<'a> {
         }
     }
 
-    /// One window: read, and verified if it is a candidate.
+    /// Reads one window, and verifies it if it is a candidate.
     #[inline(always)]
     fn window(&mut self) -> Option<Finding> {
         let m = self.ring.len();

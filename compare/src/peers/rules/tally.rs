@@ -7,7 +7,7 @@ pub struct Tally {
     counts: [u16; MOST_RING],
 }
 
-/// The start that a tally came to, the least of its counts, and the looks that this took.
+/// The start that a tally has reached, the least of its counts, and the looks that it took.
 pub struct Reached {
     pub start: usize,
     pub least: u16,
@@ -66,7 +66,8 @@ impl Tally {
         Reached { start, least, looks }
     }
 
-    /// So many steps along the line, or to the first start on the way whose least count is below `below`.
+    /// Moves the tally `steps` steps along the line, or only to the first start on the way whose least count is below
+    /// `below`.
     pub fn move_along(&mut self, ring: &[u8], line: &[u8], from: usize, steps: usize, below: usize) -> Reached {
         let m = ring.len();
         let counts = &mut self.counts[..m];
