@@ -131,7 +131,7 @@ def read_file(path):
 
 
 def public_functions(src, read=read_file):
-    """[(path, function)] of a library's src: what is `pub`, and handed on or in modules that are `pub` all the way; and what is for C. A program has none"""
+    """[(path, function)] of a library's src: what is `pub`, and re-exported or in modules that are `pub` all the way; and what is for C. A program has none"""
     found, names, todo = [], set(), [(os.path.join(src, "lib.rt"), True)]
     if read(todo[0][0]) is None:
         return []

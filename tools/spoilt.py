@@ -1,7 +1,7 @@
 """Spoilt copies of the tree, for tools/looks --try, and for tools/statements --try, which has its own. Each is spoilt in one way, and must be noticed for that
 reason; the tree itself must have no fault.
 
-The places to spoil are looked up in the tree at hand: the first look, the first count that starts or is added, a public function that has the line, a function
+The places to spoil are looked up in the tree itself: the first look, the first count that starts or is added, a public function that has the line, a function
 that reads an edge. No other line of the source is quoted here.
 """
 import re
@@ -55,7 +55,7 @@ def copies(tree, check):
     yield "a count starts at another number", at_start("let mut looks: usize = m;"), NO_SUM
     yield "a count is bound by a pattern", at_start("let (mut looks, _) = (m, 0);"), NO_SUM
     yield "a count is lent", at_look("{look}raise(&mut looks);\n"), NO_SUM
-    yield "a count is handed in", with_text(file, tree[file] + "fn raised(looks: usize) -> usize {\n    looks\n}\n"), "a parameter is named `looks`"
+    yield "a count is a parameter", with_text(file, tree[file] + "fn raised(looks: usize) -> usize {\n    looks\n}\n"), "a parameter is named `looks`"
     yield "a field is given a product", with_text(file, tree[file] + "fn least_with(m: usize) -> Least {\n    Least { least: 0, looks: m * m }\n}\n"), NO_SUM
     yield "a look without its mark", at_look("looks += 1;\n"), NO_SUM
     yield "a mark without its look", at_look("// one look\n"), "the mark of a look"

@@ -24,7 +24,7 @@ pub enum Placement {
     Behind,
     /// The first byte lies flush against an inaccessible page.
     Before,
-    /// As Open, but what is empty is handed over as a null pointer.
+    /// As Open, but an empty slice is passed as a null pointer.
     Null,
 }
 

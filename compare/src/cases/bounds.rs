@@ -23,7 +23,7 @@ fn half_apart(draw: &mut Draw, m: usize, n: usize) -> (Vec<u8>, Vec<u8>) {
     (ring, line)
 }
 
-/// The ring over and over: every start is a finding, unless an edge of no ring comes every so often.
+/// The ring over and over: every start is a finding, unless every so often an edge comes that the ring does not have.
 fn over_and_over(draw: &mut Draw, m: usize, n: usize, foreign: bool) -> (Vec<u8>, Vec<u8>) {
     let ring: Vec<u8> = (0..m).map(|_| draw.below(4) as u8).collect();
     let mut line = repeated(&ring, draw.below(m), n);

@@ -2,7 +2,7 @@
 //! automaton; each hit is extended edge by edge, to both sides, up to k mismatches; the mismatches in between give the
 //! distance of every window that holds the hit.
 //!
-//! Whole fragments of length floor(m / (k + 2)), the rest dropped, in place of 2k + 4 near-equal ones: with those 000's
+//! Whole fragments of length floor(m / (k + 2)), the rest dropped, instead of 2k + 4 near-equal ones: with those 000's
 //! Lemma 3 fails (document 01). Every rotation then holds k + 1 whole fragments, so each pair of start and rotation within
 //! distance k has a hit, and the least distance over the hits of a start is exact: nothing is left to verify.
 use super::automaton::Automaton;

@@ -3,7 +3,7 @@
 //! count where they hold m, and the processor's widest vectors for bytes that the compiler may use.
 //!
 //! Those come through `#[target_feature]`, not through `-C target-cpu=native`, which would also rebuild every other peer. On
-//! x86-64 that is AVX2 where the processor at hand has it; on AArch64 NEON is in every target and needs no attribute.
+//! x86-64 that is AVX2 where the processor has it; on AArch64 NEON is in every target and needs no attribute.
 use super::findings::Findings;
 
 const MOST_RING: usize = 256;
