@@ -1,5 +1,5 @@
 -- The sweep's part of the loop over windows. Before each window the findings so far and the looks so far are right (`ScanLoop` of crates/meaning), and the
--- counts hold the tally of the start verified last. A turn is one call of `sweep_on`: windows left at break k + 1 find nothing (`left-scanned` of crates/sweep),
+-- counts hold the tally of the start verified last. A turn is one call of `sweep_on`: windows stopped at break k + 1 find nothing (`left-scanned` of crates/sweep),
 -- and a candidate is verified (`scan-verified`). Each turn ends past the start where it began, so the starts that are left fall.
 use Prim.Native.Nat.{ℕ, _+_, _-_, _≤_, _<_}
 use mathlib.Core.Path.{_≡_, refl, sym, ap, _∙_}

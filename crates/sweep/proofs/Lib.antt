@@ -1,15 +1,18 @@
--- Laws behind the sweep, one module for each idea. In the order in which they build on each other.
+-- The laws of this crate, one module for each idea, in the order in which they build on each other. The proofs that the functions meet their contracts cite the first
+-- group; each stands in a folder with the function's name, as reading/read_words. The theorem of the crate is `swept-by-rules` (SweptByRules): with the ring's own
+-- tables, the sweep is what rules 1 to 5 give.
+--
 -- What the functions compute, whatever tables and counts they are lent.
 pub mod ReadTurns
 pub mod WindowTurns
 pub mod TallyWays
 pub mod SweepWays
 pub mod SweepCases
--- With the ring's own vectors, double and tally this is what the rules give.
+-- If the vectors and the double are the ring's own and the counts are a tally, this is what the rules give.
 pub mod ReadByRules
 pub mod WindowsLeft
 pub mod WindowsByRules
 pub mod TallyByRules
 pub mod SweptByRules
--- Any two answers are equal.
+-- Any two answers that meet the contract are equal.
 pub mod OneAnswer

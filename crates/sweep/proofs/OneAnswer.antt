@@ -1,4 +1,4 @@
--- Any two answers that meet the contract of `sweep_on` are equal, and the counts at exit too: it is one equation.
+-- The contract of `sweep_on` is one equation for the answer and the counts at exit, so it determines both.
 use Prim.Native.Nat.{ℕ}
 use mathlib.Core.Path.{_≡_, sym, ap, _∙_}
 use mathlib.Core.List.{List}
@@ -6,7 +6,7 @@ use Rattle.sweep.specs.declared.sweeping.Sweep.{Sweep}
 use Rattle.sweep.specs.declared.sweeping.Swept.{Swept}
 use Rattle.sweep.specs.Sweeps.{SweptTo, IsSweptBy}
 
--- Any two answers of `sweep_on` are equal, and any two counts at exit.
+-- Any two answers that meet the contract of `sweep_on` are equal, and so are the counts at exit.
 pub one-sweep : (ring doubled table line : List ℕ) (k : ℕ) (at : Sweep) (old new new′ : List ℕ) (r r′ : Swept)
     → IsSweptBy ring doubled table line k at old new r → IsSweptBy ring doubled table line k at old new′ r′ → (r ≡ r′) × (new ≡ new′)
 one-sweep ring doubled table line k at old new new′ r r′ a b =

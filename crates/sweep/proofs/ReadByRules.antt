@@ -1,6 +1,6 @@
--- A window read with the ring's own vectors is read by rules 1 to 3. By induction on the edges left: the bits of the held vector stand for the stretch (`WindowLoop` of
--- crates/meaning), and grown by an edge the vector has the bits of the grown stretch (`grown-by-edge` of crates/vectors). So no bit is left exactly at a break. Nothing
--- here looks at a word.
+-- A window read with the ring's own vectors is read by rules 1 to 3. By induction on the edges left: the bits of the held vector stand for the held stretch
+-- (`WindowLoop` of crates/meaning), and the vector grown by an edge stands for the grown stretch (`grown-by-edge` of crates/vectors). So no bit is set exactly at a
+-- break. This proof uses the vectors by their bits only; the words are a matter of crates/vectors.
 use Prim.Native.Nat.{ℕ, zero, suc, _+_, _*_, _≤_, _<_}
 use mathlib.Core.Path.{_≡_, refl, sym, subst, _∙_}
 use mathlib.Core.Bool.{true, false, true≢false}
@@ -23,7 +23,7 @@ use Rattle.vectors.proofs.HeldVectors.{first-held, first-set, no-bit-iff, no-bi
 use Rattle.sweep.specs.Reads.{heldWith, readOn, readBy}
 use Rattle.sweep.specs.ReadingRules.{OwnVectors, IsWindowRead}
 
--- What holds with `left` edges unread: the breaks are not yet too many, each edge read was a look, and the vector stands for the stretch.
+-- What holds with `left` edges unread: there are at most k breaks, each edge read was one look, and the vector stands for the stretch.
 record StandsFor (ring window : List ℕ) (k : ℕ) (held : List ℕ) (left breaks looks : ℕ) : Type 0 where
   pub few : breaks ≤ k
   pub looks-are : looks + left ≡ length ring
@@ -67,7 +67,7 @@ module _ (ring window table : List ℕ) (k : ℕ) (own : OwnVectors ring table) 
     unfolding GrownBy
     grown-by r l = rw (← long, zero-add left) (grew .each r (omega arith))
 
-    -- Some bit is left: the stretch has grown.
+    -- If some bit is set, the edge is no break, and the new vector stands for the grown stretch.
     grows : noBit new words ≡ false → StandsFor ring window k new left breaks (looks + 1)
     grows e =
         let one = no-bit-no m words new refl (grew .vector) e in
@@ -88,22 +88,22 @@ module _ (ring window table : List ℕ) (k : ℕ) (own : OwnVectors ring table) 
         let one = some-yes (isSet new) (length ring) q in
         true≢false (sym (one .2) ∙ no-bit-iff m words new refl (grew .vector) .0 e (one .0) (omega (arith, one .1)))))
 
-    -- No bit is left: a break.
+    -- If no bit is set, the edge is a break.
     broken : noBit new words ≡ true → WindowLoop ring window k 0 left (breaks + 1) (isSet full)
     broken e =
         rw add-one (window-breaks ring window k 0 left breaks (isSet held) (isSet new) (h .few) grown-by (h .reading) (none-set e) (isSet full) full-set)
 
-    -- One that is not yet too many: every bit is set again.
+    -- If it is at most break k, every bit is set again, for the empty stretch.
     empties : noBit new words ≡ true → breaks + 1 ≤ k → StandsFor ring window k full left (breaks + 1) (looks + 1)
     empties e few = record { few = few; looks-are = omega (arith, h .looks-are); vector = first-held m most; reading = broken e }
 
-    -- Break k + 1: the window is left.
+    -- If it is break k + 1, reading stops, as rule 3 says.
     stops : noBit new words ≡ true → k < breaks + 1 → IsWindowRead ring window k (record { left = left; breaks = breaks + 1; looks = looks + 1 })
     stops e many =
         let to = window-left ring window k 0 left (breaks + 1) (isSet full) many (broken e) in
         record { read-is = omega (arith, to .0, h .looks-are); left-is = omega (arith, h .looks-are); breaks-is = sym (to .1) }
 
-  -- The edges before place `left`, read from a vector that stands for the stretch.
+  -- Reading the edges before place `left`, with a vector that stands for the stretch, follows the rules.
   read-on : (left : ℕ) (held : List ℕ) (breaks looks : ℕ) → StandsFor ring window k held left breaks looks
       → IsWindowRead ring window k (readOn table window k words left held breaks looks)
   unfolding readOn
@@ -117,7 +117,8 @@ module _ (ring window table : List ℕ) (k : ℕ) (own : OwnVectors ring table) 
       (λ few. read-on left full (breaks + 1) (looks + 1) (empties left held breaks looks h none (ltb-false k (breaks + 1) few))))
       (λ some. read-on left (new left held breaks looks h) breaks (looks + 1) (grows left held breaks looks h some))
 
-  -- Before the first edge every bit is set: the empty stretch is the beginning of every rotation.
+  -- A window of m edges, read with the ring's own vectors, is read by rules 1 to 3. (Before the first edge every bit is set, because the empty stretch is the
+  -- beginning of every rotation.)
   pub read-by-rules : IsWindowRead ring window k (readBy table window k)
   read-by-rules =
       read-on m full 0 0 (record {

@@ -1,5 +1,5 @@
--- One window read with a table. Before each turn of the loop, reading the edges that are left gives the result (`StillToRead`). Each edge read is one look, so looks and
--- edges left sum to m. At least one edge is read.
+-- The loop of `read_words`, with any table. Before each turn, reading the edges left from here gives the same result as reading the whole window (`StillToRead`). Each
+-- edge read is one look, so looks and edges left add up to m, and at least one edge is read.
 use Prim.Native.Nat.{ℕ, zero, suc, _+_, _-_, _*_, _≤_, _<_}
 use mathlib.Core.Path.{_≡_, refl, sym, ap, _∙_}
 use mathlib.Core.Bool.{true, false}
@@ -15,18 +15,18 @@ use Rattle.vectors.specs.ByValue.{vectorWords, grownWords}
 use Rattle.sweep.specs.declared.reading.WindowRead.{WindowRead}
 use Rattle.sweep.specs.Reads.{heldWith, readOn, readWith, readBy}
 
--- Before a turn of the loop.
+-- The invariant before a turn. `still` says that reading the edges left gives the result of the whole window.
 pub record StillToRead (table window : List ℕ) (k words : ℕ) (held : List ℕ) (left breaks looks : ℕ) : Type 0 where
   pub looks-are : looks + left ≡ length window
   pub breaks-le : breaks ≤ looks
   pub still : readOn table window k words left held breaks looks ≡ readWith table window k words
 
--- Before the first.
+-- The invariant holds before the first turn.
 pub to-read-all : (table window : List ℕ) (k words : ℕ) → StillToRead table window k words (firstBits (length window) vectorWords) (length window) 0 0
 to-read-all table window k words = record { looks-are = omega arith; breaks-le = omega arith; still = refl }
 
 module _ {table window : List ℕ} {k words : ℕ} {held : List ℕ} {left breaks looks : ℕ} (known : StillToRead table window k words held left breaks looks) where
-  -- After the last.
+  -- If no edge is left, the contract is met.
   pub to-read-none : left ≡ 0 → record { left = left; breaks = breaks; looks = looks } ≡ readWith table window k words
   unfolding readOn
   to-read-none none = rw none (rw none at (known .still))
@@ -40,13 +40,13 @@ module _ {table window : List ℕ} {k words : ℕ} {held : List ℕ} {left break
     from-here : readOn table window k words (suc (left - 1)) held breaks looks ≡ readWith table window k words
     from-here = let one : left ≡ suc (left - 1) = omega arith in ap (λ (n : ℕ). readOn table window k words n held breaks looks) (sym one) ∙ known .still
 
-    -- Break k + 1.
+    -- If the edge is break k + 1, returning there meets the contract.
     pub to-read-stops : noBit new words ≡ true → k < breaks + 1
         → record { left = left - 1; breaks = breaks + 1; looks = looks + 1 } ≡ readWith table window k words
     unfolding readOn
     to-read-stops none many = rw (new-is, none, lt-ltb k (breaks + 1) many) at from-here
 
-    -- A break before it.
+    -- If the edge is a break, but not break k + 1, the invariant holds with every bit set again.
     pub to-read-empties : noBit new words ≡ true → breaks + 1 ≤ k
         → StillToRead table window k words (firstBits (length window) vectorWords) (left - 1) (breaks + 1) (looks + 1)
     unfolding readOn
@@ -56,7 +56,7 @@ module _ {table window : List ℕ} {k words : ℕ} {held : List ℕ} {left break
       still = rw (new-is, none, le-ltb k (breaks + 1) few) at from-here;
     }
 
-    -- The stretch has grown.
+    -- If the edge is no break, the invariant holds with the grown vector.
     pub to-read-grows : noBit new words ≡ false → StillToRead table window k words new (left - 1) breaks (looks + 1)
     unfolding readOn
     to-read-grows some = record {
@@ -72,7 +72,7 @@ module _ (table window : List ℕ) (k words : ℕ) where
   abbrev full : List ℕ
   full = firstBits m vectorWords
 
-  -- Where reading with `left` edges unread ends: each edge read is one look, and with an edge left one at least is read.
+  -- What holds for the result r of reading on with `left` edges unread: each edge read is one look, and if an edge is left, at least one is read.
   record ReadGoes (left looks : ℕ) (r : WindowRead) : Type 0 where
     pub looks-are : r .looks + r .left ≡ looks + left
     pub left-le : r .left ≤ left - 1
@@ -89,7 +89,7 @@ module _ (table window : List ℕ) (k words : ℕ) where
       (λ _. record { looks-are = omega (arith, emptied .looks-are); left-le = omega (arith, emptied .left-le) }))
       (λ _. record { looks-are = omega (arith, grown .looks-are); left-le = omega (arith, grown .left-le) })
 
-  -- Looks and edges left are m together.
+  -- Looks and edges left unread add up to m.
   pub read-sum : readWith table window k words .looks + readWith table window k words .left ≡ m
   read-sum = read-goes m full 0 0 .looks-are ∙ omega arith
 
@@ -97,7 +97,7 @@ module _ (table window : List ℕ) (k words : ℕ) where
   pub read-some : 0 < m → readWith table window k words .left < m
   read-some some = omega (arith, read-goes m full 0 0 .left-le)
 
--- Read with as few words as m bits need, a window is read as `readBy` reads it.
+-- If `words` is the fewest words that hold m bits, reading with `words` words is `readBy`.
 pub fewest-words : (table window : List ℕ) (k words : ℕ) (r : WindowRead) → r ≡ readWith table window k words → wordBits * (words - 1) < length window
     → length window ≤ wordBits * words → r ≡ readBy table window k
 fewest-words table window k words r is more most =

@@ -1,5 +1,5 @@
--- The three cases of the sweep to the next candidate: no candidate, no finding, a finding. Each is a case of `sweepBy`. The looks do not overflow: those so far are within
--- the limit, a window costs at most 256, there are at most 2^32 windows, and one verification costs at most 65,536.
+-- The three cases of the sweep to the next candidate: no candidate, a candidate that is no finding, a finding. Each is a case of `sweepBy`. The looks do not overflow:
+-- those so far are at most 2^62, a window takes at most 256, there are at most 2^32 windows, and one verification takes at most 65,536.
 use Prim.Native.Nat.{ℕ, _+_, _-_, _*_, _≤_, _<_}
 use mathlib.Core.Path.{_≡_, refl, ap}
 use mathlib.Core.Bool.{true, false}
@@ -25,11 +25,11 @@ module _ (ring table line : List ℕ) (k : ℕ) (at : Sweep) (can : CanSweep (le
   within : WindowsGo (length line) 0 (length line + 1 - at .start .0) read
   within = rw read-is (windows-within ring table line k (at .start .0) (can .can-read))
 
-  -- The looks with those of the windows read.
+  -- The looks so far and those of the windows read are together at most 2^62 + 256·2^32.
   pub sweep-looks-le : at .looks + read .looks ≤ mostLooks + mostCounts * mostPlaces
   sweep-looks-le = omega (arith, within .looks-le, can .looks-le, can .can-read .most-line)
 
-  -- The start fits.
+  -- The start reached is at most 2^32.
   pub sweep-start-le : read .start .0 ≤ mostPlaces
   sweep-start-le = omega (arith, within .start-le, can .can-read .most-line)
 
@@ -38,14 +38,14 @@ module _ (ring doubled table line : List ℕ) (k : ℕ) (at : Sweep) (old : List
   m = length ring
 
   module _ (read : WindowsRead) (read-is : read ≡ windowsBy ring table line k (at .start .0)) where
-    -- No candidate.
+    -- If there is no candidate, the answer is `Ended`, and the counts stay as they were.
     pub way-ended : read .candidate ≡ false
         → IsSweptTo ring doubled table line k at old old (Ended (record { start = read .start; last = at .last; looks = at .looks + read .looks }))
     unfolding sweepBy
     way-ended none = record { is = rw (← read-is, none) refl }
 
     module _ (stopped : read .candidate ≡ true) (new : List ℕ) (z : Least) (tallied : IsTallied ring doubled line (read .start .0) (at .last) old new z) where
-      -- The looks with those of its verification.
+      -- With the looks of the candidate's verification added, the sum is at most 2^62 + 256·2^32 + 65,536.
       pub sweep-all-looks-le : CanSweep m (length line) (at .start .0) (at .looks)
           → at .looks + read .looks + z .looks ≤ mostLooks + mostCounts * mostPlaces + mostTally
       sweep-all-looks-le can =
@@ -59,12 +59,12 @@ module _ (ring doubled table line : List ℕ) (k : ℕ) (at : Sweep) (old : List
       abbrev next : Sweep
       next = record { start = read .next; last = At (read .start); looks = at .looks + read .looks + z .looks }
 
-      -- Verified, and no finding.
+      -- If the candidate's least count is above k, the answer is `NoFinding`.
       pub way-none : k < z .least → IsSweptTo ring doubled table line k at old new (NoFinding next)
       unfolding sweepBy
       way-none far = record { is = rw (← read-is, stopped, ← tallied .is, lt-ltb k (z .least) far) refl }
 
-      -- A finding.
+      -- If it is at most k, the answer is `Found`, with the finding that `finding_at` returns.
       pub way-found : (f : FindingStruct) → z .least ≤ k → IsFindingAt m new (read .start) (z .least) f → IsSweptTo ring doubled table line k at old new (Found next f)
       unfolding sweepBy
       way-found f near found = record { is = rw (← read-is, stopped, ← tallied .is, le-ltb k (z .least) near, ← found .is) refl }

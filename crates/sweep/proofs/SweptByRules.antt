@@ -1,5 +1,6 @@
--- With the ring's own vectors and double and the last verified start's tally, the answer of `sweep_on` is what rules 1 to 5 give. The windows up to the candidate are left
--- (`windows-by-rules`), and the candidate is verified by rule 5 (`tally-by-rules`). Its tally decides whether it is a finding, and which (`TallyFinding` of crates/tally).
+-- With the ring's own vectors and double, and the tally of the last verified start, the answer of `sweep_on` is what rules 1 to 5 give. The windows before the
+-- candidate are stopped at break k + 1 (`windows-by-rules`), and the candidate is verified by rule 5 (`tally-by-rules`). Its tally decides whether it is a
+-- finding, and which one (`TallyFinding` of crates/tally).
 use Prim.Native.Nat.{ℕ, _+_, _≤_, _<_}
 use mathlib.Core.Path.{_≡_, refl, sym, ap, subst, _∙_}
 use mathlib.Core.Bool.{true, false, true≢false}
@@ -30,14 +31,14 @@ use Rattle.sweep.proofs.WindowsByRules.{windows-by-rules}
 use Rattle.sweep.proofs.TallyByRules.{before-later, tally-by-rules}
 
 module _ (ring doubled table line : List ℕ) (k : ℕ) (old : List ℕ) (at : Sweep) (can : CanSweepOn ring doubled table line old at) where
-  -- a ring within the limit, a line that has places for its starts, and a start in it or just past it
+  -- ring, line and start are within the limits
   can-read : CanReadWindows (length ring) (length line) (at .start .0)
   can-read = can .can-sweep .can-read
 
   abbrev m : ℕ
   m = length ring
 
-  -- The windows up to the candidate.
+  -- The result of reading windows up to the candidate.
   abbrev read : WindowsRead
   read = windowsBy ring table line k (at .start .0)
 
@@ -49,11 +50,11 @@ module _ (ring doubled table line : List ℕ) (k : ℕ) (old : List ℕ) (at : S
       windows-by-rules ring table line k (at .start .0)
       (record { some-edge = can-read .some-edge; most = can-read .most; occurs = can .occurs }) (can-read .start-le)
 
-  -- The counts still hold the tally of the last verified start.
+  -- The counts are still the tally of the last verified start.
   tallied-here : TalliedBefore ring line i old (lastOf (at .last))
   tallied-here = before-later ring line old (at .start .0) i (lastOf (at .last)) (left-from-le ring line k (at .start .0) (reads .left-to)) (can .before)
 
-  -- No window is in the line any more.
+  -- The case that no window fits in the line any more.
   ended : read .candidate ≡ false → IsSweptOn ring line k at (Ended (record { start = read .start; last = at .last; looks = at .looks + read .looks })) old
   ended out =
       let e = reads .ended out in
@@ -85,7 +86,7 @@ module _ (ring doubled table line : List ℕ) (k : ℕ) (old : List ℕ) (at : S
     abbrev next : Sweep
     next = record { start = read .next; last = At (read .start); looks = at .looks + read .looks + tally .looks }
 
-    -- What holds after the candidate, finding or not.
+    -- What holds after the candidate is verified, finding or not.
     after : (r : Swept) → stateOf r ≡ next → hasEnded r ≡ false → foundOf r ≡ foundAt ring line k i → IsSweptOn ring line k at r (tally .counts)
     after r state goes-on found = record {
       stop = i;
@@ -104,20 +105,20 @@ module _ (ring doubled table line : List ℕ) (k : ℕ) (old : List ℕ) (at : S
       };
     }
 
-    -- Verified, and no finding.
+    -- The case that the candidate is no finding.
     none : k < tally .least → IsSweptOn ring line k at (NoFinding next) (tally .counts)
     none far =
         after (NoFinding next) refl refl
         (sym (least-no ring line k i (tally .counts) (tally .least) (can-read .some-edge) (verified .tallied) (verified .least-is) far))
 
-    -- A finding.
+    -- The case that the candidate is a finding.
     found : tally .least ≤ k → IsSweptOn ring line k at (Found next (findingWith m (tally .counts) (read .start) (tally .least))) (tally .counts)
     found near =
         after _ refl refl
         (sym (least-yes ring line k i (tally .counts) (tally .least) (can-read .some-edge) (verified .tallied) (verified .least-is)
         (findingWith m (tally .counts) (read .start) (tally .least)) (can-read .most) (record { is = refl }) (fits-is-start ring line i (read-is .in-line)) near))
 
-  -- The sweep by the rules, of its answer and the counts.
+  -- The result s of a sweep is what the rules give.
   abbrev SweptOn : SweptTo → Type 0
   SweptOn s = IsSweptOn ring line k at (s .swept) (s .counts)
 
@@ -131,12 +132,12 @@ module _ (ring doubled table line : List ℕ) (k : ℕ) (old : List ℕ) (at : S
       (λ near. found stopped (ltb-false k (tally stopped .least) near)))
       ended
 
-  -- The sweep can go on.
+  -- The test whether the sweep can go on passes.
   can-be : canSweep m (length line) (at .start .0) (at .looks) ≡ true
   can-be =
       can-sweep-iff m (length line) (at .start .0) (at .looks) .1 (can .can-sweep)
 
-  -- What `sweep_on` answers is what the rules give.
+  -- Under `CanSweepOn`, every answer that meets the contract of `sweep_on` is what rules 1 to 5 give.
   pub swept-by-rules : (new : List ℕ) (r : Swept) → IsSweptBy ring doubled table line k at old new r → IsSweptOn ring line k at r new
   swept-by-rules new r swept =
       let is : record { swept = r; counts = new } ≡ sweepBy ring doubled table line k at old = rw can-be at (swept .is) in

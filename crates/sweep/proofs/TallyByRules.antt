@@ -1,6 +1,6 @@
--- With the ring's own double and the last verified start's tally, `tallyBy` verifies a start by rule 5: the counts are its tally, with their least count and the looks of
--- the rule. For a fresh count this is `counted-verified` of crates/tally, for a moved tally `moved-tallied` of crates/moves. It moves all the steps, since no least count
--- is below 0.
+-- With the ring's own double and the tally of the last verified start, `tallyBy` verifies a start by rule 5: the counts are its tally, with their least and the
+-- looks of the rule. For a fresh count this is `counted-verified` of crates/tally, for a moved tally `moved-tallied` of crates/moves. The move makes all its
+-- steps, because no least count is below 0.
 use Prim.Native.Nat.{ℕ, _+_, _-_, _*_, _≤_, _<_}
 use mathlib.Core.Path.{_≡_, refl}
 use mathlib.Core.List.{List}
@@ -23,7 +23,7 @@ use Rattle.sweep.specs.declared.verifying.LastVerified.the-variants.{Not
 use Rattle.sweep.specs.VerifyingRules.{lastOf, TalliedBefore, CanVerify}
 use Rattle.sweep.specs.Sweeps.{movedTo, tallyBy}
 
--- The tally of the last verified start stays that at every later start.
+-- If the counts are the tally of the last verified start, before i, then they are so before every later i′.
 pub before-later : (ring line counts : List ℕ) (i i′ : ℕ) (last : Option ℕ) → i ≤ i′ → TalliedBefore ring line i counts last → TalliedBefore ring line i′ counts last
 before-later ring line counts i i′ none l h = tt
 before-later ring line counts i i′ (some last) l h = (omega arith, h .1)
@@ -32,11 +32,11 @@ module _ (ring doubled line : List ℕ) (i : ℕ) (old : List ℕ) where
   abbrev m : ℕ
   m = length ring
 
-  -- The start is verified, with these looks.
+  -- The result t verifies start i, at these looks.
   abbrev VerifiedAt : ℕ → TallyTo → Type 0
   VerifiedAt looks t = Verified ring line i looks (t .counts) (t .least) (t .looks)
 
-  -- Counted afresh.
+  -- A fresh count verifies start i, at m·m looks.
   afresh-by-rules : (last : Option ℕ) → CanVerify ring doubled line i old last → VerifiedAt (afreshLooks m) (countedTo doubled (windowAt m line i) old)
   afresh-by-rules last can =
       let t : TallyTo = countedTo doubled (windowAt m line i) old in
@@ -44,7 +44,7 @@ module _ (ring doubled line : List ℕ) (i : ℕ) (old : List ℕ) where
       (can .can-tally .size) (can .can-tally .some-edge) (can .can-tally .most) (can .twice) (can .in-line) (record { is = refl })
       (record { written = refl; least-is = refl; looks-are = refl })
 
-  -- Moved from the last verified start.
+  -- The tally moved from the last verified start verifies start i, at 2·m looks for each step.
   moved-by-rules : (from : ℕ) → CanVerify ring doubled line i old (some from) → VerifiedAt ((i - from) * stepLooks m) (movedTo ring line from (i - from) old)
   unfolding movedTo
   moved-by-rules from can =
@@ -58,7 +58,7 @@ module _ (ring doubled line : List ℕ) (i : ℕ) (old : List ℕ) where
       ⊎-elim (λ l. omega (arith, reached .start-le)) (λ l. absurd (omega (arith, reached .stopped l))) (le-or-lt (from + (i - from)) (to .start)) in
       rw there at (reached .verified)
 
-  -- A start is verified as rule 5 says, at the looks of rule 5.
+  -- Under `CanVerify`, `tallyBy` verifies start i, at the looks of rule 5.
   pub tally-by-rules : (last : LastVerified) → CanVerify ring doubled line i old (lastOf last)
       → VerifiedAt (tallyLooks m (lastOf last) i) (tallyBy ring doubled line i last old)
   unfolding tallyBy tallyLooks

@@ -1,5 +1,5 @@
--- The four cases of verifying a start: no earlier tally, not beyond the last verified start, far beyond it, and moved. Each is a case of `tallyBy`. None takes more looks
--- than a fresh count of the longest ring.
+-- The four cases of verifying a start: there is no earlier tally; the start is not beyond the last verified one; it is s beyond it and 2·s > m; or 2·s ≤ m, and the
+-- tally is moved. Each is a case of `tallyBy`. None takes more looks than a fresh count for the longest ring, 256·256.
 use Prim.Native.Nat.{ℕ, _-_, _*_, _≤_, _<_}
 use mathlib.Core.Path.{_≡_, ap, _∙_}
 use mathlib.Core.List.{List}
@@ -21,34 +21,34 @@ use Rattle.sweep.specs.declared.verifying.LastVerified.{LastVerified}
 use Rattle.sweep.specs.declared.verifying.LastVerified.the-variants.{Nothing, At}
 use Rattle.sweep.specs.Sweeps.{movedTo, tallyBy, IsTallied}
 
--- The looks of a fresh count of the longest ring.
+-- The looks of a fresh count for the longest ring.
 abbrev pub mostTally : ℕ
 mostTally = mostCounts * mostCounts
 
 module _ (ring : List ℕ) {doubled line : List ℕ} {i : ℕ} {old : List ℕ} where
-  -- Counted afresh, as `count_afresh` returns it of the window that was handed out.
+  -- The window that `window` returned for start i is counted afresh by `count_afresh`.
   module _ {edges new : List ℕ} {z : Least} (handed : IsWindow line i (length ring) edges) (counted : IsCounted doubled edges old new z) where
     afresh-is : record { counts = new; least = z .least; looks = z .looks } ≡ countedTo doubled (windowAt (length ring) line i) old
     afresh-is =
         (λ j. record { counts = counted .written j; least = counted .least-is j; looks = counted .looks-are j })
         ∙ ap (λ (w : List ℕ). countedTo doubled w old) (handed .is)
 
-    -- With no earlier tally.
+    -- If there is no earlier tally, this meets the contract of `verify`.
     pub tallied-first : {last : LastVerified} → last ≡ Nothing → IsTallied ring doubled line i last old new z
     unfolding tallyBy
     tallied-first none = record { is = rw none afresh-is }
 
-    -- Not beyond the last verified start.
+    -- So it does if the start is not beyond the last verified one.
     pub tallied-behind : {last : LastVerified} {from : LinePlace} → last ≡ At from → i ≤ from .0 → IsTallied ring doubled line i last old new z
     unfolding tallyBy
     tallied-behind {from = from} after behind = record { is = rw (after, le-leb i (from .0) behind) afresh-is }
 
-    -- Far beyond it.
+    -- So it does if the start is s beyond the last verified one and 2·s > m.
     pub tallied-far : {last : LastVerified} {from : LinePlace} → last ≡ At from → from .0 < i → length ring < 2 * (i - from .0) → IsTallied ring doubled line i last old new z
     unfolding tallyBy
     tallied-far {from = from} after beyond far = record { is = rw (after, lt-leb i (from .0) beyond, lt-ltb (length ring) (2 * (i - from .0)) far) afresh-is }
 
-  -- Moved.
+  -- If the start is s beyond the last verified one and 2·s ≤ m, moving the tally s steps meets the contract of `verify`.
   pub tallied-moved : {last : LastVerified} {from : LinePlace} {new : List ℕ} {r : Reached} → last ≡ At from → from .0 < i → 2 * (i - from .0) ≤ length ring
       → IsMoved ring line (from .0) (i - from .0) 0 old new r → IsTallied ring doubled line i last old new (record { least = r .least; looks = r .looks })
   unfolding tallyBy movedTo
@@ -75,7 +75,7 @@ module _ (ring doubled line : List ℕ) (i : ℕ) (old : List ℕ) where
       (λ _. omega (arith, move-looks-le ring line 0 (i - from) (unmoved from old), mul-le-mul-right m near, mul-le-mul most most))
       (λ _. omega arith)
 
-  -- No verification takes more looks than a fresh count of the longest ring.
+  -- No verification takes more than 256·256 looks.
   pub tally-looks : (last : LastVerified) → m ≤ mostCounts → tallyBy ring doubled line i last old .looks ≤ mostTally
   unfolding tallyBy
   tally-looks Nothing most = afresh-looks (windowAt m line i)

@@ -1,5 +1,5 @@
--- Window after window. Before each turn of the loop, reading the windows that are left gives the result (`StillWindows`). A window costs at most m looks, and each starts
--- past the one before.
+-- The loop of `read_windows`, with any table. Before each turn, reading on from here gives the same result as from the start (`StillWindows`). A window takes at most m
+-- looks, and each starts past the one before.
 use Prim.Native.Nat.{ℕ, zero, suc, _+_, _-_, _*_, _≤_, _<_}
 use mathlib.Core.Path.{_≡_, refl, sym, ap, _∙_}
 use mathlib.Core.Bool.{true}
@@ -20,7 +20,7 @@ use Rattle.sweep.specs.declared.sweeping.WindowsRead.{WindowsRead}
 use Rattle.sweep.specs.Reads.{readBy, noneLeft, windowsOn, windowsBy, CanReadWindows}
 use Rattle.sweep.proofs.ReadTurns.{read-sum, read-some}
 
--- Before the turn at start i: at most `left` windows are still to be read.
+-- The invariant before the turn at start i: at most `left` windows are still to come, and `still` says that reading them from here gives the result of the whole loop.
 pub record StillWindows (ring table line : List ℕ) (k from i looks : ℕ) : Type 0 where
   pub can : CanReadWindows (length ring) (length line) from
   pub left : ℕ
@@ -29,7 +29,7 @@ pub record StillWindows (ring table line : List ℕ) (k from i looks : ℕ) : Ty
   pub looks-le : looks ≤ mostCounts * i
   pub still : windowsOn ring table line k left i looks ≡ windowsBy ring table line k from
 
--- A window in the line has m edges; one at least is read, and each read is one look.
+-- Of a window that fits in the line at least one edge is read, and looks and edges left unread add up to m.
 window-reads : (table : List ℕ) (k : ℕ) {ring line edges : List ℕ} {i : ℕ} → 0 < length ring → FitsInLine ring line i → IsWindow line i (length ring) edges
     → (readBy table edges k .looks + readBy table edges k .left ≡ length ring) × (readBy table edges k .left < length ring)
 window-reads table k {ring} {edges = edges} some-edge in-line handed =
@@ -37,12 +37,12 @@ window-reads table k {ring} {edges = edges} some-edge in-line handed =
     let words : ℕ = wordCount (length edges) in
     (read-sum table edges k words ∙ size, omega (arith, read-some table edges k words (omega arith)))
 
--- Before the first.
+-- The invariant holds before the first turn.
 pub windows-start : {ring table line : List ℕ} {k from : ℕ} → CanReadWindows (length ring) (length line) from → StillWindows ring table line k from from 0
 windows-start {line = line} {from = from} can =
     record { can = can; left = length line + 1 - from; enough = omega arith; start-le = can .start-le; looks-le = omega arith; still = refl }
 
--- No window is in the line any more.
+-- If no window fits in the line at i, reading on gives `noneLeft`.
 windows-none : (ring table line : List ℕ) (k left i looks : ℕ) → IsPastLine ring line i → windowsOn ring table line k left i looks ≡ noneLeft i looks
 unfolding windowsOn
 windows-none ring table line k zero i looks past = refl
@@ -55,7 +55,7 @@ module _ {ring table line : List ℕ} {k from i looks : ℕ} (known : StillWindo
   abbrev n : ℕ
   n = length line
 
-  -- After the last.
+  -- If no window fits in the line at i, the loop's result there meets the contract.
   pub windows-end : IsPastLine ring line i → noneLeft i looks ≡ windowsBy ring table line k from
   windows-end past = sym (windows-none ring table line k (known .left) i looks past) ∙ known .still
 
@@ -71,21 +71,21 @@ module _ {ring table line : List ℕ} {k from i looks : ℕ} (known : StillWindo
     reads-fit : (r .looks + r .left ≡ m) × (r .left < m)
     reads-fit = rw reads (window-reads table k (known .can .some-edge) in-line handed)
 
-    -- The next start is in the line or just past it.
+    -- The next window starts at n + 1 at most: i + edges left + 1 ≤ n + 1.
     pub windows-next-le : i + r .left + 1 ≤ n + 1
     windows-next-le = omega (arith, reads-fit .1)
 
-    -- Up to it the windows cost at most 256 looks each.
+    -- The looks so far are at most 256 for each place before the next start.
     pub windows-looks-le : looks + r .looks ≤ mostCounts * (i + r .left + 1)
     windows-looks-le = omega (arith, known .looks-le, reads-fit .0, known .can .most)
 
-    -- A candidate.
+    -- If the window has at most k breaks it is the candidate, and returning there meets the contract.
     pub windows-stop : r .breaks ≤ k
         → record { start = record { 0 = i }; next = record { 0 = i + r .left + 1 }; looks = looks + r .looks; candidate = true } ≡ windowsBy ring table line k from
     unfolding windowsOn
     windows-stop few = rw (fits-line-iff ring line i .1 in-line, is-read, le-leb (r .breaks) k few) at from-here
 
-    -- A window that is left.
+    -- If it has more, the invariant holds at the next start.
     pub windows-turn : k < r .breaks → StillWindows ring table line k from (i + r .left + 1) (looks + r .looks)
     unfolding windowsOn
     windows-turn many = record {
@@ -97,7 +97,7 @@ module _ {ring table line : List ℕ} {k from i looks : ℕ} (known : StillWindo
       still = rw (fits-line-iff ring line i .1 in-line, is-read, lt-leb (r .breaks) k many) at from-here;
     }
 
--- How far `left` windows go: to a start in the line or just past it, with at most 256 looks for each.
+-- How far reading at most `left` windows goes: to a start of at most n + 1, with at most 256 looks for each window.
 pub record WindowsGo (n looks left : ℕ) (to : WindowsRead) : Type 0 where
   pub start-le : to .start .0 ≤ n + 1
   pub looks-le : to .looks ≤ looks + mostCounts * left
@@ -119,6 +119,6 @@ module _ (ring table line : List ℕ) (k from : ℕ) (can : CanReadWindows (leng
       record { start-le = later .start-le; looks-le = omega (arith, later .looks-le, reads .0, can .most) }))
       (λ _. record { start-le = l; looks-le = omega arith })
 
-  -- From a start on there are no more windows than places up to just past the line. Reading them ends there at the latest, with at most 256 looks for each.
+  -- Reading windows from `from` on ends at a start of at most n + 1, with at most 256·(n + 1 − from) looks.
   pub windows-within : WindowsGo (length line) 0 (length line + 1 - from) (windowsBy ring table line k from)
   windows-within = windows-go (length line + 1 - from) from 0 (can .start-le)

@@ -1,6 +1,6 @@
--- Windows read with the ring's own vectors are read by the rules, to the next candidate. By induction on how many may still come: every window so far was left (`LeftTo`).
--- The window at i is read as a line of its own (`read-by-rules`, `alone-reading` of crates/meaning). It is left at break k + 1, and the next one starts later; or it is the
--- candidate; or it is not in the line.
+-- Windows read with the ring's own vectors, up to the next candidate, are read by the rules. By induction on how many windows may still come: every window so
+-- far was stopped at break k + 1 (`LeftTo`). The window at i is read as a line of its own (`read-by-rules`, `alone-reading` of crates/meaning). Either it is
+-- stopped at break k + 1, and the next one starts later; or it is the candidate; or it does not fit in the line.
 use Prim.Native.Nat.{ℕ, zero, suc, _+_, _-_, _≤_, _<_}
 use mathlib.Core.Path.{_≡_, refl, sym, ap, _∙_}
 use mathlib.Core.Bool.{true, true≢false}
@@ -29,12 +29,12 @@ module _ (ring table line : List ℕ) (k from : ℕ) (own : OwnVectors ring tabl
   abbrev n : ℕ
   n = length line
 
-  -- How far the window at i is read.
+  -- The result of reading the window at i.
   abbrev read : ℕ → WindowRead
   read i = readBy table (windowAt m line i) k
 
   module _ (i looks : ℕ) (h : LeftTo ring line k from i looks) where
-    -- No window is in the line any more.
+    -- The case that no window fits in the line at i.
     ended : IsPastLine ring line i → IsWindowsRead ring line k from (noneLeft i looks)
     ended past = record { looks = looks; left-to = h; candidate-is = λ e. absurd (true≢false (sym e)); ended = λ _. (past, refl, refl) }
 
@@ -45,7 +45,7 @@ module _ (ring table line : List ℕ) (k from : ℕ) (own : OwnVectors ring tabl
       by-rules : IsWindowRead ring (windowAt m line i) k (read i)
       by-rules = read-by-rules ring (windowAt m line i) table k own (fitting-length (record { is = refl }) in-line)
 
-      -- The window's reading in the line.
+      -- The looks are the edges that the rules read of the window at i in the line.
       reads-are : read i .looks ≡ readWindow ring line k i .read
       reads-are = by-rules .read-is ∙ ap (λ (w : List ℕ). readWindow ring w k 0 .read) alone ∙ alone-reading ring line i k .read-is
 
@@ -55,11 +55,11 @@ module _ (ring table line : List ℕ) (k from : ℕ) (own : OwnVectors ring tabl
       next-is : i + read i .left + 1 ≡ sweptStart ring line k i
       next-is = omega (arith, reads-are, by-rules .left-is)
 
-      -- The window is left at break k + 1.
+      -- The case that the window is stopped at break k + 1.
       left-here : k < read i .breaks → LeftTo ring line k from (i + read i .left + 1) (looks + read i .looks)
       left-here many = rw (next-is, reads-are) (one-left h in-line (omega (arith, breaks-are)))
 
-      -- It is the candidate.
+      -- The case that it is the candidate.
       stops-here : read i .breaks ≤ k
           → IsWindowsRead ring line k from (record { start = record { 0 = i }; next = record { 0 = i + read i .left + 1 }; looks = looks + read i .looks; candidate = true })
       stops-here few = record {
@@ -69,7 +69,7 @@ module _ (ring table line : List ℕ) (k from : ℕ) (own : OwnVectors ring tabl
         ended = λ e. absurd (true≢false e);
       }
 
-  -- The windows from a start up to which every window was left.
+  -- Reading windows from a start i before which every window was stopped at break k + 1 follows the rules.
   windows-on : (left i looks : ℕ) → n + 1 ≤ i + left → LeftTo ring line k from i looks
       → IsWindowsRead ring line k from (windowsOn ring table line k left i looks)
   unfolding windowsOn
@@ -85,6 +85,6 @@ module _ (ring table line : List ℕ) (k from : ℕ) (own : OwnVectors ring tabl
       (left-here i looks h in-line (leb-false (read i .breaks) k many))))
       (λ out. ended i looks h (past-line-iff ring line i .0 out))
 
-  -- Windows read with the ring's vectors are read by the rules, to the next candidate.
+  -- Windows read with the ring's own vectors from `from` on, up to the next candidate, are read by the rules.
   pub windows-by-rules : from ≤ n + 1 → IsWindowsRead ring line k from (windowsBy ring table line k from)
   windows-by-rules start-le = windows-on (n + 1 - from) from 0 (omega arith) none-left

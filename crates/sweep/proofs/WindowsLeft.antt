@@ -1,5 +1,5 @@
--- Windows left at break k + 1, one after the other (`LeftTo`), by induction on them. Their starts never fall and stay in the line or just past it. They find nothing, so
--- what the loop over windows keeps (`ScanLoop` of crates/meaning) holds after them.
+-- Laws of a run of windows that are stopped at break k + 1 (`LeftTo`), by induction on the run. Their starts rise and are at most n + 1. No start from
+-- the first of them up to the next window is a finding, so the invariant of the loop over windows (`ScanLoop` of crates/meaning) holds after them too.
 use Prim.Native.Nat.{ℕ, _+_, _≤_}
 use mathlib.Core.List.{List}
 use mathlib.Core.Option.{Option}
@@ -12,17 +12,17 @@ use Rattle.meaning.proofs.ScanLoop.{ScanLoop, scan-left}
 use Rattle.sweep.specs.SweepRules.{LeftTo, none-left, one-left}
 
 module _ (ring line : List ℕ) (k from : ℕ) where
-  -- The next start is not before the first.
+  -- After the run, the next window does not start before the first one.
   pub left-from-le : {i looks : ℕ} → LeftTo ring line k from i looks → from ≤ i
   left-from-le none-left = omega arith
   left-from-le (one-left before in-line many) = omega (arith, left-from-le before)
 
-  -- The next one is in the line or just past it.
+  -- After the run, the next window starts at n + 1 at most.
   pub left-start-le : {i looks : ℕ} → from ≤ length line + 1 → LeftTo ring line k from i looks → i ≤ length line + 1
   left-start-le l none-left = l
   left-start-le l (one-left before in-line many) = omega (arith, in-line)
 
-  -- What the loop over windows keeps.
+  -- The invariant of the loop over windows holds after the run, with the same findings and the run's looks added.
   pub left-scanned : {i looks : ℕ} (last : Option ℕ) (found : List Finding) (looks₀ : ℕ) → LeftTo ring line k from i looks
       → ScanLoop ring line k from last found looks₀ → ScanLoop ring line k i last found (looks₀ + looks)
   left-scanned last found looks₀ none-left h = rw add-zero h

@@ -1,5 +1,6 @@
--- The sweep of the quick scan has two definitions. One is what `sweep_on` computes on every input, whatever vectors, doubled ring and counts it is lent. The other is
--- what rules 1 to 5 give. Where the ring's own vectors and double are lent and the counts hold the tally of the last verified start, they are the same:
+-- The sweep of the quick scan goes from window to window (rules 1 to 3) up to the next candidate and verifies it (rules 4 and 5). It has two definitions: one as the
+-- code computes, on every input, whatever vectors, doubled ring and counts are lent; one as the rules say. If the ring's own vectors and double are lent, and the
+-- counts are the tally of the last verified start, the two are the same. A law joins them at each level:
 --
 -- |                           | computed, on every input        | by the rules                                   | joined by                           |
 -- |---------------------------|---------------------------------|------------------------------------------------|-------------------------------------|
@@ -8,8 +9,9 @@
 -- | a start verified (rule 5) | `tallyBy` (Sweeps)              | `Verified` of crates/tally, looks `tallyLooks` | `tally-by-rules` (TallyByRules)     |
 -- | the sweep (rules 1 to 5)  | `sweepBy`, `IsSweptBy` (Sweeps) | `IsSweptOn` (SweepRules)                       | `swept-by-rules` (SweptByRules)     |
 --
--- The laws' conditions on what is lent are `OwnVectors` (ReadingRules), `CanVerify` (VerifyingRules) and `CanSweepOn` (SweepRules). The contract is the computed one
--- alone, so that it holds on every input; scan and report use the rules. docs/DECISIONS.md, entry 68, says why.
+-- The conditions of these laws on what is lent are `OwnVectors` (ReadingRules), `CanVerify` (VerifyingRules) and `CanSweepOn` (SweepRules). The contract of `sweep_on`
+-- is the computed definition alone, so that it holds on every input; scan and report use the rules. docs/DECISIONS.md, entry 68, says why. Read the modules in this
+-- order.
 pub mod Reads
 pub mod Sweeps
 pub mod ReadingRules

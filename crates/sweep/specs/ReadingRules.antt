@@ -1,6 +1,6 @@
--- Rules 1 to 3 for one window, with the ring's own vectors. A window is handed out as a part of the line and read as a line of its own, at start 0; `alone-reading` of
--- crates/meaning says that this is the same. What is computed with any table is `readBy` of Reads; `read-by-rules` in proofs/ReadByRules says that with the ring's own
--- table it is this.
+-- Rules 1 to 3 for one window. The code reads a window as a line of its own, at start 0; by `alone-reading` of crates/meaning this is the same as reading it in the
+-- line. `readBy` of Reads is what the code computes with any table. `read-by-rules` in proofs/ReadByRules.antt proves that with the ring's own vectors it is what the
+-- rules give.
 use Prim.Native.Nat.{ℕ, _+_, _≤_, _<_}
 use mathlib.Core.Path.{_≡_}
 use mathlib.Core.List.{List}
@@ -10,13 +10,13 @@ use Rattle.vectors.specs.ByValue.{Occurrences}
 use Rattle.tally.specs.Counts.{mostCounts}
 use Rattle.sweep.specs.declared.reading.WindowRead.{WindowRead}
 
--- A ring within the limit, and a table that holds its occurrence vectors.
+-- The ring has 1 to 256 edges, and `table` holds its occurrence vectors.
 pub record OwnVectors (ring table : List ℕ) : Type 0 where
   pub some-edge : 0 < length ring
   pub most : length ring ≤ mostCounts
   pub occurs : Occurrences ring table
 
--- The window is read by rules 1 to 3: one look for each edge read, the edges left, the breaks.
+-- r is the result of reading the window by rules 1 to 3: one look for each edge read, the number of edges left unread, and the number of breaks.
 pub record IsWindowRead (ring window : List ℕ) (k : ℕ) (r : WindowRead) : Type 0 where
   pub read-is : r .looks ≡ readWindow ring window k 0 .read
   pub left-is : r .looks + r .left ≡ length ring

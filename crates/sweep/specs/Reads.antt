@@ -1,9 +1,12 @@
--- What reading computes, on every input: rules 1 to 3 with the stretch held as a vector of bits (source document 003), and any table. With the ring's own table it is what
--- the rules give, `IsWindowRead` of ReadingRules and `IsWindowsRead` of SweepRules: `read-by-rules` and `windows-by-rules` in proofs/.
+-- What reading windows computes, on every input and with any table. The code holds a vector of one bit for each rotation in place of the stretch (source document
+-- 003). With the ring's own vectors the result is what rules 1 to 3 give, `IsWindowRead` of ReadingRules and `IsWindowsRead` of SweepRules, by `read-by-rules` and
+-- `windows-by-rules` of proofs/.
 --
---   readOn, readWith, readBy    one window
---   windowsOn, windowsBy        window after window, to the next candidate
---   CanReadWindows              the precondition of `read_windows`
+--   heldWith                       the held vector after one more edge
+--   readOn, readWith, readBy       one window: from a given point; from its last edge with a given number of words; with as few words as m bits need
+--   noneLeft                       the result if no window fits in the line any more
+--   windowsOn, windowsBy           window after window, to the next candidate: at most a given number of them; all from a given start
+--   CanReadWindows                 the precondition of `read_windows`
 use Prim.Native.Nat.{ℕ, zero, suc, _+_, _-_, _*_, _≤_, _<_}
 use mathlib.Core.Bool.{true, false, cond}
 use mathlib.Core.List.{List}
@@ -19,13 +22,14 @@ use Rattle.moves.specs.Moves.{mostPlaces}
 use Rattle.sweep.specs.declared.reading.WindowRead.{WindowRead}
 use Rattle.sweep.specs.declared.sweeping.WindowsRead.{WindowsRead}
 
--- The held vector grown by the edge at place `left` of a window.
+-- The held vector after the edge at place `left` of the window is read: `held` grown by the edge's occurrence vector.
 abbrev pub heldWith : List ℕ → List ℕ → ℕ → ℕ → List ℕ → List ℕ
 heldWith table window words left held =
     grownWords (length window) words (vectorAt table (getD window left 0 * vectorWords) vectorWords) held
 
--- The edges before place `left` are still to be read. Rule 2: "If the grown stretch doesn't fit the ring, that edge is a break: count one and empty the
--- stretch." Rule 3: "Stop at break k+1, or when all m edges are read."
+-- The result of reading the edges before place `left`, given the held vector, the breaks and the looks so far. Rule 2: "If the grown stretch doesn't fit the ring,
+-- that edge is a break: count one and empty the stretch." The grown vector has no bit at a break; for the empty stretch all m bits are set. Rule 3: "Stop at break
+-- k+1, or when all m edges are read."
 unfoldable pub readOn : List ℕ → List ℕ → ℕ → ℕ → ℕ → List ℕ → ℕ → ℕ → WindowRead
 readOn table window k words zero held breaks looks = record { left = 0; breaks = breaks; looks = looks }
 readOn table window k words (suc left) held breaks looks =
@@ -36,20 +40,22 @@ readOn table window k words (suc left) held breaks looks =
     let broken : WindowRead = cond (ltb k (breaks + 1)) stopped emptied in
     cond (noBit next words) broken grown
 
--- Rule 1: "read its edges from the last towards the first". An empty stretch is the beginning of every rotation.
+-- Rule 1: "read its edges from the last towards the first". At first all m bits are set, because the empty stretch is the beginning of every rotation. `words` is
+-- the number of machine words used for a vector.
 abbrev pub readWith : List ℕ → List ℕ → ℕ → ℕ → WindowRead
 readWith table window k words = readOn table window k words (length window) (firstBits (length window) vectorWords) 0 0
 
--- With as few words as m bits need.
+-- The window read with as few words as m bits need.
 abbrev pub readBy : List ℕ → List ℕ → ℕ → WindowRead
 readBy table window k = readWith table window k (wordCount (length window))
 
--- No window is in the line any more.
+-- The result if no window fits in the line at place i: no candidate, and both places are i.
 abbrev pub noneLeft : ℕ → ℕ → WindowsRead
 noneLeft i looks = record { start = record { 0 = i }; next = record { 0 = i }; looks = looks; candidate = false }
 
--- The windows from start i on. Rule 1: "While a window fits in the line". Rule 3: "With j edges read, the next window starts m − j + 1 further on." Rule 4: "A
--- window with all m edges read and at most k breaks is a candidate." Each window starts past the one before, so there are at most as many as `left`.
+-- The result of reading at most `left` windows from start i on, up to the next candidate, with the looks so far. Rule 1: "While a window fits in the line". Rule 3:
+-- "With j edges read, the next window starts m − j + 1 further on." Rule 4: "A window with all m edges read and at most k breaks is a candidate." A window with at
+-- most k breaks was not stopped, so all its edges are read, and only its breaks are tested.
 unfoldable pub windowsOn : List ℕ → List ℕ → List ℕ → ℕ → ℕ → ℕ → ℕ → WindowsRead
 windowsOn ring table line k zero i looks = noneLeft i looks
 windowsOn ring table line k (suc left) i looks =
@@ -60,11 +66,11 @@ windowsOn ring table line k (suc left) i looks =
     let none : WindowsRead = noneLeft i looks in
     cond (fitsInLine ring line i) tried none
 
--- The windows from a start on, to the next candidate.
+-- The windows from start `from` on, up to the next candidate. Each window starts past the one before, so there are at most n + 1 − from of them.
 abbrev pub windowsBy : List ℕ → List ℕ → List ℕ → ℕ → ℕ → WindowsRead
 windowsBy ring table line k from = windowsOn ring table line k (length line + 1 - from) from 0
 
--- Precondition of `read_windows`: a ring within the limit, a line whose starts are 32-bit numbers, and a start of at most n + 1.
+-- Precondition of `read_windows`: the ring has 1 to 256 edges, the line fewer than 2^32, and the start is at most n + 1.
 pub record CanReadWindows (m n from : ℕ) : Type 0 where
   pub some-edge : 0 < m
   pub most : m ≤ mostCounts

@@ -1,14 +1,16 @@
--- The sweep by rules 1 to 5, to the next candidate, in the words of crates/meaning. The loop of scan and report goes over it. What `sweep_on` computes on every input is
--- `sweepBy` of Sweeps; `swept-by-rules` in proofs/ says that it is this.
+-- The sweep to the next candidate as rules 1 to 5 say, in the terms of crates/meaning. The loop of scan and report uses these statements. `sweepBy` of Sweeps
+-- is what `sweep_on` computes on every input; `swept-by-rules` in proofs/SweptByRules.antt proves that under `CanSweepOn` it satisfies `IsSweptOn`. `LeftTo`
+-- and `leftState` are named after windows that were left because reading stopped at break k + 1 (rule 3).
 --
 --   sweptStart                   where the next window starts
---   stateOf, foundOf, hasEnded   of an answer: where the sweep stands, what it reported, whether it has ended
---   LeftTo                       windows left at break k + 1, one after the other
---   IsCandidateRead              a candidate read
---   IsWindowsRead                windows read, to the next candidate
+--   stateOf, foundOf, hasEnded   the parts of an answer: the sweep after it, the finding reported, whether the sweep has ended
+--   LeftTo                       a run of windows, each stopped at break k + 1
+--   IsCandidateRead              a window is read and is a candidate
+--   IsWindowsRead                windows are read, up to the next candidate
 --   CanSweepOn                   the sweep can go on by the rules
---   IsCandidateSwept             a candidate verified
---   HasEnded                     no window is in the line any more
+--   IsCandidateSwept             a candidate is read and verified
+--   HasEnded                     no window fits in the line any more
+--   leftState                    the sweep after a run of windows stopped at break k + 1
 --   IsSweptOn                    the sweep to the next candidate
 use Prim.Native.Nat.{ℕ, _+_, _-_, _≤_, _<_}
 use mathlib.Core.Path.{_≡_}
@@ -30,51 +32,52 @@ use Rattle.sweep.specs.Sweeps.{CanSweep}
 use Rattle.tally.specs.Counts.{mostCounts, IsDoubled}
 use Rattle.sweep.specs.VerifyingRules.{TalliedBefore, lastOf}
 
--- Rule 3: "With j edges read, the next window starts m − j + 1 further on."
+-- Where the window after the one at i starts. Rule 3: "With j edges read, the next window starts m − j + 1 further on."
 abbrev pub sweptStart : List ℕ → List ℕ → ℕ → ℕ → ℕ
 sweptStart ring line k i = i + (length ring - readWindow ring line k i .read + 1)
 
--- Where the sweep stands, by its answer.
+-- The sweep after an answer: the start of the next window, the last verified start, the looks so far.
 abbrev pub stateOf : Swept → Sweep
 stateOf (Ended next) = next
 stateOf (NoFinding next) = next
 stateOf (Found next f) = next
 
--- What it reported, by its answer.
+-- The finding that an answer reports, as a list of one or none.
 abbrev pub foundOf : Swept → List Finding
 foundOf (Ended next) = []
 foundOf (NoFinding next) = []
 foundOf (Found next f) = findingOf f ∷ []
 
--- Whether it has ended: there was no candidate any more.
+-- Whether an answer says that the sweep has ended: there was no candidate any more.
 abbrev pub hasEnded : Swept → Bool
 hasEnded (Ended next) = true
 hasEnded (NoFinding next) = false
 hasEnded (Found next f) = false
 
--- Windows left at break k + 1, one after the other, from start `from` to start i. Each fits in the line, the next one starts by rule 3, and the looks are the edges read.
+-- A run of windows, each stopped at break k + 1: the first starts at `from`, the next window after the run starts at i. Each window of the run fits in the line, the
+-- next one starts where rule 3 says, and the looks are the edges read.
 pub data LeftTo (ring line : List ℕ) (k from : ℕ) : ℕ → ℕ → Type 0 where
   none-left : LeftTo ring line k from from 0
   one-left : {i looks : ℕ} → LeftTo ring line k from i looks → FitsInLine ring line i → k < readWindow ring line k i .breaks
       → LeftTo ring line k from (sweptStart ring line k i) (looks + readWindow ring line k i .read)
 
--- Rule 4: "A window with all m edges read and at most k breaks is a candidate." One with at most k breaks has all its edges read. `looks` are those of the windows before
--- it.
+-- Rule 4: "A window with all m edges read and at most k breaks is a candidate." The window at r's start is one; r has the next start and the looks. A window with at
+-- most k breaks was not stopped, so all its edges are read. `looks` are those of the windows before it.
 pub record IsCandidateRead (ring line : List ℕ) (k looks : ℕ) (r : WindowsRead) : Type 0 where
   pub in-line : FitsInLine ring line (r .start .0)
   pub few : readWindow ring line k (r .start .0) .breaks ≤ k
   pub next-is : r .next .0 ≡ sweptStart ring line k (r .start .0)
   pub looks-are : r .looks ≡ looks + readWindow ring line k (r .start .0) .read
 
--- From `from` on every window is left, up to the first candidate, or to where no window is in the line.
+-- From start `from` on every window is stopped at break k + 1, up to r's start. There the window is a candidate, or no window fits in the line any more.
 pub record IsWindowsRead (ring line : List ℕ) (k from : ℕ) (r : WindowsRead) : Type 0 where
   pub looks : ℕ
   pub left-to : LeftTo ring line k from (r .start .0) looks
   pub candidate-is : r .candidate ≡ true → IsCandidateRead ring line k looks r
   pub ended : r .candidate ≡ false → IsPastLine ring line (r .start .0) × (r .next .0 ≡ r .start .0) × (r .looks ≡ looks)
 
--- The sweep can go on by the rules: ring, line, start and looks are within the limits, the ring's own vectors and double are lent, and the counts hold the tally of the
--- last verified start. The allowance may be any.
+-- The sweep can go on by the rules: ring, line, start and looks are within the limits, there are 256 counts, the ring's own vectors and double are lent, and the counts
+-- are the tally of the last verified start, if there is one. The allowance may have any value.
 pub record CanSweepOn (ring doubled table line counts : List ℕ) (at : Sweep) : Type 0 where
   pub can-sweep : CanSweep (length ring) (length line) (at .start .0) (at .looks)
   pub size : length counts ≡ mostCounts
@@ -82,8 +85,9 @@ pub record CanSweepOn (ring doubled table line counts : List ℕ) (at : Sweep) :
   pub twice : IsDoubled ring doubled
   pub before : TalliedBefore ring line (at .start .0) counts (lastOf (at .last))
 
--- Rule 4: "Each candidate is verified, and reported if it is a finding." It is then the last verified start. "Looks are the sum over rules 1 and 5": its reads and its
--- verification are added. The counts hold its tally.
+-- Rule 4: "Each candidate is verified, and reported if it is a finding." The window at the start of `at` is a candidate. After it, the next window starts where rule 3
+-- says, the candidate is the last verified start, and the counts are its tally. "Looks are the sum over rules 1 and 5": those of its reads and of its verification are
+-- added.
 pub record IsCandidateSwept (ring line : List ℕ) (k : ℕ) (at : Sweep) (r : Swept) (counts : List ℕ) : Type 0 where
   pub in-line : FitsInLine ring line (at .start .0)
   pub few : readWindow ring line k (at .start .0) .breaks ≤ k
@@ -94,18 +98,19 @@ pub record IsCandidateSwept (ring line : List ℕ) (k : ℕ) (at : Sweep) (r : S
   pub before : TalliedBefore ring line (stateOf r .start .0) counts (lastOf (stateOf r .last))
   pub size : length counts ≡ mostCounts
 
--- No window is in the line any more, and the counts still hold the tally of the start that was verified last.
+-- No window fits in the line at the start of `at`: the sweep stays there, and the counts are still the tally of the last verified start.
 pub record HasEnded (ring line : List ℕ) (at next : Sweep) (counts : List ℕ) : Type 0 where
   pub past : IsPastLine ring line (at .start .0)
   pub next-is : next ≡ at
   pub before : TalliedBefore ring line (at .start .0) counts (lastOf (at .last))
   pub size : length counts ≡ mostCounts
 
--- Where the sweep stands once windows are left: only its start and its looks have changed.
+-- The sweep after a run of windows stopped at break k + 1: only its start, now i, and its looks have changed.
 abbrev pub leftState : Sweep → ℕ → ℕ → Sweep
 leftState at i looks = record { start = record { 0 = i }; last = at .last; looks = at .looks + looks }
 
--- Every window is left, up to the first candidate, which is swept, or to where no window is in the line.
+-- From the start of `at` on every window is stopped at break k + 1, up to `stop`. There the window is a candidate and is verified, or no window fits in the
+-- line any more.
 pub record IsSweptOn (ring line : List ℕ) (k : ℕ) (at : Sweep) (r : Swept) (counts : List ℕ) : Type 0 where
   pub stop : ℕ
   pub looks : ℕ

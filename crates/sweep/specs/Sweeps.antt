@@ -1,8 +1,10 @@
--- What `sweep_on` computes, on every input, whatever vectors, doubled ring and counts it is lent. Where they are the ring's own and the last verified start's tally, this is
--- what the rules give, `IsSweptOn` of SweepRules: `swept-by-rules` in proofs/.
+-- What `sweep_on` computes, on every input, whatever vectors, doubled ring and counts it is lent. If they are the ring's own and the tally of the last verified start,
+-- this is what the rules give, `IsSweptOn` of SweepRules, by `swept-by-rules` of proofs/SweptByRules.antt.
 --
+--   movedTo                the tally moved a number of steps
 --   tallyBy                a start verified: counted afresh, or the tally moved (rule 5)
---   sweepBy                the sweep to the next candidate, which is verified (rule 4)
+--   SweptTo, sweepBy       the result of a sweep; the sweep to the next candidate, which is verified (rule 4)
+--   mostLooks              2^62, more looks than any sweep takes
 --   canSweep, CanSweep     whether the sweep can go on: the test, and the same as facts
 --   IsSweptBy              the contract of `sweep_on`
 --   IsTallied, IsSweptTo   the contracts of `verify` and `to_candidate`
@@ -25,14 +27,14 @@ use Rattle.sweep.specs.declared.sweeping.Swept.the-variants.{Ended, NoFi
 use Rattle.sweep.specs.declared.sweeping.WindowsRead.{WindowsRead}
 use Rattle.sweep.specs.Reads.{windowsBy, CanReadWindows}
 
--- The tally moved s steps by `move_counts`. No least count is below 0, so it moves all of them.
+-- The tally moved s steps from start `from` by `move_counts`. The bound is 0, and no least count is below 0, so no move ends early.
 unfoldable pub movedTo : List ℕ → List ℕ → ℕ → ℕ → List ℕ → TallyTo
 movedTo ring line from s old =
     let to : CountsAt = movedFrom ring line from s 0 old in
     record { counts = to .counts; least = to .least; looks = to .looks }
 
--- Rule 5: "With no earlier tally, or if the new start is s beyond the last verified one and 2·s > m, it is counted afresh: m·m looks. Otherwise it moves s
--- steps". A start that is not beyond the last verified one is counted afresh too.
+-- Start i verified, after the last verified start if there is one. Rule 5: "With no earlier tally, or if the new start is s beyond the last verified one and
+-- 2·s > m, it is counted afresh: m·m looks. Otherwise it moves s steps". The rules never go back; here a start that is not beyond the last one is counted afresh.
 unfoldable pub tallyBy : List ℕ → List ℕ → List ℕ → ℕ → LastVerified → List ℕ → TallyTo
 tallyBy ring doubled line i Nothing old = countedTo doubled (windowAt (length ring) line i) old
 tallyBy ring doubled line i (At from) old =
@@ -41,12 +43,12 @@ tallyBy ring doubled line i (At from) old =
     let beyond : TallyTo = cond (ltb (length ring) (2 * (i - from .0))) afresh moved in
     cond (leb i (from .0)) afresh beyond
 
--- The result of a sweep: its answer, and the counts.
+-- The result of a sweep: the returned enum and the final counts.
 pub record SweptTo : Type 0 where
   pub swept : Swept
   pub counts : List ℕ
 
--- The sweep to the next candidate. Rule 4: "Each candidate is verified, and reported if it is a finding."
+-- The sweep from `at` to the next candidate. Rule 4: "Each candidate is verified, and reported if it is a finding." It is a finding if its least count is at most k.
 unfoldable pub sweepBy : List ℕ → List ℕ → List ℕ → List ℕ → ℕ → Sweep → List ℕ → SweptTo
 sweepBy ring doubled table line k at old =
     let read : WindowsRead = windowsBy ring table line k (at .start .0) in
@@ -64,20 +66,19 @@ sweepBy ring doubled table line k at old =
 abbrev pub mostLooks : ℕ
 mostLooks = 2 ^ 62
 
--- Whether a sweep can go on from a start, with the looks so far: a ring within the limit, a line whose starts are 32-bit numbers, a start of at most n + 1, and no more
--- looks than the limit.
+-- Whether a sweep can go on from `start` with the looks so far: m is 1 to 256, n is below 2^32, the start is at most n + 1, and the looks are at most 2^62.
 unfoldable pub canSweep : ℕ → ℕ → ℕ → ℕ → Bool
 canSweep m n start looks = (ltb 0 m && leb m mostCounts) && (ltb n mostPlaces && (leb start (n + 1) && leb looks mostLooks))
 
--- The contract of `sweep_on`: `at` is the sweep at entry, `old` and `new` are the counts at entry and exit, `r` is the answer. A sweep that cannot go on stays where it is,
--- and no count changes.
+-- The contract of `sweep_on`. `at` is the sweep at entry, `old` and `new` are the counts at entry and exit, r is the answer. A sweep that cannot go on ends where it
+-- is, and no count changes.
 pub record IsSweptBy (ring doubled table line : List ℕ) (k : ℕ) (at : Sweep) (old new : List ℕ) (r : Swept) : Type 0 where
   pub is : record { swept = r; counts = new }
       ≡ cond (canSweep (length ring) (length line) (at .start .0) (at .looks)) (sweepBy ring doubled table line k at old) (record { swept = Ended at; counts = old })
 
 -- From here on: preconditions and contracts of private functions.
 
--- The contract of `verify`: the counts, their least, and the looks.
+-- The contract of `verify`: the counts at exit, their least and the looks are those of `tallyBy`.
 pub record IsTallied (ring doubled line : List ℕ) (i : ℕ) (last : LastVerified) (old new : List ℕ) (z : Least) : Type 0 where
   pub is : record { counts = new; least = z .least; looks = z .looks } ≡ tallyBy ring doubled line i last old
 
@@ -86,6 +87,6 @@ pub record CanSweep (m n start looks : ℕ) : Type 0 where
   pub can-read : CanReadWindows m n start
   pub looks-le : looks ≤ mostLooks
 
--- The contract of `to_candidate`: the sweep to the next candidate.
+-- The contract of `to_candidate`: the answer and the counts at exit are those of `sweepBy`.
 pub record IsSweptTo (ring doubled table line : List ℕ) (k : ℕ) (at : Sweep) (old new : List ℕ) (r : Swept) : Type 0 where
   pub is : record { swept = r; counts = new } ≡ sweepBy ring doubled table line k at old

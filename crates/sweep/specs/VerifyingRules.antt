@@ -1,8 +1,8 @@
--- The conditions of rule 5: the ring's own double is lent, and the counts hold the last verified start's tally. Whether a start is then counted afresh or the tally moved,
--- and at how many looks, is `tallyLooks` of crates/meaning; `tally-by-rules` in proofs/ says that `tallyBy` of Sweeps does that.
+-- The conditions under which verifying a start follows rule 5: the ring's own double is lent, and the counts are the tally of the last verified start. The rule's
+-- looks are `tallyLooks` of crates/meaning. `tally-by-rules` in proofs/TallyByRules.antt proves that `tallyBy` of Sweeps then gives the start's tally at these looks.
 --
 --   lastOf           the last verified start, if there is one
---   TalliedBefore    the counts hold its tally
+--   TalliedBefore    the counts are its tally, and it is before a given start
 --   CanVerify        a start can be verified by rule 5
 use Prim.Native.Nat.{ℕ, _<_}
 use mathlib.Core.List.{List}
@@ -15,17 +15,18 @@ use Rattle.moves.specs.Moves.{mostPlaces}
 use Rattle.sweep.specs.declared.verifying.LastVerified.{LastVerified}
 use Rattle.sweep.specs.declared.verifying.LastVerified.the-variants.{Nothing, At}
 
--- The last verified start, if there is one.
+-- The last verified start as a number, if there is one.
 abbrev pub lastOf : LastVerified → Option ℕ
 lastOf Nothing = none
 lastOf (At start) = some (start .0)
 
--- The counts hold the tally of the last verified start, if there is one; it is before i.
+-- If there is a last verified start, it is before i and the counts are its tally. If there is none, the counts may hold anything.
 abbrev pub TalliedBefore : List ℕ → List ℕ → ℕ → List ℕ → Option ℕ → Type 0
 TalliedBefore ring line i counts none = Unit {0}
 TalliedBefore ring line i counts (some last) = (last < i) × Tallied ring line last counts
 
--- Start i can be verified by rule 5: its window is in the line, and the counts hold the tally of the last verified start.
+-- Start i can be verified by rule 5: ring and line are within the limits, the ring's double is lent, the window at i fits in the line, and the counts are the tally
+-- of the last verified start, if there is one.
 pub record CanVerify (ring doubled line : List ℕ) (i : ℕ) (counts : List ℕ) (last : Option ℕ) : Type 0 where
   pub can-tally : CanTally ring counts
   pub twice : IsDoubled ring doubled

@@ -1,5 +1,6 @@
-// Rules 1 to 3: one window is read from its last edge towards its first. In place of the stretch a vector of one bit for
-// each rotation is held: bit r is set exactly when the stretch is the beginning of rotation r (source document 003).
+// Rules 1 to 3: one window is read from its last edge towards its first. In place of the stretch the code holds a
+// vector of one bit for each rotation: bit r is set exactly when the stretch is the beginning of rotation r (source
+// document 003).
 use vectors::TABLE_WORDS;
 use vectors::first_bits;
 use vectors::grown;
@@ -11,15 +12,15 @@ ghost use lib.ListN.{length};
 ghost use Rattle.tally.specs.Counts.{mostCounts};
 ghost use Rattle.sweep.specs.Reads.{readWith, readBy};
 
-// How far a window was read: the edges left unread, the breaks, and the looks, one for each edge read.
+// How far a window was read: the number of edges left unread, of breaks, and of looks, one for each edge read.
 pub struct WindowRead {
     pub left: usize,
     pub breaks: usize,
     pub looks: usize,
 }
 
-// Rules 1 to 3, with the held vector in its first `words` words. At break k + 1 the window is left; the test stands at
-// the break, since nowhere else the count of breaks changes.
+// Rules 1 to 3, with the held vector in its first `words` words. Reading stops at break k + 1. The test is made at the
+// break, because the number of breaks changes nowhere else.
 fn read_words(window: &[u8], table: &[u64; TABLE_WORDS], k: usize, words: usize) -> WindowRead
     ensures { λ z. ⌜ z ≡ readWith (now (table .entry)) (now (window .entry)) k words ⌝ }
 {
@@ -55,7 +56,8 @@ fn read_words(window: &[u8], table: &[u64; TABLE_WORDS], k: usize, words: usize)
     }
 }
 
-// The window read with the fewest words for m bits. The counts are literals, so that the compiler makes straight code of each.
+// Reads the window with as few words as m bits need. Each call passes the number of words as a literal, so that the
+// compiler can make code of its own for each number.
 pub fn read_window(window: &[u8], table: &[u64; TABLE_WORDS], k: usize) -> WindowRead
     requires { ⌜ (0 < length (now window)) × (length (now window) ≤ mostCounts) ⌝ }
     ensures { λ z. ⌜ z ≡ readBy (now (table .entry)) (now (window .entry)) k ⌝ }

@@ -1,5 +1,5 @@
-// The sweep goes from candidate to candidate. Its state is small and goes by value; the counts and the ring's vectors are
-// lent beside it.
+// The sweep goes from candidate to candidate. Its state is small and is passed by value; the counts and the ring's
+// vectors are lent beside it.
 use crate::reading::read_window;
 use crate::verifying::LastVerified;
 use crate::verifying::verify;
@@ -15,7 +15,8 @@ ghost use lib.ListN.{length};
 ghost use Rattle.sweep.specs.Reads.{CanReadWindows, windowsBy};
 ghost use Rattle.sweep.specs.Sweeps.{canSweep, CanSweep, IsSweptTo, IsSweptBy};
 
-// More looks than any sweep takes. Up to here the looks of the next windows can be added without overflow.
+// More looks than any sweep takes. As long as the looks so far are at most this, those of the next windows can be added
+// without overflow.
 const MOST_LOOKS: usize = 1 << 62;
 
 // Where a sweep stands: the start of the window to be read next, the last verified start, the looks so far.
@@ -25,16 +26,17 @@ pub struct Sweep {
     pub looks: usize,
 }
 
-// The answer of `sweep_on`, each with the sweep after it: no candidate, and no window is left; a candidate that is no
-// finding; a candidate that is a finding.
+// The answer of `sweep_on`, with the sweep after it: no candidate any more, because no window fits in the line; a
+// candidate that is no finding; a candidate that is a finding.
 pub enum Swept {
     Ended(Sweep),
     NoFinding(Sweep),
     Found(Sweep, Finding),
 }
 
-// How far windows were read: the candidate's start, the start of the next window, and the looks of all windows up to the
-// candidate. Where there is no candidate, both places are the first that has no window in the line.
+// How far windows were read: the candidate's start, the start of the window after it, and the looks of all windows up to
+// and including the candidate. If there is no candidate, both places are where the next window would start; none fits in
+// the line there.
 pub struct WindowsRead {
     pub start: LinePlace,
     pub next: LinePlace,
@@ -42,9 +44,9 @@ pub struct WindowsRead {
     pub candidate: bool,
 }
 
-// Rules 1 to 3, window after window, to the next candidate. The next window starts past the edge where the one before was
-// left, since every start up to there differs in over k places. Most windows are left after a few reads, so nothing
-// else is done between them.
+// Rules 1 to 3, window after window, to the next candidate. The next window starts past the edge at which reading
+// stopped, because every start up to there differs in more than k places. Most windows are stopped after a few reads, so
+// nothing else is done between them.
 fn read_windows(
     ring: &[u8],
     table: &[u64; TABLE_WORDS],
@@ -80,7 +82,7 @@ fn read_windows(
     }
 }
 
-// To the next candidate, which rule 4 verifies.
+// Sweeps to the next candidate and verifies it (rule 4).
 fn to_candidate(
     at: Sweep,
     ring: &[u8],
@@ -114,8 +116,8 @@ fn to_candidate(
     Swept::Found(next, finding_at(counts, ring.len(), start, least))
 }
 
-// Whether a sweep can go on from a start, with the looks so far: a ring within the limit, a line whose starts are 32-bit
-// numbers, a start of at most n + 1, and no more looks than the limit.
+// Whether a sweep can go on from `start` with `taken` looks so far: m is 1 to 256, n is below 2^32, the start is at most
+// n + 1, and the looks are at most 2^62.
 fn can_sweep(m: usize, n: usize, start: LinePlace, taken: usize) -> bool
     ensures { λ r. ⌜ r ≡ canSweep m n (start .0) taken ⌝ }
 {
@@ -134,7 +136,7 @@ fn can_sweep(m: usize, n: usize, start: LinePlace, taken: usize) -> bool
     taken <= MOST_LOOKS
 }
 
-// To the next candidate, on every input. A sweep that cannot go on stays where it is, and no count changes.
+// Sweeps to the next candidate, on every input. A sweep that cannot go on ends where it is, and no count changes.
 pub fn sweep_on(
     at: Sweep,
     ring: &[u8],

@@ -15,8 +15,9 @@ pub enum LastVerified {
     At(LinePlace),
 }
 
-// Rule 5: "With no earlier tally, or if the new start is s beyond the last verified one and 2·s > m, it is counted
-// afresh: m·m looks. Otherwise it moves s steps". A start that is not beyond the last verified one is counted afresh too.
+// Verifies a start. Rule 5: "With no earlier tally, or if the new start is s beyond the last verified one and 2·s > m,
+// it is counted afresh: m·m looks. Otherwise it moves s steps". The rules never go back; a start that is not beyond the
+// last verified one is counted afresh here.
 pub fn verify(
     counts: &mut [u16; MOST_COUNTS],
     ring: &[u8],
@@ -39,7 +40,7 @@ pub fn verify(
             if m < 2 * s {
                 count_afresh(counts, doubled, window(line, start, m))
             } else {
-                // No least count is below 0: it moves all the s steps.
+                // The bound is 0, and no least count is below 0, so the tally moves all s steps.
                 let reached = move_counts(counts, ring, line, from, s, 0);
                 Least {
                     least: reached.least,

@@ -1,4 +1,4 @@
--- `sweep::reading::read_window` meets its contract: up to 64, 128, 192 and 256 bits need 1, 2, 3 and 4 words.
+-- `sweep::reading::read_window` meets its contract: m bits need 1 word up to m = 64, 2 up to 128, 3 up to 192, and 4 up to 256 (`fewest-words`).
 use native.Mathlib.Omega.{arith}
 use borrow.Author.Needs.{needs}
 use Rattle.sweep.proofs.ReadTurns.{fewest-words}

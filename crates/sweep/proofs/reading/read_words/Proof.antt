@@ -1,5 +1,5 @@
--- `sweep::reading::read_words` meets its contract: the loop keeps `StillToRead`. A turn grows the held vector, or empties it at a break, or leaves the window. The edges left
--- fall.
+-- `sweep::reading::read_words` meets its contract: the loop keeps `StillToRead`. A turn grows the held vector, or sets every bit again at a break, or stops at break
+-- k + 1. The measure is the number of edges left.
 use mathlib.Core.Path.{_≡_, sym, _∙_}
 use native.Mathlib.Omega.{arith}
 use borrow.Author.Needs.{needs}
@@ -54,7 +54,7 @@ returns c =
 loop-less : tie.Need-loop-less Inv-loop μ-loop
 loop-less c = omega arith
 
--- A break.
+-- A break before break k + 1.
 loop-again : tie.Need-loop-again Inv-loop μ-loop
 loop-again c =
     let tested = c .before .before in
@@ -68,7 +68,7 @@ loop-again c =
 loop-less-2 : tie.Need-loop-less-2 Inv-loop μ-loop
 loop-less-2 c = omega arith
 
--- The stretch has grown.
+-- No break: the stretch has grown.
 loop-again-2 : tie.Need-loop-again-2 Inv-loop μ-loop
 loop-again-2 c =
     let tested = c .before in

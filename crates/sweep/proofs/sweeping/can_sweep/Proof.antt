@@ -1,4 +1,4 @@
--- `sweep::sweeping::can_sweep` meets its contract: it returns false where one of the comparisons fails, else the last comparison (`SizesTested` of crates/lists).
+-- `sweep::sweeping::can_sweep` meets its contract: it returns false at the first comparison that fails, else the result of the last (`SizesTested` of crates/lists).
 use native.Mathlib.Omega.{arith}
 use borrow.Author.Needs.{needs}
 use Rattle.lists.proofs.SizesTested.{test-fails}
@@ -6,26 +6,26 @@ use Rattle.sweep.proofs.SweepCases.{can-sweep-iff, can-sweep-last}
 use Rattle.sweep.proofs.sweeping.can_sweep.Statement.{statement}
 use Rattle.sweep.proofs.sweeping.can_sweep.Tie as tie
 
--- No edge.
+-- The ring has no edge.
 returns : tie.Need-returns
 returns c = test-fails (can-sweep-iff _ _ _ _) (λ can. omega (arith, can .can-read .some-edge, c .if1 .taken))
 
--- More than a ring has.
+-- The ring has more than 256 edges.
 returns-2 : tie.Need-returns-2
 returns-2 c = test-fails (can-sweep-iff _ _ _ _) (λ can. omega (arith, can .can-read .most, c .if2 .taken))
 
--- More places than a line has.
+-- The line has 2^32 edges or more.
 returns-3 : tie.Need-returns-3
 returns-3 c = test-fails (can-sweep-iff _ _ _ _) (λ can. omega (arith, can .can-read .most-line, c .if3 .taken))
 
 add-if4 : tie.Need-add-if4
 add-if4 c = search needs
 
--- Past the line.
+-- The start is above n + 1.
 returns-4 : tie.Need-returns-4
 returns-4 c = test-fails (can-sweep-iff _ _ _ _) (λ can. omega (arith, can .can-read .start-le, c .if4 .taken))
 
--- All that is left is room for more looks.
+-- Only the looks so far are left to test.
 returns-5 : tie.Need-returns-5
 returns-5 c =
     let places = c .before .before in

@@ -1,4 +1,5 @@
--- `sweep::sweeping::read_windows` meets its contract: the loop keeps `StillWindows`. A turn leaves a window, or stops at the candidate. The places up to the line's end fall.
+-- `sweep::sweeping::read_windows` meets its contract: the loop keeps `StillWindows`. A turn passes a window that is stopped at break k + 1, or ends at the
+-- candidate. The measure is n + 1 - i.
 use Prim.Native.Nat.{_+_, _-_}
 use native.Mathlib.Omega.{arith}
 use borrow.Author.Needs.{needs}
@@ -32,7 +33,7 @@ read-window-requires c κs =
       omega (arith, size, can .most),
     )
 
--- the window read, from where its turn began
+-- the context at the start of the turn, seen from after `read_window`
 abbrev at-turn : tie.After-read-window Inv-loop μ-loop → tie.In-loop Inv-loop μ-loop
 at-turn c = c .before .before
 
@@ -69,14 +70,14 @@ returns c =
 loop-less : tie.Need-loop-less Inv-loop μ-loop
 loop-less c = omega (arith, at-turn (c .before .before .before .before) .loop-test .taken)
 
--- A window that is left.
+-- A window that is stopped at break k + 1.
 loop-again : tie.Need-loop-again Inv-loop μ-loop
 loop-again c =
     let read = c .before .before .before .before in
     let turn = at-turn read in
     windows-turn (turn .before .loop .inv) (omega (arith, turn .loop-test .taken)) (read .before .window .ensures) (read .read-window .ensures) (omega (arith, c .if1 .left))
 
--- No window is in the line any more.
+-- No window fits in the line any more.
 returns-2 : tie.Need-returns-2 Inv-loop μ-loop
 returns-2 c = windows-end (c .before .loop .inv) (omega (arith, c .loop-test .left))
 

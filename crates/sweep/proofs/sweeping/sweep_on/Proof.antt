@@ -9,7 +9,7 @@ use Rattle.sweep.proofs.sweeping.sweep_on.Tie as tie
 can-sweep-requires : tie.Need-can-sweep-requires
 can-sweep-requires c κs = search needs
 
--- It cannot go on.
+-- The sweep cannot go on.
 returns : tie.Need-returns
 returns c = swept-no _ _ _ _ _ _ _ (sym (c .before .can-sweep .ensures) ∙ not-true _ (c .if1 .taken))
 
@@ -18,7 +18,7 @@ to-candidate-requires c κs =
     let tested = c .before in
     can-sweep-iff _ _ _ _ .0 (sym (tested .before .can-sweep .ensures) ∙ not-false _ (tested .if1 .left))
 
--- It goes on.
+-- The sweep goes on.
 returns-2 : tie.Need-returns-2
 returns-2 c =
     let tested = c .before .before in

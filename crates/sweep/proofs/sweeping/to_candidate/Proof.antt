@@ -9,7 +9,7 @@ use Rattle.sweep.proofs.sweeping.to_candidate.Tie as tie
 read-windows-requires : tie.Need-read-windows-requires
 read-windows-requires c κs = c .before .before .before .pre .can-read
 
--- the windows read, from where the test of the candidate stands, and the function's entry
+-- the context after `read_windows`, seen from the test whether there is a candidate; and the function's entry, seen from there
 abbrev at-read : tie.After-struct-known3 → tie.After-read-windows
 at-read c = c .before .before .before .before
 
@@ -42,7 +42,7 @@ add-finding-at c =
       sweep-all-looks-le _ _ _ _ _ _ _ _ (read .read-windows .ensures) (not-false _ (candidate .if1 .left)) _ _ (verified .verify .ensures) (at-entry read .pre),
     )
 
--- Verified, and no finding.
+-- A candidate that is no finding.
 returns-2 : tie.Need-returns-2
 returns-2 c =
     let verified = c .before .before .before in

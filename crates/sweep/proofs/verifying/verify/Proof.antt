@@ -5,7 +5,7 @@ use Rattle.sweep.proofs.TallyWays.{tallied-first, tallied-behind, talli
 use Rattle.sweep.proofs.verifying.verify.Statement.{statement}
 use Rattle.sweep.proofs.verifying.verify.Tie as tie
 
--- where the last verified start is told, from the test whether the new one is beyond it
+-- the context where the last verified start is known, seen from the test whether the new start is beyond it
 abbrev at-last : tie.After-struct-known2 → tie.After-last
 at-last c = c .before .before .before
 
@@ -64,7 +64,7 @@ returns-3 c =
     tallied-far _ (counted .window3 .ensures) (c .count-afresh3 .ensures) (at-last (beyond .before) .last .given .1) (omega (arith, beyond .if1 .left))
     (omega (arith, far .if2 .taken))
 
--- Otherwise.
+-- 2·s ≤ m: the tally is moved.
 returns-4 : tie.Need-returns-4
 returns-4 c =
     let near = c .before .before in
