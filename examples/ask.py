@@ -1,12 +1,14 @@
 """Writes the report program's input: ask.py CELL RING_NUMBER ALLOWANCE RING_FILE LINE_FILE [SILENCE..], a silence as CELL:RING_NUMBER:START."""
 import sys
 
+def number(value, length):
+    if int(value) not in range(256**length):
+        sys.exit(f"ask.py: {value} does not fit into {length} bytes")
+    return int(value).to_bytes(length, "big")
+
 def field(tag, *parts):
     value = b"".join(parts)
-    return bytes([tag]) + len(value).to_bytes(2, "big") + value
-
-def number(text, length):
-    return int(text).to_bytes(length, "big")
+    return bytes([tag]) + number(len(value), 2) + value
 
 cell, ring_number, allowance, ring, line, *silences = sys.argv[1:]
 asked = [field(0x34, number(cell, 4)), field(0x35, number(ring_number, 2)), field(0x33, number(allowance, 1)), field(0x31, open(ring, "rb").read()), field(0x32, open(line, "rb").read())]
