@@ -1,7 +1,7 @@
 -- `samples::answer_rows::print_answer` is safe: what it writes lies within its array, since the answer's text does.
 use mathlib.Core.Path.{sym}
 use lib.Seq.{length-take-le}
-use Rattle.reply.proofs.AskedParts.{answer-within}
+use Rattle.reply.proofs.RequestCases.{answer-within}
 use borrow.Author.Needs.{needs}
 use Rattle.samples.proofs.answer_rows.print_answer.Statement.{statement}
 use Rattle.samples.proofs.answer_rows.print_answer.Tie as tie
