@@ -8,8 +8,8 @@ ghost use Rattle.findings.specs.Putting.{findingOf, canPut, wordsPut, Ca
 // The largest number that a 32-bit word holds.
 const LAST_WORD: usize = 4294967295;
 
-// Whether a finding's words can be put behind those of `before` findings: there is room for three more words, and each of
-// its numbers is a 32-bit word. The room is divided by 3; 3 * before could overflow.
+// Whether a finding's words can be put behind those of `before` findings: there is room for three more words, and each
+// of its numbers is a 32-bit word. The room is divided by 3; 3 * before could overflow.
 fn can_put(room: usize, before: usize, finding: Finding) -> bool
     ensures { λ r. ⌜ r ≡ canPut room before (findingOf finding) ⌝ }
 {

@@ -1,4 +1,4 @@
--- The book asked for one finding, in its two cases. What `seek_on` and `is_for` return for the finding's address is what `hides` says.
+-- The two cases of `ask`: the finding is hidden or shown. For the finding's address, `seek_on` returns the field of `heldFor`, and `is_for` returns `hides`.
 use Prim.Native.Nat.{ℕ, _+_}
 use mathlib.Core.Path.{_≡_, refl, ap, _∙_}
 use mathlib.Core.Bool.{Bool, true, false, cond}
@@ -27,10 +27,10 @@ module _ {book : List ℕ} (asked : BookAsked) (cell ringNumber : ℕ) (f : Find
         hidden-is = h ∙ ap (λ (b : Bool). cond b (asked .hidden + 1) (asked .hidden)) hides-is;
       }
 
-  -- The field is for the finding: it is hidden.
+  -- If the field has the finding's address, counting it as hidden meets the contract of `ask`.
   pub ask-hidden : t ≡ true → IsHiddenOrShown cell ringNumber book asked f (record { shown = asked .shown; hidden = asked .hidden + 1; held = held })
   ask-hidden e = is-asked (rw e refl) (rw e refl)
 
-  -- It is not: the finding is shown.
+  -- If it has not, counting the finding as shown meets the contract.
   pub ask-shown : t ≡ false → IsHiddenOrShown cell ringNumber book asked f (record { shown = asked .shown + 1; hidden = asked .hidden; held = held })
   ask-shown e = is-asked (rw e refl) (rw e refl)

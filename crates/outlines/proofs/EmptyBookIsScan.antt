@@ -1,5 +1,5 @@
--- With an empty book the report is the scan: the same refusal, or the same found and looks with hidden 0, and the same words. An empty book names nothing, so all
--- findings are shown.
+-- With an empty book the report gives what the scan gives: the same refusal, or the same found and looks with hidden 0, and the same words. The reason is that an empty
+-- book names nothing, so all findings are shown.
 use Prim.Native.Nat.{ℕ}
 use mathlib.Core.Path.{_≡_, refl, sym, ap, subst, _∙_}
 use mathlib.Core.List.{List, [], _∷_}
@@ -33,7 +33,7 @@ use Rattle.outlines.proofs.ReportGives.{report-gives}
 pub empty-book-read : bookRefusal [] ≡ none
 empty-book-read = book-accepted-iff [] [] .0 empty-book .0
 
--- It has no silence.
+-- An empty book has no silence.
 no-silence : silencesRead [] ≡ []
 no-silence = book-accepted-iff [] [] .0 empty-book .1
 
@@ -57,7 +57,7 @@ module _ (cell ringNumber : ℕ) where
       go (f ∷ l) = go l
 
   module _ {ring line : List ℕ} {k : ℕ} {words : List ℕ} where
-    -- A line scanned with an empty book is searched.
+    -- A line scanned with an empty book meets the contract of a search with the quick scan's looks.
     pub empty-book-searched : {found hid looks : ℕ} {out : List ℕ} → LineScanned cell ringNumber ring line k [] words found hid looks out
         → LineSearched ring line k (quickLooks ring line k) words found looks out
     empty-book-searched done = record {
@@ -66,7 +66,7 @@ module _ (cell ringNumber : ℕ) where
       written = done .words-are ∙ ap (λ (l : List Finding). written (wordsOf l) words) (shown-all (findings ring line k));
     }
 
-    -- A report with an empty book that is refused leaves the words, and the scan is refused by the same row.
+    -- If a report with an empty book is refused, returning this refusal and leaving the words meets the contract of `scan`.
     refused-scan : {refusal : Refusal} {out : List ℕ} → IsReported cell ringNumber ring line k [] words (Refused refusal) out
         → IsScanned ring line k words (ScanRefused refusal) out
     unfolding reported reportedWords
@@ -79,13 +79,13 @@ module _ (cell ringNumber : ℕ) where
         subst (IsScanned ring line k words (ScanRefused refusal)) (sym untouched)
         (refused-search (sym is ∙ accepted-book-row (length ring) k (length line) (length words) [] empty-book-read))
 
--- A scan's answer as a report's: nothing hidden.
+-- A scan's answer as a report's answer, with hidden 0.
 abbrev pub reportOf : Searched → Reported
 reportOf (ScanCase found looks) = CountsCase found 0 looks
 reportOf (ScanRefused refusal) = Refused refusal
 
 module _ (cell ringNumber : ℕ) (ring line : List ℕ) (k : ℕ) (words : List ℕ) (q : Searched) (out : List ℕ) (scanned : IsScanned ring line k words q out) where
-  -- With an empty book the report is the scan.
+  -- Every answer of `report` with an empty book is the scan's answer with hidden 0, and the words at exit are the same.
   pub empty-book-same : (r : Reported) (out′ : List ℕ) → IsReported cell ringNumber ring line k [] words r out′ → (r ≡ reportOf q) × (out′ ≡ out)
   empty-book-same (CountsCase found hid looks) out′ meets =
       let done = report-gives meets in

@@ -1,5 +1,5 @@
--- Which of the report's rows is the first that is given: one of rows 1 to 4, if one of them is; else one of the book's rows 5 to 7. The list has these two
--- parts, and their numbers tell them apart (`RowsExactly` of crates/answers).
+-- Which of the report's rows is the first that is given: one of rows 1 to 4, if one of them is; else one of the book's rows 5 to 7. The report's list is made of these
+-- two parts, and no number occurs in both (`RowsExactly` of crates/answers).
 use Prim.Native.Nat.{ℕ, _≤_}
 use mathlib.Core.Logic.{_↔_, Iff·trans, Iff·and, Iff·rfl}
 use mathlib.Core.Path.{_≡_, refl, sym, subst, _∙_}
@@ -18,25 +18,25 @@ use Rattle.findings.proofs.AdmitRows.{row-numbers, no-row-iff}
 use Rattle.outlines.specs.Report.{reportRows, reportRefusal}
 
 module _ (m k n room : ℕ) (book : List ℕ) where
-  -- A row of 1 to 4 is the report's exactly when it is the search's.
+  -- A refusal with number 1 to 4 is the report's exactly when it is that of rows 1 to 4.
   pub early-row-iff : (q : Refusal) → numberOf q ≤ 4 → (reportRefusal m k n room book ≡ some q) ↔ (refusalOf m k n room ≡ some q)
   unfolding reportRows
   early-row-iff q early =
       early-iff (admitRows m k n room) (bookRows book) q
       (λ e. omega (arith, refusal-has book (λ (r : Refusal). 5 ≤ numberOf r) (omega arith) (λ at. omega arith) (λ at. omega arith) q e))
 
-  -- A row of 5 to 7 is the report's exactly when none of rows 1 to 4 is given and it is the book's.
+  -- A refusal with number 5 or more is the report's exactly when none of rows 1 to 4 is given and it is the book's.
   pub late-row-iff : (q : Refusal) → 5 ≤ numberOf q → (reportRefusal m k n room book ≡ some q) ↔ (Admitted m k n room × (bookRefusal book ≡ some q))
   unfolding reportRows
   late-row-iff q late =
       Iff·trans (late-iff (admitRows m k n room) (bookRows book) q (λ e. omega (arith, row-numbers m k n room q e))) (Iff·and (no-row-iff m k n room) Iff·rfl)
 
-  -- No row is given exactly when none of either part is.
+  -- The report has no refusal exactly when none of rows 1 to 4 is given and the book has none.
   pub none-row-iff : (reportRefusal m k n room book ≡ none) ↔ (Admitted m k n room × (bookRefusal book ≡ none))
   unfolding reportRows
   none-row-iff = Iff·trans (none-append-iff (admitRows m k n room) (bookRows book)) (Iff·and (no-row-iff m k n room) Iff·rfl)
 
-  -- What holds of the search's row and of the book's holds of the report's.
+  -- If P holds for the refusal of rows 1 to 4 and for the book's, then P holds for the report's.
   pub report-row-has : (P : Refusal → Type 0) → ((q : Refusal) → refusalOf m k n room ≡ some q → P q) → ((q : Refusal) → bookRefusal book ≡ some q → P q)
       → (q : Refusal) → reportRefusal m k n room book ≡ some q → P q
   unfolding reportRows
@@ -48,7 +48,7 @@ module _ (m k n room : ℕ) (book : List ℕ) where
           let same : p ≡ q = let first = first-append-some (admitRows m k n room) (bookRows book) is in cc in
           subst P same (early p is)
 
-  -- With a book that is accepted the report has the search's row.
+  -- If the book is accepted, the report's refusal is that of rows 1 to 4.
   pub accepted-book-row : bookRefusal book ≡ none → reportRefusal m k n room book ≡ refusalOf m k n room
   unfolding reportRows
   accepted-book-row read = go (refusalOf m k n room) refl

@@ -1,5 +1,6 @@
--- The field that the loop holds was sought for a start that is not above the next window's. Starts rise, so this field, asked for the start of the next
--- finding, gives what seeking from the book's first byte would give. It is for the finding exactly when the book names the finding.
+-- The book's part of the loop's invariant. The field that the loop holds was sought for a start that is not above the next window's start. Starts rise, so
+-- going on from this field to the next finding's address gives what seeking from the book's first byte would give. The field then has the finding's address
+-- exactly when the book names the finding.
 use Prim.Native.Nat.{ℕ, _≤_}
 use mathlib.Core.Path.{_≡_, refl, sym, subst}
 use mathlib.Core.List.{List}
@@ -19,14 +20,14 @@ use Rattle.book.proofs.SoughtRising.{sought-start}
 use Rattle.outlines.specs.Report.{isHidden}
 use Rattle.outlines.specs.Hiding.{addressOf, heldFor, hides}
 
--- A field that was sought for a start at or below i.
+-- The field held was sought for a start `last-asked` of at most i.
 pub record HeldFrom (cell ringNumber : ℕ) (book : List ℕ) (i : ℕ) (held : Sought) : Type 0 where
   pub last-asked : ℕ
   pub asked-le : last-asked ≤ i
   pub seeking : Seeking book (silence cell ringNumber last-asked) (soughtOf held)
 
 module _ {cell ringNumber : ℕ} {book : List ℕ} where
-  -- The book is first asked for start 0.
+  -- The field that `seek` returns for start 0, from the book's first byte, can be held at every i.
   pub held-start : (i : ℕ) {first : Address} {held : Sought} → silenceOf first ≡ silence cell ringNumber 0 → IsSought book 0 first held
       → HeldFrom cell ringNumber book i held
   held-start i {first} {held} zero meets = record {
@@ -36,12 +37,12 @@ module _ {cell ringNumber : ℕ} {book : List ℕ} where
   }
 
   module _ {i : ℕ} {held : Sought} (h : HeldFrom cell ringNumber book i held) where
-    -- It serves every later start.
+    -- A field that can be held at i can be held at every later i′.
     pub held-later : {i′ : ℕ} → i ≤ i′ → HeldFrom cell ringNumber book i′ held
     held-later l = record { last-asked = h .last-asked; asked-le = omega (arith, h .asked-le); seeking = h .seeking }
 
     module _ (f : Finding) (from-le : i ≤ f .start) where
-      -- the field for the finding, as if it were sought from the first byte
+      -- the field for the finding is what seeking from the first byte would give
       held-next : Seeking book (addressOf cell ringNumber f) (heldFor cell ringNumber book f (soughtOf held))
       held-next =
           let asked-le : h .last-asked ≤ f .start = omega (arith, h .asked-le) in
@@ -49,13 +50,13 @@ module _ {cell ringNumber : ℕ} {book : List ℕ} where
           (start-not-below (silence cell ringNumber (h .last-asked)) (addressOf cell ringNumber f) refl refl asked-le)
           (soughtOf held) (h .seeking)
 
-      -- The field for the finding is held from then on.
+      -- The field for a finding that starts at i or later can be held at every i′ from its start on.
       pub held-turn : {held′ : Sought} {i′ : ℕ} → soughtOf held′ ≡ heldFor cell ringNumber book f (soughtOf held) → f .start ≤ i′
           → HeldFrom cell ringNumber book i′ held′
       held-turn is l =
           record { last-asked = f .start; asked-le = l; seeking = subst (Seeking book (addressOf cell ringNumber f)) (sym is) held-next }
 
-      -- It is for the finding exactly when the book names the finding.
+      -- If the book is accepted, the field for the finding has its address exactly when the book names the finding.
       pub held-hides : bookRefusal book ≡ none → hides cell ringNumber book f (soughtOf held) ≡ isHidden (silencesRead book) cell ringNumber f
       held-hides read =
           seeking-names book (silencesRead book) (addressOf cell ringNumber f) (heldFor cell ringNumber book f (soughtOf held))

@@ -1,21 +1,24 @@
--- Laws behind the calls, one module for each idea; the functions' proofs cite them. In the order in which they build on each other.
--- What any answer of a scan gives, and that a survey gives the same.
+-- The laws of this crate, one module for each idea, in the order in which they build on each other. The proofs that the functions meet their contracts cite them;
+-- each stands in a folder with the function's name, as quick/scan_windows. The statements to read are those of ScanGives and SameFindings, ShownExactly and
+-- ShownAndHidden, and from RowsOfReport on.
+--
+-- What follows for every answer of a scan; survey and scan give the same findings.
 pub mod ScanGives
 pub mod OneScanAnswer
 pub mod SameFindings
--- The shown findings and the hidden ones.
+-- Which findings are shown and which are hidden.
 pub mod TakenByTest
 pub mod ShownExactly
 pub mod ShownAndHidden
--- The loop over windows.
+-- The loop of `scan_windows`: the book's part, the sweep's part, the whole.
 pub mod AskCases
 pub mod HeldFrom
 pub mod SweepKeeps
 pub mod QuickLoop
--- The report's rows and answers.
+-- The report's rows, and the ways in which it meets its contract.
 pub mod FirstOfReport
 pub mod ReportAnswers
--- What any answer of a report gives.
+-- What follows for every answer of a report.
 pub mod RowsOfReport
 pub mod ReportOneAnswer
 pub mod ReportGives

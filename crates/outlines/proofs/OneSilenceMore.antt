@@ -1,5 +1,5 @@
--- One silence more in a book. It names one more address, so it hides at most one more finding, because each start has at most one. A silence that names no finding
--- changes nothing; nor does one of another cell or ring number.
+-- One silence more in a book. It names one address more, and each start has at most one finding, so it hides at most one finding more. A silence that names no finding
+-- changes nothing. Neither does one of another cell or ring number.
 use Prim.Native.Nat.{ℕ, suc, _+_, _≤_}
 use mathlib.Core.Path.{_≡_, refl, ap, _∙_}
 use mathlib.Core.Bool.{Bool, true, false, cond, _||_}
@@ -22,7 +22,7 @@ or-other true true c = refl
 or-other true false c = refl
 or-other false b c = refl
 
--- silences that differ are not found the same
+-- for silences that differ, the test `isSame` is false
 not-same : (a b : Silence) → (a ≡ b → ⊥) → isSame a b ≡ false
 not-same a b differs = go (isSame a b) refl
   where
@@ -30,20 +30,20 @@ not-same a b differs = go (isSame a b) refl
     go true e = absurd (differs (isSame-iff a b .0 e))
     go false e = refl
 
--- one finding, hidden or not before as many others
+-- one finding in front of two lists of the same length, hidden or not in each: the first list is at most one longer
 one-at-most : (f : Finding) (a b : Bool) (l l′ : List Finding) → length l ≡ length l′ → length (cond a (f ∷ l) l) ≤ length (cond b (f ∷ l′) l′) + 1
 one-at-most f true true l l′ e = omega arith
 one-at-most f true false l l′ e = omega arith
 one-at-most f false true l l′ e = omega arith
 one-at-most f false false l l′ e = omega arith
 
--- one finding, hidden in both or in neither, before at most one more
+-- one finding in front of two lists, hidden in both or in neither: if the first list was at most one longer, it still is
 one-later : (f : Finding) (a : Bool) (l l′ : List Finding) → length l ≤ length l′ + 1 → length (cond a (f ∷ l) l) ≤ length (cond a (f ∷ l′) l′) + 1
 one-later f true l l′ e = omega arith
 one-later f false l l′ e = omega arith
 
 module _ (cell ringNumber : ℕ) (s : Silence) (xs ys : List Silence) where
-  -- a silence among others names its own address, and for the rest they name what they name without it
+  -- with s among them, the silences name s's address, and for the rest what they name without it
   names-one-more : (zs : List Silence) (start : ℕ)
       → names (zs ++ s ∷ ys) cell ringNumber start ≡ (isSame s (silence cell ringNumber start) || names (zs ++ ys) cell ringNumber start)
   unfolding names
@@ -52,15 +52,15 @@ module _ (cell ringNumber : ℕ) (s : Silence) (xs ys : List Silence) where
       ap (λ (t : Bool). isSame z (silence cell ringNumber start) || t) (names-one-more zs start)
       ∙ or-other (isSame z (silence cell ringNumber start)) (isSame s (silence cell ringNumber start)) (names (zs ++ ys) cell ringNumber start)
 
-  -- a finding that the silence is not for is named as without it
+  -- a finding whose address is not s is named with s exactly when it is named without it
   named-same : (f : Finding) → isSame s (silence cell ringNumber (f .start)) ≡ false → isHidden (xs ++ s ∷ ys) cell ringNumber f ≡ isHidden (xs ++ ys) cell ringNumber f
   named-same f e = names-one-more xs (f .start) ∙ ap (λ (t : Bool). t || names (xs ++ ys) cell ringNumber (f .start)) e
 
-  -- a silence is for no start but its own
+  -- s does not name a start other than its own
   other-start : (i : ℕ) → (s .start ≡ i → ⊥) → isSame s (silence cell ringNumber i) ≡ false
   other-start i differs = not-same s (silence cell ringNumber i) (λ e. differs (ap (λ (a : Silence). a .start) e))
 
-  -- of findings by rising start, one silence more hides at most one more
+  -- of findings by rising start, one silence more hides at most one finding more
   one-more : (lo hi : ℕ) (fs : List Finding) → Rising lo hi fs
       → length (hidden (xs ++ s ∷ ys) cell ringNumber fs) ≤ length (hidden (xs ++ ys) cell ringNumber fs) + 1
   unfolding those
@@ -80,7 +80,7 @@ module _ (cell ringNumber : ℕ) (s : Silence) (xs ys : List Silence) where
       go false e rest = rw (named-same f e) (one-later f (isHidden (xs ++ ys) cell ringNumber f) _ _ rest)
 
   module _ (ring line : List ℕ) (k : ℕ) where
-    -- A silence hides at most one finding of a report.
+    -- With one silence more, at most one finding more is hidden.
     pub silence-hides-one-le : length (hidden (xs ++ s ∷ ys) cell ringNumber (findings ring line k)) ≤ length (hidden (xs ++ ys) cell ringNumber (findings ring line k)) + 1
     silence-hides-one-le = one-more 0 (length line) (findings ring line k) (findings-rising ring line k)
 
@@ -95,10 +95,10 @@ module _ (cell ringNumber : ℕ) (s : Silence) (xs ys : List Silence) where
       pub idle-silence-same : ((f : Finding) → IsFinding ring line k f → s ≡ silence cell ringNumber (f .start) → ⊥) → (r ≡ r′) × (out ≡ out′)
       idle-silence-same idle = without (λ f h. not-same s (silence cell ringNumber (f .start)) (idle f h))
 
-      -- One of another cell changes nothing.
+      -- A silence of another cell changes nothing.
       pub other-cell-same : (s .cell ≡ cell → ⊥) → (r ≡ r′) × (out ≡ out′)
       other-cell-same other = idle-silence-same (λ f h e. other (ap (λ (a : Silence). a .cell) e))
 
-      -- Nor does one of another ring number.
+      -- A silence of another ring number changes nothing.
       pub other-ring-number-same : (s .ringNumber ≡ ringNumber → ⊥) → (r ≡ r′) × (out ≡ out′)
       other-ring-number-same other = idle-silence-same (λ f h e. other (ap (λ (a : Silence). a .ringNumber) e))

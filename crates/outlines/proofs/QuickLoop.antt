@@ -1,5 +1,5 @@
--- The loop over windows, of a scan and of a report. Of the findings so far (`SweepKeeps`) the shown ones stand in the words and are counted, the hidden ones are
--- counted, and a field of the book is held (`HeldFrom`). A finding that the book names is hidden, any other is shown (`held-hides`).
+-- The loop of `scan_windows`, for scan and report. `SweepKeeps` has the findings so far. Of these the shown ones are counted and written into the words, the
+-- hidden ones are counted, and a field of the book is held (`HeldFrom`). A finding that the book names is hidden, any other is shown (`held-hides`).
 use Prim.Native.Nat.{ℕ, _+_, _-_, _*_, _≤_, _<_}
 use mathlib.Core.Path.{_≡_, refl, sym, ap, _∙_}
 use mathlib.Core.Bool.{Bool, true, false, not}
@@ -35,7 +35,7 @@ use Rattle.outlines.proofs.ShownAndHidden.{shown-hidden-length}
 use Rattle.outlines.proofs.HeldFrom.{HeldFrom, held-start, held-later, held-turn, held-hides}
 use Rattle.outlines.proofs.SweepKeeps.{SweepKeeps, SweepTurn, sweep-start, sweep-turn}
 
--- What the loop keeps.
+-- The loop's invariant.
 pub record QuickLoop (cell ringNumber : ℕ) (ring doubled table line : List ℕ) (k : ℕ) (book counts₀ area : List ℕ) (at : Sweep) (asked : BookAsked) (counts words : List ℕ) : Type 0 where
   pub can : CanScan ring doubled table line k book counts₀ area
   pub so-far : List Finding
@@ -53,7 +53,7 @@ room-for-all ring line k admitted =
     (le-or-lt (length ring) (length line))
 
 module _ {cell ringNumber : ℕ} {ring doubled table line : List ℕ} {k : ℕ} {book counts₀ area : List ℕ} where
-  -- Before the first window the book is asked for start 0.
+  -- The invariant holds before the first window, with nothing found and the field that the book gives for start 0.
   pub quick-start : (can : CanScan ring doubled table line k book counts₀ area) {at : Sweep} {asked : BookAsked} {first : Address}
       → at .start .0 ≡ 0 → lastOf (at .last) ≡ none → at .looks ≡ 0
       → asked .shown ≡ 0 → asked .hidden ≡ 0 → silenceOf first ≡ silence cell ringNumber 0 → IsSought book 0 first (asked .held)
@@ -84,7 +84,7 @@ module _ {cell ringNumber : ℕ} {ring doubled table line : List ℕ} {k : ℕ} 
     pub quick-length : length words ≡ length area
     quick-length = so-far-length (h .in-words) (omega (arith, counts-add, scan-found-le ring line k _ _ _ _ (h .sweep .scanning), room-for-all ring line k (h .can .admitted)))
 
-    -- Past the last window the line is scanned.
+    -- If no window fits in the line any more, the contract is met.
     pub quick-end : IsPastLine ring line (at .start .0)
         → LineScanned cell ringNumber ring line k book area (asked .shown + asked .hidden) (asked .hidden) (at .looks) words
     quick-end past =
@@ -102,11 +102,11 @@ module _ {cell ringNumber : ℕ} {ring doubled table line : List ℕ} {k : ℕ} 
       turn : SweepTurn ring line k (h .so-far) at r counts′
       turn = sweep-turn (h .can) (h .sweep) swept
 
-      -- The next window is a later one: the starts that are left fall.
+      -- The turn makes the measure n + 1 - start smaller.
       pub quick-less : FitsInLine ring line (at .start .0) → length line + 1 - next .start .0 < length line + 1 - at .start .0
       quick-less in-line = rw is-next at (turn .less in-line)
 
-      -- A turn that finds nothing.
+      -- If the turn reports no finding, the invariant holds with the same words and counts.
       pub quick-none : foundOf r ≡ [] → QuickLoop cell ringNumber ring doubled table line k book counts₀ area next asked counts′ words
       quick-none e = record {
         can = h .can;
@@ -118,7 +118,7 @@ module _ {cell ringNumber : ℕ} {ring doubled table line : List ℕ} {k : ℕ} 
       }
 
       module _ {f : Finding} (e : foundOf r ≡ f ∷ []) where
-        -- The book can be asked for what it finds.
+        -- If the turn reports a finding f, the precondition of `ask` holds for f.
         pub quick-can-ask : CanAsk asked f
         quick-can-ask =
             let found-le = quick-found-le in
@@ -133,7 +133,7 @@ module _ {cell ringNumber : ℕ} {ring doubled table line : List ℕ} {k : ℕ} 
           room-behind =
               omega (arith, counts-add, scan-found-le ring line k _ _ _ _ (sweep-next .scanning), length-append (h .so-far) (f ∷ []), room-for-all ring line k (h .can .admitted))
 
-          -- A turn that finds something, which the book was asked for.
+          -- If the turn reports a finding f, the invariant holds after `ask` and `put_shown`.
           pub quick-found : QuickLoop cell ringNumber ring doubled table line k book counts₀ area next asked′ counts′ out
           quick-found =
               go (isHidden ss cell ringNumber f) refl (held-hides (h .held-from) f (turn .found f e .from-le) (h .can .book-read))

@@ -1,4 +1,4 @@
--- The report's answers by their cases, as the code goes by them: one of rows 1 to 4 is given; none of them, and one of the book's is; or the line is
+-- The three ways in which `report` meets its contract: one of rows 1 to 4 is given; none of them is, and one of the book's rows is; or no row is given, and the line is
 -- scanned with the book. A refusal leaves the words as they were.
 use Prim.Native.Nat.{ℕ}
 use mathlib.Core.Path.{_≡_, sym, ap, _∙_}
@@ -23,19 +23,19 @@ use Rattle.outlines.specs.Report.{shown, reportRows, reportRefusal, noRe
 use Rattle.outlines.specs.LineScan.{LineScanned}
 use Rattle.outlines.proofs.FirstOfReport.{none-row-iff}
 
--- A book that `read` accepts has no refusal.
+-- If `read` accepts the book, the book has no refusal.
 pub read-accepted : {book : List ℕ} {r : BookAnswer} {records : ℕ} → IsRead book r → r ≡ Records records → bookRefusal book ≡ none
 read-accepted {book} {r} {records} meets e =
     let has = has-records (readBook book) records (read-answer-is book r (Records records) meets e) in
     book-accepted-iff book (has .silences) .0 (has .is) .0
 
--- A book that `read` refuses has that refusal.
+-- If `read` refuses the book, the book has this refusal.
 pub read-refused : {book : List ℕ} {r : BookAnswer} {refusal : Refusal} → IsRead book r → r ≡ BookRefused refusal → bookRefusal book ≡ some refusal
 read-refused {book} {r} {refusal} meets e =
     book-refused-iff book refusal .0 (has-refusal (readBook book) refusal (read-answer-is book r (BookRefused refusal) meets e))
 
 module _ {cell ringNumber : ℕ} {ring line : List ℕ} {k : ℕ} {book words : List ℕ} where
-  -- the first row that is given decides the answer and the words
+  -- if a row is given, returning the first one's refusal and leaving the words meets the contract
   report-refused : {refusal : Refusal} → reportRefusal (length ring) k (length line) (length words) book ≡ some refusal
       → IsReported cell ringNumber ring line k book words (Refused refusal) words
   unfolding reported reportedWords
@@ -44,20 +44,20 @@ module _ {cell ringNumber : ℕ} {ring line : List ℕ} {k : ℕ} {book words : 
     written = sym (ap (λ (o : Option Refusal). areaBy o (written (wordsOf (shown (silencesRead book) cell ringNumber (findings ring line k))) words) words) e);
   }
 
-  -- One of rows 1 to 4 is given.
+  -- If one of rows 1 to 4 is given, returning its refusal and leaving the words meets the contract.
   pub report-refused-row : {refusal : Refusal} → some refusal ≡ refusalOf (length ring) k (length line) (length words)
       → IsReported cell ringNumber ring line k book words (Refused refusal) words
   unfolding reportRows
   report-refused-row e = report-refused (first-append-some (admitRows (length ring) k (length line) (length words)) (bookRows book) (sym e))
 
-  -- None of them is given, and one of the book's is.
+  -- If none of them is given and the book has a refusal, returning this and leaving the words meets the contract.
   pub report-refused-book : {refusal : Refusal} → none ≡ refusalOf (length ring) k (length line) (length words) → bookRefusal book ≡ some refusal
       → IsReported cell ringNumber ring line k book words (Refused refusal) words
   unfolding reportRows
   report-refused-book no-row e =
       report-refused (first-append-none (admitRows (length ring) k (length line) (length words)) (bookRows book) (sym no-row) ∙ e)
 
-  -- No row is given: found, hidden, looks and the words of the shown findings.
+  -- If no row is given and the line is scanned with the book, returning found, hidden and looks meets the contract.
   pub report-accepted : {found hid looks : ℕ} {out : List ℕ} → LineScanned cell ringNumber ring line k book words found hid looks out
       → IsReported cell ringNumber ring line k book words (CountsCase found hid looks) out
   unfolding reported reportedWords

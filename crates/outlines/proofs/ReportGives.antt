@@ -1,5 +1,5 @@
--- What an accepted report gives: found are all findings, hidden those that the book names, looks the steps of rules 1 to 5: "never above 3·m·n − 2·m·m + m, which
--- is at most 3·m·n". When it is accepted, and what a refusal leaves, stands in RowsOfReport.
+-- What follows for an accepted report: found is the number of findings, hidden the number of those that the book names, and the looks are the steps of rules 1 to 5,
+-- "never above 3·m·n − 2·m·m + m, which is at most 3·m·n". RowsOfReport states when a report is accepted and what a refusal returns.
 use Prim.Native.Nat.{ℕ, _+_, _-_, _*_, _≤_, _<_}
 use mathlib.Core.Path.{_≡_, refl, ap, _∙_}
 use mathlib.Core.List.{List}
@@ -19,7 +19,7 @@ use Rattle.outlines.proofs.FirstOfReport.{none-row-iff}
 
 module _ {cell ringNumber : ℕ} {ring line : List ℕ} {k : ℕ} {book words : List ℕ} {found hid looks : ℕ} {out : List ℕ}
     (meets : IsReported cell ringNumber ring line k book words (CountsCase found hid looks) out) where
-  -- What an accepted report gives.
+  -- In an accepted report no row is given, and found, hidden, looks and words are as `LineScanned` says.
   pub report-gives : LineScanned cell ringNumber ring line k book words found hid looks out
   unfolding reported reportedWords
   report-gives =
@@ -39,18 +39,18 @@ module _ {cell ringNumber : ℕ} {ring line : List ℕ} {k : ℕ} {book words : 
             (written (wordsOf (shown (silencesRead book) cell ringNumber (findings ring line k))) words) words (meets .written) no-row;
       }
 
-  -- "Looks are the sum over rules 1 and 5": the definition's steps.
+  -- "Looks are the sum over rules 1 and 5": the looks of an accepted report are `quickLooks`.
   pub report-looks-are : looks ≡ quickLooks ring line k
   report-looks-are = report-gives .looks-are
 
-  -- "For n ≥ m they are never above 3·m·n − 2·m·m + m".
+  -- The looks of an accepted report: "For n ≥ m they are never above 3·m·n − 2·m·m + m".
   pub report-looks-le : length ring ≤ length line → looks ≤ 3 * length ring * length line - 2 * length ring * length ring + length ring
   report-looks-le h = rw report-looks-are (quickLooks-le ring line k h)
 
-  -- "which is at most 3·m·n".
+  -- The looks of an accepted report are at most 3·m·n.
   pub report-looks-most : looks ≤ 3 * length ring * length line
   report-looks-most = rw report-looks-are (quickLooks-most ring line k (report-gives .admitted .some-edge))
 
-  -- "A line shorter than the ring is accepted: no start, no look, zero findings."
+  -- An accepted report on a line shorter than the ring takes "no look".
   pub report-no-looks : length line < length ring → looks ≡ 0
   report-no-looks short = report-looks-are ∙ quickLooks-short ring line k short

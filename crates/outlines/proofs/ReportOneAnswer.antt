@@ -9,7 +9,7 @@ use Rattle.outlines.specs.declared.reporting.Reported.{Reported}
 use Rattle.outlines.specs.declared.reporting.Reported.the-variants.{Counts as CountsCase, Refused}
 use Rattle.outlines.specs.Report.{ReportCounts, noReportCounts, answerOf, paperOf, IsReported}
 
--- the case that an answer comes from
+-- the enum's case for an answer
 abbrev answerBack : Answer ReportCounts → Reported
 answerBack (accepted c) = CountsCase (c .found) (c .hidden) (c .looks)
 answerBack (refused refusal) = Refused refusal
@@ -18,15 +18,15 @@ answer-back : (r : Reported) → answerBack (answerOf r) ≡ r
 answer-back (CountsCase found hid looks) = refl
 answer-back (Refused refusal) = refl
 
--- the answer determines its case
+-- two returned enums with equal answers are equal
 report-answer-unique : (r r′ : Reported) → answerOf r ≡ answerOf r′ → r ≡ r′
 report-answer-unique r r′ e = sym (answer-back r) ∙ ap answerBack e ∙ answer-back r′
 
--- The paper determines the answer.
+-- Two returned enums with equal papers are equal.
 pub report-paper-unique : (r r′ : Reported) → paperOf r ≡ paperOf r′ → r ≡ r′
 report-paper-unique r r′ e = report-answer-unique r r′ (answer-unique noReportCounts (answerOf r) (answerOf r′) e)
 
--- Any two answers of `report` are equal, and any two words at exit.
+-- Any two answers that meet the contract of `report` are equal, and so are the words at exit.
 pub report-unique : (cell ringNumber : ℕ) (ring line : List ℕ) (k : ℕ) (book words : List ℕ) (r r′ : Reported) (out out′ : List ℕ)
     → IsReported cell ringNumber ring line k book words r out → IsReported cell ringNumber ring line k book words r′ out′ → (r ≡ r′) × (out ≡ out′)
 report-unique cell ringNumber ring line k book words r r′ out out′ p p′ = (

@@ -1,5 +1,5 @@
--- The table's rows 1 to 7 hold of any answer that meets the contract of `report`: its paper and its words go by the first row that is given (`reportRefusal`). The
--- paper's number is that of a refusal exactly when that row is the first (`AnswerByRows` of crates/answers), and `FirstOfReport` says when it is.
+-- Rows 1 to 7 of the table hold for every answer that meets the contract of `report`. The first row that is given (`reportRefusal`) decides the paper and the words. So
+-- the paper has a row's number exactly when that row is the first (`AnswerByRows` of crates/answers), and FirstOfReport states when it is.
 use Prim.Native.Nat.{ℕ, _≤_}
 use mathlib.Core.Path.{_≡_, refl, ap, _∙_}
 use mathlib.Core.Logic.{Iff·trans, Iff·and, Iff·rfl}
@@ -25,14 +25,14 @@ use Rattle.outlines.specs.Report.{shown, reportRefusal, ReportCounts, no
 use Rattle.outlines.specs.ReportRows.{ReportRows}
 use Rattle.outlines.proofs.FirstOfReport.{early-row-iff, late-row-iff, none-row-iff, report-row-has}
 
--- a paper that goes by a row has that row's place, and an accepted one place 0
+-- if each row with a number of at most 5 has place 0, so has the paper that the first row decides
 place-by-row : (o : Option Refusal) (counts : ReportCounts) {p : Paper ReportCounts} → p ≡ answerPaper noReportCounts (answerBy o counts)
     → ((q : Refusal) → o ≡ some q → numberOf q ≤ 5 → placeOf q ≡ 0) → p .number ≤ 5 → p .place ≡ 0
 place-by-row none counts paper each small = ap (λ (x : Paper ReportCounts). x .place) paper
 place-by-row (some q) counts paper each small =
     ap (λ (x : Paper ReportCounts). x .place) paper ∙ each q refl (omega (arith, ap (λ (x : Paper ReportCounts). x .number) paper))
 
--- The rows of `report`.
+-- Every answer that meets the contract of `report`, for a book of bytes, obeys the table `ReportRows`.
 pub report-rows : {cell ringNumber : ℕ} {ring line : List ℕ} {k : ℕ} {book words : List ℕ} {r : Reported} {out : List ℕ} → IsBytes book
     → IsReported cell ringNumber ring line k book words r out → ReportRows (length ring) k (length line) book words (paperOf r) out
 unfolding reported reportedWords

@@ -1,5 +1,5 @@
--- "It gives the same findings": for one input, survey and scan return the same refusal or the same found, and leave the same words. Both contracts are `IsSearched` of
--- crates/findings; only the looks differ.
+-- "It gives the same findings": on the same input, survey and scan return the same refusal or the same found, and leave the same words. Both contracts are `IsSearched`
+-- of crates/findings; only the looks differ.
 use Prim.Native.Nat.{ℕ}
 use mathlib.Core.Path.{_≡_, refl, sym, _∙_}
 use mathlib.Core.List.{List}
@@ -16,7 +16,7 @@ use Rattle.findings.specs.Searching.{Counts, noCounts, searched, paperOf, searc
 use Rattle.outlines.specs.Scan.{IsScanned}
 use Rattle.survey.specs.Survey.{IsSurveyed}
 
--- Two papers that differ in their looks at most.
+-- Two papers that are equal but for their looks.
 pub record SameButLooks (a b : Paper Counts) : Type 0 where
   pub number-is : a .number ≡ b .number
   pub place-is : a .place ≡ b .place
@@ -27,7 +27,7 @@ row-same : (o : Option Refusal) (found looks looks′ : ℕ)
 row-same none found looks looks′ = record { number-is = refl; place-is = refl; found-is = refl }
 row-same (some refusal) found looks looks′ = record { number-is = refl; place-is = refl; found-is = refl }
 
--- A search's paper depends on its looks in that count alone.
+-- The papers of two searches that differ only in their looks are equal but for the looks.
 search-same : (ring line : List ℕ) (k room looks looks′ : ℕ) → SameButLooks (searchPaper ring line k room looks) (searchPaper ring line k room looks′)
 unfolding searched
 search-same ring line k room looks looks′ = row-same (refusalOf (length ring) k (length line) room) (length (findings ring line k)) looks looks′

@@ -1,5 +1,5 @@
--- Any answer that meets the contract of `scan`: rows 1 to 4 of the table hold, and an accepted scan has found all findings. Its looks are the rules' steps, and "never
--- above 3·m·n − 2·m·m + m, which is at most 3·m·n". The rest holds for every search (SearchGives of crates/findings).
+-- What follows for every answer that meets the contract of `scan`: rows 1 to 4 of the table hold, and an accepted scan has counted all findings. Its looks are
+-- the steps of rules 1 to 5, "never above 3·m·n − 2·m·m + m, which is at most 3·m·n". SearchGives of crates/findings proves what holds for every search.
 use Prim.Native.Nat.{ℕ, _+_, _-_, _*_, _≤_, _<_}
 use mathlib.Core.Path.{_≡_, refl}
 use mathlib.Core.List.{List}
@@ -16,28 +16,28 @@ use Rattle.findings.proofs.SearchGives.{accepted-gives, looks-of-search}
 use Rattle.outlines.specs.Scan.{IsScanned}
 
 module _ (ring line : List ℕ) (k : ℕ) (words : List ℕ) (r : Searched) (out : List ℕ) (meets : IsScanned ring line k words r out) where
-  -- The rows of `scan`.
+  -- Every answer of `scan` obeys rows 1 to 4 of the table.
   pub scan-rows : SearchRows (length ring) k (length line) words (paperOf r) out
   scan-rows = rows-of-search meets
 
-  -- An accepted scan has found all findings.
+  -- The found of an accepted scan is the number of findings.
   pub scan-found-is : paperOf r .number ≡ 0 → paperOf r .counts .found ≡ length (findings ring line k)
   scan-found-is zero-is = accepted-gives meets zero-is .found-is
 
-  -- Its looks are the rules' steps.
+  -- The looks of an accepted scan are `quickLooks`, the steps of rules 1 to 5.
   pub scan-looks-are : paperOf r .number ≡ 0 → paperOf r .counts .looks ≡ quickLooks ring line k
   scan-looks-are zero-is = accepted-gives meets zero-is .looks-are
 
-  -- "For n ≥ m they are never above 3·m·n − 2·m·m + m".
+  -- The looks of an accepted scan: "For n ≥ m they are never above 3·m·n − 2·m·m + m".
   pub scan-looks-le : paperOf r .number ≡ 0 → length ring ≤ length line
       → paperOf r .counts .looks ≤ 3 * length ring * length line - 2 * length ring * length ring + length ring
   scan-looks-le zero-is h = rw (scan-looks-are zero-is) (quickLooks-le ring line k h)
 
-  -- "which is at most 3·m·n": on every input, accepted or refused.
+  -- The looks are at most 3·m·n on every input, accepted or refused.
   pub scan-looks-most : paperOf r .counts .looks ≤ 3 * length ring * length line
   scan-looks-most =
       looks-of-search meets (λ (looks : ℕ). looks ≤ 3 * length ring * length line) (omega arith) (λ some-edge. quickLooks-most ring line k some-edge)
 
-  -- "A line shorter than the ring is accepted: no start, no look, zero findings."
+  -- On a line shorter than the ring there is "no look", accepted or refused.
   pub scan-no-looks : length line < length ring → paperOf r .counts .looks ≡ 0
   scan-no-looks short = looks-of-search meets (λ (looks : ℕ). looks ≡ 0) refl (λ some-edge. quickLooks-short ring line k short)

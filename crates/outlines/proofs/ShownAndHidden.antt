@@ -1,4 +1,4 @@
--- Shown and hidden together are the findings: each finding is in exactly one of the two lists, and their lengths add up. One test decides: `isHidden`.
+-- Shown and hidden together are the findings: each finding is in exactly one of the two lists, because one test, `isHidden`, decides. So their lengths add up.
 use Prim.Native.Nat.{ℕ, _+_}
 use mathlib.Core.Path.{_≡_, refl, sym, ap, _∙_}
 use mathlib.Core.Bool.{Bool, true, false, not, true≢false}
@@ -16,7 +16,7 @@ module _ (silences : List Silence) (cell ringNumber : ℕ) where
   shown-hidden-length fs = taken-or-not-length (isHidden silences cell ringNumber) fs
 
   module _ (fs : List Finding) (f : Finding) where
-    -- A finding is shown or hidden, and what is shown or hidden is a finding.
+    -- A finding is in the list exactly when it is among the shown or among the hidden ones.
     pub shown-or-hidden-iff : List·Memᴰ f fs ↔ (List·Memᴰ f (shown silences cell ringNumber fs) ⊎ List·Memᴰ f (hidden silences cell ringNumber fs))
     shown-or-hidden-iff = (
       go (isHidden silences cell ringNumber f) refl,
@@ -28,7 +28,7 @@ module _ (silences : List Silence) (cell ringNumber : ℕ) where
         go true e m = inr (taken-iff (isHidden silences cell ringNumber) fs f .1 (m, e))
         go false e m = inl (taken-iff (isShown silences cell ringNumber) fs f .1 (m, ap not e))
 
-    -- Never both.
+    -- No finding is both shown and hidden.
     pub shown-not-hidden : List·Memᴰ f (shown silences cell ringNumber fs) → List·Memᴰ f (hidden silences cell ringNumber fs) → ⊥
     shown-not-hidden s h =
         true≢false (sym (taken-iff (isShown silences cell ringNumber) fs f .0 s .1) ∙ ap not (taken-iff (isHidden silences cell ringNumber) fs f .0 h .1))

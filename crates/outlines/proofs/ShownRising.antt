@@ -1,5 +1,5 @@
--- The shown findings have strictly rising starts, and so have the hidden ones: no finding is counted twice, and hidden counts findings, not records. The words after
--- those of the last shown finding keep their values.
+-- The starts of the shown findings rise strictly, and so do those of the hidden ones. So no finding is counted twice, and hidden counts findings, not records.
+-- The words after those of the last shown finding keep their values.
 use Prim.Native.Nat.{ℕ, _+_, _-_, _*_}
 use mathlib.Core.Path.{_≡_, sym, ap, subst, _∙_}
 use mathlib.Core.List.{List}
@@ -20,21 +20,21 @@ use Rattle.outlines.proofs.ShownAndHidden.{shown-hidden-length}
 
 module _ (silences : List Silence) (cell ringNumber : ℕ) where
   module _ (ring line : List ℕ) (k : ℕ) where
-    -- The shown findings' starts rise strictly.
+    -- The starts of the shown findings rise strictly and are below n.
     pub shown-rising : Rising 0 (length line) (shown silences cell ringNumber (findings ring line k))
     shown-rising = taken-rising (isShown silences cell ringNumber) 0 0 (length line) (findings ring line k) (omega arith) (findings-rising ring line k)
 
-    -- So do the hidden ones'.
+    -- The starts of the hidden findings rise strictly and are below n.
     pub hidden-rising : Rising 0 (length line) (hidden silences cell ringNumber (findings ring line k))
     hidden-rising = taken-rising (isHidden silences cell ringNumber) 0 0 (length line) (findings ring line k) (omega arith) (findings-rising ring line k)
 
 module _ (cell ringNumber : ℕ) (ring line : List ℕ) (k : ℕ) (book words : List ℕ) (found hid looks : ℕ) (out : List ℕ)
     (given : LineScanned cell ringNumber ring line k book words found hid looks out) where
-  -- "found (hidden ones included)": the others are shown
+  -- "found (hidden ones included)": found - hidden is the number of shown findings
   found-shown-is : found - hid ≡ length (shown (silencesRead book) cell ringNumber (findings ring line k))
   found-shown-is = omega (arith, given .found-is, given .hidden-is, shown-hidden-length (silencesRead book) cell ringNumber (findings ring line k))
 
-  -- "Words after the last one written keep their values."
+  -- "Words after the last one written keep their values." These are the words from 3·(found - hidden) on.
   pub report-words-rest : (j : ℕ) → getD out (wordsEach * (found - hid) + j) 0 ≡ getD words (wordsEach * (found - hid) + j) 0
   report-words-rest j =
       let put : List ℕ = wordsOf (shown (silencesRead book) cell ringNumber (findings ring line k)) in

@@ -1,4 +1,4 @@
--- Two lists of silences that name the same findings show and hide the same findings of a list, and make two reports the same.
+-- Two lists of silences that name the same findings show and hide the same findings. So two reports whose books name the same findings give the same answer.
 use Prim.Native.Nat.{ℕ, _<_}
 use mathlib.Core.Path.{_≡_, refl, sym, ap, _∙_}
 use mathlib.Core.Bool.{not}
@@ -23,15 +23,15 @@ use Rattle.outlines.proofs.FirstOfReport.{accepted-book-row}
 use Rattle.outlines.proofs.ReportOneAnswer.{report-paper-unique}
 
 module _ (ss ts : List Silence) (cell ringNumber : ℕ) where
-  -- Each of these findings is named by both or by neither.
+  -- Each finding of the list is named by both lists of silences or by neither.
   abbrev pub NamesAlike : List Finding → Type 0
   NamesAlike fs = (f : Finding) → List·Memᴰ f fs → isHidden ss cell ringNumber f ≡ isHidden ts cell ringNumber f
 
-  -- the same ones are shown
+  -- if so, the same findings are shown
   shown-same : (fs : List Finding) → NamesAlike fs → shown ss cell ringNumber fs ≡ shown ts cell ringNumber fs
   shown-same fs h = taken-same (isShown ss cell ringNumber) (isShown ts cell ringNumber) fs (λ f m. ap not (h f m))
 
-  -- The same ones are hidden.
+  -- If so, the same findings are hidden.
   pub hidden-same : (fs : List Finding) → NamesAlike fs → hidden ss cell ringNumber fs ≡ hidden ts cell ringNumber fs
   hidden-same fs h = taken-same (isHidden ss cell ringNumber) (isHidden ts cell ringNumber) fs h
 
@@ -40,7 +40,8 @@ module _ (ss ts : List Silence) (cell ringNumber : ℕ) where
     abbrev row : Option Refusal
     row = refusalOf (length ring) k (length line) (length words)
 
-    -- what a report returns, or writes, is by the search's row, since both books are accepted; where none is given it goes by the silences
+    -- Both books are accepted, so the refusal of rows 1 to 4 decides what a report returns and writes. If there is none, the silences decide. So any value `by` that is
+    -- the same for each refusal, and for equal shown and hidden findings, is the same for the two reports.
     given : {A : Type 0} (by : Option Refusal → List Silence → A)
         → ((q : Refusal) → by (some q) ss ≡ by (some q) ts)
         → (shown ss cell ringNumber (findings ring line k) ≡ shown ts cell ringNumber (findings ring line k)
@@ -64,7 +65,7 @@ module _ (ss ts : List Silence) (cell ringNumber : ℕ) where
             let named : NamesAlike (findings ring line k) = λ f m. alike f (findings-iff ring line k pos f .0 m) in
             accepted-same (shown-same (findings ring line k) named) (hidden-same (findings ring line k) named)
 
-    -- Two reports whose books name the same findings give the same answer and write the same words.
+    -- Two reports whose books name the same findings give the same answer and leave the same words.
     pub reports-same : (r r′ : Reported) (out out′ : List ℕ) → IsReported cell ringNumber ring line k book words r out
         → IsReported cell ringNumber ring line k book′ words r′ out′ → (r ≡ r′) × (out ≡ out′)
     unfolding reported reportedWords

@@ -1,6 +1,6 @@
--- The sweep's part of the loop over windows. Before each window the findings so far and the looks so far are right (`ScanLoop` of crates/meaning), and the
--- counts hold the tally of the start verified last. A turn is one call of `sweep_on`: windows stopped at break k + 1 find nothing (`left-scanned` of crates/sweep),
--- and a candidate is verified (`scan-verified`). Each turn ends past the start where it began, so the starts that are left fall.
+-- The sweep's part of the loop's invariant. Before each turn the findings and the looks so far are right (`ScanLoop` of crates/meaning), and the counts are the
+-- tally of the last verified start. A turn is one call of `sweep_on`: windows stopped at break k + 1 add no finding (`left-scanned` of crates/sweep), and a
+-- candidate is verified (`scan-verified`). A turn ends past the start where it began, so the measure falls.
 use Prim.Native.Nat.{ℕ, _+_, _-_, _≤_, _<_}
 use mathlib.Core.Path.{_≡_, refl, sym, ap, _∙_}
 use mathlib.Core.Bool.{false}
@@ -27,20 +27,21 @@ use Rattle.sweep.proofs.SweptByRules.{swept-by-rules}
 use Rattle.sweep.proofs.WindowsLeft.{left-from-le, left-start-le, left-scanned}
 use Rattle.outlines.specs.LineScan.{CanScan}
 
--- What the sweep keeps.
+-- The invariant before a turn, with the findings so far.
 pub record SweepKeeps (ring line : List ℕ) (k : ℕ) (so-far : List Finding) (at : Sweep) (counts : List ℕ) : Type 0 where
   pub scanning : ScanLoop ring line k (at .start .0) (lastOf (at .last)) so-far (at .looks)
   pub before : TalliedBefore ring line (at .start .0) counts (lastOf (at .last))
   pub size : length counts ≡ mostCounts
   pub start-le : at .start .0 ≤ length line + 1
 
--- A finding that starts between two windows; its three numbers are 32-bit words.
+-- f starts at `from` to `to`, and its three numbers are 32-bit words.
 pub record FoundBetween (from to : ℕ) (f : Finding) : Type 0 where
   pub from-le : from ≤ f .start
   pub to-le : f .start ≤ to
   pub are-words : IsWords (findingWords f)
 
--- One turn, by the sweep's answer: what is found comes behind what was found before, and the next window is a later one.
+-- What a turn with the answer r gives: the invariant with r's finding behind those before; a next start that is not before this one; a smaller measure if a window fits
+-- in the line here; and a finding that starts between the two starts.
 pub record SweepTurn (ring line : List ℕ) (k : ℕ) (so-far : List Finding) (at : Sweep) (r : Swept) (counts : List ℕ) : Type 0 where
   pub keeps : SweepKeeps ring line k (so-far ++ foundOf r) (stateOf r) counts
   pub later : at .start .0 ≤ stateOf r .start .0
@@ -54,7 +55,7 @@ module _ {ring doubled table line : List ℕ} {k : ℕ} {book counts₀ area : L
   abbrev n : ℕ
   n = length line
 
-  -- Before the first window nothing is found.
+  -- The invariant holds before the first window, with nothing found.
   pub sweep-start : {at : Sweep} → at .start .0 ≡ 0 → lastOf (at .last) ≡ none → at .looks ≡ 0 → SweepKeeps ring line k [] at counts₀
   sweep-start s l o = record {
     scanning = rw (s, l, o) (scan-start ring line k (can .admitted .some-edge));
@@ -64,7 +65,7 @@ module _ {ring doubled table line : List ℕ} {k : ℕ} {book counts₀ area : L
   }
 
   module _ {so-far : List Finding} {at : Sweep} {counts : List ℕ} (h : SweepKeeps ring line k so-far at counts) where
-    -- `sweep_on` can go on from there
+    -- the sweep can go on by the rules
     can-sweep : CanSweepOn ring doubled table line counts at
     can-sweep = record {
       can-sweep = record {
@@ -88,7 +89,7 @@ module _ {ring doubled table line : List ℕ} {k : ℕ} {book counts₀ area : L
     }
 
     module _ {counts′ : List ℕ} where
-      -- no window is in the line any more
+      -- a turn after which no window fits in the line any more
       turn-ended : (next : Sweep) → IsSweptOn ring line k at (Ended next) counts′ → SweepTurn ring line k so-far at (Ended next) counts′
       turn-ended next on =
           let e = on .ended refl in
@@ -106,7 +107,7 @@ module _ {ring doubled table line : List ℕ} {k : ℕ} {book counts₀ area : L
             found = λ f none-is. absurd (let z : _≡_ {A = ℕ} 0 1 = cc in omega arith);
           }
 
-      -- a candidate is verified
+      -- a turn that verifies a candidate
       turn-verified : (r : Swept) → hasEnded r ≡ false → IsSweptOn ring line k at r counts′ → SweepTurn ring line k so-far at r counts′
       turn-verified r verified on =
           let c = on .candidate verified in
@@ -132,7 +133,7 @@ module _ {ring doubled table line : List ℕ} {k : ℕ} {book counts₀ area : L
                 };
           }
 
-      -- One turn.
+      -- Every answer that meets the contract of `sweep_on` makes a turn.
       pub sweep-turn : {r : Swept} → IsSweptBy ring doubled table line k at counts counts′ r → SweepTurn ring line k so-far at r counts′
       sweep-turn {r} by = go r (swept-by-rules ring doubled table line k counts at can-sweep counts′ r by)
         where

@@ -1,5 +1,5 @@
--- The findings of a list that a test takes (`those`), for any test: which they are, the effect of one more finding, that they rise as the list does, and that tests
--- which agree on the list take the same ones. The shown findings and the hidden ones are both such a list.
+-- The findings of a list that a test takes (`those`), for any test: which findings they are, what one finding more adds, that their starts rise if those of the
+-- list do, and that two tests which agree on the list take the same ones. The shown findings are such a list, and so are the hidden ones.
 use Prim.Native.Nat.{ℕ, suc, _+_, _≤_}
 use mathlib.Core.Path.{_≡_, refl, sym, ap, _∙_}
 use mathlib.Core.Bool.{Bool, true, false, not, cond, false≢true}
@@ -34,7 +34,7 @@ module _ (takes : Finding → Bool) where
   pub taken-iff : (fs : List Finding) (f : Finding) → List·Memᴰ f (those takes fs) ↔ (List·Memᴰ f fs × (takes f ≡ true))
   taken-iff fs f = (taken-of fs f, λ h. taken-in fs f (h .0) (h .1))
 
-  -- Of two lists, one after the other.
+  -- Of two lists, one after the other, it takes those of the first and then those of the second.
   taken-append : (a b : List Finding) → those takes (a ++ b) ≡ those takes a ++ those takes b
   unfolding those
   taken-append [] b = refl
@@ -48,13 +48,13 @@ module _ (takes : Finding → Bool) where
   unfolding those
   taken-more-yes fs f e = taken-append fs (f ∷ []) ∙ ap (λ (t : Bool). those takes fs ++ cond t (f ∷ []) []) e
 
-  -- One that it does not take changes nothing.
+  -- One finding more, which the test does not take, changes nothing.
   pub taken-more-no : (fs : List Finding) (f : Finding) → takes f ≡ false → those takes (fs ++ f ∷ []) ≡ those takes fs
   unfolding those
   taken-more-no fs f e =
       taken-append fs (f ∷ []) ∙ ap (λ (t : Bool). those takes fs ++ cond t (f ∷ []) []) e ∙ append-nil (those takes fs)
 
-  -- Where starts rise, those of the findings taken rise.
+  -- If the starts of a list rise, those of the findings taken rise.
   pub taken-rising : (lo lo′ hi : ℕ) (fs : List Finding) → lo ≤ lo′ → Rising lo′ hi fs → Rising lo hi (those takes fs)
   unfolding those
   taken-rising lo lo′ hi [] l r = omega arith
@@ -63,7 +63,7 @@ module _ (takes : Finding → Bool) where
       (λ _. (omega arith, taken-rising (suc (f .start)) (suc (f .start)) hi fs (omega arith) (r .1)))
       (λ _. taken-rising lo (suc (f .start)) hi fs (omega arith) (r .1))
 
-  -- What the test takes and what it does not take are together as many as the list.
+  -- The findings taken and those not taken are together as many as the list has.
   pub taken-or-not-length : (fs : List Finding) → length (those (λ (f : Finding). not (takes f)) fs) + length (those takes fs) ≡ length fs
   unfolding those
   taken-or-not-length [] = refl
@@ -74,7 +74,7 @@ module _ (takes : Finding → Bool) where
       go true left taken rest = omega arith
       go false left taken rest = omega arith
 
--- Tests that agree on each finding of a list take the same of it.
+-- Two tests that agree on each finding of a list take the same findings of it.
 pub taken-same : (takes takes′ : Finding → Bool) (fs : List Finding) → ((f : Finding) → List·Memᴰ f fs → takes f ≡ takes′ f) → those takes fs ≡ those takes′ fs
 unfolding those
 taken-same takes takes′ [] h = refl

@@ -1,10 +1,12 @@
--- Contracts of the private functions of src/asking.rt: the book is asked for one finding, which is then hidden or shown.
+-- Contracts of the private functions of src/asking.rt: the book is asked for one finding, which is then hidden or shown. Findings come by rising start and a book's
+-- records ascend, so the loop keeps the field found last ("held") and goes on from it, never back.
 --
---   addressOf          the address that names a finding
---   heldFor, hides     the field that the book gives for a finding, and whether it is for that finding
---   CanAsk             precondition of `ask`
---   IsHiddenOrShown    contract of `ask`
---   IsShownPut         contract of `put_shown`
+--   addressOf          the address of a finding: cell, ring number, start
+--   heldFor            the first field of the book that is not below this address, sought from the field held
+--   hides              whether that field has this very address
+--   CanAsk             the precondition of `ask`
+--   IsHiddenOrShown    the contract of `ask`
+--   IsShownPut         the contract of `put_shown`
 use Prim.Native.Nat.{ℕ, _+_, _≤_, _<_, _^_}
 use mathlib.Core.Path.{_≡_}
 use mathlib.Core.Bool.{Bool, cond}
@@ -18,31 +20,33 @@ use Rattle.findings.specs.Admitting.{mostLine}
 use Rattle.findings.specs.Putting.{IsFindingPut}
 use Rattle.outlines.specs.declared.asking.BookAsked.{BookAsked}
 
--- The address that names a finding: cell, ring number and the finding's start.
+-- The address of a finding: cell, ring number and the finding's start, as a silence would name it.
 abbrev pub addressOf : ℕ → ℕ → Finding → Silence
 addressOf cell ringNumber f = silence cell ringNumber (f .start)
 
--- The field for a finding, given the field that is held: the held one if it is not below the address, else the first such one behind it.
+-- The field for a finding, given the field held: the held one if it is not below the finding's address, else the first field behind it that is not; `faulty` if there
+-- is none.
 abbrev pub heldFor : ℕ → ℕ → List ℕ → Finding → FieldAt → FieldAt
 heldFor cell ringNumber book f held = seekField (addressOf cell ringNumber f) held (seekFrom book (addressOf cell ringNumber f))
 
--- Whether that field is for the finding.
+-- Whether that field has the finding's address: then the book hides the finding.
 abbrev pub hides : ℕ → ℕ → List ℕ → Finding → FieldAt → Bool
 hides cell ringNumber book f held = isFor (addressOf cell ringNumber f) (heldFor cell ringNumber book f held)
 
--- Precondition of `ask`: the start is below 2^32, both counters are at most 65,536.
+-- The precondition of `ask`: the start is below 2^32, both counters are at most 65,536.
 pub record CanAsk (so-far : BookAsked) (f : Finding) : Type 0 where
   pub start-lt : f .start < 2 ^ 32
   pub shown-le : so-far .shown ≤ mostLine
   pub hidden-le : so-far .hidden ≤ mostLine
 
--- Contract of `ask`: the field for the finding is held, and one finding more is hidden or shown.
+-- The contract of `ask`, which returns r: the field for the finding is held, and one finding more is counted as hidden or as shown.
 pub record IsHiddenOrShown (cell ringNumber : ℕ) (book : List ℕ) (so-far : BookAsked) (f : Finding) (r : BookAsked) : Type 0 where
   pub held-is : soughtOf (r .held) ≡ heldFor cell ringNumber book f (soughtOf (so-far .held))
   pub shown-is : r .shown ≡ cond (hides cell ringNumber book f (soughtOf (so-far .held))) (so-far .shown) (so-far .shown + 1)
   pub hidden-is : r .hidden ≡ cond (hides cell ringNumber book f (soughtOf (so-far .held))) (so-far .hidden + 1) (so-far .hidden)
 
--- Contract of `put_shown`: if the finding was counted as shown, its words are put behind those of the ones before it; else no word changes.
+-- The contract of `put_shown`; `before` and `now-shown` are the numbers of shown findings before and after the finding was counted. If it was counted as shown, its
+-- words are put behind those of the shown ones before it; else no word changes.
 pub record IsShownPut (words : List ℕ) (before now-shown : ℕ) (f : Finding) (out : List ℕ) : Type 0 where
   pub shown-put : before < now-shown → IsFindingPut words before f out
   pub hidden-same : now-shown ≤ before → out ≡ words

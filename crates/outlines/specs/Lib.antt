@@ -1,4 +1,11 @@
--- Scan and report. Scan and Report state document 01 and the contracts of the two calls, ReportRows the report's table of refusals; Hiding and LineScan have the contracts of private functions. ReportSamples are computed.
+-- Scan and report. Read them in this order:
+--
+--   Scan             the contract of `scan`
+--   Report           the contract of `report`: which findings are hidden and which are shown, the refusals 1 to 7, the counts, the words
+--   ReportRows       rows 1 to 7 once more, in plain comparisons over an answer's number, place and counts
+--   Hiding           contracts of the private functions of src/asking.rt, which ask the book for one finding
+--   LineScan         contracts of the private functions of src/quick.rt, which scan a line with a book
+--   ReportSamples    document 01's samples with silences, computed
 pub mod Scan
 pub mod Report
 pub mod ReportRows

@@ -1,8 +1,8 @@
--- Contracts of the private functions of src/quick.rt: a line is scanned with a book.
+-- Contracts of the private functions of src/quick.rt, which scan a line with a book. The report lends its own book, the scan an empty one.
 --
---   CanScanLine    precondition of `scan_line`
---   CanScan        precondition of `scan_windows`
---   LineScanned    contract of both
+--   CanScanLine    the precondition of `scan_line`
+--   CanScan        the precondition of `scan_windows`
+--   LineScanned    the contract of both
 use Prim.Native.Nat.{ℕ}
 use mathlib.Core.Path.{_≡_}
 use mathlib.Core.List.{List}
@@ -17,12 +17,12 @@ use Rattle.tally.specs.Counts.{mostCounts, IsDoubled}
 use Rattle.findings.specs.Admitting.{Admitted}
 use Rattle.outlines.specs.Report.{shown, hidden}
 
--- Precondition of `scan_line`: none of refusals 1 to 7 holds.
+-- The precondition of `scan_line`: none of refusals 1 to 7 is given.
 pub record CanScanLine (ring line : List ℕ) (k : ℕ) (book words : List ℕ) : Type 0 where
   pub admitted : Admitted (length ring) k (length line) (length words)
   pub book-read : bookRefusal book ≡ none
 
--- Precondition of `scan_windows`: the same, with the ring's vectors, its double and an area of counts, whatever they hold.
+-- The precondition of `scan_windows`: the same, and the ring's vectors, its double and 256 counts are lent. The counts may hold anything.
 pub record CanScan (ring doubled table line : List ℕ) (k : ℕ) (book counts words : List ℕ) : Type 0 where
   pub admitted : Admitted (length ring) k (length line) (length words)
   pub book-read : bookRefusal book ≡ none
@@ -30,7 +30,8 @@ pub record CanScan (ring doubled table line : List ℕ) (k : ℕ) (book counts w
   pub twice : IsDoubled ring doubled
   pub size : length counts ≡ mostCounts
 
--- A line is scanned with a book: no refusal holds, and what is found, hidden, looked at and written goes by the book's silences.
+-- The contract of both: no refusal is given; found is the number of findings, `hid` the number of those that the book's silences hide, the looks are the quick scan's,
+-- and the words of the shown findings are written.
 pub record LineScanned (cell ringNumber : ℕ) (ring line : List ℕ) (k : ℕ) (book words : List ℕ) (found hid looks : ℕ) (out : List ℕ) : Type 0 where
   pub admitted : Admitted (length ring) k (length line) (length words)
   pub book-read : bookRefusal book ≡ none

@@ -1,16 +1,17 @@
 -- Document 01, "What each call returns", the report: "The report, given a 32-bit cell and a 16-bit ring number, runs the quick scan and returns found
--- (hidden ones included), hidden, looks"; "the report writes the shown ones only". Its contract is one record, on every input.
+-- (hidden ones included), hidden, looks"; "the report writes the shown ones only". Its contract, `IsReported`, is one record and holds on every input.
 --
---   isHidden, isShown    whether a silence of the book names the finding's cell, ring number and start
---   shown, hidden        the findings of a list that are not hidden, and those that are, in its order
---   reportRows           "report 1 to 7"
---   reportRefusal        the first of these rows that is given, if one is
---   ReportCounts         found, hidden and looks
---   reportCounts         these, for some silences
---   reported             what a report returns: its counts, or the refusal
---   reportedWords        the lent words at exit
---   paperOf              document 01's number, place and counts of an answer
---   IsReported           contract of `report`
+--   isHidden, isShown              a silence of the book names the finding's cell, ring number and start; none does
+--   those                          the findings of a list that pass a test, in their order
+--   shown, hidden                  the findings of a list that are shown, and those that are hidden
+--   reportRows                     "report 1 to 7"
+--   reportRefusal                  the refusal of the first of these rows that is given, if one is
+--   ReportCounts, noReportCounts   found, hidden and looks; all zero
+--   reportCounts                   the counts of a report, given the silences of its book
+--   reported                       the answer that a report must give: its counts, or a refusal
+--   reportedWords                  the lent words at exit
+--   answerOf, paperOf              a returned enum as an answer, and as document 01's number, place and counts
+--   IsReported                     the contract of `report`
 use Prim.Native.Nat.{ℕ}
 use mathlib.Core.Path.{_≡_}
 use mathlib.Core.Bool.{Bool, not, cond}
@@ -29,7 +30,7 @@ use Rattle.findings.specs.Admitting.{admitRows}
 use Rattle.outlines.specs.declared.reporting.Reported.{Reported}
 use Rattle.outlines.specs.declared.reporting.Reported.the-variants.{Counts as CountsCase, Refused}
 
--- A finding is hidden exactly when the book names its cell, ring number and start.
+-- A finding is hidden exactly when one of the silences names its cell, ring number and start.
 abbrev pub isHidden : List Silence → ℕ → ℕ → Finding → Bool
 isHidden silences cell ringNumber f = names silences cell ringNumber (f .start)
 
@@ -37,24 +38,25 @@ isHidden silences cell ringNumber f = names silences cell ringNumber (f .start)
 abbrev pub isShown : List Silence → ℕ → ℕ → Finding → Bool
 isShown silences cell ringNumber f = not (isHidden silences cell ringNumber f)
 
--- The findings of a list that a test takes, in their order.
+-- The findings of a list that pass the test `takes`, in their order.
 unfoldable pub those : (Finding → Bool) → List Finding → List Finding
 those takes [] = []
 those takes (f ∷ fs) = cond (takes f) (f ∷ those takes fs) (those takes fs)
 
--- The findings that are shown.
+-- The findings of a list that are shown.
 abbrev pub shown : List Silence → ℕ → ℕ → List Finding → List Finding
 shown silences cell ringNumber fs = those (isShown silences cell ringNumber) fs
 
--- The findings that are hidden. "Hidden counts findings, not records."
+-- The findings of a list that are hidden. "Hidden counts findings, not records."
 abbrev pub hidden : List Silence → ℕ → ℕ → List Finding → List Finding
 hidden silences cell ringNumber fs = those (isHidden silences cell ringNumber) fs
 
--- "report 1 to 7": with m, k, n, the room lent for findings and the book, which is read on every line.
+-- "report 1 to 7": the rows for m, k, n, the number of words lent and the book, each with its refusal if it is given. The book's rows are tested for every line, also
+-- for one shorter than the ring.
 unfoldable pub reportRows : ℕ → ℕ → ℕ → ℕ → List ℕ → List (Option Refusal)
 reportRows m k n room book = admitRows m k n room ++ bookRows book
 
--- The first of these rows that is given, if one is.
+-- The refusal of the first of these rows that is given; none if no row is.
 abbrev pub reportRefusal : ℕ → ℕ → ℕ → ℕ → List ℕ → Option Refusal
 reportRefusal m k n room book = firstGiven (reportRows m k n room book)
 
@@ -68,7 +70,7 @@ pub record ReportCounts : Type 0 where
 abbrev pub noReportCounts : ReportCounts
 noReportCounts = record { found = 0; hidden = 0; looks = 0 }
 
--- The counts of a report whose book has these silences.
+-- The counts of an accepted report whose book has these silences.
 abbrev pub reportCounts : List ℕ → List ℕ → ℕ → ℕ → ℕ → List Silence → ReportCounts
 reportCounts ring line k cell ringNumber silences = record {
   found = length (findings ring line k);
@@ -76,27 +78,27 @@ reportCounts ring line k cell ringNumber silences = record {
   looks = quickLooks ring line k;
 }
 
--- What a report returns: its counts by the book's silences, or the first row that is given.
+-- The answer of a report that is lent `room` words: the first of refusals 1 to 7 that is given, else the counts by the book's silences.
 unfoldable pub reported : List ℕ → List ℕ → ℕ → ℕ → ℕ → List ℕ → ℕ → Answer ReportCounts
 reported ring line k cell ringNumber book room =
     answerBy (reportRefusal (length ring) k (length line) room book) (reportCounts ring line k cell ringNumber (silencesRead book))
 
--- The lent words at exit: the words of the shown findings without a gap, and then as they were; a refusal "writes nothing to any lent area".
+-- The lent words at exit: the words of the shown findings without a gap, then the rest as it was. A refusal "writes nothing to any lent area".
 unfoldable pub reportedWords : List ℕ → List ℕ → ℕ → ℕ → ℕ → List ℕ → List ℕ → List ℕ
 reportedWords ring line k cell ringNumber book words =
     areaBy (reportRefusal (length ring) k (length line) (length words) book)
     (written (wordsOf (shown (silencesRead book) cell ringNumber (findings ring line k))) words) words
 
--- The answer that an enum's case stands for.
+-- The returned enum as an answer.
 abbrev pub answerOf : Reported → Answer ReportCounts
 answerOf (CountsCase found hid looks) = accepted (record { found = found; hidden = hid; looks = looks })
 answerOf (Refused refusal) = refused refusal
 
--- Document 01's number, place and counts of an answer.
+-- Document 01's number, place and counts for the returned enum.
 abbrev pub paperOf : Reported → Paper ReportCounts
 paperOf r = answerPaper noReportCounts (answerOf r)
 
--- Contract of `report`: cell, ring number, ring, line, allowance, book, the lent words, the answer and the words at exit.
+-- The contract of `report`. It fixes number, place and counts of the answer r and the words at exit `out`, on every input, accepted or refused.
 pub record IsReported (cell ringNumber : ℕ) (ring line : List ℕ) (k : ℕ) (book words : List ℕ) (r : Reported) (out : List ℕ) : Type 0 where
   pub paper : paperOf r ≡ answerPaper noReportCounts (reported ring line k cell ringNumber book (length words))
   pub written : out ≡ reportedWords ring line k cell ringNumber book words

@@ -1,6 +1,6 @@
--- Document 01, "What each call returns", the table's rows 1 to 7 as they read for the report: "Given exactly when", number and place written out, in their order.
--- The contract goes by `reportRows` of specs/Report.antt. This is the same table in plain comparisons; proofs/RowsOfReport.antt proves it for every answer that
--- meets the contract. The number is one of 0 to 7, so exactly one of the eight conditions holds.
+-- Document 01, "What each call returns": rows 1 to 7 of the table as they read for the report, with "Given exactly when", number and place written out, in their
+-- order. The contract uses `reportRows` of specs/Report.antt. This is the same table in plain comparisons, and proofs/RowsOfReport.antt proves it for every answer
+-- that meets the contract. The number is one of 0 to 7, so exactly one of the eight conditions holds.
 --
 --   ReportRows    the table, for an answer's paper and the words at exit
 use Prim.Native.Nat.{ℕ, _+_, _-_, _*_, _≤_, _<_}
@@ -15,7 +15,8 @@ use Rattle.silences.specs.Rows.{IsFieldFault, IsOrderFault}
 use Rattle.findings.specs.Admitting.{IsRing, Admitted}
 use Rattle.outlines.specs.Report.{ReportCounts}
 
--- The rows of a report with m, k, n, the book and the lent words; p is the paper of its answer, out the words at exit. `Admitted` says that none of rows 1 to 4 is given.
+-- The table for a report with m, k, n, the book and the lent words. p is the paper of its answer, `out` are the words at exit. `Admitted` says that none of rows 1 to
+-- 4 is given.
 pub record ReportRows (m k n : ℕ) (book words : List ℕ) (p : Paper ReportCounts) (out : List ℕ) : Type 0 where
   -- "m = 0 or m > 256"
   pub row-1 : (p .number ≡ 1) ↔ ((m ≡ 0) ⊎ (256 < m))
@@ -23,19 +24,19 @@ pub record ReportRows (m k n : ℕ) (book words : List ℕ) (p : Paper ReportCou
   pub row-2 : (p .number ≡ 2) ↔ (IsRing m × (m ≤ k))
   -- "n > 65,536", rows 1 and 2 not given
   pub row-3 : (p .number ≡ 3) ↔ (IsRing m × ((k < m) × (65536 < n)))
-  -- "n ≥ m and fewer than 3·(n − m + 1) words are lent for findings", rows 1 to 3 not given. Hidden findings count here, too.
+  -- "n ≥ m and fewer than 3·(n − m + 1) words are lent for findings", rows 1 to 3 not given. The room is for all findings, hidden ones too.
   pub row-4 : (p .number ≡ 4) ↔ (IsRing m × ((k < m) × ((n ≤ 65536) × ((m ≤ n) × (length words < 3 * (n - m + 1))))))
   -- "book longer than 13,000 bytes", rows 1 to 4 not given
   pub row-5 : (p .number ≡ 5) ↔ (Admitted m k n (length words) × (13000 < length book))
-  -- "a field isn't 13 bytes beginning 21 00 0A hex, or is cut off", its byte offset, rows 1 to 5 not given
+  -- "a field isn't 13 bytes beginning 21 00 0A hex, or is cut off"; place: its byte offset; rows 1 to 5 not given, and no earlier field is faulty
   pub row-6 : (at : ℕ) → ((p .number ≡ 6) × (p .place ≡ at)) ↔ (Admitted m k n (length words) × ((length book ≤ 13000) × IsFieldFault book at))
-  -- "a record isn't above the one before it", its byte offset, rows 1 to 5 not given
+  -- "a record isn't above the one before it"; place: its byte offset; rows 1 to 5 not given, and no earlier field is faulty
   pub row-7 : (at : ℕ) → ((p .number ≡ 7) × (p .place ≡ at)) ↔ (Admitted m k n (length words) × ((length book ≤ 13000) × IsOrderFault book at))
-  -- Accepted exactly when none of these rows is given: the book is that of some silences.
+  -- Accepted exactly when none of these rows is given: the call is admitted, and the book is the book of some list of silences.
   pub accepted : (p .number ≡ 0) ↔ (Admitted m k n (length words) × ((ss : List Silence) × IsBook ss book))
-  -- No other row.
+  -- No other number is given.
   pub number-le : p .number ≤ 7
-  -- The table's place of the rows without one: 0.
+  -- Rows 1 to 5 have place 0, and so has an accepted answer.
   pub place-is : p .number ≤ 5 → p .place ≡ 0
   -- A refusal carries "zero in every count".
   pub no-found : 0 < p .number → p .counts .found ≡ 0

@@ -1,5 +1,5 @@
--- Document 01, "Sample rings": "P2 with the one silence (7, 2, 10): as cell 7, ring 2 it shows starts 9 and 11, hidden 1; as cell 8 all three." And the report
--- program's example, with the silence (7, 2, 1); and that a silence for cell 0 hides in cell 0 alone. All are computed.
+-- Samples of the report, computed by antt. Document 01, "Sample rings": "P2 with the one silence (7, 2, 10): as cell 7, ring 2 it shows starts 9 and 11, hidden 1; as
+-- cell 8 all three." Also the example of the report program, with the silence (7, 2, 1), and a silence for cell 0, which hides in cell 0 alone.
 use Prim.Native.Nat.{ℕ}
 use mathlib.Core.Path.{_≡_, refl}
 use mathlib.Core.List.{List, [], _∷_}
@@ -29,7 +29,7 @@ line2 = ascii "GATACGATACCTAGGGTGATAGAATAG"
 unfoldable silence10 : List Silence
 silence10 = silence 7 2 10 ∷ []
 
--- "as cell 7, ring 2 it shows starts 9 and 11, hidden 1; as cell 8 all three"; so as cell 0, and as ring 3.
+-- "as cell 7, ring 2 it shows starts 9 and 11, hidden 1; as cell 8 all three". As cell 0, and as ring 3 of cell 7, nothing is hidden either.
 sample-hidden : (shown silence10 7 2 (findings ring2 line2 1) ≡ finding 9 3 1 ∷ finding 11 5 1 ∷ [])
     × (length (hidden silence10 7 2 (findings ring2 line2 1)) ≡ 1)
     × (shown silence10 8 2 (findings ring2 line2 1) ≡ finding 9 3 1 ∷ finding 10 4 0 ∷ finding 11 5 1 ∷ [])
@@ -39,12 +39,12 @@ sample-hidden : (shown silence10 7 2 (findings ring2 line2 1) ≡ finding 9 3 1 
 unfolding ring2 line2 silence10 those isSame names ascii count lowest differs distance lowestRotation foundAt findingsBelow
 sample-hidden = (refl, refl, refl, refl, refl, refl)
 
--- A silence for cell 0 hides in cell 0 alone: "Letting cell 0 in a silence stand for all cells" looks right and is not.
+-- A silence for cell 0 hides in cell 0 alone. "Letting cell 0 in a silence stand for all cells" is one of the readings that look right and are wrong.
 sample-cell-0 : (length (hidden (silence 0 2 10 ∷ []) 7 2 (findings ring2 line2 1)) ≡ 0) × (length (hidden (silence 0 2 10 ∷ []) 0 2 (findings ring2 line2 1)) ≡ 1)
 unfolding ring2 line2 those isSame names ascii count lowest differs distance lowestRotation foundAt findingsBelow
 sample-cell-0 = (refl, refl)
 
--- "found 2 hidden 1 looks 12", and the one line "0 0 0": of the words lent, three are written and three kept. As cell 8 nothing is hidden.
+-- "found 2 hidden 1 looks 12", and the one line "0 0 0": of the six words lent, three are written and three kept. As cell 8 nothing is hidden.
 sample-example : (reportCounts (ascii "aa") (ascii "aaa") 0 7 2 (silence 7 2 1 ∷ []) ≡ record { found = 2; hidden = 1; looks = 12 })
     × (reportCounts (ascii "aa") (ascii "aaa") 0 8 2 (silence 7 2 1 ∷ []) ≡ record { found = 2; hidden = 0; looks = 12 })
     × (written (wordsOf (shown (silence 7 2 1 ∷ []) 7 2 (findings (ascii "aa") (ascii "aaa") 0))) (1 ∷ 2 ∷ 3 ∷ 4 ∷ 5 ∷ 6 ∷ []) ≡ 0 ∷ 0 ∷ 0 ∷ 4 ∷ 5 ∷ 6 ∷ [])

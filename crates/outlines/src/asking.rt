@@ -1,4 +1,4 @@
-// The silence book asked for one finding: it is hidden or shown.
+// Asks the silence book for one finding, which is then hidden or shown.
 use answers::LinePlace;
 use book::is_for;
 use book::seek_on;
@@ -13,7 +13,7 @@ ghost use Rattle.silences.specs.Addresses.{silenceOf};
 ghost use Rattle.findings.specs.Putting.{findingOf};
 ghost use Rattle.outlines.specs.Hiding.{CanAsk, IsHiddenOrShown, IsShownPut};
 
-// How many findings are shown so far, how many are hidden, and the field that the book gave for the last start. Starts
+// The number of findings shown so far, of those hidden, and the field that the book gave for the last start. Starts
 // rise, so no field before that one is read again.
 pub struct BookAsked {
     pub shown: usize,
@@ -33,7 +33,7 @@ pub fn address_of(cell: u32, ring_number: u16, start: LinePlace) -> Address
     }
 }
 
-// One finding more is counted: hidden if the book has a field for its address, else shown. No word is written.
+// Counts one finding more: as hidden if the book has a field for its address, else as shown. No word is written.
 pub fn ask(
     cell: u32,
     ring_number: u16,
@@ -64,7 +64,8 @@ pub fn ask(
     }
 }
 
-// A shown finding's words go behind those of the shown ones before it. For a hidden finding nothing is written.
+// Puts a shown finding's words behind those of the shown ones before it. For a hidden finding nothing is written.
+// `before` and `shown` are the numbers of shown findings before and after this one was counted.
 pub fn put_shown(words: &mut [u32], before: usize, shown: usize, finding: Finding)
     ensures { λ _. ⌜ IsShownPut (now (words .entry)) before shown (findingOf finding) (now (words .exit)) ⌝ }
 {

@@ -20,14 +20,14 @@ use vectors::occurrences;
 ghost use Rattle.outlines.specs.Scan.{IsScanned};
 ghost use Rattle.outlines.specs.LineScan.{CanScan, CanScanLine, LineScanned};
 
-// "found (hidden ones included), hidden, looks" of one line.
+// "found (hidden ones included), hidden, looks" for one line.
 pub struct LineCounts {
     pub found: usize,
     pub hidden: usize,
     pub looks: usize,
 }
 
-// Candidate after candidate, while a window fits in the line. The book is first asked for the first start.
+// Goes from candidate to candidate while a window fits in the line. The book is first asked for start 0.
 fn scan_windows(
     cell: u32,
     ring_number: u16,
@@ -76,7 +76,8 @@ fn scan_windows(
     }
 }
 
-// The ring's occurrence vectors, its double and the counts are made once for each call. Making them reads no line edge.
+// Makes the ring's occurrence vectors, its double and the counts, once for each call, and scans the line. Making them
+// reads no line edge.
 pub fn scan_line(
     cell: u32,
     ring_number: u16,
@@ -107,7 +108,7 @@ pub fn scan_line(
     )
 }
 
-// The scan: with an empty book all findings are shown, whatever the cell and the ring number.
+// The quick scan. With an empty book all findings are shown, whatever the cell and the ring number, so both are 0 here.
 pub fn scan(ring: &[u8], line: &[u8], k: usize, words: &mut [u32]) -> Searched
     ensures { λ r. ⌜ IsScanned (now (ring .entry)) (now (line .entry)) k (now (words .entry)) r (now (words .exit)) ⌝ }
 {

@@ -17,7 +17,8 @@ pub enum Reported {
     Refused(Refusal),
 }
 
-// "report 1 to 7": the book is read on every line, also on a line that has no start.
+// The report, with refusals in the order "report 1 to 7". The book is read for every line, also for one that has no
+// start.
 pub fn report(
     cell: u32,
     ring_number: u16,

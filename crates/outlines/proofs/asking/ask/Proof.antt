@@ -1,4 +1,4 @@
--- `outlines::asking::ask` meets its contract: the finding is hidden if the field that is held for its address is for it, else shown.
+-- `outlines::asking::ask` meets its contract: the finding is hidden if the field sought for its address has this address, else shown (`AskCases`).
 use borrow.Author.Needs.{needs}
 use Rattle.findings.specs.Putting.{findingOf}
 use Rattle.outlines.proofs.AskCases.{ask-hidden, ask-shown}

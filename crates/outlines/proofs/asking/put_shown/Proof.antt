@@ -1,4 +1,4 @@
--- `outlines::asking::put_shown` meets its contract: the finding is put if more are shown than before, and nothing is written otherwise.
+-- `outlines::asking::put_shown` meets its contract: the finding is put if the number of shown findings has grown, else nothing is written.
 use native.Mathlib.Omega.{arith}
 use mathlib.Core.Path.{refl}
 use borrow.Author.Needs.{needs}

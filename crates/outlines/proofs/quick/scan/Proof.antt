@@ -1,5 +1,5 @@
--- `outlines::quick::scan` meets its contract: the call is refused, or the line is scanned with an empty book (`empty-book-searched`). These are a search's two
--- answers (`SearchAnswers` of crates/findings).
+-- `outlines::quick::scan` meets its contract: a row is given and the call is refused, or the line is scanned with an empty book (`empty-book-searched`). These are the
+-- two ways in which a search meets its contract (`SearchAnswers` of crates/findings).
 use mathlib.Core.Path.{sym, ap, _∙_}
 use borrow.Author.Needs.{needs}
 use Rattle.findings.specs.Admitting.{verdictOf}

@@ -1,5 +1,5 @@
--- `outlines::quick::scan_windows` meets its contract. The loop keeps `QuickLoop`. A turn goes by the sweep's answer: no finding, or one, which the book is
--- asked for. The starts up to the line's end fall.
+-- `outlines::quick::scan_windows` meets its contract: the loop keeps `QuickLoop`. The sweep's answer decides the turn: it reports no finding, or one, for which
+-- the book is asked. The measure is n + 1 - start.
 use Prim.Native.Nat.{_+_, _-_}
 use mathlib.Core.Path.{_≡_, refl, ap}
 use native.Mathlib.Omega.{arith}
@@ -43,7 +43,7 @@ enum-known-next-2 c = search needs
 enum-known-next-3 : tie.Need-enum-known-next-3 Inv-loop μ-loop
 enum-known-next-3 c = search needs
 
--- A finding, which the book is asked for.
+-- A finding, for which the book is asked.
 ask-requires : tie.Need-ask-requires Inv-loop μ-loop
 ask-requires c κs =
     let swept = c .before .before .before in
@@ -69,7 +69,7 @@ loop-again c =
     let told = is-told .next3 .given .1 in
     (refl, quick-found (swept .before .before .before .before .loop .inv .1) (swept .sweep-on .ensures) (ap stateOf told) (ap foundOf told) (asked .ask .ensures) (put .put-shown .ensures))
 
--- No window is in the line any more.
+-- No window fits in the line any more.
 loop-less-2 : tie.Need-loop-less-2 Inv-loop μ-loop
 loop-less-2 c =
     let swept = c .before .before .before in

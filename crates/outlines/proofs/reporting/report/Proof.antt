@@ -1,4 +1,5 @@
--- `outlines::reporting::report` meets its contract: one of rows 1 to 4 is given; none is, and the book is refused; or the line is scanned with the book.
+-- `outlines::reporting::report` meets its contract: one of rows 1 to 4 is given; none of them is, and the book is refused; or the line is scanned with the book
+-- (`ReportAnswers`).
 use mathlib.Core.Path.{sym, ap, _∙_}
 use borrow.Author.Needs.{needs}
 use Rattle.findings.specs.Admitting.{verdictOf}
@@ -34,13 +35,13 @@ scan-line-requires c κs =
       book-read = read-accepted (read .read .ensures) (c .before .enum-told2 .given .1);
     }
 
--- A row of 1 to 4.
+-- One of rows 1 to 4 is given.
 returns : tie.Need-returns
 returns c =
     let admitted = c .before .before .before in
     report-refused-row (sym (ap verdictOf (c .before .refusal .given .1)) ∙ admitted .admit .ensures .is)
 
--- A row of 5 to 7.
+-- One of rows 5 to 7 is given.
 returns-2 : tie.Need-returns-2
 returns-2 c =
     let read = c .before .before .before in
