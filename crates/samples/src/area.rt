@@ -1,44 +1,47 @@
-// The areas of a row: bytes to fill in, and what is lent to a call, with a canary in every byte or word to see which of them the call wrote.
+// The areas of a row: bytes to fill in, and areas to lend to a call. Every byte or word that is lent is a canary at
+// first, so that the program sees which of them the call wrote.
 ghost use Prim.Native.Nat.{_≤_};
 ghost use lib.ListN.{length};
 
-// How many bytes there are to fill in: as many as the longest line has, one more than a line may. No other input is longer.
-const MOST_BYTES: usize = 65537;
+// The bytes of an area to fill in: the longest line of a row, which is one edge longer than a line may be. Nothing else
+// that a row gives is longer, nor is the text of all rows.
+const AREA_BYTES: usize = 65537;
 
-// The canary of bytes. No row's last byte is one, and no row's last word is one of words.
+// The canary in bytes. No call ends its output with a canary, in bytes or in words.
 const CANARY_BYTE: u8 = 0xA5;
 
-// The canary of words: the byte four times over, so that bytes and words are inspected alike.
-const CANARY: u32 = 0xA5A5A5A5;
+// The canary in words: four canary bytes, so that `inspect` works for bytes and words alike.
+const CANARY_WORD: u32 = 0xA5A5A5A5;
 
-// How many bytes there are to lend to the packer, and words to the unpacker: more than any book has bytes.
-pub const AMPLE: usize = 13040;
+// The room for a call on a book: bytes for the packer, words for the unpacker. It is more than the bytes of any book.
+pub const BOOK_ROOM: usize = 13040;
 
-// How many words there are to lend to a search: more than the 3·65,536 that one asks at most.
-pub const LONG: usize = 196640;
+// The words of room for a search: more than 3·65,536, the most that a search requires.
+pub const SEARCH_ROOM: usize = 196640;
 
-// Bytes to fill in. A function of its own hands them out: a proof has the length of an array that a call returns, where in one that is made in place
-// it counts the elements one by one, which takes seconds for a long one. (So with every array here of more than 10,000 elements.)
-pub fn zeros() -> [u8; MOST_BYTES] {
-    [0; MOST_BYTES]
+// Bytes to fill in. They come from a function because the check knows the length of a returned array at once, while it
+// counts the elements of an array made in place one by one; for a long one that takes seconds. Every array of more than
+// 10,000 elements here comes from a function for this reason.
+pub fn zeros() -> [u8; AREA_BYTES] {
+    [0; AREA_BYTES]
 }
 
-// An area of canaries.
-pub fn ample() -> [u32; AMPLE] {
-    [CANARY; AMPLE]
+// Room for the unpacker: words, all canaries.
+pub fn book_room() -> [u32; BOOK_ROOM] {
+    [CANARY_WORD; BOOK_ROOM]
 }
 
-// The same of bytes.
-pub fn ample_bytes() -> [u8; AMPLE] {
-    [CANARY_BYTE; AMPLE]
+// Room for the packer: bytes, all canaries.
+pub fn book_room_bytes() -> [u8; BOOK_ROOM] {
+    [CANARY_BYTE; BOOK_ROOM]
 }
 
-// The same of words, for a search.
-pub fn long() -> [u32; LONG] {
-    [CANARY; LONG]
+// Room for a search: words, all canaries.
+pub fn search_room() -> [u32; SEARCH_ROOM] {
+    [CANARY_WORD; SEARCH_ROOM]
 }
 
-// The first `room` words, to be lent to a call. No row asks for more than there are.
+// The first `room` words of an area, to be lent to a call. No row asks for more than there are.
 pub fn lend(area: &mut [u32], room: usize) -> &mut [u32] {
     if room <= area.len() {
         &mut area[0..room]
@@ -47,7 +50,7 @@ pub fn lend(area: &mut [u32], room: usize) -> &mut [u32] {
     }
 }
 
-// The first `room` bytes.
+// The first `room` bytes of an area.
 pub fn lend_bytes(area: &mut [u8], room: usize) -> &mut [u8] {
     if room <= area.len() {
         &mut area[0..room]
@@ -56,7 +59,7 @@ pub fn lend_bytes(area: &mut [u8], room: usize) -> &mut [u8] {
     }
 }
 
-// The byte at a place; behind the last one, a canary.
+// The byte at a place; past the last one, a canary.
 pub fn byte_at(bytes: &[u8], at: usize) -> u8 {
     if at < bytes.len() {
         bytes[at]
@@ -65,8 +68,8 @@ pub fn byte_at(bytes: &[u8], at: usize) -> u8 {
     }
 }
 
-// What a call left of an area: how many words there are up to the last one written, of those lent, and whether every word behind those lent is a
-// canary.
+// What a call did to an area: the number of words up to the last one written, within those lent; and whether every word
+// after those lent is still a canary.
 pub struct Seen {
     pub written: usize,
     pub kept: bool,
@@ -80,7 +83,7 @@ pub fn inspect(area: &[u32], room: usize) -> Seen
     let mut kept = true;
     let mut at: usize = 0;
     while at < area.len() {
-        if area[at] != CANARY {
+        if area[at] != CANARY_WORD {
             if at < room {
                 written = at + 1;
             } else {

@@ -1,7 +1,6 @@
-// Reading and unpacking. A row gives its name, the words of its silences, how many bytes of their layout the book has, the byte offset and the byte
-// of a fault if there is one, and the room. Reading is lent no room.
+// Rows for `read` and `unpack`. A row gives its name, its book (books.rt says how), and the room for `unpack`.
 use crate::area;
-use crate::area::AMPLE;
+use crate::area::BOOK_ROOM;
 use crate::books;
 use crate::calls::READ;
 use crate::paper;
@@ -10,7 +9,8 @@ use crate::printing::Shown;
 use crate::table;
 use book::BookAnswer;
 
-fn answer(call: usize, book: &[u8], lent: &mut [u32]) -> BookAnswer {
+// Calls `read` or `unpack`.
+fn read_or_unpack(call: usize, book: &[u8], lent: &mut [u32]) -> BookAnswer {
     if call == READ {
         book::read(book)
     } else {
@@ -18,12 +18,13 @@ fn answer(call: usize, book: &[u8], lent: &mut [u32]) -> BookAnswer {
     }
 }
 
+// Runs one row through one of the two calls.
 pub fn book_row(call: usize, row: &[u8]) {
     let mut bytes = area::zeros();
     let book = books::book(row, 1, &mut bytes);
-    let room = table::number_or(row, 5, AMPLE);
-    let mut words = area::ample();
+    let room = table::number_or(row, 5, BOOK_ROOM);
+    let mut words = area::book_room();
     let space: &mut [u32] = &mut words;
-    paper::print_book(answer(call, book, area::lend(space, room)));
-    printing::end(Shown::Words, space, room);
+    paper::print_book(read_or_unpack(call, book, area::lend(space, room)));
+    printing::end_row(Shown::Words, space, room);
 }

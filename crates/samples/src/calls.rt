@@ -1,4 +1,4 @@
-// The calls, by their places among the names below.
+// The calls, numbered as their names stand in `begin_row`.
 use crate::printing;
 use crate::table;
 
@@ -18,10 +18,10 @@ pub const REPORT: usize = 6;
 
 pub const ANSWER: usize = 7;
 
-// Writes the call, and the name of the row.
-pub fn begin(call: usize, row: &[u8]) {
+// Begins the line of a row: prints the call and the row's name.
+pub fn begin_row(call: usize, row: &[u8]) {
     let names = b"pack |read |unpack |seek |scan |survey |report |answer ";
-    printing::text(table::field(names, call));
-    printing::text(table::field(row, 0));
-    printing::text(b":");
+    printing::print_text(table::field(names, call));
+    printing::print_text(table::field(row, 0));
+    printing::print_text(b":");
 }

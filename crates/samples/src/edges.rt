@@ -1,18 +1,19 @@
-// Rings and lines. Letters stand for their codes; `#` begins a list of codes; `*` begins the first code, the last one and how many edges there
-// are, of codes that rise by one and after the last one begin again at 0.
+// Rings and lines. A field gives edges in one of three ways: letters, which stand for their codes; `#` and a list of
+// codes; `*` and three numbers: the first code, the last code and how many edges. The codes then rise by one from the
+// first to the last and begin again at 0.
 use crate::area;
 use crate::filling;
-use crate::filling::Bytes;
+use crate::filling::ByteKind;
 use crate::table;
 ghost use Prim.Native.Nat.{_<_};
 
-// A number cut to a code.
-pub fn code(number: usize) -> u8 {
+// The number mod 256.
+pub fn cut_to_code(number: usize) -> u8 {
     (number % 256) as u8
 }
 
-// How many codes there are from the first one on before they begin again at 0: one where the first is above the last.
-fn rises(first: u8, last: u8) -> usize
+// How many codes come before they begin again at 0: those from `first` to `last`, and one if `first` is above `last`.
+fn first_run(first: u8, last: u8) -> usize
     ensures { λ r. ⌜ r < 257 ⌝ }
 {
     if first < last {
@@ -22,44 +23,44 @@ fn rises(first: u8, last: u8) -> usize
     }
 }
 
-// The code at a place of those that rise.
+// The code at place `at` of codes that rise.
 pub fn rising(first: u8, last: u8, at: usize) -> u8 {
-    let rises = rises(first, last);
-    if at < rises {
-        code(first as usize + at)
+    let run = first_run(first, last);
+    if at < run {
+        cut_to_code(first as usize + at)
     } else {
-        code((at - rises) % (last as usize + 1))
+        cut_to_code((at - run) % (last as usize + 1))
     }
 }
 
-// What a field gives.
-fn kind_of(field: &[u8]) -> Bytes {
+// In which way a field gives edges.
+fn kind_of(field: &[u8]) -> ByteKind {
     if table::begins(field, b'*') {
-        return Bytes::Rising {
-            first: code(table::number(field, 0)),
-            last: code(table::number(field, 1)),
+        return ByteKind::Rising {
+            first: cut_to_code(table::nth_number(field, 0)),
+            last: cut_to_code(table::nth_number(field, 1)),
         };
     }
     if table::begins(field, b'#') {
-        Bytes::Codes
+        ByteKind::Codes
     } else {
-        Bytes::Letters
+        ByteKind::Letters
     }
 }
 
-// How many edges that is.
-fn count(what: Bytes, field: &[u8]) -> usize {
+// How many edges a field gives.
+fn edge_count(what: ByteKind, field: &[u8]) -> usize {
     match what {
-        Bytes::Rising { first: _, last: _ } => table::number(field, 2),
-        Bytes::Codes => table::numbers(field),
+        ByteKind::Rising { first: _, last: _ } => table::nth_number(field, 2),
+        ByteKind::Codes => table::number_count(field),
         _ => field.len(),
     }
 }
 
-// The edges that a field gives, in the first bytes of an area.
+// Fills the edges that a field gives into the front of an area, and returns them.
 pub fn of_field<'a>(field: &[u8], area: &'a mut [u8]) -> &'a [u8] {
     let what = kind_of(field);
-    let edges = area::lend_bytes(area, count(what, field));
+    let edges = area::lend_bytes(area, edge_count(what, field));
     filling::fill_bytes(what, field, edges);
     edges
 }

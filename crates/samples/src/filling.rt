@@ -1,51 +1,56 @@
-// The two loops that fill in what a row gives: its bytes, and its words. What stands at a place is a function of the place.
+// The two loops that fill in what a row gives: bytes and words. Each byte or word is computed from its place.
 use crate::area;
 use crate::books;
 use crate::edges;
 use crate::table;
 
-// What bytes are filled with, of a field: codes that rise, a list of codes, letters, or the layout of silences.
-pub enum Bytes {
+// What a field gives as bytes: codes that rise, a list of codes, letters, or silences, whose layout is filled in.
+pub enum ByteKind {
     Rising { first: u8, last: u8 },
     Codes,
     Letters,
     Book,
 }
 
-fn byte(what: Bytes, field: &[u8], at: usize) -> u8 {
+// The byte at place `at`.
+fn byte_to_fill(what: ByteKind, field: &[u8], at: usize) -> u8 {
     match what {
-        Bytes::Rising { first, last } => edges::rising(first, last, at),
-        Bytes::Codes => edges::code(table::number(field, at)),
-        Bytes::Letters => area::byte_at(field, at),
-        Bytes::Book => books::layout_byte(field, at),
+        ByteKind::Rising { first, last } => edges::rising(first, last, at),
+        ByteKind::Codes => edges::cut_to_code(table::nth_number(field, at)),
+        ByteKind::Letters => area::byte_at(field, at),
+        ByteKind::Book => books::layout_byte(field, at),
     }
 }
 
-pub fn fill_bytes(what: Bytes, field: &[u8], bytes: &mut [u8]) {
+// Fills all of `bytes`.
+pub fn fill_bytes(what: ByteKind, field: &[u8], bytes: &mut [u8]) {
     let mut at: usize = 0;
     while at < bytes.len() {
-        bytes[at] = byte(what, field, at);
+        bytes[at] = byte_to_fill(what, field, at);
         at += 1;
     }
 }
 
-// What words are filled with: the words of the silences that a field gives, or each byte of an area four times over, as a canary of words is made.
-pub enum Words {
+// What words are filled with: the words of the silences that a field gives, or the bytes of an area, each four times
+// over to make a word (as the canary in words is made).
+pub enum WordKind {
     Silences,
     Spread,
 }
 
-fn word(what: Words, from: &[u8], at: usize) -> u32 {
+// The word at place `at`.
+fn word_to_fill(what: WordKind, from: &[u8], at: usize) -> u32 {
     match what {
-        Words::Silences => books::word_of(from, at),
-        Words::Spread => (area::byte_at(from, at) as u32) * 0x01010101,
+        WordKind::Silences => books::word_of(from, at),
+        WordKind::Spread => (area::byte_at(from, at) as u32) * 0x01010101,
     }
 }
 
-pub fn fill_words(what: Words, from: &[u8], words: &mut [u32]) {
+// Fills all of `words`.
+pub fn fill_words(what: WordKind, from: &[u8], words: &mut [u32]) {
     let mut at: usize = 0;
     while at < words.len() {
-        words[at] = word(what, from, at);
+        words[at] = word_to_fill(what, from, at);
         at += 1;
     }
 }

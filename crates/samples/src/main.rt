@@ -1,5 +1,5 @@
-// Runs the calls on each edge that document 01 names, and prints a line each. The rows are the text on standard input, a section for each kind;
-// the lines are held to the stored output.
+// Runs the calls on each edge that document 01 names, and prints a line for each. The rows are read from standard input
+// (crates/samples/stdin), a section for each kind of row. What is printed is compared with crates/samples/stdout.
 mod answer_rows;
 mod area;
 mod book_rows;
@@ -24,7 +24,7 @@ use calls::SEEK;
 use calls::SURVEY;
 use calls::UNPACK;
 
-// One row, through its call.
+// Runs one row through a call.
 fn run_row(call: usize, row: &[u8]) {
     match call {
         PACK => pack_rows::pack_row(row),
@@ -35,14 +35,14 @@ fn run_row(call: usize, row: &[u8]) {
     }
 }
 
-// Every row of a section, through one call. Each of its lines ends with the mark of rows, and the first one is a heading.
+// Runs every row of a section through one call. Each line ends with the mark of rows; the first is a heading.
 fn run(call: usize, text: &[u8], index: usize) {
-    let section = table::part(text, table::SECTION, index);
-    let lines = table::marks(section, table::ROW);
+    let section = table::part(text, table::SECTION_MARK, index);
+    let lines = table::marks(section, table::ROW_MARK);
     let mut next: usize = 1;
     while next < lines {
-        let row = table::part(section, table::ROW, next);
-        calls::begin(call, row);
+        let row = table::part(section, table::ROW_MARK, next);
+        calls::begin_row(call, row);
         run_row(call, row);
         next += 1;
     }
@@ -57,7 +57,7 @@ fn main() {
     run(UNPACK, text, 2);
     run(UNPACK, text, 3);
     run(SEEK, text, 4);
-    // The same rows through each search: a row that gives no book is a report with an empty one.
+    // The same rows go through each search: a row without a book is a report with an empty book.
     run(SCAN, text, 5);
     run(SURVEY, text, 5);
     run(REPORT, text, 5);

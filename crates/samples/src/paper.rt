@@ -1,22 +1,22 @@
-// Document 01's number, place and counts of an answer. An accepted one has number 0 and place 0; "a refusal carries its number and place, zero in
-// every count".
-use crate::printing::FOUND;
-use crate::printing::HIDDEN;
-use crate::printing::LOOKS;
-use crate::printing::NUMBER;
-use crate::printing::PLACE;
-use crate::printing::RECORDS;
-use crate::printing::number;
+// Printing an answer as document 01's number, place and counts. An accepted answer has number 0 and place 0; "A refusal
+// carries its number and place, zero in every count".
+use crate::printing::FOUND_LABEL;
+use crate::printing::HIDDEN_LABEL;
+use crate::printing::LOOKS_LABEL;
+use crate::printing::NUMBER_LABEL;
+use crate::printing::PLACE_LABEL;
+use crate::printing::RECORDS_LABEL;
+use crate::printing::print_number;
 use answers::number_of;
 use answers::place_of;
 use book::BookAnswer;
 use outlines::Reported;
 use outlines::Searched;
 
-// Writes the number of a refusal, 0 for none, and its place.
+// Prints the number of a refusal (0 for none) and its place.
 fn print_refusal(refusal: usize, place: usize) {
-    number(NUMBER, refusal);
-    number(PLACE, place);
+    print_number(NUMBER_LABEL, refusal);
+    print_number(PLACE_LABEL, place);
 }
 
 // "Packer and unpacker return the number of records".
@@ -24,11 +24,11 @@ pub fn print_book(answer: BookAnswer) {
     match answer {
         BookAnswer::Records(records) => {
             print_refusal(0, 0);
-            number(RECORDS, records);
+            print_number(RECORDS_LABEL, records);
         }
         BookAnswer::Refused(refusal) => {
             print_refusal(number_of(refusal), place_of(refusal));
-            number(RECORDS, 0);
+            print_number(RECORDS_LABEL, 0);
         }
     }
 }
@@ -38,13 +38,13 @@ pub fn print_search(answer: Searched) {
     match answer {
         Searched::Counts { found, looks } => {
             print_refusal(0, 0);
-            number(FOUND, found);
-            number(LOOKS, looks);
+            print_number(FOUND_LABEL, found);
+            print_number(LOOKS_LABEL, looks);
         }
         Searched::Refused(refusal) => {
             print_refusal(number_of(refusal), place_of(refusal));
-            number(FOUND, 0);
-            number(LOOKS, 0);
+            print_number(FOUND_LABEL, 0);
+            print_number(LOOKS_LABEL, 0);
         }
     }
 }
@@ -58,15 +58,15 @@ pub fn print_report(answer: Reported) {
             looks,
         } => {
             print_refusal(0, 0);
-            number(FOUND, found);
-            number(HIDDEN, hidden);
-            number(LOOKS, looks);
+            print_number(FOUND_LABEL, found);
+            print_number(HIDDEN_LABEL, hidden);
+            print_number(LOOKS_LABEL, looks);
         }
         Reported::Refused(refusal) => {
             print_refusal(number_of(refusal), place_of(refusal));
-            number(FOUND, 0);
-            number(HIDDEN, 0);
-            number(LOOKS, 0);
+            print_number(FOUND_LABEL, 0);
+            print_number(HIDDEN_LABEL, 0);
+            print_number(LOOKS_LABEL, 0);
         }
     }
 }

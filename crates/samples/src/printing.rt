@@ -1,92 +1,94 @@
-// A row is a named line: the call and the row's name, then numbers with their names, then what the call wrote.
+// Printing the line of a row: the call and the row's name, then numbers with their labels, then what the call wrote.
 use crate::area;
 use crate::filling;
-use crate::filling::Words;
+use crate::filling::WordKind;
 use crate::table;
 ghost use Prim.Native.Nat.{_<_};
 
-// How what a call wrote is shown: bytes in hex, words in threes as document 01 writes a finding.
+// How the bytes or words that a call wrote are shown: bytes in hex, words in threes as document 01 writes a finding.
 pub enum Shown {
     Bytes,
     Words,
 }
 
-// The most bytes or words that a row shows one by one. Of more it shows a checksum.
-const MOST: usize = 26;
+// The most bytes or words that are shown one by one. Of more only a checksum is shown.
+const MOST_SHOWN: usize = 26;
 
-// A modulus small enough that nothing below overflows.
-const CHECKSUM_BELOW: usize = 1000003;
+// The modulus of the checksum. It is small enough that `sum_with` does not overflow.
+const CHECKSUM_MODULUS: usize = 1000003;
 
-// The names of numbers, by their places in the text of `number`.
-pub const NUMBER: usize = 0;
+// The labels of numbers, numbered as they stand in `print_number`.
+pub const NUMBER_LABEL: usize = 0;
 
-pub const PLACE: usize = 1;
+pub const PLACE_LABEL: usize = 1;
 
-pub const RECORDS: usize = 2;
+pub const RECORDS_LABEL: usize = 2;
 
-pub const FOUND: usize = 3;
+pub const FOUND_LABEL: usize = 3;
 
-pub const HIDDEN: usize = 4;
+pub const HIDDEN_LABEL: usize = 4;
 
-pub const LOOKS: usize = 5;
+pub const LOOKS_LABEL: usize = 5;
 
-pub const FROM: usize = 6;
+pub const FROM_LABEL: usize = 6;
 
-pub const CELL: usize = 7;
+pub const CELL_LABEL: usize = 7;
 
-pub const RING_NUMBER: usize = 8;
+pub const RING_NUMBER_LABEL: usize = 8;
 
-pub const START: usize = 9;
+pub const START_LABEL: usize = 9;
 
-pub const NEXT: usize = 10;
+pub const NEXT_LABEL: usize = 10;
 
-const WRITTEN: usize = 11;
+const WRITTEN_LABEL: usize = 11;
 
-const CHECKSUM: usize = 12;
+const CHECKSUM_LABEL: usize = 12;
 
-// Writes a text.
-pub fn text(bytes: &[u8]) {
+// Prints a text.
+pub fn print_text(bytes: &[u8]) {
     io::write_all(1, bytes);
 }
 
-// Writes a number behind its name. All names stand in one text, since each text in a function takes its check some tenths of a second.
-pub fn number(name: usize, value: usize) {
-    let names =
+// Prints a number after its label. All labels stand in one text, because each text in a function costs the check some
+// tenths of a second.
+pub fn print_number(label: usize, value: usize) {
+    let labels =
         b" number | place | records | found | hidden | looks | from | cell | ring number | start | next | written | checksum ";
-    text(table::field(names, name));
+    print_text(table::field(labels, label));
     io::print_decimal(1, value as u64);
 }
 
-// Writes one byte, which a word has four times over, or one word.
-fn value(shown: Shown, at: usize, word: u32) {
+// Prints one byte, which the word has four times over, or one word.
+fn print_value(shown: Shown, at: usize, word: u32) {
     match shown {
         Shown::Bytes => {
-            text(b" ");
+            print_text(b" ");
             io::print_hex(1, (word % 256) as u64, 2);
         }
         Shown::Words => {
-            text(table::field(b" |,|,", at % 3));
+            print_text(table::field(b" |,|,", at % 3));
             io::print_decimal(1, word as u64);
         }
     }
 }
 
+// The checksum with one word more.
 fn sum_with(sum: usize, word: u32) -> usize
     requires { ⌜ sum < 1000003 ⌝ }
     ensures { λ r. ⌜ r < 1000003 ⌝ }
 {
-    (sum * 31 + word as usize) % CHECKSUM_BELOW
+    (sum * 31 + word as usize) % CHECKSUM_MODULUS
 }
 
-// Writes the words where they are few, and gives a number that tells long runs of words apart: 31 times the number before, and the next word, mod
-// 1,000,003.
-fn values(shown: Shown, words: &[u32]) -> usize {
+// Prints the words if they are few, and returns their checksum: for each word, 31 times the sum so far plus the word,
+// mod 1,000,003.
+fn print_values(shown: Shown, words: &[u32]) -> usize {
     let mut sum: usize = 0;
     let mut at: usize = 0;
     while at < words.len() {
         let word = words[at];
-        if words.len() <= MOST {
-            value(shown, at, word);
+        if words.len() <= MOST_SHOWN {
+            print_value(shown, at, word);
         }
         sum = sum_with(sum, word);
         at += 1;
@@ -94,25 +96,26 @@ fn values(shown: Shown, words: &[u32]) -> usize {
     sum
 }
 
-// Ends the row: what was written of the first `room` words of the area, and whether all words behind them are kept.
-pub fn end(shown: Shown, area: &[u32], room: usize) {
+// Ends the line of a row: prints what the call wrote into the first `room` words of the area, and whether all words
+// after them are kept.
+pub fn end_row(shown: Shown, area: &[u32], room: usize) {
     let seen = area::inspect(area, room);
     let count = seen.written;
-    number(WRITTEN, count);
-    let checksum = values(shown, &area[0..count]);
-    if MOST < count {
-        number(CHECKSUM, checksum);
+    print_number(WRITTEN_LABEL, count);
+    let checksum = print_values(shown, &area[0..count]);
+    if MOST_SHOWN < count {
+        print_number(CHECKSUM_LABEL, checksum);
     }
     if seen.kept {
-        text(b" behind kept\n");
+        print_text(b" behind kept\n");
     } else {
-        text(b" behind touched\n");
+        print_text(b" behind touched\n");
     }
 }
 
-// Ends a row whose call was lent bytes: they are inspected as words.
-pub fn end_bytes(bytes: &[u8], room: usize) {
-    let mut words = area::ample();
-    filling::fill_words(Words::Spread, bytes, &mut words);
-    end(Shown::Bytes, &words, room);
+// Ends the line of a row whose call was lent bytes: they are inspected as words.
+pub fn end_row_of_bytes(bytes: &[u8], room: usize) {
+    let mut words = area::book_room();
+    filling::fill_words(WordKind::Spread, bytes, &mut words);
+    end_row(Shown::Bytes, &words, room);
 }

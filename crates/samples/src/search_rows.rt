@@ -1,7 +1,8 @@
-// Searching a line for a ring. A row gives its name, ring, line, allowance and room, and for a report what report_rows.rt says besides, and goes
-// through the call that is asked for. It says what the call answers, the words written, and whether all words behind the room that was lent are kept.
+// Rows for `scan`, `survey` and `report`. A row gives its name, ring, line, allowance and room, and for a report also
+// what report_rows.rt says. Printed are the answer, the words written, and whether all words after the room that was
+// lent are kept.
 use crate::area;
-use crate::area::LONG;
+use crate::area::SEARCH_ROOM;
 use crate::calls::SCAN;
 use crate::calls::SURVEY;
 use crate::edges;
@@ -11,25 +12,26 @@ use crate::printing::Shown;
 use crate::report_rows;
 use crate::table;
 
-// Calls, and prints the answer.
-fn answer(call: usize, row: &[u8], ring: &[u8], line: &[u8], k: usize, lent: &mut [u32]) {
+// Calls the search and prints its answer.
+fn print_counts(call: usize, row: &[u8], ring: &[u8], line: &[u8], k: usize, lent: &mut [u32]) {
     match call {
         SCAN => paper::print_search(outlines::scan(ring, line, k, lent)),
         SURVEY => paper::print_search(outlines::survey(ring, line, k, lent)),
-        _ => report_rows::report(row, ring, line, k, lent),
+        _ => report_rows::report_row(row, ring, line, k, lent),
     }
 }
 
-// Searches a line for a ring, and prints what comes of it.
+// Searches a line for a ring, and prints the answer and the words written.
 fn search(call: usize, row: &[u8], ring: &[u8], line: &[u8]) {
     let k = table::number_or(row, 3, 0);
-    let room = table::number_or(row, 4, LONG);
-    let mut words = area::long();
+    let room = table::number_or(row, 4, SEARCH_ROOM);
+    let mut words = area::search_room();
     let space: &mut [u32] = &mut words;
-    answer(call, row, ring, line, k, area::lend(space, room));
-    printing::end(Shown::Words, space, room);
+    print_counts(call, row, ring, line, k, area::lend(space, room));
+    printing::end_row(Shown::Words, space, room);
 }
 
+// Runs one row through one of the three calls.
 pub fn search_row(call: usize, row: &[u8]) {
     let mut ring = area::zeros();
     let mut line = area::zeros();

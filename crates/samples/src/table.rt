@@ -1,27 +1,28 @@
-// The rows are a text on standard input. Sections, rows, fields and numbers are its parts, each kind with a mark of its own between them.
+// The text of the rows, cut into parts: sections, the rows of a section, the fields of a row, the numbers of a field.
+// Each kind of part has a mark of its own between its parts.
 ghost use Prim.Native.Nat.{_≤_};
 ghost use lib.ListN.{length};
 
-// Between sections, rows, the fields of a row, and the numbers of a field.
-pub const SECTION: u8 = b'=';
+// The marks between sections, rows, the fields of a row, and the numbers of a field.
+pub const SECTION_MARK: u8 = b'=';
 
-pub const ROW: u8 = b'\n';
+pub const ROW_MARK: u8 = b'\n';
 
-const FIELD: u8 = b'|';
+const FIELD_MARK: u8 = b'|';
 
-const NUMBER: u8 = b' ';
+const NUMBER_MARK: u8 = b' ';
 
 // The largest number that a usize holds.
 const LARGEST: usize = 18446744073709551615;
 
-// Where a part lies in its text, and how many marks stand before its end.
+// A part's beginning and end in its text, and how many marks stand before its end.
 struct Span {
     begin: usize,
     end: usize,
     marks: usize,
 }
 
-// Where the part of this index lies, from 0 on. Past the last it is empty, at the text's end.
+// Finds the part with this index, from 0 on. Past the last part it is empty, at the text's end.
 fn find(text: &[u8], mark: u8, index: usize) -> Span
     ensures { λ r. ⌜ (r .begin ≤ r .end) × (r .end ≤ length (now (text .entry))) ⌝ }
 {
@@ -52,7 +53,7 @@ fn find(text: &[u8], mark: u8, index: usize) -> Span
     }
 }
 
-// The part of this index; an empty one past the last.
+// The part with this index; past the last part, an empty one.
 pub fn part(text: &[u8], mark: u8, index: usize) -> &[u8] {
     let span = find(text, mark, index);
     let begin = span.begin;
@@ -65,8 +66,9 @@ pub fn marks(text: &[u8], mark: u8) -> usize {
     find(text, mark, text.len()).marks
 }
 
+// The field of a row with this index.
 pub fn field(row: &[u8], index: usize) -> &[u8] {
-    part(row, FIELD, index)
+    part(row, FIELD_MARK, index)
 }
 
 // Whether a field begins with this byte.
@@ -78,7 +80,8 @@ pub fn begins(field: &[u8], byte: u8) -> bool {
     }
 }
 
-// A number with one digit more; the largest where that is too large. What is no digit, as a comma, is passed.
+// The number with one digit more at its end; the largest usize if it would be larger. A byte that is not a digit, such
+// as a comma, is ignored.
 fn with_digit(value: usize, byte: u8) -> usize {
     if byte < b'0' {
         return value;
@@ -94,7 +97,7 @@ fn with_digit(value: usize, byte: u8) -> usize {
     }
 }
 
-// The number that a text gives.
+// The number whose decimal digits are in a text.
 fn decimal(text: &[u8]) -> usize {
     let mut value: usize = 0;
     let mut at: usize = 0;
@@ -105,14 +108,14 @@ fn decimal(text: &[u8]) -> usize {
     value
 }
 
-// One of a field's numbers.
-pub fn number(field: &[u8], index: usize) -> usize {
-    decimal(part(field, NUMBER, index))
+// The number with this index in a field.
+pub fn nth_number(field: &[u8], index: usize) -> usize {
+    decimal(part(field, NUMBER_MARK, index))
 }
 
-// How many numbers a field gives: none where it is empty. (No field is all marks.)
-pub fn numbers(field: &[u8]) -> usize {
-    let marks = marks(field, NUMBER);
+// How many numbers a field gives; an empty field gives none. (No field of a row consists of marks alone.)
+pub fn number_count(field: &[u8]) -> usize {
+    let marks = marks(field, NUMBER_MARK);
     if marks < field.len() {
         marks + 1
     } else {
@@ -120,7 +123,7 @@ pub fn numbers(field: &[u8]) -> usize {
     }
 }
 
-// The number of a row's field, or another one where the row gives none.
+// The number in a row's field; `other` if that field is empty.
 pub fn number_or(row: &[u8], index: usize, other: usize) -> usize {
     let text = field(row, index);
     if text.len() == 0 {

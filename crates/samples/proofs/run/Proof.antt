@@ -1,4 +1,4 @@
--- `samples::run` is safe and ends: the lines left fall.
+-- `samples::run` is safe and ends: the number of lines left falls.
 use Prim.Native.Nat.{_-_}
 use native.Mathlib.Omega.{arith}
 use Rattle.samples.proofs.run.Statement.{statement}
@@ -22,8 +22,8 @@ loop-holds c = tt
 part-requires-2 : tie.Need-part-requires-2 Inv-loop μ-loop
 part-requires-2 c κs = tt
 
-begin-requires : tie.Need-begin-requires Inv-loop μ-loop
-begin-requires c κs = tt
+begin-row-requires : tie.Need-begin-row-requires Inv-loop μ-loop
+begin-row-requires c κs = tt
 
 run-row-requires : tie.Need-run-row-requires Inv-loop μ-loop
 run-row-requires c κs = tt
@@ -50,7 +50,7 @@ run-spec =
     marks-requires
     loop-holds
     part-requires-2
-    begin-requires
+    begin-row-requires
     run-row-requires
     add-next
     loop-less

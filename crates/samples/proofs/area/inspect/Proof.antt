@@ -1,4 +1,4 @@
--- `samples::area::inspect` meets its contract: the last word written lies before the place inspected, and what is left of the area falls.
+-- `samples::area::inspect` meets its contract: `written` is at most the place inspected. The number of words left falls.
 use Prim.Native.Nat.{_-_, _≤_}
 use mathlib.Core.Logic.{⊎-elim}
 use native.Mathlib.Omega.{arith}

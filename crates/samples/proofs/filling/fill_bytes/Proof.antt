@@ -1,4 +1,4 @@
--- `samples::filling::fill_bytes` is safe and ends: what is left of the bytes falls, and no store changes their number.
+-- `samples::filling::fill_bytes` is safe and ends: a store keeps the number of bytes, and the number of bytes left falls.
 use Prim.Native.Nat.{_-_}
 use mathlib.Core.Path.{_≡_}
 use native.Mathlib.Omega.{arith}
@@ -16,8 +16,8 @@ abbrev μ-loop : tie.MeasureT-loop
 loop-holds : tie.Need-loop-holds Inv-loop μ-loop
 loop-holds c = search needs
 
-byte-requires : tie.Need-byte-requires Inv-loop μ-loop
-byte-requires c κs = tt
+byte-to-fill-requires : tie.Need-byte-to-fill-requires Inv-loop μ-loop
+byte-to-fill-requires c κs = tt
 
 slice-write-bytes : tie.Need-slice-write-bytes Inv-loop μ-loop
 slice-write-bytes c = omega arith
@@ -44,7 +44,7 @@ fill-bytes-spec =
     Inv-loop
     μ-loop
     loop-holds
-    byte-requires
+    byte-to-fill-requires
     slice-write-bytes
     add-at
     loop-less

@@ -1,4 +1,4 @@
--- `samples::filling::fill_words` is safe and ends: what is left of the words falls, and no store changes their number.
+-- `samples::filling::fill_words` is safe and ends: a store keeps the number of words, and the number of words left falls.
 use Prim.Native.Nat.{_-_}
 use mathlib.Core.Path.{_≡_}
 use native.Mathlib.Omega.{arith}
@@ -16,8 +16,8 @@ abbrev μ-loop : tie.MeasureT-loop
 loop-holds : tie.Need-loop-holds Inv-loop μ-loop
 loop-holds c = search needs
 
-word-requires : tie.Need-word-requires Inv-loop μ-loop
-word-requires c κs = tt
+word-to-fill-requires : tie.Need-word-to-fill-requires Inv-loop μ-loop
+word-to-fill-requires c κs = tt
 
 mul-words : tie.Need-mul-words Inv-loop μ-loop
 mul-words c = omega arith
@@ -47,7 +47,7 @@ fill-words-spec =
     Inv-loop
     μ-loop
     loop-holds
-    word-requires
+    word-to-fill-requires
     mul-words
     slice-write-words
     add-at

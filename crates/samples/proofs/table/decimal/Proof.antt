@@ -1,4 +1,4 @@
--- `samples::table::decimal` is safe and ends: what is left of the text falls.
+-- `samples::table::decimal` is safe and ends: the number of bytes left falls.
 use Prim.Native.Nat.{_-_}
 use native.Mathlib.Omega.{arith}
 use lib.ListN.{length}

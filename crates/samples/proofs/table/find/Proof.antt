@@ -1,5 +1,5 @@
--- `samples::table::find` meets its contract: the part begins at or before the place read, no more marks than bytes are passed, and what is left of the
--- text falls.
+-- `samples::table::find` meets its contract: the part begins at or before the place read, and there are no more marks than bytes before it. The number of bytes
+-- left falls.
 use Prim.Native.Nat.{_-_, _≤_}
 use mathlib.Core.Logic.{⊎-elim}
 use native.Mathlib.Omega.{arith}

@@ -1,10 +1,10 @@
--- `samples::printing::values` is safe and ends: the values left fall, and the sum stays below its modulus.
+-- `samples::printing::print_values` is safe and ends: the sum stays below its modulus, and the number of words left falls.
 use Prim.Native.Nat.{_-_, _<_}
 use native.Mathlib.Omega.{arith}
 use lib.ListN.{length}
 use borrow.Author.Needs.{needs}
-use Rattle.samples.proofs.printing.values.Statement.{statement}
-use Rattle.samples.proofs.printing.values.Tie as tie
+use Rattle.samples.proofs.printing.print_values.Statement.{statement}
+use Rattle.samples.proofs.printing.print_values.Tie as tie
 
 abbrev Inv-loop : tie.InvT-loop
 Inv-loop shown words sum₀ at₀ sum at = sum < 1000003
@@ -21,8 +21,8 @@ mul-word c = omega arith
 shared-slice-read-word : tie.Need-shared-slice-read-word Inv-loop μ-loop
 shared-slice-read-word c = omega arith
 
-value-requires : tie.Need-value-requires Inv-loop μ-loop
-value-requires c κs = tt
+print-value-requires : tie.Need-print-value-requires Inv-loop μ-loop
+print-value-requires c κs = tt
 
 sum-with-requires : tie.Need-sum-with-requires Inv-loop μ-loop
 sum-with-requires c κs = omega arith
@@ -39,8 +39,8 @@ loop-again c = search needs
 returns : tie.Need-returns Inv-loop μ-loop
 returns c = tt
 
-pub values-spec : {M : Type 1} → statement M
-values-spec =
+pub print-values-spec : {M : Type 1} → statement M
+print-values-spec =
     tie.close
     (tie.spec
     Inv-loop
@@ -48,7 +48,7 @@ values-spec =
     loop-holds
     mul-word
     shared-slice-read-word
-    value-requires
+    print-value-requires
     sum-with-requires
     add-at
     loop-less
