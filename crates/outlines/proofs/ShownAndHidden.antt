@@ -11,7 +11,7 @@ use Rattle.outlines.specs.Report.{isHidden, isShown, shown, hidden}
 use Rattle.outlines.proofs.TakenByTest.{taken-iff, taken-or-not-length}
 
 module _ (silences : List Silence) (cell ringNumber : ℕ) where
-  -- The lengths of the two lists add up to that of the findings.
+  -- Of any list of findings, the numbers of shown and of hidden ones add up to its length.
   pub shown-hidden-length : (fs : List Finding) → length (shown silences cell ringNumber fs) + length (hidden silences cell ringNumber fs) ≡ length fs
   shown-hidden-length fs = taken-or-not-length (isHidden silences cell ringNumber) fs
 
