@@ -6,9 +6,9 @@
  * is at most k, the allowance. It has three numbers: the start, the lowest rotation with that least distance, and the least distance. Places and
  * rotations count from 0.
  *
- * One stored copy is several findings. Moving a window by s edges exchanges s of its edges, so beside an exact copy at start i every start from i - k
- * to i + k is a finding too. Away from the line's ends one exact copy gives at least 2 k + 1 findings, and a reviewer who accepts that copy needs as
- * many silences: 5 at k = 2, so that a book of 1,000 silences holds at most 200 such copies.
+ * One stored copy is several findings. If an exact copy of the ring stands at start i, a window that begins s edges before or after it has a distance
+ * of at most s. So every start from i - k to i + k is a finding: at least 2 k + 1 of them, away from the line's ends. A reviewer who accepts that copy
+ * needs as many silences: 5 at k = 2, so that a book of 1,000 silences holds at most 200 such copies.
  *
  * Calls. Every call takes every input. It is accepted or refused, and returns a struct outlines_answer by value. A refused call has written nothing
  * and returns zero in every count. A length counts elements: bytes of a ring, a line or a book, 32-bit words of an area of words. A pointer may be
