@@ -1,4 +1,4 @@
-// "Findings go as three 32-bit words each (start, rotation, distance) into the lent words."
+// "Findings go as three 32-bit words each (start, rotation, distance) into the lent words".
 use crate::admitting::WORDS_EACH;
 use crate::searching::Finding;
 ghost use mathlib.Core.Path.{_≡_};

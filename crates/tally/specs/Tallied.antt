@@ -11,7 +11,7 @@ use lib.ListN.{length, getD}
 use Rattle.meaning.specs.Meanings.{distance}
 use Rattle.tally.specs.Counts.{mostCounts, IsLeast}
 
--- "the tally of one count per rotation": the count of rotation r is the distance of the start under r.
+-- "the tally of one count per rotation": there are 256 counts, and the count of each rotation r is the distance of start i under r.
 pub record Tallied (ring line : List ℕ) (i : ℕ) (counts : List ℕ) : Type 0 where
   pub size : length counts ≡ mostCounts
   pub each : (r : ℕ) → r < length ring → getD counts r 0 ≡ distance ring line i r
