@@ -5,6 +5,7 @@ use book::unpack;
 use packing::pack;
 ghost use Rattle.exports.specs.Exported.{IsPackExported, IsUnpackExported};
 
+// `packing::pack` for C.
 #[no_mangle]
 pub extern "C" fn outlines_pack(words: &[u32], bytes: &mut [u8]) -> Answer
     ensures { λ r. ⌜ IsPackExported (now (words .entry)) (now (bytes .entry)) r (now (bytes .exit)) ⌝ }
@@ -12,6 +13,7 @@ pub extern "C" fn outlines_pack(words: &[u32], bytes: &mut [u8]) -> Answer
     book_answer(pack(words, bytes))
 }
 
+// `book::unpack` for C.
 #[no_mangle]
 pub extern "C" fn outlines_unpack(book: &[u8], words: &mut [u32]) -> Answer
     ensures { λ r. ⌜ IsUnpackExported (now (book .entry)) (now (words .entry)) r (now (words .exit)) ⌝ }

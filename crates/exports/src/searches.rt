@@ -7,6 +7,7 @@ use outlines::scan;
 use outlines::survey;
 ghost use Rattle.exports.specs.Exported.{IsSurveyExported, IsScanExported, IsReportExported};
 
+// `outlines::survey` for C.
 #[no_mangle]
 pub extern "C" fn outlines_survey(ring: &[u8], line: &[u8], k: usize, words: &mut [u32]) -> Answer
     ensures { λ r. ⌜ IsSurveyExported (now (ring .entry)) (now (line .entry)) k (now (words .entry)) r (now (words .exit)) ⌝ }
@@ -14,6 +15,7 @@ pub extern "C" fn outlines_survey(ring: &[u8], line: &[u8], k: usize, words: &mu
     search_answer(survey(ring, line, k, words))
 }
 
+// `outlines::scan` for C.
 #[no_mangle]
 pub extern "C" fn outlines_scan(ring: &[u8], line: &[u8], k: usize, words: &mut [u32]) -> Answer
     ensures { λ r. ⌜ IsScanExported (now (ring .entry)) (now (line .entry)) k (now (words .entry)) r (now (words .exit)) ⌝ }
@@ -21,6 +23,7 @@ pub extern "C" fn outlines_scan(ring: &[u8], line: &[u8], k: usize, words: &mut 
     search_answer(scan(ring, line, k, words))
 }
 
+// `outlines::report` for C.
 #[no_mangle]
 pub extern "C" fn outlines_report(
     cell: u32,
