@@ -27,24 +27,24 @@ answer-back (Refused refusal) = refl
 pub paper-unique : (r r′ : BookAnswer) → paperOf r ≡ paperOf r′ → r ≡ r′
 paper-unique r r′ e = sym (answer-back r) ∙ ap answerBack (answer-unique 0 (answerOf r) (answerOf r′) e) ∙ answer-back r′
 
--- Any two answers of `unpack` are equal, and any two areas at exit.
+-- Any two answers of `unpack` that meet its contract are equal, and so are the areas at exit.
 pub unpack-unique : (book area : List ℕ) (r r′ : BookAnswer) (out out′ : List ℕ) → IsUnpacked book area r out → IsUnpacked book area r′ out′
     → (r ≡ r′) × (out ≡ out′)
 unpack-unique book area r r′ out out′ p p′ = (paper-unique r r′ (p .paper ∙ sym (p′ .paper)), p .written ∙ sym (p′ .written))
 
--- Any two answers of `read` are equal.
+-- Any two answers of `read` that meet its contract are equal.
 pub read-unique : (book : List ℕ) (r r′ : BookAnswer) → IsRead book r → IsRead book r′ → r ≡ r′
 read-unique book r r′ p p′ = paper-unique r r′ (p .paper ∙ sym (p′ .paper))
 
--- Any two answers of `seek` are equal.
+-- Any two answers of `seek` that meet its contract are equal.
 pub seek-unique : (book : List ℕ) (from : ℕ) (address : Address) (r r′ : Sought) → IsSought book from address r → IsSought book from address r′ → r ≡ r′
 seek-unique book from address r r′ p p′ = sought-unique r r′ (p .is ∙ sym (p′ .is))
 
--- Any two answers of `seek_on` are equal.
+-- Any two answers of `seek_on` that meet its contract are equal.
 pub seek-on-unique : (book : List ℕ) (held : Sought) (address : Address) (r r′ : Sought) → IsSoughtOn book held address r → IsSoughtOn book held address r′
     → r ≡ r′
 seek-on-unique book held address r r′ p p′ = sought-unique r r′ (p .is ∙ sym (p′ .is))
 
--- Any two answers of `is_for` are equal.
+-- Any two answers of `is_for` that meet its contract are equal.
 pub is-for-unique : (sought : Sought) (address : Address) (r r′ : Bool) → IsAskedFor sought address r → IsAskedFor sought address r′ → r ≡ r′
 is-for-unique sought address r r′ p p′ = p .is ∙ sym (p′ .is)

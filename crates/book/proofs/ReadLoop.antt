@@ -17,7 +17,7 @@ use Rattle.silences.proofs.AscendingAfter.{lastAfter, lastAfter-end}
 use Rattle.silences.proofs.FieldsRead.{FieldsRead, none-read, ReadsAs, read-all, stopped-faulty, stopped-order, read-more, reads-as-is}
 
 -- The invariant: before the field at `at` there are `records` records, the last of them `last`, and all are read.
-pub record ReadOn (book : List ℕ) (at records : ℕ) (last : Option Silence) : Type 0 where
+pub record ReadSoFar (book : List ℕ) (at records : ℕ) (last : Option Silence) : Type 0 where
   pub at-le : at ≤ length book
   pub records-le : records ≤ at
   pub silences : List Silence
@@ -26,7 +26,7 @@ pub record ReadOn (book : List ℕ) (at records : ℕ) (last : Option Silence) :
   pub last-is : last ≡ lastAfter none silences
 
 -- The invariant holds before the first field.
-pub read-start : (book : List ℕ) → ReadOn book 0 0 none
+pub read-start : (book : List ℕ) → ReadSoFar book 0 0 none
 read-start book = record { at-le = omega arith; records-le = omega arith; silences = []; fields = none-read; records-is = refl; last-is = refl }
 
 module _ {book : List ℕ} where
@@ -34,7 +34,7 @@ module _ {book : List ℕ} where
   stops-so : {a : Answer (List Silence)} → ReadsAs book none 0 a → recordCount a ≡ recordCount (readFrom book none 0)
   stops-so w = ap recordCount (sym (reads-as-is book w))
 
-  module _ {at records : ℕ} {last : Option Silence} (inv : ReadOn book at records last) where
+  module _ {at records : ℕ} {last : Option Silence} (inv : ReadSoFar book at records last) where
     -- At the book's end the records counted are the answer.
     pub read-end : length book ≤ at → accepted records ≡ recordCount (readFrom book none 0)
     read-end done = ap accepted (inv .records-is) ∙ stops-so (read-all (inv .fields) done)
@@ -53,7 +53,7 @@ module _ {book : List ℕ} where
       read-not-above not-above = stops-so (stopped-order (inv .fields) (sym is) (same-order not-above))
 
       -- Past a whole field whose record is above the last, with one record more counted, the invariant holds again.
-      pub read-turn : isAbove last s ≡ true → ReadOn book next (records + 1) (some s)
+      pub read-turn : isAbove last s ≡ true → ReadSoFar book next (records + 1) (some s)
       read-turn above =
           let ends : (at < next) × (next ≤ length book) = field-ends book at s next (sym is) in
           record {

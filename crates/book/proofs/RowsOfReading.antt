@@ -77,7 +77,7 @@ module _ (book : List ℕ) (r : BookAnswer) (meets : IsRead book r) where
     pub read-row-7 : (at : ℕ) → ((paperOf r .number ≡ 7) × (paperOf r .place ≡ at)) ↔ ((length book ≤ mostBytes) × IsOrderFault book at)
     read-row-7 = row-7 book (bookRefusal book) (length (silencesRead book)) paper (λ q other. Iff·rfl) bytes
 
-    -- `read` accepts exactly the book of some silences.
+    -- `read` accepts bytes exactly when they are the book of some silences.
     pub read-accepted : (paperOf r .number ≡ 0) ↔ ((ss : List Silence) × IsBook ss book)
     read-accepted = Iff·trans (accepted-number-iff 0 (length (silencesRead book)) (bookRefusal book) paper) (no-refusal-iff book bytes)
 

@@ -90,13 +90,13 @@ module _ (book area : List ℕ) (r : BookAnswer) (out : List ℕ) (meets : IsUnp
         Iff·trans (row-number-iff 0 records o paper OutputRoom (omega arith))
         (Iff·trans (unpack-10-iff book (length area)) (read-book-iff book bytes (λ (ss : List Silence). length area < recordWords * length ss)))
 
-    -- `unpack` accepts exactly the book of some silences, with room for three words each.
+    -- `unpack` accepts bytes exactly when they are the book of some silences and there is room for three words for each.
     pub unpack-accepted : (paperOf r .number ≡ 0) ↔ ((ss : List Silence) × IsBook ss book × (recordWords * length ss ≤ length area))
     unpack-accepted =
         Iff·trans (accepted-number-iff 0 records o paper)
         (Iff·trans (unpack-none-iff book (length area)) (read-book-iff book bytes (λ (ss : List Silence). recordWords * length ss ≤ length area)))
 
-    -- `unpack` returns n records exactly for the book of n silences, with room for three words each.
+    -- `unpack` returns n records exactly for the book of n silences with room for three words for each.
     pub unpack-records : (n : ℕ) → (r ≡ Records n) ↔ ((ss : List Silence) × IsBook ss book × ((length ss ≡ n) × (recordWords * length ss ≤ length area)))
     unfolding unpacked
     unpack-records n =

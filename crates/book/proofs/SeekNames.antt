@@ -1,6 +1,6 @@
--- In an accepted book, what seeking an address finds is for the address exactly when the book names it. So it is from the first byte on (`seek-iff`), and from
--- any field boundary on before which every silence is below the address (`seek-names`). Field by field: a silence below the address is not the address; the
--- first that is not below decides, because all after it are above.
+-- In an accepted book, what seeking an address finds is for the address exactly when the book names it. This holds from the first byte on (`seek-iff`), and
+-- from any field boundary on before which every silence is below the address (`seek-names`). Field by field: a silence below the address is not the address;
+-- the first that is not below decides, because all after it are above.
 use Prim.Native.Nat.{ℕ, _+_, _≤_}
 use mathlib.Core.Logic.{_↔_}
 use mathlib.Core.Path.{_≡_, refl, sym, ap, subst, _∙_}
@@ -65,11 +65,11 @@ module _ (address : Silence) where
       go false e = sym (names-above s ss a (above-of-not s address h e))
 
   module _ (book : List ℕ) where
-    -- seeking at a field goes by what that field is
+    -- seeking from `at` on, given the field there
     seek-at : (at : ℕ) (f : FieldAt) → fieldAt book at ≡ f → seekFrom book address at ≡ seekField address f (seekFrom book address)
     seek-at at f e = seekFrom-step book address at ∙ ap (λ (g : FieldAt). seekField address g (seekFrom book address)) e
 
-    -- where the book's fields are read to its end, seeking answers whether they name the address
+    -- if the book's fields from `at` on are read to its end, what seeking finds is for the address exactly when they name it
     seek-read : {last : Option Silence} {at : ℕ} {ss : List Silence} {stop : ℕ} → FieldsRead book last at ss stop → length book ≤ stop
         → isFor address (seekFrom book address at) ≡ namesAddress ss address
     unfolding names

@@ -33,19 +33,19 @@ record FirstField (book : List ℕ) (at : ℕ) (ss : List Silence) : Type 0 wher
   pub fields : FieldsRead book (some first) next others stop
   pub all-is : ss ≡ first ∷ others
 
--- while one is left to read, there is a first
+-- if at least one field is read, there is a first one
 first-field : {book : List ℕ} {last : Option Silence} {at : ℕ} {ss : List Silence} {stop : ℕ} → FieldsRead book last at ss stop → 0 < length ss → FirstField book at ss
 first-field none-read h = absurd (omega arith)
 first-field (one-read {s = s} {next = next} {ss = ss} {stop = stop} e above more) h =
     record { first = s; next = next; others = ss; stop = stop; field-is = e; fields = more; all-is = refl }
 
--- a list of no length is empty
+-- a list of length 0 is empty
 length-none : (ss : List Silence) → length ss ≡ 0 → ss ≡ []
 length-none [] e = refl
 length-none (s ∷ ss) e = absurd (omega arith)
 
 -- The invariant: before the field at `at` the words of `done` records are written, and the fields of the others stand from `at` on.
-pub record PutOn (book area : List ℕ) (records : ℕ) (words : List ℕ) (at done : ℕ) : Type 0 where
+pub record PutSoFar (book area : List ℕ) (records : ℕ) (words : List ℕ) (at done : ℕ) : Type 0 where
   pub last : Option Silence
   pub put : List Silence
   pub others : List Silence
@@ -59,7 +59,7 @@ pub record PutOn (book area : List ℕ) (records : ℕ) (words : List ℕ) (at d
 
 module _ {book area : List ℕ} {records : ℕ} where
   -- The invariant holds before the first field.
-  pub put-start : recordCount (readBook book) ≡ accepted records → recordWords * records ≤ length area → PutOn book area records area 0 0
+  pub put-start : recordCount (readBook book) ≡ accepted records → recordWords * records ≤ length area → PutSoFar book area records area 0 0
   unfolding written wordsOfEach
   put-start e room =
       let all : HasRecords (readBook book) records = has-records (readBook book) records e in
@@ -77,7 +77,7 @@ module _ {book area : List ℕ} {records : ℕ} where
         words-is = refl;
       }
 
-  module _ {words : List ℕ} {at done : ℕ} (inv : PutOn book area records words at done) where
+  module _ {words : List ℕ} {at done : ℕ} (inv : PutSoFar book area records words at done) where
     -- The area keeps its length.
     pub put-length-is : length words ≡ length area
     put-length-is =
@@ -107,7 +107,7 @@ module _ {book area : List ℕ} {records : ℕ} where
 
       -- The invariant holds again once the words of the next record are written after the others.
       pub put-turn : {s : Silence} {next : ℕ} → whole s next ≡ fieldAt book at
-          → PutOn book area records (sets words (recordWords * done) (silenceWords s)) next (done + 1)
+          → PutSoFar book area records (sets words (recordWords * done) (silenceWords s)) next (done + 1)
       put-turn {s} {next} is =
           let f : FirstField book at (inv .others) = next-field in
           let same : whole s next ≡ whole (f .first) (f .next) = is ∙ f .field-is in

@@ -25,7 +25,7 @@ use Rattle.packing.specs.Judging.{Sizes, sized, sizes}
 use Rattle.silences.proofs.FieldBytes.{field-length}
 use Rattle.silences.proofs.WordsOfSilences.{silenceFrom, silencesOf-step, silencesOf-end}
 use Rattle.silences.proofs.AscendingAfter.{AscendingAfter, lastAfter, lastAfter-end, ascends-more}
-use Rattle.silences.proofs.RecordsPacked.{RecordStands, packed-all, stopped-ring, stopped-order, ring-numbers-more, packs-as-is}
+use Rattle.silences.proofs.RecordsPacked.{RecordStands, packed-all, stopped-ring-number, stopped-record, ring-numbers-more, packs-as-is}
 
 -- The loop's invariant. `records-le` and `bytes-le` show that the two sums do not overflow: there are no more records than words.
 pub record JudgedTo (words : List ℕ) (last : Option Silence) (records bytes at : ℕ) : Type 0 where
@@ -85,13 +85,13 @@ module _ {words : List ℕ} where
 
       -- If this record's ring number is above 65,535, refusal 9 with its number is the answer.
       pub judge-ring-number : mostRingNumber < silenceFrom words at .ringNumber → refused (RingNumber records) ≡ judgement words
-      judge-ring-number high = sym (judged-by words (packs-as-is (stopped-ring stands-here high)))
+      judge-ring-number high = sym (judged-by words (packs-as-is (stopped-ring-number stands-here high)))
 
       module _ (low : silenceFrom words at .ringNumber ≤ mostRingNumber) where
         -- If this record is not above the last, refusal 7 with its number is the answer.
         pub judge-not-above : isAbove last (silenceFrom words at) ≡ false → refused (NotAbove records) ≡ judgement words
         judge-not-above e =
-            sym (judged-by words (packs-as-is (stopped-order stands-here low (subst (λ (l : Option Silence). isAbove l (silenceFrom words at) ≡ false) (now .last-is) e))))
+            sym (judged-by words (packs-as-is (stopped-record stands-here low (subst (λ (l : Option Silence). isAbove l (silenceFrom words at) ≡ false) (now .last-is) e))))
 
         -- If this record is above the last, the invariant holds again with it passed and counted.
         pub judge-turn : {field : ℕ} → isAbove last (silenceFrom words at) ≡ true → length (fieldOf (silenceFrom words at)) ≡ field

@@ -26,19 +26,19 @@ sought-back Nothing = refl
 pub sought-unique : (r r′ : Sought) → soughtOf r ≡ soughtOf r′ → r ≡ r′
 sought-unique r r′ e = sym (sought-back r) ∙ ap soughtBack e ∙ sought-back r′
 
--- Any two answers of `field_at` are equal.
+-- Any two answers of `field_at` that meet its contract are equal.
 pub field-at-unique : (book : List ℕ) (at : ℕ) (r r′ : Sought) → soughtOf r ≡ fieldAt book at → soughtOf r′ ≡ fieldAt book at → r ≡ r′
 field-at-unique book at r r′ p p′ = sought-unique r r′ (p ∙ sym p′)
 
--- Any two answers of `is_below` are equal.
+-- Any two answers of `is_below` that meet its contract are equal.
 pub is-below-unique : (a b : Address) (r r′ : Bool) → r ≡ isBelow (silenceOf a) (silenceOf b) → r′ ≡ isBelow (silenceOf a) (silenceOf b) → r ≡ r′
 is-below-unique a b r r′ p p′ = p ∙ sym p′
 
--- Any two answers of `is_same` are equal.
+-- Any two answers of `is_same` that meet its contract are equal.
 pub is-same-unique : (a b : Address) (r r′ : Bool) → r ≡ isSame (silenceOf a) (silenceOf b) → r′ ≡ isSame (silenceOf a) (silenceOf b) → r ≡ r′
 is-same-unique a b r r′ p p′ = p ∙ sym p′
 
--- Any two answers of `is_above` are equal.
+-- Any two answers of `is_above` that meet its contract are equal.
 pub is-above-unique : (last : Last) (address : Address) (r r′ : Bool) → r ≡ isAbove (lastOf last) (silenceOf address) → r′ ≡ isAbove (lastOf last) (silenceOf address)
     → r ≡ r′
 is-above-unique last address r r′ p p′ = p ∙ sym p′

@@ -12,7 +12,7 @@ use Rattle.silences.specs.Silences.{Silence, Ascending}
 use Rattle.silences.specs.Packing.{silencesOf, recordFault}
 use Rattle.silences.specs.Rows.{AllRingNumbers, IsRecord, IsRingFault, IsRecordFault}
 use Rattle.silences.proofs.AscendingAfter.{ascending-after-iff, not-above-iff}
-use Rattle.silences.proofs.RecordsPacked.{RecordStands, PacksAs, packed-all, stopped-ring, stopped-order, packs-as, packs-as-is}
+use Rattle.silences.proofs.RecordsPacked.{RecordStands, PacksAs, packed-all, stopped-ring-number, stopped-record, packs-as, packs-as-is}
 
 module _ (words : List ℕ) where
   -- what the walk over all records gives
@@ -31,8 +31,8 @@ module _ (words : List ℕ) where
   records-have P nine seven q e = go q (packs (some q) e)
     where
       go : (q : Refusal) → PacksAs none 0 (silencesOf words) (some q) → P q
-      go _ (stopped-ring {j = j} r g) = nine j
-      go _ (stopped-order {j = j} r g o) = seven j
+      go _ (stopped-ring-number {j = j} r g) = nine j
+      go _ (stopped-record {j = j} r g o) = seven j
 
   -- The records give no row exactly when they ascend and no ring number is above 65,535.
   pub records-none-iff : (recordFault words ≡ none) ↔ (AllRingNumbers (silencesOf words) × Ascending (silencesOf words))
@@ -43,18 +43,18 @@ module _ (words : List ℕ) where
 
   -- The records give row 9 at record j exactly when all before it are fine and its ring number is above 65,535.
   pub records-9-iff : (j : ℕ) → (recordFault words ≡ some (RingNumber j)) ↔ IsRingFault words j
-  records-9-iff j = (λ e. fault j (packs (some (RingNumber j)) e), λ f. packs-as-is (stopped-ring (record-iff .1 (f .is-record)) (f .ring-number-gt)))
+  records-9-iff j = (λ e. fault j (packs (some (RingNumber j)) e), λ f. packs-as-is (stopped-ring-number (record-iff .1 (f .is-record)) (f .ring-number-gt)))
     where
       fault : (i : ℕ) → PacksAs none 0 (silencesOf words) (some (RingNumber i)) → IsRingFault words i
-      fault i (stopped-ring {fine = fine} {s = s} r g) = record { fine = fine; here = s; is-record = record-iff .0 r; ring-number-gt = g }
+      fault i (stopped-ring-number {fine = fine} {s = s} r g) = record { fine = fine; here = s; is-record = record-iff .0 r; ring-number-gt = g }
 
   -- The records give row 7 at record j exactly when all before it are fine, its ring number is not above 65,535, and it isn't above the one before it.
   pub records-7-iff : (j : ℕ) → (recordFault words ≡ some (NotAbove j)) ↔ IsRecordFault words j
   records-7-iff j = (
     λ e. fault j (packs (some (NotAbove j)) e),
-    λ f. packs-as-is (stopped-order (record-iff .1 (f .is-record)) (f .ring-number-le) (not-above-iff (f .fine) (f .here) .1 (f .not-above))),
+    λ f. packs-as-is (stopped-record (record-iff .1 (f .is-record)) (f .ring-number-le) (not-above-iff (f .fine) (f .here) .1 (f .not-above))),
   )
     where
       fault : (i : ℕ) → PacksAs none 0 (silencesOf words) (some (NotAbove i)) → IsRecordFault words i
-      fault i (stopped-order {fine = fine} {s = s} r g o) =
+      fault i (stopped-record {fine = fine} {s = s} r g o) =
           record { fine = fine; here = s; is-record = record-iff .0 r; ring-number-le = g; not-above = not-above-iff fine s .0 o }

@@ -30,9 +30,9 @@ pub record RecordStands (last : Option Silence) (i : ℕ) (ss fine : List Silenc
 -- The first row that the records `ss` give: none if all are fine, else row 9 or row 7 at the first that is not. They are numbered from `i` on, after `last`.
 pub data PacksAs (last : Option Silence) (i : ℕ) (ss : List Silence) : Option Refusal → Type 0 where
   packed-all : AllRingNumbers ss → AscendingAfter last ss → PacksAs last i ss none
-  stopped-ring : {fine : List Silence} {j : ℕ} {s : Silence} → RecordStands last i ss fine j s → mostRingNumber < s .ringNumber
+  stopped-ring-number : {fine : List Silence} {j : ℕ} {s : Silence} → RecordStands last i ss fine j s → mostRingNumber < s .ringNumber
       → PacksAs last i ss (some (RingNumber j))
-  stopped-order : {fine : List Silence} {j : ℕ} {s : Silence} → RecordStands last i ss fine j s → s .ringNumber ≤ mostRingNumber
+  stopped-record : {fine : List Silence} {j : ℕ} {s : Silence} → RecordStands last i ss fine j s → s .ringNumber ≤ mostRingNumber
       → isAbove (lastAfter last fine) s ≡ false
       → PacksAs last i ss (some (NotAbove j))
 
@@ -78,8 +78,8 @@ module _ (last : Option Silence) (i : ℕ) where
       -- what the walk gives, seen from a fine record before it
       packs-before : {o : Option Refusal} → isAbove last s ≡ true → PacksAs (some s) (suc i) ss o → PacksAs last i (s ∷ ss) o
       packs-before above (packed-all rings ascends) = packed-all (low, rings) (above, ascends)
-      packs-before above (stopped-ring r g) = stopped-ring (stands-before above r) g
-      packs-before above (stopped-order r g o) = stopped-order (stands-before above r) g o
+      packs-before above (stopped-ring-number r g) = stopped-ring-number (stands-before above r) g
+      packs-before above (stopped-record r g o) = stopped-record (stands-before above r) g o
 
     -- the first record stands at its own number
     stands-first : RecordStands last i (s ∷ ss) [] i s
@@ -87,11 +87,11 @@ module _ (last : Option Silence) (i : ℕ) where
 
     -- one record, and then the walk on
     walk-record : PacksAs (some s) (suc i) ss (firstGiven (recordRows (some s) (suc i) ss)) → PacksAs last i (s ∷ ss) (first (s ∷ ss))
-    walk-record more = ⊎-elim (λ low. by-order low (isAbove last s) refl) (λ high. rw (first-ring high) (stopped-ring stands-first high)) (le-or-lt (s .ringNumber) mostRingNumber)
+    walk-record more = ⊎-elim (λ low. by-order low (isAbove last s) refl) (λ high. rw (first-ring high) (stopped-ring-number stands-first high)) (le-or-lt (s .ringNumber) mostRingNumber)
       where
         by-order : s .ringNumber ≤ mostRingNumber → (t : Bool) → isAbove last s ≡ t → PacksAs last i (s ∷ ss) (first (s ∷ ss))
         by-order low true above = rw (first-step low above) (packs-before low above more)
-        by-order low false above = rw (first-order low above) (stopped-order stands-first low above)
+        by-order low false above = rw (first-order low above) (stopped-record stands-first low above)
 
 -- the walk over all records
 walk : (last : Option Silence) (i : ℕ) (ss : List Silence) → PacksAs last i ss (firstGiven (recordRows last i ss))
@@ -122,5 +122,5 @@ pub packs-as-is : {last : Option Silence} {i : ℕ} {ss : List Silence} {o : Opt
 unfolding recordRows firstGiven
 packs-as-is {last} {i} {ss} (packed-all rings ascends) =
     ap (λ (l : List Silence). firstGiven (recordRows last i l)) (sym (append-nil ss)) ∙ pack-on ss [] last i (i + length ss) rings ascends refl
-packs-as-is {last} (stopped-ring {fine = fine} {j = j} {s = s} r g) = stands-on r ∙ first-ring (lastAfter last fine) j s (r .later) g
-packs-as-is {last} (stopped-order {fine = fine} {j = j} {s = s} r g o) = stands-on r ∙ first-order (lastAfter last fine) j s (r .later) g o
+packs-as-is {last} (stopped-ring-number {fine = fine} {j = j} {s = s} r g) = stands-on r ∙ first-ring (lastAfter last fine) j s (r .later) g
+packs-as-is {last} (stopped-record {fine = fine} {j = j} {s = s} r g o) = stands-on r ∙ first-order (lastAfter last fine) j s (r .later) g o

@@ -48,7 +48,7 @@ unfoldable pub fieldBy : Option ℕ → List ℕ → ℕ → FieldAt
 fieldBy none book at = faulty
 fieldBy (some long) book at = cond (isWhole book at long) (whole (silenceAt book (at + headLength)) (fieldEnd at long)) faulty
 
--- The field at `at`. It is faulty by row 6: "a field isn't 13 bytes beginning 21 00 0A hex, or is cut off". Past the last byte every field is faulty.
+-- The field at `at`. It is faulty where row 6 says so: "a field isn't 13 bytes beginning 21 00 0A hex, or is cut off". Past the last byte it is faulty too.
 unfoldable pub fieldAt : List ℕ → ℕ → FieldAt
 fieldAt book at = fieldBy (lengthByTag (getD book at 0)) book at
 
@@ -76,12 +76,12 @@ fieldsFrom (suc left) book last at =
 unfoldable pub readFrom : List ℕ → Option Silence → ℕ → Answer (List Silence)
 readFrom book last at = fieldsFrom (length book - at) book last at
 
--- The refusal of what was read, if it is refused.
+-- The refusal of an answer, if it is one.
 abbrev pub faultIn : Answer (List Silence) → Option Refusal
 faultIn (accepted ss) = none
 faultIn (refused refusal) = some refusal
 
--- The silences that were read; the empty list if it is refused.
+-- The silences of an answer; the empty list if it is a refusal.
 abbrev pub silencesIn : Answer (List Silence) → List Silence
 silencesIn (accepted ss) = ss
 silencesIn (refused refusal) = []

@@ -1,4 +1,4 @@
--- `book::reading::read_fields` meets its contract. Before the field at `at` the fields before it are read and counted (`ReadOn`); each return is one case of
+-- `book::reading::read_fields` meets its contract. Before the field at `at` the fields before it are read and counted (`ReadSoFar`); each return is one case of
 -- that field, or the book's end. The number of bytes left falls, because a whole field ends after it begins, within the book (`field-ends`).
 use Prim.Native.Nat.{_-_}
 use mathlib.Core.Path.{_≡_, sym, _∙_}
@@ -9,12 +9,12 @@ use lib.ListN.{length}
 use Rattle.silences.specs.Reading.{whole, fieldAt}
 use Rattle.silences.specs.Addresses.{silenceOf, lastOf}
 use Rattle.silences.proofs.FieldTest.{field-ends}
-use Rattle.book.proofs.ReadLoop.{ReadOn, read-start, read-end, read-faulty, read-not-above, read-turn}
+use Rattle.book.proofs.ReadLoop.{ReadSoFar, read-start, read-end, read-faulty, read-not-above, read-turn}
 use Rattle.book.proofs.reading.read_fields.Statement.{statement}
 use Rattle.book.proofs.reading.read_fields.Tie as tie
 
 abbrev Inv-loop : tie.InvT-loop
-Inv-loop book at₀ records₀ last₀ at records last = ReadOn book at records (lastOf last)
+Inv-loop book at₀ records₀ last₀ at records last = ReadSoFar book at records (lastOf last)
 
 abbrev μ-loop : tie.MeasureT-loop
 μ-loop book at₀ records₀ last₀ at records last = length book - at

@@ -1,5 +1,5 @@
--- `book::seeking::seek` meets its contract. Before the field at `at`, seeking from `at` on finds what seeking from `from` on finds (`SeekOn`); each return is
--- one case of that field. The number of bytes left falls, because a whole field ends after it begins, within the book (`field-ends`).
+-- `book::seeking::seek` meets its contract. Before the field at `at`, seeking from `at` on finds what seeking from `from` on finds (`SeekSoFar`); each return
+-- is one case of that field. The number of bytes left falls, because a whole field ends after it begins, within the book (`field-ends`).
 use Prim.Native.Nat.{_-_}
 use mathlib.Core.Path.{_≡_, sym, _∙_}
 use native.Mathlib.Omega.{arith}
@@ -9,12 +9,12 @@ use lib.ListN.{length}
 use Rattle.silences.specs.Reading.{whole, fieldAt}
 use Rattle.silences.specs.Addresses.{silenceOf}
 use Rattle.silences.proofs.FieldTest.{field-ends}
-use Rattle.book.proofs.SeekLoop.{SeekOn, seek-start, seek-nothing, seek-end, seek-turn}
+use Rattle.book.proofs.SeekLoop.{SeekSoFar, seek-start, seek-nothing, seek-end, seek-turn}
 use Rattle.book.proofs.seeking.seek.Statement.{statement}
 use Rattle.book.proofs.seeking.seek.Tie as tie
 
 abbrev Inv-loop : tie.InvT-loop
-Inv-loop book from address at₀ at = SeekOn book from (silenceOf address) at
+Inv-loop book from address at₀ at = SeekSoFar book from (silenceOf address) at
 
 abbrev μ-loop : tie.MeasureT-loop
 μ-loop book from address at₀ at = length book - at

@@ -1,14 +1,14 @@
--- `book::unpacking::put_records` meets its contract. Before the field at `at` the words of the first `done` records stand in the area (`PutOn`). The return at
--- a faulty field is never reached. The number of records left falls.
+-- `book::unpacking::put_records` meets its contract. Before the field at `at` the words of the first `done` records stand in the area (`PutSoFar`). The return
+-- at a faulty field is never reached. The number of records left falls.
 use Prim.Native.Nat.{_-_}
 use native.Mathlib.Omega.{arith}
 use borrow.Author.Needs.{needs}
-use Rattle.book.proofs.UnpackLoop.{PutOn, put-start, put-length-is, put-end, put-faulty-no, put-room-le, put-turn}
+use Rattle.book.proofs.UnpackLoop.{PutSoFar, put-start, put-length-is, put-end, put-faulty-no, put-room-le, put-turn}
 use Rattle.book.proofs.unpacking.put_records.Statement.{statement}
 use Rattle.book.proofs.unpacking.put_records.Tie as tie
 
 abbrev Inv-loop : tie.InvT-loop
-Inv-loop book records words₀ at₀ done₀ words at done = PutOn book words₀ records words at done
+Inv-loop book records words₀ at₀ done₀ words at done = PutSoFar book words₀ records words at done
 
 abbrev μ-loop : tie.MeasureT-loop
 μ-loop book records words₀ at₀ done₀ words at done = records - done
