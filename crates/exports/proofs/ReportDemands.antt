@@ -21,7 +21,7 @@ use Rattle.silences.proofs.BookRows.{book-accepted-iff}
 use Rattle.findings.specs.Admitting.{admitRows, refusalOf}
 use Rattle.findings.proofs.AdmitRows.{no-row-iff}
 use Rattle.silences.proofs.AcceptedIsLayout.{book-accepted, accepted-iff}
-use Rattle.outlines.specs.Report.{shown, hidden, ReportCounts, reportCounts, reportRows, reported, reportedWords}
+use Rattle.outlines.specs.Report.{shown, hidden, ReportCounts, reportCounts, reportRows, reportAnswer, reportedWords}
 use Rattle.outlines.proofs.ShownExactly.{shown-iff, hidden-iff}
 use Rattle.outlines.proofs.ShownAndHidden.{shown-hidden-length}
 use Rattle.outlines.proofs.ShownRising.{shown-rising, hidden-rising}
@@ -74,7 +74,7 @@ module _ (cell ringNumber : ℕ) (ring line : List ℕ) (k : ℕ) (book words : 
   -- a report answers by rows 1 to 7
   reported-by-rows : GoesByRows rows (reportCounts ring line k cell ringNumber (silencesRead book))
       (written (wordsOf (shown (silencesRead book) cell ringNumber (findings ring line k))) words) words r out
-  unfolding reported reportedWords
+  unfolding reportAnswer reportedWords
   reported-by-rows = record { paper = e .paper; written = e .written }
 
   -- and these agree with the rows of the page

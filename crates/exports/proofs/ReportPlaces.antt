@@ -13,14 +13,14 @@ use Rattle.silences.specs.Layout.{mostBytes}
 use Rattle.silences.specs.Reading.{silencesRead}
 use Rattle.silences.proofs.BookRows.{book-refused-iff}
 use Rattle.findings.proofs.AdmitRows.{row-places}
-use Rattle.outlines.specs.Report.{reportRefusal, noReportCounts, reportCounts, reported}
+use Rattle.outlines.specs.Report.{reportRefusal, noReportCounts, reportCounts, reportAnswer}
 use Rattle.outlines.proofs.FirstOfReport.{report-row-has}
 use Rattle.exports.proofs.BookPlaces.{read-place-le}
 
 -- A place of the report is at most 13,000.
 pub report-place-le : (ring line : List ℕ) (k room cell ringNumber : ℕ) (book : List ℕ)
-    → answerPaper noReportCounts (reported ring line k cell ringNumber book room) .place ≤ mostBytes
-unfolding reported
+    → answerPaper noReportCounts (reportAnswer ring line k cell ringNumber book room) .place ≤ mostBytes
+unfolding reportAnswer
 report-place-le ring line k room cell ringNumber book = by-row (reportRefusal (length ring) k (length line) room book) refl
   where
     by-row : (o : Option Refusal) → reportRefusal (length ring) k (length line) room book ≡ o

@@ -17,7 +17,7 @@ use Rattle.silences.specs.Layout.{layout}
 use Rattle.silences.specs.Packing.{wordsOfSilences, packed, unpacked, areaAtExit}
 use Rattle.book.specs.Calls.{recordsPaper}
 use Rattle.findings.specs.Searching.{Counts, searchPaper, searchedWords}
-use Rattle.outlines.specs.Report.{ReportCounts, noReportCounts, reported, reportedWords}
+use Rattle.outlines.specs.Report.{ReportCounts, noReportCounts, reportAnswer, reportedWords}
 use Rattle.exports.specs.declared.answering.Answer.{Answer}
 
 -- The paper of a struct. "A refusal carries its number and place, zero in every count"; an accepted answer has number 0, which no refusal has.
@@ -54,7 +54,7 @@ IsScanExported ring line k words r out =
 -- The contract of `outlines_report`.
 abbrev pub IsReportExported : ℕ → ℕ → List ℕ → List ℕ → ℕ → List ℕ → List ℕ → Answer → List ℕ → Type 0
 IsReportExported cell ringNumber ring line k book words r out =
-    IsExported (answerPaper noReportCounts (reported ring line k cell ringNumber book (length words))) (reportedWords ring line k cell ringNumber book words) r out
+    IsExported (answerPaper noReportCounts (reportAnswer ring line k cell ringNumber book (length words))) (reportedWords ring line k cell ringNumber book words) r out
 
 -- The contract of `outlines_pack`. `area` is the area lent for the book, `out` the same at exit.
 abbrev pub IsPackExported : List ℕ → List ℕ → Answer → List ℕ → Type 0

@@ -11,7 +11,7 @@ use lib.ListN.{length, getD, take, drop, length-append, length-drop, take-append
 use lib.Seq.{drop-cons, drop-drop, getD-drop, length-take-le, drop-append-seam, drop-at}
 use Rattle.lists.specs.Bounds.{IsBytes}
 use Rattle.fields.specs.Numbers.{bytesOf, numberAt}
-use Rattle.fields.specs.Tagged.{tagBytes, lengthBytes, headLength, field, longAt, fieldEnd}
+use Rattle.fields.specs.Tagged.{tagBytes, lengthBytes, headLength, field, lengthAt, fieldEnd}
 use Rattle.fields.proofs.NumberBytes.{bytesOf-length, number-of-bytes, bytes-of-number}
 
 -- Reading from byte offset at + i is reading from offset i after the first `at` bytes are dropped.
@@ -47,7 +47,7 @@ module _ (bytes : List ℕ) (at tag : ℕ) (value rest : List ℕ) (laid : drop 
   laid-length = sym (drop-drop tagBytes at bytes) ∙ ap (drop tagBytes) laid ∙ append-assoc (bytesOf lengthBytes (length value)) value rest
 
   -- The field's length bytes give the length of its value, if that fits two bytes.
-  pub laid-long : length value < 256 ^ lengthBytes → longAt bytes at ≡ length value
+  pub laid-long : length value < 256 ^ lengthBytes → lengthAt bytes at ≡ length value
   laid-long = laid-number bytes (at + tagBytes) lengthBytes (length value) (value ++ rest) laid-length
 
   -- The field's value stands behind its head.
@@ -72,11 +72,11 @@ module _ (bytes : List ℕ) (is-bytes : IsBytes bytes) where
       ∙ ap₂ (λ (a b : List ℕ). a ++ b) (sym (bytes-of-number bytes is-bytes count at within)) (drop-drop count at bytes)
 
   -- If the length bytes at `at` are `long` and the field is not cut off, the bytes from `at` on are the field of that tag and value, and then the rest.
-  pub field-then : (at long : ℕ) → longAt bytes at ≡ long → fieldEnd at long ≤ length bytes
+  pub field-then : (at long : ℕ) → lengthAt bytes at ≡ long → fieldEnd at long ≤ length bytes
       → drop at bytes ≡ field (getD bytes at 0) (take long (drop (at + headLength) bytes)) ++ drop (fieldEnd at long) bytes
   field-then at long says within =
       let value : List ℕ = take long (drop (at + headLength) bytes) in
-      let value-long : longAt bytes at ≡ length value =
+      let value-long : lengthAt bytes at ≡ length value =
       says ∙ sym (length-take-le long (drop (at + headLength) bytes) (simp length-drop (omega arith))) in
       let head : at + tagBytes + lengthBytes ≡ at + headLength = omega arith in
       let value-then : drop (at + tagBytes + lengthBytes) bytes ≡ value ++ drop (fieldEnd at long) bytes =

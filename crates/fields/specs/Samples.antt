@@ -4,7 +4,7 @@ use mathlib.Core.Path.{_≡_, refl}
 use mathlib.Core.Bool.{true, false}
 use mathlib.Core.List.{List, [], _∷_}
 use Rattle.fields.specs.Numbers.{bytesOf, numberAt, numberWithin}
-use Rattle.fields.specs.Tagged.{field, longAt, isWhole}
+use Rattle.fields.specs.Tagged.{field, lengthAt, isWhole}
 
 -- The sample's first field, "34 00 04 00 00 00 07": tag 34 hex, length 4, the number 7 in four bytes.
 unfoldable cellBytes : List ℕ
@@ -13,7 +13,7 @@ cellBytes = 0x34 ∷ 0x00 ∷ 0x04 ∷ 0x00 ∷ 0x00 ∷ 0x00 ∷ 0x07 ∷ []
 -- It is the field with tag 34 hex and the number 7 in four bytes. Its length bytes are 4; it is whole with length 4, not with 5, and not with its last byte
 -- cut off.
 field-right : (field 0x34 (bytesOf 4 7) ≡ cellBytes)
-    × (longAt cellBytes 0 ≡ 4)
+    × (lengthAt cellBytes 0 ≡ 4)
     × (isWhole cellBytes 0 4 ≡ true)
     × (isWhole cellBytes 0 5 ≡ false)
     × (isWhole (0x34 ∷ 0x00 ∷ 0x04 ∷ 0x00 ∷ 0x00 ∷ 0x00 ∷ []) 0 4 ≡ false)

@@ -4,7 +4,7 @@
 --   tagBytes, lengthBytes   "one-byte tag, two-byte length"
 --   headLength              the bytes of a field before its value
 --   field                   the bytes of a field
---   longAt                  the length in a field's two length bytes
+--   lengthAt                  the length in a field's two length bytes
 --   fieldEnd                the byte offset just past a field
 --   isWhole                 whether a field has a given length and is not cut off
 use Prim.Native.Nat.{ℕ, _+_}
@@ -31,8 +31,8 @@ abbrev pub field : ℕ → List ℕ → List ℕ
 field tag value = tag ∷ bytesOf lengthBytes (length value) ++ value
 
 -- The "two-byte length" of the field at byte offset `at`.
-abbrev pub longAt : List ℕ → ℕ → ℕ
-longAt bytes at = numberAt lengthBytes bytes (at + tagBytes)
+abbrev pub lengthAt : List ℕ → ℕ → ℕ
+lengthAt bytes at = numberAt lengthBytes bytes (at + tagBytes)
 
 -- The byte offset just past a field at `at` whose value has `long` bytes.
 abbrev pub fieldEnd : ℕ → ℕ → ℕ
@@ -40,4 +40,4 @@ fieldEnd at long = at + headLength + long
 
 -- Whether the field at `at` has a value of `long` bytes and is whole: its length bytes are `long`, and it does not reach past the bytes given.
 unfoldable pub isWhole : List ℕ → ℕ → ℕ → Bool
-isWhole bytes at long = eqb (longAt bytes at) long && leb (fieldEnd at long) (length bytes)
+isWhole bytes at long = eqb (lengthAt bytes at) long && leb (fieldEnd at long) (length bytes)

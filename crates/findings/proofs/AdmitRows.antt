@@ -11,7 +11,7 @@ use Rattle.answers.specs.declared.refusals.Refusal.the-variants.{Ring, Allowanc
 use Rattle.answers.specs.Refusals.{numberOf, placeOf}
 use Rattle.answers.specs.Rows.{row}
 use Rattle.answers.proofs.RowsExactly.{IsRow, is-row, end, row-has, first-has, at-row, past-row, no-row, no-last-row}
-use Rattle.findings.specs.Admitting.{mostRing, mostLine, roomAsked, isRow1, isRow2, isRow3, isRow4, admitRows, refusalOf, IsRing, Admitted}
+use Rattle.findings.specs.Admitting.{mostRing, mostLine, roomRequired, isRow1, isRow2, isRow3, isRow4, admitRows, refusalOf, IsRing, Admitted}
 
 module _ (m k n room : ℕ) where
   -- Row 1 is given exactly when "m = 0 or m > 256", and not given exactly when m is 1 to 256.
@@ -33,11 +33,11 @@ module _ (m k n room : ℕ) where
   is-row-3 = is-row (lt-iff mostLine n) (λ in-limit h. omega arith) (λ not. omega arith)
 
   -- Row 4 is given exactly when "n ≥ m and fewer than 3·(n − m + 1) words are lent for findings", and not given exactly when n ≥ m implies enough words.
-  pub is-row-4 : IsRow (row (isRow4 m n room) FindingsRoom) FindingsRoom ((m ≤ n) × (room < roomAsked m n)) (m ≤ n → roomAsked m n ≤ room)
+  pub is-row-4 : IsRow (row (isRow4 m n room) FindingsRoom) FindingsRoom ((m ≤ n) × (room < roomRequired m n)) (m ≤ n → roomRequired m n ≤ room)
   is-row-4 =
-      is-row (and-iff (le-iff m n) (lt-iff room (roomAsked m n))) (λ enough h. omega (arith, enough (h .0)))
+      is-row (and-iff (le-iff m n) (lt-iff room (roomRequired m n))) (λ enough h. omega (arith, enough (h .0)))
       (λ not starts.
-      let not-short : room < roomAsked m n → ⊥ = λ short. not (starts, short) in
+      let not-short : room < roomRequired m n → ⊥ = λ short. not (starts, short) in
       omega arith)
 
   -- Row 1 is the first exactly when "m = 0 or m > 256".
@@ -57,13 +57,13 @@ module _ (m k n room : ℕ) where
       past-row is-row-1 (omega arith) (past-row is-row-2 (omega arith) (at-row is-row-3 (row-has is-row-4 (omega arith) end))) .exactly
 
   -- Row 4 is the first exactly when "n ≥ m and fewer than 3·(n − m + 1) words are lent for findings" and rows 1 to 3 are not given.
-  pub row-4-iff : (refusalOf m k n room ≡ some FindingsRoom) ↔ (IsRing m × ((k < m) × ((n ≤ mostLine) × ((m ≤ n) × (room < roomAsked m n)))))
+  pub row-4-iff : (refusalOf m k n room ≡ some FindingsRoom) ↔ (IsRing m × ((k < m) × ((n ≤ mostLine) × ((m ≤ n) × (room < roomRequired m n)))))
   unfolding admitRows
   row-4-iff =
       past-row is-row-1 (omega arith) (past-row is-row-2 (omega arith) (past-row is-row-3 (omega arith) (at-row is-row-4 end))) .exactly
 
   -- No row is given exactly when m is 1 to 256, k < m, n ≤ 65,536, and n ≥ m implies enough words.
-  pub none-iff : (refusalOf m k n room ≡ none) ↔ (IsRing m × ((k < m) × ((n ≤ mostLine) × (m ≤ n → roomAsked m n ≤ room))))
+  pub none-iff : (refusalOf m k n room ≡ none) ↔ (IsRing m × ((k < m) × ((n ≤ mostLine) × (m ≤ n → roomRequired m n ≤ room))))
   unfolding admitRows
   none-iff = no-row is-row-1 (no-row is-row-2 (no-row is-row-3 (no-last-row is-row-4))) .exactly
 
@@ -78,7 +78,7 @@ module _ (m k n room : ℕ) where
   -- If P holds for each row's refusal under the condition that makes this row the first, then P holds for the refusal of the first row that is given.
   pub by-row : (P : Refusal → Type 0) → ((m ≡ 0) ⊎ (mostRing < m) → P Ring) → (IsRing m × (m ≤ k) → P Allowance)
       → (IsRing m × ((k < m) × (mostLine < n)) → P Line)
-      → (IsRing m × ((k < m) × ((n ≤ mostLine) × ((m ≤ n) × (room < roomAsked m n)))) → P FindingsRoom)
+      → (IsRing m × ((k < m) × ((n ≤ mostLine) × ((m ≤ n) × (room < roomRequired m n)))) → P FindingsRoom)
       → (q : Refusal) → refusalOf m k n room ≡ some q → P q
   unfolding admitRows
   by-row P one two three four q e =

@@ -18,7 +18,7 @@ use Rattle.findings.proofs.PutCases.{finding-words, words-are-put}
 pub admitted-words : (ring line : List ℕ) {k room : ℕ} {f : Finding} → Admitted (length ring) k (length line) room → IsStart ring line (f .start)
     → f .rotation < length ring → f .distance ≤ k → IsWords (findingWords f)
 admitted-words ring line admitted is-start is-rotation near =
-    finding-words (omega (arith, admitted .most-line, is-start .fits)) (omega (arith, admitted .most-ring))
+    finding-words (omega (arith, admitted .most-line, is-start .fits-in-line)) (omega (arith, admitted .most-ring))
     (omega (arith, admitted .allowed, admitted .most-ring))
 
 -- The findings so far are fs, `count` of them, and `words` is the lent area with their words at its front.

@@ -1,7 +1,7 @@
 -- Document 01, "What each call returns", rows 1 to 4: when survey, scan and report are refused before they read any edge.
 --
 --   mostRing, mostLine    the document's limits
---   roomAsked             the words that row 4 requires
+--   roomRequired             the words that row 4 requires
 --   isRow1 to isRow4      the tests: whether each row is given
 --   admitRows             "Order: survey and scan 1 to 4"
 --   refusalOf             the refusal of the first of these rows that is given, if one is
@@ -31,8 +31,8 @@ abbrev pub mostLine : ℕ
 mostLine = 65536
 
 -- "3·(n − m + 1) words": room for as many findings as there are starts.
-abbrev pub roomAsked : ℕ → ℕ → ℕ
-roomAsked m n = wordsEach * (n - m + 1)
+abbrev pub roomRequired : ℕ → ℕ → ℕ
+roomRequired m n = wordsEach * (n - m + 1)
 
 -- Row 1: "m = 0 or m > 256".
 abbrev pub isRow1 : ℕ → Bool
@@ -48,7 +48,7 @@ isRow3 n = ltb mostLine n
 
 -- Row 4: "n ≥ m and fewer than 3·(n − m + 1) words are lent for findings".
 abbrev pub isRow4 : ℕ → ℕ → ℕ → Bool
-isRow4 m n room = leb m n && ltb room (roomAsked m n)
+isRow4 m n room = leb m n && ltb room (roomRequired m n)
 
 -- "Order: survey and scan 1 to 4": the rows for m, k, n and the number of words lent, each with its refusal if it is given.
 unfoldable pub admitRows : ℕ → ℕ → ℕ → ℕ → List (Option Refusal)
@@ -70,7 +70,7 @@ pub record Admitted (m k n room : ℕ) : Type 0 where
   pub most-ring : m ≤ mostRing
   pub allowed : k < m
   pub most-line : n ≤ mostLine
-  pub room-for : m ≤ n → roomAsked m n ≤ room
+  pub room-for : m ≤ n → roomRequired m n ≤ room
 
 -- The refusal that a verdict holds; none if the call is accepted.
 abbrev pub verdictOf : Verdict → Option Refusal

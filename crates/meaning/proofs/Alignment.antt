@@ -9,7 +9,7 @@ use native.Mathlib.Nat.{add-zero, add-suc, add-mul-mod-self-right}
 use native.Mathlib.Omega.{arith}
 use lib.Dec.{eqb}
 use lib.ListN.{length, getD}
-use Rattle.meaning.specs.Numbers.{oneIf, count}
+use Rattle.meaning.specs.Counting.{oneIf, count}
 use Rattle.meaning.specs.Meanings.{differs, distance}
 use Rattle.meaning.specs.Stretch.{begins}
 use Rattle.meaning.proofs.Count.{count-shift}

@@ -5,7 +5,7 @@ use mathlib.Core.Bool.{Bool, true, false}
 use native.Mathlib.Nat.{add-zero, zero-add, add-suc, suc-add}
 use native.Mathlib.Numerals.{add-one}
 use native.Mathlib.Omega.{arith}
-use Rattle.meaning.specs.Numbers.{oneIf, count}
+use Rattle.meaning.specs.Counting.{oneIf, count}
 
 -- The count over x + y numbers is the count over the first x plus the count over the other y.
 pub count-split : (p : ℕ → Bool) (a x y : ℕ) → count p a (x + y) ≡ count p a x + count p (a + x) y

@@ -80,7 +80,7 @@ module _ (ring line : List ℕ) (k : ℕ) where
         let far : f .distance ≡ leastDistance ring line i = h .distance-is ∙ ap (distance ring line i) rotation in
         let whole : f ≡ findingAt ring line i = λ j. record { start = i; rotation = rotation j; distance = far j } in
         Memᴰ·cast whole
-        (mem-below (length line) i (omega (arith, h .is-start .fits)) (h .is-start) (omega (arith, h .at-most-k)))
+        (mem-below (length line) i (omega (arith, h .is-start .fits-in-line)) (h .is-start) (omega (arith, h .at-most-k)))
 
     -- f is in the list of findings exactly when it is a finding: its start is a start, its distance is the one under its rotation and at most k, no rotation
     -- has a smaller distance, and no lower rotation has the same.
@@ -103,6 +103,6 @@ module _ (ring line : List ℕ) (k : ℕ) where
           let low = lowestRotation-is ring line pos i in (
             findingAt ring line i,
             refl,
-            mem-below (length line) i (omega (arith, w .0 .fits)) (w .0) (omega (arith, low .least (w .1 .0) (w .1 .1), w .1 .2)),
+            mem-below (length line) i (omega (arith, w .0 .fits-in-line)) (w .0) (omega (arith, low .least (w .1 .0) (w .1 .1), w .1 .2)),
           ),
     )

@@ -5,7 +5,7 @@ use mathlib.Core.Bool.{Bool, true, false, cond}
 use native.Mathlib.Omega.{arith}
 use lib.Dec.{ltb}
 use borrow.Author.Tests.{ltb-true, ltb-false}
-use Rattle.meaning.specs.Numbers.{lowest}
+use Rattle.meaning.specs.Counting.{lowest}
 use Rattle.lists.proofs.Cases.{below-suc}
 
 -- r is the lowest number below n at which f is least: f is nowhere less below n, and greater at every number lower than r.

@@ -8,7 +8,7 @@ use native.Mathlib.Nat.{add-zero, add-suc}
 use native.Mathlib.Omega.{arith}
 use lib.Dec.{ltb}
 use lib.ListN.{length}
-use Rattle.meaning.specs.Numbers.{count}
+use Rattle.meaning.specs.Counting.{count}
 use Rattle.meaning.specs.Meanings.{windowEdge, distance, lowestRotation}
 use Rattle.meaning.specs.Findings.{Finding, IsFinding, foundAt}
 use Rattle.meaning.specs.Stretch.{fits}

@@ -68,9 +68,9 @@ module _ (ring line : List ℕ) (k : ℕ) where
           }
 
       -- A window stopped at break k + 1 adds no finding; only its edges read are added to the looks.
-      pub scan-left : k < w .breaks → ScanLoop nextPlace last found (looks + w .read)
+      pub scan-stopped : k < w .breaks → ScanLoop nextPlace last found (looks + w .read)
       unfolding candidatesOf reported readLooks
-      scan-left many =
+      scan-stopped many =
           let was = window-read ring line k i in
           let no = candidate-no ring k w many in
           record {

@@ -5,7 +5,7 @@ use mathlib.Core.Bool.{Bool, true, false, _||_, false≢true, true≢false, or-t
 use mathlib.Core.Logic.{⊎-elim}
 use native.Mathlib.Nat.{eq-or-lt-of-le, le-of-suc-le-suc}
 use native.Mathlib.Omega.{arith}
-use Rattle.meaning.specs.Numbers.{someBelow}
+use Rattle.meaning.specs.Counting.{someBelow}
 
 -- If `someBelow p n` is true, there is a number below n that passes.
 pub some-yes : (p : ℕ → Bool) (n : ℕ) → someBelow p n ≡ true → (r : ℕ) × (r < n) × (p r ≡ true)

@@ -31,11 +31,11 @@ module _ (ring line : List ℕ) (i : ℕ) where
 
   -- The test `isStart` passes exactly when i is a start.
   pub start-iff : (isStart ring line i ≡ true) ↔ IsStart ring line i
-  start-iff = (λ e. record { fits = fits-line-iff .0 e }, λ h. fits-line-iff .1 (h .fits))
+  start-iff = (λ e. record { fits-in-line = fits-line-iff .0 e }, λ h. fits-line-iff .1 (h .fits-in-line))
 
   -- If a window fits in the line at i, i is a start.
   pub fits-is-start : FitsInLine ring line i → IsStart ring line i
-  fits-is-start h = record { fits = h }
+  fits-is-start h = record { fits-in-line = h }
 
   -- If a window at i would reach past the line's end, i is not a start.
   pub past-no-start : IsPastLine ring line i → isStart ring line i ≡ false

@@ -6,7 +6,7 @@ use mathlib.Core.List.{List}
 use native.Mathlib.Nat.{add-zero, zero-add, add-assoc, mod-add-mod, add-mod-right, mod-eq-of-lt}
 use native.Mathlib.Omega.{arith}
 use lib.ListN.{length, getD}
-use Rattle.meaning.specs.Numbers.{oneIf, count}
+use Rattle.meaning.specs.Counting.{oneIf, count}
 use Rattle.meaning.specs.Meanings.{windowEdge, rotationEdge, unequal, differs, distance}
 use Rattle.meaning.proofs.Count.{count-last, count-shift}
 

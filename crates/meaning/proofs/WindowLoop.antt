@@ -11,7 +11,7 @@ use native.Mathlib.Omega.{arith}
 use lib.Dec.{eqb}
 use lib.ListN.{length, getD}
 use borrow.Author.Tests.{lt-ltb, le-ltb, le-leb}
-use Rattle.meaning.specs.Numbers.{someBelow}
+use Rattle.meaning.specs.Counting.{someBelow}
 use Rattle.meaning.specs.Meanings.{windowEdge}
 use Rattle.meaning.specs.Stretch.{begins, fits}
 use Rattle.meaning.specs.Rules.{Reading, unread, readEdge, readLeft, readWindow}
@@ -130,9 +130,9 @@ module _ (ring line : List ℕ) (k i : ℕ) where
     }
 
   -- At break k + 1 reading stops.
-  pub window-left : (left breaks : ℕ) (bits : ℕ → Bool) → k < breaks → WindowLoop left breaks bits → ReadTo left breaks
+  pub window-stopped : (left breaks : ℕ) (bits : ℕ → Bool) → k < breaks → WindowLoop left breaks bits → ReadTo left breaks
   unfolding readLeft
-  window-left zero breaks bits many h = window-end breaks bits h
-  window-left (suc left) breaks bits many h =
+  window-stopped zero breaks bits many h = window-end breaks bits h
+  window-stopped (suc left) breaks bits many h =
       let stop : h .so-far ≡ readWindow ring line k i = rw (lt-ltb k (h .so-far .breaks) (omega (arith, h .breaks-is))) at (h .goes-on) in
       (omega (arith, h .left-is, ap (λ (w : Reading). w .read) stop), omega (arith, h .breaks-is, ap (λ (w : Reading). w .breaks) stop))

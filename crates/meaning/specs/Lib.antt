@@ -23,11 +23,11 @@
 -- | looks of the plain survey | `surveyLooks`                           | Looks    |
 -- | samples P1 to P12         | `samples`, `samples-right`              | Samples  |
 -- | readings that look right  | each refuted                            | Misread  |
--- | (helpers)                 | `count`, `lowest`, `someBelow`          | Numbers  |
+-- | (helpers)                 | `count`, `lowest`, `someBelow`          | Counting |
 --
 -- Where a word has two forms, the lower-case one computes, and the upper-case one states the same as a fact: start, finding, fit. proofs/ has the
 -- laws that join the two: `start-iff`, `findings-iff`, `fits-iff`.
-pub mod Numbers
+pub mod Counting
 pub mod Meanings
 pub mod Findings
 pub mod Stretch

@@ -7,7 +7,7 @@ use mathlib.Core.Bool.{Bool, not}
 use mathlib.Core.List.{List}
 use lib.Dec.{leb, eqb}
 use lib.ListN.{length, getD, take, drop}
-use Rattle.meaning.specs.Numbers.{count, lowest}
+use Rattle.meaning.specs.Counting.{count, lowest}
 
 -- "Rotation r of the ring, 0 ≤ r < m, has at its place q the ring's edge (r + q) mod m (source document 000)."
 abbrev pub rotationEdge : List ℕ → ℕ → ℕ → ℕ
@@ -27,7 +27,7 @@ fitsInLine ring line i = leb (i + length ring) (length line)
 
 -- "A start i is a line place with i + m ≤ n."
 pub record IsStart (ring line : List ℕ) (i : ℕ) : Type 0 where
-  pub fits : FitsInLine ring line i
+  pub fits-in-line : FitsInLine ring line i
 
 -- Whether place i is a start. `foundAt` uses this test.
 abbrev pub isStart : List ℕ → List ℕ → ℕ → Bool

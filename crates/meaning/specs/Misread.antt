@@ -6,7 +6,7 @@ use mathlib.Core.Bool.{Bool, true, false, cond, _&&_, _||_}
 use mathlib.Core.List.{List, [], _∷_, _++_, map}
 use lib.Dec.{leb, eqb}
 use lib.ListN.{length, getD, take}
-use Rattle.meaning.specs.Numbers.{count, lowest, someBelow}
+use Rattle.meaning.specs.Counting.{count, lowest, someBelow}
 use Rattle.meaning.specs.Meanings.{fitsInLine, differs, distance, lowestRotation, leastDistance}
 use Rattle.meaning.specs.Findings.{Finding, foundAt, findingsBelow, findings}
 use Rattle.meaning.specs.Stretch.{begins, fits}

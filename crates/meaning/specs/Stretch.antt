@@ -6,7 +6,7 @@ use mathlib.Core.Bool.{Bool, true, _&&_}
 use mathlib.Core.List.{List, [], _∷_}
 use lib.Dec.{leb, eqb}
 use lib.ListN.{length, getD}
-use Rattle.meaning.specs.Numbers.{someBelow}
+use Rattle.meaning.specs.Counting.{someBelow}
 use Rattle.meaning.specs.Meanings.{rotationEdge}
 
 -- "A stretch of at most m edges fits the ring if it is the beginning of some rotation."

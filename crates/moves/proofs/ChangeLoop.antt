@@ -6,7 +6,7 @@ use mathlib.Core.List.{List}
 use native.Mathlib.Nat.{mod-lt}
 use native.Mathlib.Omega.{arith}
 use lib.ListN.{getD}
-use Rattle.meaning.specs.Numbers.{oneIf}
+use Rattle.meaning.specs.Counting.{oneIf}
 use Rattle.meaning.specs.Meanings.{unequal}
 use Rattle.lists.specs.ByPlace.{StoredFirst}
 use Rattle.tally.specs.Counts.{IsLeast}

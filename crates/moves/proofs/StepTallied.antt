@@ -7,7 +7,7 @@ use mathlib.Core.List.{List}
 use native.Mathlib.Nat.{add-zero, mod-lt, mod-eq-of-lt}
 use native.Mathlib.Omega.{arith}
 use lib.ListN.{length, getD}
-use Rattle.meaning.specs.Numbers.{oneIf, count}
+use Rattle.meaning.specs.Counting.{oneIf, count}
 use Rattle.meaning.specs.Meanings.{windowEdge, unequal, differs, distance}
 use Rattle.meaning.proofs.Count.{count-le, oneIf-le}
 use Rattle.meaning.proofs.TallyStep.{distance-step}

@@ -19,7 +19,7 @@ use mathlib.Core.List.{List}
 use lib.Dec.{ltb, leb, eqb}
 use lib.ListN.{length, getD}
 use Rattle.lists.specs.ByPlace.{storedFirst}
-use Rattle.meaning.specs.Numbers.{oneIf}
+use Rattle.meaning.specs.Counting.{oneIf}
 use Rattle.meaning.specs.Meanings.{unequal, windowEdge, leastDistance}
 use Rattle.meaning.specs.Looks.{stepLooks}
 use Rattle.tally.specs.declared.counts.Least.{Least}

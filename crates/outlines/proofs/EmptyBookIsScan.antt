@@ -23,7 +23,7 @@ use Rattle.findings.proofs.SearchAnswers.{refused-search, accepted-search}
 use Rattle.outlines.specs.declared.reporting.Reported.{Reported}
 use Rattle.outlines.specs.declared.reporting.Reported.the-variants.{Counts as CountsCase, Refused}
 use Rattle.outlines.specs.Scan.{IsScanned}
-use Rattle.outlines.specs.Report.{those, shown, hidden, reportRefusal, ReportCounts, noReportCounts, reportCounts, reported, reportedWords, IsReported}
+use Rattle.outlines.specs.Report.{those, shown, hidden, reportRefusal, ReportCounts, noReportCounts, reportCounts, reportAnswer, reportedWords, IsReported}
 use Rattle.outlines.specs.LineScan.{LineScanned}
 use Rattle.outlines.proofs.OneScanAnswer.{scan-unique}
 use Rattle.outlines.proofs.FirstOfReport.{accepted-book-row}
@@ -69,7 +69,7 @@ module _ (cell ringNumber : ℕ) where
     -- If a report with an empty book is refused, returning this refusal and leaving the words meets the contract of `scan`.
     refused-scan : {refusal : Refusal} {out : List ℕ} → IsReported cell ringNumber ring line k [] words (Refused refusal) out
         → IsScanned ring line k words (ScanRefused refusal) out
-    unfolding reported reportedWords
+    unfolding reportAnswer reportedWords
     refused-scan {refusal} {out} meets =
         let row : Option Refusal = reportRefusal (length ring) k (length line) (length words) [] in
         let counts : ReportCounts = reportCounts ring line k cell ringNumber (silencesRead []) in

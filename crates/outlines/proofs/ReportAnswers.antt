@@ -19,7 +19,7 @@ use Rattle.book.specs.Calls.{IsRead}
 use Rattle.book.proofs.AcceptedBook.{has-records, has-refusal, read-answer-is}
 use Rattle.findings.specs.Admitting.{admitRows, refusalOf}
 use Rattle.outlines.specs.declared.reporting.Reported.the-variants.{Counts as CountsCase, Refused}
-use Rattle.outlines.specs.Report.{shown, reportRows, reportRefusal, noReportCounts, reportCounts, reported, reportedWords, IsReported}
+use Rattle.outlines.specs.Report.{shown, reportRows, reportRefusal, noReportCounts, reportCounts, reportAnswer, reportedWords, IsReported}
 use Rattle.outlines.specs.LineScan.{LineScanned}
 use Rattle.outlines.proofs.FirstOfReport.{none-row-iff}
 
@@ -38,7 +38,7 @@ module _ {cell ringNumber : ℕ} {ring line : List ℕ} {k : ℕ} {book words : 
   -- if a row is given, returning the first one's refusal and leaving the words meets the contract
   report-refused : {refusal : Refusal} → reportRefusal (length ring) k (length line) (length words) book ≡ some refusal
       → IsReported cell ringNumber ring line k book words (Refused refusal) words
-  unfolding reported reportedWords
+  unfolding reportAnswer reportedWords
   report-refused e = record {
     paper = sym (ap (λ (o : Option Refusal). answerPaper noReportCounts (answerBy o (reportCounts ring line k cell ringNumber (silencesRead book)))) e);
     written = sym (ap (λ (o : Option Refusal). areaBy o (written (wordsOf (shown (silencesRead book) cell ringNumber (findings ring line k))) words) words) e);
@@ -60,7 +60,7 @@ module _ {cell ringNumber : ℕ} {ring line : List ℕ} {k : ℕ} {book words : 
   -- If no row is given and the line is scanned with the book, returning found, hidden and looks meets the contract.
   pub report-accepted : {found hid looks : ℕ} {out : List ℕ} → LineScanned cell ringNumber ring line k book words found hid looks out
       → IsReported cell ringNumber ring line k book words (CountsCase found hid looks) out
-  unfolding reported reportedWords
+  unfolding reportAnswer reportedWords
   report-accepted done =
       let no-row = none-row-iff (length ring) k (length line) (length words) book .1 (done .admitted, done .book-read) in
       record {

@@ -13,7 +13,7 @@ use Rattle.answers.specs.declared.refusals.Refusal.{Refusal}
 use Rattle.answers.proofs.AnswerByRows.{accepted-number-iff, accepted-counts, accepted-area}
 use Rattle.silences.specs.Reading.{silencesRead}
 use Rattle.outlines.specs.declared.reporting.Reported.the-variants.{Counts as CountsCase}
-use Rattle.outlines.specs.Report.{shown, reportRefusal, ReportCounts, noReportCounts, reportCounts, reported, reportedWords, IsReported}
+use Rattle.outlines.specs.Report.{shown, reportRefusal, ReportCounts, noReportCounts, reportCounts, reportAnswer, reportedWords, IsReported}
 use Rattle.outlines.specs.LineScan.{LineScanned}
 use Rattle.outlines.proofs.FirstOfReport.{none-row-iff}
 
@@ -21,7 +21,7 @@ module _ {cell ringNumber : ℕ} {ring line : List ℕ} {k : ℕ} {book words : 
     (meets : IsReported cell ringNumber ring line k book words (CountsCase found hid looks) out) where
   -- In an accepted report no row is given, and found, hidden, looks and words are as `LineScanned` says.
   pub report-gives : LineScanned cell ringNumber ring line k book words found hid looks out
-  unfolding reported reportedWords
+  unfolding reportAnswer reportedWords
   report-gives =
       let row : Option Refusal = reportRefusal (length ring) k (length line) (length words) book in
       let counts : ReportCounts = reportCounts ring line k cell ringNumber (silencesRead book) in

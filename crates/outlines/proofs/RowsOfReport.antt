@@ -21,7 +21,7 @@ use Rattle.silences.proofs.BookRows.{refusal-5-iff, refusal-6-iff, refusal-7-if
 use Rattle.silences.proofs.AcceptedIsLayout.{no-refusal-iff}
 use Rattle.findings.proofs.AdmitRows.{row-1-iff, row-2-iff, row-3-iff, row-4-iff, row-numbers, row-places}
 use Rattle.outlines.specs.declared.reporting.Reported.{Reported}
-use Rattle.outlines.specs.Report.{shown, reportRefusal, ReportCounts, noReportCounts, reportCounts, reported, reportedWords, paperOf, IsReported}
+use Rattle.outlines.specs.Report.{shown, reportRefusal, ReportCounts, noReportCounts, reportCounts, reportAnswer, reportedWords, paperOf, IsReported}
 use Rattle.outlines.specs.ReportRows.{ReportRows}
 use Rattle.outlines.proofs.FirstOfReport.{early-row-iff, late-row-iff, none-row-iff, report-row-has}
 
@@ -35,7 +35,7 @@ place-by-row (some q) counts paper each small =
 -- Every answer that meets the contract of `report`, for a book of bytes, obeys the table `ReportRows`.
 pub report-rows : {cell ringNumber : ℕ} {ring line : List ℕ} {k : ℕ} {book words : List ℕ} {r : Reported} {out : List ℕ} → IsBytes book
     → IsReported cell ringNumber ring line k book words r out → ReportRows (length ring) k (length line) book words (paperOf r) out
-unfolding reported reportedWords
+unfolding reportAnswer reportedWords
 report-rows {cell} {ringNumber} {ring} {line} {k} {book} {words} bytes meets =
     let m = length ring in
     let n = length line in

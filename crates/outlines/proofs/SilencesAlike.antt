@@ -17,7 +17,7 @@ use Rattle.silences.proofs.BookRows.{book-accepted-iff}
 use Rattle.findings.specs.Admitting.{refusalOf}
 use Rattle.findings.proofs.AdmitRows.{no-row-iff}
 use Rattle.outlines.specs.declared.reporting.Reported.{Reported}
-use Rattle.outlines.specs.Report.{isHidden, isShown, shown, hidden, reportRefusal, noReportCounts, reportCounts, reported, reportedWords, IsReported}
+use Rattle.outlines.specs.Report.{isHidden, isShown, shown, hidden, reportRefusal, noReportCounts, reportCounts, reportAnswer, reportedWords, IsReported}
 use Rattle.outlines.proofs.TakenByTest.{taken-same}
 use Rattle.outlines.proofs.FirstOfReport.{accepted-book-row}
 use Rattle.outlines.proofs.ReportOneAnswer.{report-paper-unique}
@@ -68,7 +68,7 @@ module _ (ss ts : List Silence) (cell ringNumber : ℕ) where
     -- Two reports whose books name the same findings give the same answer and leave the same words.
     pub reports-same : (r r′ : Reported) (out out′ : List ℕ) → IsReported cell ringNumber ring line k book words r out
         → IsReported cell ringNumber ring line k book′ words r′ out′ → (r ≡ r′) × (out ≡ out′)
-    unfolding reported reportedWords
+    unfolding reportAnswer reportedWords
     reports-same r r′ out out′ p p′ = (
       report-paper-unique r r′
           (p .paper

@@ -1,5 +1,5 @@
 -- The sweep's part of the loop's invariant. Before each turn the findings and the looks so far are right (`ScanLoop` of crates/meaning), and the counts are the
--- tally of the last verified start. A turn is one call of `sweep_on`: windows stopped at break k + 1 add no finding (`left-scanned` of crates/sweep), and a
+-- tally of the last verified start. A turn is one call of `sweep_on`: windows stopped at break k + 1 add no finding (`stopped-scanned` of crates/sweep), and a
 -- candidate is verified (`scan-verified`). A turn ends past the start where it began, so the measure falls.
 use Prim.Native.Nat.{ℕ, _+_, _-_, _≤_, _<_}
 use mathlib.Core.Path.{_≡_, refl, sym, ap, _∙_}
@@ -24,7 +24,7 @@ use Rattle.sweep.specs.Sweeps.{IsSweptBy}
 use Rattle.sweep.specs.SweepRules.{stateOf, foundOf, hasEnded, CanSweepOn, IsSweptOn}
 use Rattle.sweep.specs.VerifyingRules.{TalliedBefore, lastOf}
 use Rattle.sweep.proofs.SweptByRules.{swept-by-rules}
-use Rattle.sweep.proofs.WindowsLeft.{left-from-le, left-start-le, left-scanned}
+use Rattle.sweep.proofs.WindowsStopped.{stopped-from-le, stopped-start-le, stopped-scanned}
 use Rattle.outlines.specs.LineScan.{CanScan}
 
 -- The invariant before a turn, with the findings so far.
@@ -93,14 +93,14 @@ module _ {ring doubled table line : List ℕ} {k : ℕ} {book counts₀ area : L
       turn-ended : (next : Sweep) → IsSweptOn ring line k at (Ended next) counts′ → SweepTurn ring line k so-far at (Ended next) counts′
       turn-ended next on =
           let e = on .ended refl in
-          let rises : at .start .0 ≤ on .stop = left-from-le ring line k (at .start .0) (on .left-to) in
+          let rises : at .start .0 ≤ on .stop = stopped-from-le ring line k (at .start .0) (on .stopped-to) in
           let start-is : next .start .0 ≡ on .stop = ap (λ (s : Sweep). s .start .0) (e .next-is) in
           record {
             keeps = record {
-              scanning = rw (append-nil, e .next-is) (left-scanned ring line k (at .start .0) (lastOf (at .last)) so-far (at .looks) (on .left-to) (h .scanning));
+              scanning = rw (append-nil, e .next-is) (stopped-scanned ring line k (at .start .0) (lastOf (at .last)) so-far (at .looks) (on .stopped-to) (h .scanning));
               before = rw (e .next-is) (e .before);
               size = e .size;
-              start-le = omega (arith, left-start-le ring line k (at .start .0) (h .start-le) (on .left-to));
+              start-le = omega (arith, stopped-start-le ring line k (at .start .0) (h .start-le) (on .stopped-to));
             };
             later = omega arith;
             less = λ in-line. omega (arith, e .past);
@@ -111,8 +111,8 @@ module _ {ring doubled table line : List ℕ} {k : ℕ} {book counts₀ area : L
       turn-verified : (r : Swept) → hasEnded r ≡ false → IsSweptOn ring line k at r counts′ → SweepTurn ring line k so-far at r counts′
       turn-verified r verified on =
           let c = on .candidate verified in
-          let rises : at .start .0 ≤ on .stop = left-from-le ring line k (at .start .0) (on .left-to) in
-          let left = left-scanned ring line k (at .start .0) (lastOf (at .last)) so-far (at .looks) (on .left-to) (h .scanning) in
+          let rises : at .start .0 ≤ on .stop = stopped-from-le ring line k (at .start .0) (on .stopped-to) in
+          let left = stopped-scanned ring line k (at .start .0) (lastOf (at .last)) so-far (at .looks) (on .stopped-to) (h .scanning) in
           record {
             keeps = record {
               scanning =

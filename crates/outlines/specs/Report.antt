@@ -8,7 +8,7 @@
 --   reportRefusal                  the refusal of the first of these rows that is given, if one is
 --   ReportCounts, noReportCounts   found, hidden and looks; all zero
 --   reportCounts                   the counts of a report, given the silences of its book
---   reported                       the answer that a report must give: its counts, or a refusal
+--   reportAnswer                       the answer that a report must give: its counts, or a refusal
 --   reportedWords                  the lent words at exit
 --   answerOf, paperOf              a returned enum as an answer, and as document 01's number, place and counts
 --   IsReported                     the contract of `report`
@@ -79,8 +79,8 @@ reportCounts ring line k cell ringNumber silences = record {
 }
 
 -- The answer of a report that is lent `room` words: the first of refusals 1 to 7 that is given, else the counts by the book's silences.
-unfoldable pub reported : List ℕ → List ℕ → ℕ → ℕ → ℕ → List ℕ → ℕ → Answer ReportCounts
-reported ring line k cell ringNumber book room =
+unfoldable pub reportAnswer : List ℕ → List ℕ → ℕ → ℕ → ℕ → List ℕ → ℕ → Answer ReportCounts
+reportAnswer ring line k cell ringNumber book room =
     answerBy (reportRefusal (length ring) k (length line) room book) (reportCounts ring line k cell ringNumber (silencesRead book))
 
 -- The lent words at exit: the words of the shown findings without a gap, then the rest as it was. A refusal "writes nothing to any lent area".
@@ -100,5 +100,5 @@ paperOf r = answerPaper noReportCounts (answerOf r)
 
 -- The contract of `report`. It fixes number, place and counts of the answer r and the words at exit `out`, on every input, accepted or refused.
 pub record IsReported (cell ringNumber : ℕ) (ring line : List ℕ) (k : ℕ) (book words : List ℕ) (r : Reported) (out : List ℕ) : Type 0 where
-  pub paper : paperOf r ≡ answerPaper noReportCounts (reported ring line k cell ringNumber book (length words))
+  pub paper : paperOf r ≡ answerPaper noReportCounts (reportAnswer ring line k cell ringNumber book (length words))
   pub written : out ≡ reportedWords ring line k cell ringNumber book words

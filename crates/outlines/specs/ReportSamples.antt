@@ -5,7 +5,7 @@ use mathlib.Core.Path.{_≡_, refl}
 use mathlib.Core.List.{List, [], _∷_}
 use lib.ListN.{length}
 use Rattle.lists.specs.Records.{wordsOfEach}
-use Rattle.meaning.specs.Numbers.{count, lowest, someBelow}
+use Rattle.meaning.specs.Counting.{count, lowest, someBelow}
 use Rattle.meaning.specs.Meanings.{differs, distance, lowestRotation}
 use Rattle.meaning.specs.Findings.{foundAt, findingsBelow, findings, wordsOf}
 use Rattle.lists.specs.Areas.{written}

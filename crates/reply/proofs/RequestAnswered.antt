@@ -13,7 +13,7 @@ use Rattle.answers.proofs.AnswerByRows.{row-place-iff}
 use Rattle.silences.specs.Reading.{silencesRead}
 use Rattle.outlines.specs.declared.reporting.Reported.{Reported}
 use Rattle.outlines.specs.declared.reporting.Reported.the-variants.{Counts as CountsCase, Refused}
-use Rattle.outlines.specs.Report.{shown, hidden, reportRefusal, ReportCounts, noReportCounts, reportCounts, reported, paperOf, IsReported}
+use Rattle.outlines.specs.Report.{shown, hidden, reportRefusal, ReportCounts, noReportCounts, reportCounts, reportAnswer, paperOf, IsReported}
 use Rattle.outlines.specs.LineScan.{LineScanned}
 use Rattle.outlines.proofs.ReportGives.{report-gives}
 use Rattle.outlines.proofs.FirstOfReport.{none-row-iff}
@@ -48,7 +48,7 @@ module _ {cell ringNumber k : ℕ} {ring line book words out : List ℕ} {r : Re
     (line-le : length line ≤ lineField .most) (enough : mostFindingWords ≤ length words) where
   -- The line of the report's refusal is the request's text.
   pub refused-text : (refusal : Refusal) → r ≡ Refused refusal → refusalLine refusal ≡ requestText (request cell ringNumber k ring line book)
-  unfolding reported
+  unfolding reportAnswer
   refused-text refusal e =
       sym
       (text-by (request cell ringNumber k ring line book) (length words) line-le enough

@@ -10,24 +10,24 @@ use borrow.Author.Tests.{le-ltb, leb-true, eqb-false}
 use Rattle.answers.specs.declared.refusals.Refusal.the-variants.{Ring, Allowance, Line, FindingsRoom}
 use Rattle.answers.specs.Rows.{row, firstGiven}
 use Rattle.silences.specs.Reading.{bookRows}
-use Rattle.findings.specs.Admitting.{roomAsked, isRow1, isRow2, isRow3, isRow4, admitRows}
+use Rattle.findings.specs.Admitting.{roomRequired, isRow1, isRow2, isRow3, isRow4, admitRows}
 use Rattle.outlines.specs.Report.{reportRows, reportRefusal}
 
-module _ (m k n room : ℕ) (book : List ℕ) (enough : 0 < m → m ≤ n → roomAsked m n ≤ room) where
+module _ (m k n room : ℕ) (book : List ℕ) (enough : 0 < m → m ≤ n → roomRequired m n ≤ room) where
   -- row 4 is not given, with either room
-  row-4-same : 0 < m → isRow4 m n room ≡ isRow4 m n (roomAsked m n)
+  row-4-same : 0 < m → isRow4 m n room ≡ isRow4 m n (roomRequired m n)
   row-4-same some-edge = go (leb m n) refl
     where
-      go : (t : Bool) → leb m n ≡ t → isRow4 m n room ≡ isRow4 m n (roomAsked m n)
+      go : (t : Bool) → leb m n ≡ t → isRow4 m n room ≡ isRow4 m n (roomRequired m n)
       go false e = simp e
-      go true e = simp (e, le-ltb room (roomAsked m n) (enough some-edge (leb-true m n e)), le-ltb (roomAsked m n) (roomAsked m n) (omega arith))
+      go true e = simp (e, le-ltb room (roomRequired m n) (enough some-edge (leb-true m n e)), le-ltb (roomRequired m n) (roomRequired m n) (omega arith))
 
   -- The first of the report's rows that is given is the same with either room.
-  pub refusal-same : reportRefusal m k n room book ≡ reportRefusal m k n (roomAsked m n) book
+  pub refusal-same : reportRefusal m k n room book ≡ reportRefusal m k n (roomRequired m n) book
   unfolding reportRows admitRows firstGiven
   refusal-same = go (eqb m 0) refl
     where
-      go : (t : Bool) → eqb m 0 ≡ t → reportRefusal m k n room book ≡ reportRefusal m k n (roomAsked m n) book
+      go : (t : Bool) → eqb m 0 ≡ t → reportRefusal m k n room book ≡ reportRefusal m k n (roomRequired m n) book
       go true e = simp e
       go false e =
           let none-empty : 0 < m = omega (arith, eqb-false m 0 e) in

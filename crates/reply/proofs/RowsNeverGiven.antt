@@ -8,7 +8,7 @@ use lib.ListN.{length}
 use Rattle.answers.specs.declared.refusals.Refusal.{Refusal}
 use Rattle.answers.specs.Refusals.{numberOf}
 use Rattle.silences.proofs.BookRows.{refusal-has}
-use Rattle.findings.specs.Admitting.{roomAsked, refusalOf}
+use Rattle.findings.specs.Admitting.{roomRequired, refusalOf}
 use Rattle.findings.proofs.AdmitRows.{by-row}
 use Rattle.outlines.specs.Report.{reportRefusal}
 use Rattle.outlines.proofs.FirstOfReport.{report-row-has}
@@ -23,14 +23,14 @@ module _ (q : Request) (line-le : length (q .line) ≤ lineField .most) where
   n = length (q .line)
 
   -- of rows 1 to 4 only 1 and 2 are given
-  early-rows : (refusal : Refusal) → refusalOf m (q .allowance) n (roomAsked m n) ≡ some refusal → numberOf refusal ≤ 2
+  early-rows : (refusal : Refusal) → refusalOf m (q .allowance) n (roomRequired m n) ≡ some refusal → numberOf refusal ≤ 2
   early-rows =
-      by-row m (q .allowance) n (roomAsked m n) (λ (r : Refusal). numberOf r ≤ 2) (λ _. omega arith) (λ _. omega arith) (λ long. absurd (omega arith)) (λ short. absurd (omega arith))
+      by-row m (q .allowance) n (roomRequired m n) (λ (r : Refusal). numberOf r ≤ 2) (λ _. omega arith) (λ _. omega arith) (λ long. absurd (omega arith)) (λ short. absurd (omega arith))
 
   -- A request's refusal is neither 3 nor 4.
-  pub rows-3-4-never : (refusal : Refusal) → reportRefusal m (q .allowance) n (roomAsked m n) (q .book) ≡ some refusal
+  pub rows-3-4-never : (refusal : Refusal) → reportRefusal m (q .allowance) n (roomRequired m n) (q .book) ≡ some refusal
       → (numberOf refusal ≡ 3 → ⊥) × (numberOf refusal ≡ 4 → ⊥)
   rows-3-4-never =
-      report-row-has m (q .allowance) n (roomAsked m n) (q .book) (λ (r : Refusal). (numberOf r ≡ 3 → ⊥) × (numberOf r ≡ 4 → ⊥))
+      report-row-has m (q .allowance) n (roomRequired m n) (q .book) (λ (r : Refusal). (numberOf r ≡ 3 → ⊥) × (numberOf r ≡ 4 → ⊥))
       (λ r e. let early = early-rows r e in (λ k. omega arith, λ k. omega arith))
       (refusal-has (q .book) (λ (r : Refusal). (numberOf r ≡ 3 → ⊥) × (numberOf r ≡ 4 → ⊥)) (λ k. omega arith, λ k. omega arith) (λ at. (λ k. omega arith, λ k. omega arith)) (λ at. (λ k. omega arith, λ k. omega arith)))

@@ -65,7 +65,7 @@ module _ (q : Request) (room : ℕ) (admitted : Admitted (length (q .ring)) (q .
   shown-short f m =
       let is = shown-iff silences (q .cell) (q .ringNumber) (q .ring) (q .line) (q .allowance) (admitted .some-edge) f .0 m .0 in
       record {
-        start-lt = omega (arith, is .is-start .fits);
+        start-lt = omega (arith, is .is-start .fits-in-line);
         rotation-lt = omega (arith, is .is-rotation, admitted .most-ring);
         distance-lt = omega (arith, is .at-most-k, admitted .allowed, admitted .most-ring);
       }

@@ -4,7 +4,7 @@ use Prim.Native.Nat.{ℕ}
 use mathlib.Core.Path.{_≡_, refl}
 use mathlib.Core.List.{List, [], _∷_, _++_}
 use lib.ListN.{replicate, take}
-use Rattle.meaning.specs.Numbers.{count, lowest, someBelow}
+use Rattle.meaning.specs.Counting.{count, lowest, someBelow}
 use Rattle.meaning.specs.Meanings.{differs, distance, lowestRotation}
 use Rattle.meaning.specs.Findings.{foundAt, findingsBelow}
 use Rattle.meaning.specs.Stretch.{begins, fits}

@@ -8,7 +8,7 @@ use lib.Dec.{leb, eqb}
 use lib.ListN.{length, getD}
 use borrow.Author.Tests.{le-leb, eq-eqb, leb-true, eqb-true}
 use Rattle.lists.proofs.Cases.{and-true, not-passed}
-use Rattle.fields.specs.Tagged.{longAt}
+use Rattle.fields.specs.Tagged.{lengthAt}
 use Rattle.request.specs.declared.field.FieldKind.{FieldKind}
 use Rattle.request.specs.Fields.{nextAt, isField}
 use Rattle.request.specs.RowEleven.{IsFieldAt, NoFieldAt}
@@ -22,8 +22,8 @@ module _ (kind : FieldKind) (input : List ℕ) (at : ℕ) where
     λ f.
         simp (
           eq-eqb (getD input at 0) (kind .tag) (f .tag-is),
-          le-leb (kind .least) (longAt input at) (f .least-le),
-          le-leb (longAt input at) (kind .most) (f .most-le),
+          le-leb (kind .least) (lengthAt input at) (f .least-le),
+          le-leb (lengthAt input at) (kind .most) (f .most-le),
           le-leb (nextAt input at) (length input) (f .not-cut),
         ),
   )
@@ -31,12 +31,12 @@ module _ (kind : FieldKind) (input : List ℕ) (at : ℕ) where
       passed : isField kind input at ≡ true → IsFieldAt kind input at
       passed h =
           let tagged = and-true (eqb (getD input at 0) (kind .tag)) _ h in
-          let long = and-true (leb (kind .least) (longAt input at)) _ (tagged .1) in
-          let short = and-true (leb (longAt input at) (kind .most)) _ (long .1) in
+          let long = and-true (leb (kind .least) (lengthAt input at)) _ (tagged .1) in
+          let short = and-true (leb (lengthAt input at) (kind .most)) _ (long .1) in
           record {
             tag-is = eqb-true (getD input at 0) (kind .tag) (tagged .0);
-            least-le = leb-true (kind .least) (longAt input at) (long .0);
-            most-le = leb-true (longAt input at) (kind .most) (short .0);
+            least-le = leb-true (kind .least) (lengthAt input at) (long .0);
+            most-le = leb-true (lengthAt input at) (kind .most) (short .0);
             not-cut = leb-true (nextAt input at) (length input) (short .1);
           }
 

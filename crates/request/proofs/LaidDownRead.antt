@@ -10,7 +10,7 @@ use lib.Seq.{take-append-seam}
 use borrow.Author.Tests.{le-ltb}
 use Rattle.answers.specs.Paper.{accepted}
 use Rattle.fields.specs.Numbers.{bytesOf, numberAt}
-use Rattle.fields.specs.Tagged.{lengthBytes, headLength, field, longAt, fieldEnd}
+use Rattle.fields.specs.Tagged.{lengthBytes, headLength, field, lengthAt, fieldEnd}
 use Rattle.fields.proofs.NumberBytes.{bytesOf-length}
 use Rattle.fields.proofs.FieldLaid.{laid-number, laid-tag, laid-long, laid-value, laid-rest, laid-within}
 use Rattle.request.specs.declared.field.FieldKind.{FieldKind}
@@ -38,7 +38,7 @@ unfolding firstFault partsFrom
 parts-laid whole at book-left e = (refl, ap (λ (l : List ℕ). l ∷ []) e)
 parts-laid whole at (field-fits {kind} {kinds} {value} {parts} least-le most-le short fit) e =
     let rest : List ℕ = laid kinds parts in
-    let long : longAt whole at ≡ length value = laid-long whole at (kind .tag) value rest e short in
+    let long : lengthAt whole at ≡ length value = laid-long whole at (kind .tag) value rest e short in
     let next-is : nextAt whole at ≡ fieldEnd at (length value) = ap (fieldEnd at) long in
     let stands : IsFieldAt kind whole at =
     record {

@@ -13,7 +13,7 @@ use mathlib.Core.Bool.{Bool, _&&_}
 use mathlib.Core.List.{List, [], _∷_}
 use lib.Dec.{leb, eqb}
 use lib.ListN.{length, getD, take, drop}
-use Rattle.fields.specs.Tagged.{headLength, longAt, fieldEnd}
+use Rattle.fields.specs.Tagged.{headLength, lengthAt, fieldEnd}
 use Rattle.request.specs.declared.field.FieldKind.{FieldKind}
 
 -- "34 cell (4 bytes)"
@@ -46,7 +46,7 @@ between input from to = take (to - from) (drop from input)
 
 -- The byte offset just past the field that begins at `at`.
 abbrev pub nextAt : List ℕ → ℕ → ℕ
-nextAt input at = fieldEnd at (longAt input at)
+nextAt input at = fieldEnd at (lengthAt input at)
 
 -- The value of the field that begins at `at`.
 abbrev pub valueAt : List ℕ → ℕ → List ℕ
@@ -57,4 +57,4 @@ valueAt input at = between input (at + headLength) (nextAt input at)
 unfoldable pub isField : FieldKind → List ℕ → ℕ → Bool
 isField kind input at =
     eqb (getD input at 0) (kind .tag)
-    && (leb (kind .least) (longAt input at) && (leb (longAt input at) (kind .most) && leb (nextAt input at) (length input)))
+    && (leb (kind .least) (lengthAt input at) && (leb (lengthAt input at) (kind .most) && leb (nextAt input at) (length input)))

@@ -10,7 +10,7 @@ use Prim.Native.Nat.{ℕ, _≤_, _<_}
 use mathlib.Core.Path.{_≡_}
 use mathlib.Core.List.{List, _∷_}
 use lib.ListN.{length, getD}
-use Rattle.fields.specs.Tagged.{longAt}
+use Rattle.fields.specs.Tagged.{lengthAt}
 use Rattle.request.specs.declared.field.FieldKind.{FieldKind}
 use Rattle.request.specs.Fields.{inputFields, nextAt}
 use Rattle.request.specs.Input.{mostInput}
@@ -18,8 +18,8 @@ use Rattle.request.specs.Input.{mostInput}
 -- A field of this kind stands at `at`: it has the kind's tag, its length is within the kind's bounds, and it is not cut.
 pub record IsFieldAt (kind : FieldKind) (input : List ℕ) (at : ℕ) : Type 0 where
   pub tag-is : getD input at 0 ≡ kind .tag
-  pub least-le : kind .least ≤ longAt input at
-  pub most-le : longAt input at ≤ kind .most
+  pub least-le : kind .least ≤ lengthAt input at
+  pub most-le : lengthAt input at ≤ kind .most
   pub not-cut : nextAt input at ≤ length input
 
 -- No field of this kind stands at `at`.

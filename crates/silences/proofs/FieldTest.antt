@@ -16,7 +16,7 @@ use Rattle.lists.specs.ByPlace.{listOf}
 use Rattle.lists.proofs.Records.{part-places}
 use Rattle.lists.proofs.SizesTested.{le-iff, eq-iff, and-iff}
 use Rattle.fields.specs.Numbers.{numberAt}
-use Rattle.fields.specs.Tagged.{headLength, longAt, fieldEnd, isWhole}
+use Rattle.fields.specs.Tagged.{headLength, lengthAt, fieldEnd, isWhole}
 use Rattle.silences.specs.Silences.{Silence}
 use Rattle.silences.specs.Layout.{silenceTag, valueLength}
 use Rattle.silences.specs.Reading.{lengthByTag, silenceAt, FieldAt, whole, faulty, fieldBy, fieldAt}
@@ -37,7 +37,7 @@ whole-next-unique e = cc
 -- The field at `at` passes the three tests: its tag is 21 hex, its length bytes say 10, and it ends within the book.
 pub record IsTested (book : List ℕ) (at : ℕ) : Type 0 where
   pub tag-is : getD book at 0 ≡ silenceTag
-  pub long-is : longAt book at ≡ valueLength
+  pub long-is : lengthAt book at ≡ valueLength
   pub within : fieldEnd at valueLength ≤ length book
 
 module _ (book : List ℕ) (at : ℕ) where
@@ -62,7 +62,7 @@ module _ (book : List ℕ) (at : ℕ) where
   test-iff : (test ≡ true) ↔ IsTested book at
   unfolding test isWhole
   test-iff =
-      Iff·trans (and-iff (eq-iff (getD book at 0) silenceTag) (and-iff (eq-iff (longAt book at) valueLength) (le-iff (fieldEnd at valueLength) (length book)))) (
+      Iff·trans (and-iff (eq-iff (getD book at 0) silenceTag) (and-iff (eq-iff (lengthAt book at) valueLength) (le-iff (fieldEnd at valueLength) (length book)))) (
         λ h. record { tag-is = h .0; long-is = h .1 .0; within = h .1 .1 },
         λ t. (t .tag-is, (t .long-is, t .within)),
       )
@@ -92,7 +92,7 @@ module _ (book : List ℕ) (at : ℕ) where
   field-is-faulty fails = field-by ∙ by-test (λ (f : FieldAt). f ≡ faulty) test (λ t. absurd (fails (test-iff .0 t))) (λ t. refl)
 
   -- the number in the two length bytes
-  length-is : longAt book at ≡ getD book (at + 1) 0 * 256 + getD book (at + 2) 0
+  length-is : lengthAt book at ≡ getD book (at + 1) 0 * 256 + getD book (at + 2) 0
   unfolding numberAt
   length-is =
       let first : at + 1 + 0 ≡ at + 1 = omega arith in

@@ -10,7 +10,7 @@ pub mod SweepWays
 pub mod SweepCases
 -- If the vectors and the double are the ring's own and the counts are a tally, this is what the rules give.
 pub mod ReadByRules
-pub mod WindowsLeft
+pub mod WindowsStopped
 pub mod WindowsByRules
 pub mod TallyByRules
 pub mod SweptByRules

@@ -11,11 +11,11 @@ use native.Mathlib.Omega.{arith}
 use lib.Dec.{ltb}
 use lib.ListN.{length, getD}
 use borrow.Author.Tests.{ltb-true, ltb-false}
-use Rattle.meaning.specs.Numbers.{someBelow}
+use Rattle.meaning.specs.Counting.{someBelow}
 use Rattle.meaning.specs.Meanings.{windowEdge}
 use Rattle.lists.proofs.Cases.{by-test, not-passed}
 use Rattle.meaning.proofs.Some.{some-yes, some-by}
-use Rattle.meaning.proofs.WindowLoop.{AllSet, GrownBy, WindowLoop, window-start, window-end, window-left, window-grows, window-breaks}
+use Rattle.meaning.proofs.WindowLoop.{AllSet, GrownBy, WindowLoop, window-start, window-end, window-stopped, window-grows, window-breaks}
 use Rattle.vectors.specs.Bits.{wordCount, isSet, firstBits, noBit}
 use Rattle.vectors.specs.Holding.{vectorAt}
 use Rattle.vectors.specs.ByValue.{vectorWords, vectorBits, HeldVector}
@@ -100,7 +100,7 @@ module _ (ring window table : List ℕ) (k : ℕ) (own : OwnVectors ring table) 
     -- If it is break k + 1, reading stops, as rule 3 says.
     stops : noBit new words ≡ true → k < breaks + 1 → IsWindowRead ring window k (record { left = left; breaks = breaks + 1; looks = looks + 1 })
     stops e many =
-        let to = window-left ring window k 0 left (breaks + 1) (isSet full) many (broken e) in
+        let to = window-stopped ring window k 0 left (breaks + 1) (isSet full) many (broken e) in
         record { read-is = omega (arith, to .0, h .looks-are); left-is = omega (arith, h .looks-are); breaks-is = sym (to .1) }
 
   -- Reading the edges before place `left`, with a vector that stands for the stretch, follows the rules.

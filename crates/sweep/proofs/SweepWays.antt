@@ -16,7 +16,7 @@ use Rattle.sweep.specs.declared.sweeping.Sweep.{Sweep}
 use Rattle.sweep.specs.declared.sweeping.Swept.the-variants.{Ended, NoFinding, Found}
 use Rattle.sweep.specs.declared.sweeping.WindowsRead.{WindowsRead}
 use Rattle.sweep.specs.Reads.{windowsBy}
-use Rattle.sweep.specs.Sweeps.{sweepBy, mostLooks, CanSweep, IsTallied, IsSweptTo}
+use Rattle.sweep.specs.Sweeps.{sweepBy, mostLooks, CanSweep, IsTalliedBy, IsSweptTo}
 use Rattle.sweep.proofs.WindowTurns.{WindowsGo, windows-within}
 use Rattle.sweep.proofs.TallyWays.{mostTally, tally-looks}
 
@@ -44,7 +44,7 @@ module _ (ring doubled table line : List ℕ) (k : ℕ) (at : Sweep) (old : List
     unfolding sweepBy
     way-ended none = record { is = rw (← read-is, none) refl }
 
-    module _ (stopped : read .candidate ≡ true) (new : List ℕ) (z : Least) (tallied : IsTallied ring doubled line (read .start .0) (at .last) old new z) where
+    module _ (stopped : read .candidate ≡ true) (new : List ℕ) (z : Least) (tallied : IsTalliedBy ring doubled line (read .start .0) (at .last) old new z) where
       -- With the looks of the candidate's verification added, the sum is at most 2^62 + 256·2^32 + 65,536.
       pub sweep-all-looks-le : CanSweep m (length line) (at .start .0) (at .looks)
           → at .looks + read .looks + z .looks ≤ mostLooks + mostCounts * mostPlaces + mostTally

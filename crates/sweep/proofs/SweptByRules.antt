@@ -26,7 +26,7 @@ use Rattle.sweep.specs.Sweeps.{tallyBy, SweptTo, sweepBy, canSweep, IsSw
 use Rattle.sweep.specs.VerifyingRules.{lastOf, TalliedBefore}
 use Rattle.sweep.specs.SweepRules.{stateOf, foundOf, hasEnded, IsCandidateRead, IsWindowsRead, CanSweepOn, IsSweptOn}
 use Rattle.sweep.proofs.SweepCases.{can-sweep-iff}
-use Rattle.sweep.proofs.WindowsLeft.{left-from-le}
+use Rattle.sweep.proofs.WindowsStopped.{stopped-from-le}
 use Rattle.sweep.proofs.WindowsByRules.{windows-by-rules}
 use Rattle.sweep.proofs.TallyByRules.{before-later, tally-by-rules}
 
@@ -52,7 +52,7 @@ module _ (ring doubled table line : List ℕ) (k : ℕ) (old : List ℕ) (at : S
 
   -- The counts are still the tally of the last verified start.
   tallied-here : TalliedBefore ring line i old (lastOf (at .last))
-  tallied-here = before-later ring line old (at .start .0) i (lastOf (at .last)) (left-from-le ring line k (at .start .0) (reads .left-to)) (can .before)
+  tallied-here = before-later ring line old (at .start .0) i (lastOf (at .last)) (stopped-from-le ring line k (at .start .0) (reads .stopped-to)) (can .before)
 
   -- The case that no window fits in the line any more.
   ended : read .candidate ≡ false → IsSweptOn ring line k at (Ended (record { start = read .start; last = at .last; looks = at .looks + read .looks })) old
@@ -61,7 +61,7 @@ module _ (ring doubled table line : List ℕ) (k : ℕ) (old : List ℕ) (at : S
       record {
         stop = i;
         looks = reads .looks;
-        left-to = reads .left-to;
+        stopped-to = reads .stopped-to;
         ended = λ _. record {
           past = e .0;
           next-is = ap (λ (x : ℕ). record { start = read .start; last = at .last; looks = at .looks + x }) (e .2);
@@ -91,7 +91,7 @@ module _ (ring doubled table line : List ℕ) (k : ℕ) (old : List ℕ) (at : S
     after r state goes-on found = record {
       stop = i;
       looks = reads .looks;
-      left-to = reads .left-to;
+      stopped-to = reads .stopped-to;
       ended = λ t. absurd (true≢false (sym t ∙ goes-on));
       candidate = λ _. record {
         in-line = read-is .in-line;

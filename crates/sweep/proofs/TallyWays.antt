@@ -19,7 +19,7 @@ use Rattle.moves.specs.declared.steps.Reached.{Reached}
 use Rattle.moves.proofs.MoveLoop.{move-looks-le}
 use Rattle.sweep.specs.declared.verifying.LastVerified.{LastVerified}
 use Rattle.sweep.specs.declared.verifying.LastVerified.the-variants.{Nothing, At}
-use Rattle.sweep.specs.Sweeps.{movedTo, tallyBy, IsTallied}
+use Rattle.sweep.specs.Sweeps.{movedTo, tallyBy, IsTalliedBy}
 
 -- The looks of a fresh count for the longest ring.
 abbrev pub mostTally : ℕ
@@ -34,23 +34,23 @@ module _ (ring : List ℕ) {doubled line : List ℕ} {i : ℕ} {old : List ℕ} 
         ∙ ap (λ (w : List ℕ). countedTo doubled w old) (handed .is)
 
     -- If there is no earlier tally, this meets the contract of `verify`.
-    pub tallied-first : {last : LastVerified} → last ≡ Nothing → IsTallied ring doubled line i last old new z
+    pub tallied-first : {last : LastVerified} → last ≡ Nothing → IsTalliedBy ring doubled line i last old new z
     unfolding tallyBy
     tallied-first none = record { is = rw none afresh-is }
 
     -- So it does if the start is not beyond the last verified one.
-    pub tallied-behind : {last : LastVerified} {from : LinePlace} → last ≡ At from → i ≤ from .0 → IsTallied ring doubled line i last old new z
+    pub tallied-behind : {last : LastVerified} {from : LinePlace} → last ≡ At from → i ≤ from .0 → IsTalliedBy ring doubled line i last old new z
     unfolding tallyBy
     tallied-behind {from = from} after behind = record { is = rw (after, le-leb i (from .0) behind) afresh-is }
 
     -- So it does if the start is s beyond the last verified one and 2·s > m.
-    pub tallied-far : {last : LastVerified} {from : LinePlace} → last ≡ At from → from .0 < i → length ring < 2 * (i - from .0) → IsTallied ring doubled line i last old new z
+    pub tallied-far : {last : LastVerified} {from : LinePlace} → last ≡ At from → from .0 < i → length ring < 2 * (i - from .0) → IsTalliedBy ring doubled line i last old new z
     unfolding tallyBy
     tallied-far {from = from} after beyond far = record { is = rw (after, lt-leb i (from .0) beyond, lt-ltb (length ring) (2 * (i - from .0)) far) afresh-is }
 
   -- If the start is s beyond the last verified one and 2·s ≤ m, moving the tally s steps meets the contract of `verify`.
   pub tallied-moved : {last : LastVerified} {from : LinePlace} {new : List ℕ} {r : Reached} → last ≡ At from → from .0 < i → 2 * (i - from .0) ≤ length ring
-      → IsMoved ring line (from .0) (i - from .0) 0 old new r → IsTallied ring doubled line i last old new (record { least = r .least; looks = r .looks })
+      → IsMoved ring line (from .0) (i - from .0) 0 old new r → IsTalliedBy ring doubled line i last old new (record { least = r .least; looks = r .looks })
   unfolding tallyBy movedTo
   tallied-moved {from = from} after beyond near moved = record {
     is = rw (after, lt-leb i (from .0) beyond, le-ltb (length ring) (2 * (i - from .0)) near)

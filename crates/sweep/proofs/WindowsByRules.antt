@@ -1,5 +1,5 @@
 -- Windows read with the ring's own vectors, up to the next candidate, are read by the rules. By induction on how many windows may still come: every window so
--- far was stopped at break k + 1 (`LeftTo`). The window at i is read as a line of its own (`read-by-rules`, `alone-reading` of crates/meaning). Either it is
+-- far was stopped at break k + 1 (`StoppedTo`). The window at i is read as a line of its own (`read-by-rules`, `alone-reading` of crates/meaning). Either it is
 -- stopped at break k + 1, and the next one starts later; or it is the candidate; or it does not fit in the line.
 use Prim.Native.Nat.{ℕ, zero, suc, _+_, _-_, _≤_, _<_}
 use mathlib.Core.Path.{_≡_, refl, sym, ap, _∙_}
@@ -19,7 +19,7 @@ use Rattle.tally.proofs.WindowEdges.{fitting-window, fitting-length}
 use Rattle.sweep.specs.declared.reading.WindowRead.{WindowRead}
 use Rattle.sweep.specs.Reads.{readBy, noneLeft, windowsOn, windowsBy}
 use Rattle.sweep.specs.ReadingRules.{OwnVectors, IsWindowRead}
-use Rattle.sweep.specs.SweepRules.{sweptStart, LeftTo, none-left, one-left, IsWindowsRead}
+use Rattle.sweep.specs.SweepRules.{sweptStart, StoppedTo, none-stopped, one-stopped, IsWindowsRead}
 use Rattle.sweep.proofs.ReadByRules.{read-by-rules}
 
 module _ (ring table line : List ℕ) (k from : ℕ) (own : OwnVectors ring table) where
@@ -33,10 +33,10 @@ module _ (ring table line : List ℕ) (k from : ℕ) (own : OwnVectors ring tabl
   abbrev read : ℕ → WindowRead
   read i = readBy table (windowAt m line i) k
 
-  module _ (i looks : ℕ) (h : LeftTo ring line k from i looks) where
+  module _ (i looks : ℕ) (h : StoppedTo ring line k from i looks) where
     -- The case that no window fits in the line at i.
     ended : IsPastLine ring line i → IsWindowsRead ring line k from (noneLeft i looks)
-    ended past = record { looks = looks; left-to = h; candidate-is = λ e. absurd (true≢false (sym e)); ended = λ _. (past, refl, refl) }
+    ended past = record { looks = looks; stopped-to = h; candidate-is = λ e. absurd (true≢false (sym e)); ended = λ _. (past, refl, refl) }
 
     module _ (in-line : FitsInLine ring line i) where
       alone : windowAt m line i ≡ window m line i
@@ -56,21 +56,21 @@ module _ (ring table line : List ℕ) (k from : ℕ) (own : OwnVectors ring tabl
       next-is = omega (arith, reads-are, by-rules .left-is)
 
       -- The case that the window is stopped at break k + 1.
-      left-here : k < read i .breaks → LeftTo ring line k from (i + read i .left + 1) (looks + read i .looks)
-      left-here many = rw (next-is, reads-are) (one-left h in-line (omega (arith, breaks-are)))
+      stopped-here : k < read i .breaks → StoppedTo ring line k from (i + read i .left + 1) (looks + read i .looks)
+      stopped-here many = rw (next-is, reads-are) (one-stopped h in-line (omega (arith, breaks-are)))
 
       -- The case that it is the candidate.
       stops-here : read i .breaks ≤ k
           → IsWindowsRead ring line k from (record { start = record { 0 = i }; next = record { 0 = i + read i .left + 1 }; looks = looks + read i .looks; candidate = true })
       stops-here few = record {
         looks = looks;
-        left-to = h;
+        stopped-to = h;
         candidate-is = λ _. record { in-line = in-line; few = omega (arith, breaks-are); next-is = next-is; looks-are = omega (arith, reads-are) };
         ended = λ e. absurd (true≢false e);
       }
 
   -- Reading windows from a start i before which every window was stopped at break k + 1 follows the rules.
-  windows-on : (left i looks : ℕ) → n + 1 ≤ i + left → LeftTo ring line k from i looks
+  windows-on : (left i looks : ℕ) → n + 1 ≤ i + left → StoppedTo ring line k from i looks
       → IsWindowsRead ring line k from (windowsOn ring table line k left i looks)
   unfolding windowsOn
   windows-on zero i looks enough h = ended i looks h (omega (arith, own .some-edge))
@@ -82,9 +82,9 @@ module _ (ring table line : List ℕ) (k from : ℕ) (own : OwnVectors ring tabl
       (λ few. stops-here i looks h in-line (leb-true (read i .breaks) k few))
       (λ many.
       windows-on left (i + read i .left + 1) (looks + read i .looks) (omega arith)
-      (left-here i looks h in-line (leb-false (read i .breaks) k many))))
+      (stopped-here i looks h in-line (leb-false (read i .breaks) k many))))
       (λ out. ended i looks h (past-line-iff ring line i .0 out))
 
   -- Windows read with the ring's own vectors from `from` on, up to the next candidate, are read by the rules.
   pub windows-by-rules : from ≤ n + 1 → IsWindowsRead ring line k from (windowsBy ring table line k from)
-  windows-by-rules start-le = windows-on (n + 1 - from) from 0 (omega arith) none-left
+  windows-by-rules start-le = windows-on (n + 1 - from) from 0 (omega arith) none-stopped

@@ -1,16 +1,16 @@
 -- The sweep to the next candidate as rules 1 to 5 say, in the terms of crates/meaning. The loop of scan and report uses these statements. `sweepBy` of Sweeps
--- is what `sweep_on` computes on every input; `swept-by-rules` in proofs/SweptByRules.antt proves that under `CanSweepOn` it satisfies `IsSweptOn`. `LeftTo`
--- and `leftState` are named after windows that were left because reading stopped at break k + 1 (rule 3).
+-- is what `sweep_on` computes on every input; `swept-by-rules` in proofs/SweptByRules.antt proves that under `CanSweepOn` it satisfies `IsSweptOn`. `StoppedTo`
+-- and `stoppedState` are named after windows that were left because reading stopped at break k + 1 (rule 3).
 --
 --   sweptStart                   where the next window starts
 --   stateOf, foundOf, hasEnded   the parts of an answer: the sweep after it, the finding reported, whether the sweep has ended
---   LeftTo                       a run of windows, each stopped at break k + 1
+--   StoppedTo                       a run of windows, each stopped at break k + 1
 --   IsCandidateRead              a window is read and is a candidate
 --   IsWindowsRead                windows are read, up to the next candidate
 --   CanSweepOn                   the sweep can go on by the rules
 --   IsCandidateSwept             a candidate is read and verified
 --   HasEnded                     no window fits in the line any more
---   leftState                    the sweep after a run of windows stopped at break k + 1
+--   stoppedState                    the sweep after a run of windows stopped at break k + 1
 --   IsSweptOn                    the sweep to the next candidate
 use Prim.Native.Nat.{ℕ, _+_, _-_, _≤_, _<_}
 use mathlib.Core.Path.{_≡_}
@@ -56,10 +56,10 @@ hasEnded (Found next f) = false
 
 -- A run of windows, each stopped at break k + 1: the first starts at `from`, the next window after the run starts at i. Each window of the run fits in the line, the
 -- next one starts where rule 3 says, and the looks are the edges read.
-pub data LeftTo (ring line : List ℕ) (k from : ℕ) : ℕ → ℕ → Type 0 where
-  none-left : LeftTo ring line k from from 0
-  one-left : {i looks : ℕ} → LeftTo ring line k from i looks → FitsInLine ring line i → k < readWindow ring line k i .breaks
-      → LeftTo ring line k from (sweptStart ring line k i) (looks + readWindow ring line k i .read)
+pub data StoppedTo (ring line : List ℕ) (k from : ℕ) : ℕ → ℕ → Type 0 where
+  none-stopped : StoppedTo ring line k from from 0
+  one-stopped : {i looks : ℕ} → StoppedTo ring line k from i looks → FitsInLine ring line i → k < readWindow ring line k i .breaks
+      → StoppedTo ring line k from (sweptStart ring line k i) (looks + readWindow ring line k i .read)
 
 -- Rule 4: "A window with all m edges read and at most k breaks is a candidate." The window at r's start is one; r has the next start and the looks. A window with at
 -- most k breaks was not stopped, so all its edges are read. `looks` are those of the windows before it.
@@ -72,7 +72,7 @@ pub record IsCandidateRead (ring line : List ℕ) (k looks : ℕ) (r : WindowsRe
 -- From start `from` on every window is stopped at break k + 1, up to r's start. There the window is a candidate, or no window fits in the line any more.
 pub record IsWindowsRead (ring line : List ℕ) (k from : ℕ) (r : WindowsRead) : Type 0 where
   pub looks : ℕ
-  pub left-to : LeftTo ring line k from (r .start .0) looks
+  pub stopped-to : StoppedTo ring line k from (r .start .0) looks
   pub candidate-is : r .candidate ≡ true → IsCandidateRead ring line k looks r
   pub ended : r .candidate ≡ false → IsPastLine ring line (r .start .0) × (r .next .0 ≡ r .start .0) × (r .looks ≡ looks)
 
@@ -106,14 +106,14 @@ pub record HasEnded (ring line : List ℕ) (at next : Sweep) (counts : List ℕ)
   pub size : length counts ≡ mostCounts
 
 -- The sweep after a run of windows stopped at break k + 1: only its start, now i, and its looks have changed.
-abbrev pub leftState : Sweep → ℕ → ℕ → Sweep
-leftState at i looks = record { start = record { 0 = i }; last = at .last; looks = at .looks + looks }
+abbrev pub stoppedState : Sweep → ℕ → ℕ → Sweep
+stoppedState at i looks = record { start = record { 0 = i }; last = at .last; looks = at .looks + looks }
 
 -- From the start of `at` on every window is stopped at break k + 1, up to `stop`. There the window is a candidate and is verified, or no window fits in the
 -- line any more.
 pub record IsSweptOn (ring line : List ℕ) (k : ℕ) (at : Sweep) (r : Swept) (counts : List ℕ) : Type 0 where
   pub stop : ℕ
   pub looks : ℕ
-  pub left-to : LeftTo ring line k (at .start .0) stop looks
-  pub ended : hasEnded r ≡ true → HasEnded ring line (leftState at stop looks) (stateOf r) counts
-  pub candidate : hasEnded r ≡ false → IsCandidateSwept ring line k (leftState at stop looks) r counts
+  pub stopped-to : StoppedTo ring line k (at .start .0) stop looks
+  pub ended : hasEnded r ≡ true → HasEnded ring line (stoppedState at stop looks) (stateOf r) counts
+  pub candidate : hasEnded r ≡ false → IsCandidateSwept ring line k (stoppedState at stop looks) r counts

@@ -7,7 +7,7 @@
 --   mostLooks              2^62, more looks than any sweep takes
 --   canSweep, CanSweep     whether the sweep can go on: the test, and the same as facts
 --   IsSweptBy              the contract of `sweep_on`
---   IsTallied, IsSweptTo   the contracts of `verify` and `to_candidate`
+--   IsTalliedBy, IsSweptTo   the contracts of `verify` and `to_candidate`
 use Prim.Native.Nat.{ℕ, _+_, _-_, _*_, _^_, _≤_}
 use mathlib.Core.Path.{_≡_}
 use mathlib.Core.Bool.{Bool, cond, _&&_}
@@ -79,7 +79,7 @@ pub record IsSweptBy (ring doubled table line : List ℕ) (k : ℕ) (at : Sweep)
 -- From here on: preconditions and contracts of private functions.
 
 -- The contract of `verify`: the counts at exit, their least and the looks are those of `tallyBy`.
-pub record IsTallied (ring doubled line : List ℕ) (i : ℕ) (last : LastVerified) (old new : List ℕ) (z : Least) : Type 0 where
+pub record IsTalliedBy (ring doubled line : List ℕ) (i : ℕ) (last : LastVerified) (old new : List ℕ) (z : Least) : Type 0 where
   pub is : record { counts = new; least = z .least; looks = z .looks } ≡ tallyBy ring doubled line i last old
 
 -- What `canSweep` tests, as facts; the precondition of `to_candidate`.

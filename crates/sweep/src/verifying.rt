@@ -7,7 +7,7 @@ use tally::count_afresh;
 use tally::window;
 ghost use Prim.Native.Nat.{_≤_};
 ghost use Rattle.moves.specs.Moves.{mostPlaces};
-ghost use Rattle.sweep.specs.Sweeps.{IsTallied};
+ghost use Rattle.sweep.specs.Sweeps.{IsTalliedBy};
 
 // The last verified start, if there is one.
 pub enum LastVerified {
@@ -27,7 +27,7 @@ pub fn verify(
     last: LastVerified,
 ) -> Least
     requires { ⌜ start .0 ≤ mostPlaces ⌝ }
-    ensures { λ z. ⌜ IsTallied (now (ring .entry)) (now (doubled .entry)) (now (line .entry)) (start .0) last (now (counts .entry)) (now (counts .exit)) z ⌝ }
+    ensures { λ z. ⌜ IsTalliedBy (now (ring .entry)) (now (doubled .entry)) (now (line .entry)) (start .0) last (now (counts .entry)) (now (counts .exit)) z ⌝ }
 {
     let m = ring.len();
     match last {

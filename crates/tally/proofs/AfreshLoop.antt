@@ -8,7 +8,7 @@ use native.Mathlib.Nat.{zero-add, add-mul, zero-mul, mod-eq-of-lt}
 use native.Mathlib.Numerals.{add-one}
 use native.Mathlib.Omega.{arith}
 use lib.ListN.{length, getD}
-use Rattle.meaning.specs.Numbers.{oneIf, count}
+use Rattle.meaning.specs.Counting.{oneIf, count}
 use Rattle.meaning.proofs.Count.{count-last, count-le}
 use Rattle.answers.specs.Places.{IsRingPlace}
 use Rattle.answers.specs.declared.places.RingPlace.{RingPlace}

@@ -8,7 +8,7 @@ use mathlib.Core.List.{List}
 use native.Mathlib.Nat.{zero-add, add-comm}
 use native.Mathlib.Omega.{arith}
 use lib.ListN.{length, getD}
-use Rattle.meaning.specs.Numbers.{count}
+use Rattle.meaning.specs.Counting.{count}
 use Rattle.meaning.specs.Meanings.{FitsInLine, unequal, differs, distance}
 use Rattle.meaning.specs.Looks.{afreshLooks}
 use Rattle.meaning.proofs.Count.{count-same}

@@ -4,7 +4,7 @@ use mathlib.Core.Path.{_≡_, refl}
 use mathlib.Core.List.{List}
 use native.Mathlib.Omega.{arith}
 use lib.ListN.{getD}
-use Rattle.meaning.specs.Numbers.{lowest}
+use Rattle.meaning.specs.Counting.{lowest}
 use Rattle.meaning.proofs.Lowest.{lowest-is}
 use Rattle.tally.specs.Counts.{leastOf, IsLeast}
 

@@ -9,7 +9,7 @@ use native.Mathlib.Decide.{ℕ-discrete}
 use native.Mathlib.Omega.{arith}
 use lib.ListN.{getD}
 use borrow.Author.Tests.{eq-eqb, ne-eqb}
-use Rattle.meaning.specs.Numbers.{lowest}
+use Rattle.meaning.specs.Counting.{lowest}
 use Rattle.meaning.proofs.Lowest.{lowest-is}
 use Rattle.tally.specs.Counts.{mostCounts, leastOf, lowestFrom, lowestWith, IsLowestWith, IsLeast}
 use Rattle.tally.proofs.LeastIsOne.{leastOf-only}

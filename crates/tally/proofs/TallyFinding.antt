@@ -5,7 +5,7 @@ use mathlib.Core.Path.{_≡_, sym, ap, _∙_}
 use mathlib.Core.List.{List, [], _∷_}
 use native.Mathlib.Omega.{arith}
 use lib.ListN.{length, getD}
-use Rattle.meaning.specs.Numbers.{lowest}
+use Rattle.meaning.specs.Counting.{lowest}
 use Rattle.meaning.specs.Meanings.{IsStart, distance, lowestRotation, leastDistance}
 use Rattle.meaning.specs.Findings.{Finding, findingAt, foundAt}
 use Rattle.meaning.proofs.Lowest.{lowest-is, lowest-unique}

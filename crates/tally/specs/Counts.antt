@@ -21,7 +21,7 @@ use lib.ListN.{length, getD}
 use Rattle.lists.specs.ByPlace.{listOf, storedFirst}
 use Rattle.answers.specs.declared.places.LinePlace.{LinePlace}
 use Rattle.findings.specs.declared.searching.Finding.{Finding as FindingStruct}
-use Rattle.meaning.specs.Numbers.{oneIf, count, lowest}
+use Rattle.meaning.specs.Counting.{oneIf, count, lowest}
 use Rattle.meaning.specs.Meanings.{unequal}
 use Rattle.meaning.specs.Looks.{afreshLooks}
 use Rattle.findings.specs.Admitting.{mostRing}
