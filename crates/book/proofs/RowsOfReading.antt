@@ -20,7 +20,7 @@ use Rattle.silences.specs.Silences.{Silence}
 use Rattle.silences.specs.Layout.{mostBytes}
 use Rattle.silences.specs.Reading.{silencesRead, bookRefusal}
 use Rattle.silences.specs.Books.{IsBook}
-use Rattle.silences.specs.Rows.{IsFieldFault, IsOrderFault}
+use Rattle.silences.specs.Faults.{IsFieldFault, IsOrderFault}
 use Rattle.silences.proofs.AcceptedIsLayout.{read-book-iff, no-refusal-iff}
 use Rattle.silences.proofs.BookRows.{book-answer-is, refusal-5-iff, refusal-6-iff, refusal-7-iff, refusal-has}
 use Rattle.book.specs.declared.answering.BookAnswer.{BookAnswer}

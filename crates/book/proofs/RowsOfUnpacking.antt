@@ -22,7 +22,7 @@ use Rattle.silences.specs.Layout.{mostBytes}
 use Rattle.silences.specs.Reading.{silencesRead}
 use Rattle.silences.specs.Packing.{wordsOfSilences, recordWords, unpackRefusal, unpacked}
 use Rattle.silences.specs.Books.{IsBook}
-use Rattle.silences.specs.Rows.{IsFieldFault, IsOrderFault}
+use Rattle.silences.specs.Faults.{IsFieldFault, IsOrderFault}
 use Rattle.silences.proofs.AcceptedIsLayout.{read-book-iff}
 use Rattle.silences.proofs.UnpackRows.{unpack-has, unpack-row-iff, unpack-10-iff, unpack-none-iff}
 use Rattle.book.specs.declared.answering.BookAnswer.{BookAnswer}

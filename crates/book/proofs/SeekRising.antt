@@ -1,4 +1,4 @@
--- Seeking rising addresses. A caller holds the field found for the last address (`Seeking`). For the next address, which is not below the last, it keeps that
+-- Seeking rising addresses. A caller holds the field found for the last address (`HeldField`). For the next address, which is not below the last, it keeps that
 -- field or seeks on from just past it, and finds what seeking from the first byte would find, on any bytes (`seek-again`): a field that was passed for the last
 -- address is below the next one too. So no field is read twice.
 use Prim.Native.Nat.{ℕ}
@@ -39,16 +39,16 @@ module _ (book : List ℕ) where
           by-field (whole s next) e = by-order s next e (isBelow s a) refl
 
 -- The caller holds what seeking the address `asked` from the first byte on finds.
-pub record Seeking (book : List ℕ) (asked : Silence) (held : FieldAt) : Type 0 where
+pub record HeldField (book : List ℕ) (asked : Silence) (held : FieldAt) : Type 0 where
   pub held-is : held ≡ seekFrom book asked 0
 
 module _ (book : List ℕ) where
   -- If b is not below a, a step for b at the field held for a gives the field to hold for b.
-  pub seeking-turn : (a b : Silence) → (Below b a → ⊥) → (held : FieldAt) → Seeking book a held → Seeking book b (seekField b held (seekFrom book b))
+  pub seeking-turn : (a b : Silence) → (Below b a → ⊥) → (held : FieldAt) → HeldField book a held → HeldField book b (seekField b held (seekFrom book b))
   seeking-turn a b not-below held was =
       record { held-is = ap (λ (f : FieldAt). seekField b f (seekFrom book b)) (was .held-is) ∙ seek-again book a b not-below 0 }
 
   -- In an accepted book, the field held for an address is for it exactly when the book names it.
-  pub seeking-names : (ss : List Silence) (a : Silence) (held : FieldAt) → readBook book ≡ accepted ss → Seeking book a held
+  pub seeking-names : (ss : List Silence) (a : Silence) (held : FieldAt) → readBook book ≡ accepted ss → HeldField book a held
       → isFor a held ≡ namesAddress ss a
   seeking-names ss a held e now-held = ap (isFor a) (now-held .held-is) ∙ seek-all-names book ss a e

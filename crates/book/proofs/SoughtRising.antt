@@ -12,7 +12,7 @@ use Rattle.book.specs.Seeking.{isFor}
 use Rattle.silences.specs.Addresses.{silenceOf, soughtOf}
 use Rattle.book.specs.Calls.{IsSought, IsSoughtOn}
 use Rattle.silences.proofs.StrictOrder.{start-not-below}
-use Rattle.book.proofs.SeekRising.{Seeking, seeking-turn, seeking-names}
+use Rattle.book.proofs.SeekRising.{HeldField, seeking-turn, seeking-names}
 
 -- The next address has the same cell and ring number as the last one, `asked`, and its start is not lower.
 pub record Rises (asked address : Address) : Type 0 where
@@ -26,17 +26,17 @@ rises-not-below asked address h = start-not-below (silenceOf asked) (silenceOf a
 
 module _ (book : List ℕ) where
   -- What `seek` returns from the first byte on is held for its address.
-  pub sought-start : (address : Address) (r : Sought) → IsSought book 0 address r → Seeking book (silenceOf address) (soughtOf r)
+  pub sought-start : (address : Address) (r : Sought) → IsSought book 0 address r → HeldField book (silenceOf address) (soughtOf r)
   sought-start address r meets = record { held-is = meets .is }
 
   module _ (asked address : Address) (rises : Rises asked address) where
     -- What `seek_on` returns is held for the next address.
-    pub sought-turn : (held r : Sought) → IsSoughtOn book held address r → Seeking book (silenceOf asked) (soughtOf held) → Seeking book (silenceOf address) (soughtOf r)
+    pub sought-turn : (held r : Sought) → IsSoughtOn book held address r → HeldField book (silenceOf asked) (soughtOf held) → HeldField book (silenceOf address) (soughtOf r)
     sought-turn held r meets was =
-        subst (Seeking book (silenceOf address)) (sym (meets .is))
+        subst (HeldField book (silenceOf address)) (sym (meets .is))
         (seeking-turn book (silenceOf asked) (silenceOf address) (rises-not-below asked address rises) (soughtOf held) was)
 
   -- In an accepted book, what is held for an address is for it exactly when the book names it.
-  pub sought-end : (ss : List Silence) (address : Address) (r : Sought) → readBook book ≡ accepted ss → Seeking book (silenceOf address) (soughtOf r)
+  pub sought-end : (ss : List Silence) (address : Address) (r : Sought) → readBook book ≡ accepted ss → HeldField book (silenceOf address) (soughtOf r)
       → isFor (silenceOf address) (soughtOf r) ≡ names ss (address .cell) (address .«ring_number») (address .start)
   sought-end ss address r e held = seeking-names book ss (silenceOf address) (soughtOf r) e held

@@ -21,7 +21,7 @@ use Rattle.silences.specs.Layout.{layout}
 use Rattle.silences.specs.Books.{IsBook}
 use Rattle.silences.specs.Reading.{silencesRead, bookRows, readBook}
 use Rattle.silences.specs.Packing.{recordWords, silencesOf, wordsOfSilences, areaAtExit, roomRow, packRows, packRefusal, packed, unpackRows, unpackRefusal, unpacked}
-use Rattle.silences.specs.Rows.{IsPackable}
+use Rattle.silences.specs.Faults.{IsPackable}
 use Rattle.silences.proofs.AcceptedIsLayout.{book-accepted, accepted-iff}
 use Rattle.silences.proofs.RoundTrips.{packable-book, book-packable}
 use Rattle.silences.proofs.WordsOfSilences.{words-length, words-of-silences, silences-of-words}

@@ -16,7 +16,7 @@ use Rattle.silences.specs.Silences.{Silence}
 use Rattle.silences.specs.Layout.{mostSilences, mostBytes}
 use Rattle.silences.specs.Reading.{silencesRead, readBook}
 use Rattle.silences.specs.Packing.{silencesOf, packRefusal, packed, unpackRefusal, unpacked}
-use Rattle.silences.specs.Rows.{HasWordCount, IsRecord}
+use Rattle.silences.specs.Faults.{HasWordCount, IsRecord}
 use Rattle.book.specs.Calls.{recordsPaper}
 use Rattle.silences.proofs.ReadFrom.{readBook-long, readBook-fields}
 use Rattle.silences.proofs.FieldTest.{field-ends}

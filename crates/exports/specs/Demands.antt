@@ -27,7 +27,7 @@ use Rattle.silences.specs.Silences.{Silence, Names}
 use Rattle.silences.specs.Layout.{layout}
 use Rattle.silences.specs.Books.{IsBook}
 use Rattle.silences.specs.Packing.{silencesOf, wordsOfSilences}
-use Rattle.silences.specs.Rows.{IsFieldFault, IsOrderFault, IsRingFault, IsRecordFault, IsPackable}
+use Rattle.silences.specs.Faults.{IsFieldFault, IsOrderFault, IsRingFault, IsRecordFault, IsPackable}
 use Rattle.exports.specs.declared.answering.Answer.{Answer}
 
 -- A row of a call: `r number place` says that the row is given, with this number and this place.

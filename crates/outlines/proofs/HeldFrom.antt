@@ -15,7 +15,7 @@ use Rattle.silences.specs.Addresses.{silenceOf, soughtOf}
 use Rattle.book.specs.Calls.{IsSought}
 use Rattle.silences.proofs.BookRows.{book-accepted-iff}
 use Rattle.silences.proofs.StrictOrder.{start-not-below}
-use Rattle.book.proofs.SeekRising.{Seeking, seeking-turn, seeking-names}
+use Rattle.book.proofs.SeekRising.{HeldField, seeking-turn, seeking-names}
 use Rattle.book.proofs.SoughtRising.{sought-start}
 use Rattle.outlines.specs.Report.{isHidden}
 use Rattle.outlines.specs.Hiding.{addressOf, heldFor, hides}
@@ -24,7 +24,7 @@ use Rattle.outlines.specs.Hiding.{addressOf, heldFor, hides}
 pub record HeldFrom (cell ringNumber : ℕ) (book : List ℕ) (i : ℕ) (held : Sought) : Type 0 where
   pub last-asked : ℕ
   pub asked-le : last-asked ≤ i
-  pub seeking : Seeking book (silence cell ringNumber last-asked) (soughtOf held)
+  pub seeking : HeldField book (silence cell ringNumber last-asked) (soughtOf held)
 
 module _ {cell ringNumber : ℕ} {book : List ℕ} where
   -- The field that `seek` returns for start 0, from the book's first byte, can be held at every i.
@@ -33,7 +33,7 @@ module _ {cell ringNumber : ℕ} {book : List ℕ} where
   held-start i {first} {held} zero meets = record {
     last-asked = 0;
     asked-le = omega arith;
-    seeking = subst (λ (a : Silence). Seeking book a (soughtOf held)) zero (sought-start book first held meets);
+    seeking = subst (λ (a : Silence). HeldField book a (soughtOf held)) zero (sought-start book first held meets);
   }
 
   module _ {i : ℕ} {held : Sought} (h : HeldFrom cell ringNumber book i held) where
@@ -43,7 +43,7 @@ module _ {cell ringNumber : ℕ} {book : List ℕ} where
 
     module _ (f : Finding) (from-le : i ≤ f .start) where
       -- the field for the finding is what seeking from the first byte would give
-      held-next : Seeking book (addressOf cell ringNumber f) (heldFor cell ringNumber book f (soughtOf held))
+      held-next : HeldField book (addressOf cell ringNumber f) (heldFor cell ringNumber book f (soughtOf held))
       held-next =
           let asked-le : h .last-asked ≤ f .start = omega (arith, h .asked-le) in
           seeking-turn book (silence cell ringNumber (h .last-asked)) (addressOf cell ringNumber f)
@@ -54,7 +54,7 @@ module _ {cell ringNumber : ℕ} {book : List ℕ} where
       pub held-turn : {held′ : Sought} {i′ : ℕ} → soughtOf held′ ≡ heldFor cell ringNumber book f (soughtOf held) → f .start ≤ i′
           → HeldFrom cell ringNumber book i′ held′
       held-turn is l =
-          record { last-asked = f .start; asked-le = l; seeking = subst (Seeking book (addressOf cell ringNumber f)) (sym is) held-next }
+          record { last-asked = f .start; asked-le = l; seeking = subst (HeldField book (addressOf cell ringNumber f)) (sym is) held-next }
 
       -- If the book is accepted, the field for the finding has its address exactly when the book names the finding.
       pub held-hides : bookRefusal book ≡ none → hides cell ringNumber book f (soughtOf held) ≡ isHidden (silencesRead book) cell ringNumber f

@@ -11,7 +11,7 @@ use lib.ListN.{length}
 use Rattle.answers.specs.Paper.{Paper}
 use Rattle.silences.specs.Silences.{Silence}
 use Rattle.silences.specs.Books.{IsBook}
-use Rattle.silences.specs.Rows.{IsFieldFault, IsOrderFault}
+use Rattle.silences.specs.Faults.{IsFieldFault, IsOrderFault}
 use Rattle.findings.specs.Admitting.{IsRing, Admitted}
 use Rattle.outlines.specs.Report.{ReportCounts}
 

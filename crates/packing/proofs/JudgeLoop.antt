@@ -20,7 +20,7 @@ use Rattle.answers.specs.Rows.{firstGiven, answerBy}
 use Rattle.silences.specs.Silences.{Silence, isAbove}
 use Rattle.silences.specs.Layout.{fieldLength, fieldOf, layout}
 use Rattle.silences.specs.Packing.{silencesOf, recordWords, mostRingNumber, recordRows, recordFault}
-use Rattle.silences.specs.Rows.{AllRingNumbers}
+use Rattle.silences.specs.Faults.{AllRingNumbers}
 use Rattle.packing.specs.Judging.{Sizes, sized, sizes}
 use Rattle.silences.proofs.FieldBytes.{field-length}
 use Rattle.silences.proofs.WordsOfSilences.{silenceFrom, silencesOf-step, silencesOf-end}

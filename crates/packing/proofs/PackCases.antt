@@ -15,7 +15,7 @@ use Rattle.answers.proofs.AnswerByRows.{answer-refused-iff, answer-gives-iff}
 use Rattle.silences.specs.Silences.{Silence}
 use Rattle.silences.specs.Layout.{layout}
 use Rattle.silences.specs.Packing.{silencesOf, recordFault, areaAtExit, packRefusal, packed}
-use Rattle.silences.specs.Rows.{HasWordCount, IsPackable}
+use Rattle.silences.specs.Faults.{HasWordCount, IsPackable}
 use Rattle.silences.proofs.PackRows.{HasWrongCount, pack-fault, packable-iff, pack-8-iff, pack-10-iff, packed-accepted-iff}
 use Rattle.book.specs.declared.answering.BookAnswer.the-variants.{Records, Refused}
 use Rattle.book.specs.Calls.{paperOf, recordsPaper}

@@ -19,7 +19,7 @@ use Rattle.answers.proofs.AnswerByRows.{row-place-iff, row-number-iff, accepted
 use Rattle.silences.specs.Silences.{Silence}
 use Rattle.silences.specs.Layout.{fieldLength, layout}
 use Rattle.silences.specs.Packing.{silencesOf, packRefusal, packed}
-use Rattle.silences.specs.Rows.{HasWordCount, IsRingFault, IsRecordFault, IsPackable}
+use Rattle.silences.specs.Faults.{HasWordCount, IsRingFault, IsRecordFault, IsPackable}
 use Rattle.silences.proofs.LayoutRead.{layout-length}
 use Rattle.silences.proofs.PackRows.{HasWrongCount, pack-has, pack-8-iff, pack-9-iff, pack-7-iff, pack-10-iff, pack-none-iff}
 use Rattle.book.specs.declared.answering.BookAnswer.{BookAnswer}

@@ -15,7 +15,7 @@ use Rattle.silences.specs.Layout.{layout, mostBytes}
 use Rattle.silences.specs.Reading.{silencesRead, bookRefusal, readBook}
 use Rattle.lists.specs.Bounds.{IsBytes}
 use Rattle.silences.specs.Books.{IsBook}
-use Rattle.silences.specs.Rows.{IsFineBefore}
+use Rattle.silences.specs.Faults.{IsFineBefore}
 use Rattle.answers.proofs.AnswerCases.{accepted-not-refused}
 use Rattle.silences.proofs.ReadFrom.{readBook-long, readBook-fields}
 use Rattle.silences.proofs.FieldsRead.{FieldsRead, ReadsAs, read-all, reads-as, reads-as-is}

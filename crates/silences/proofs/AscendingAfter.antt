@@ -6,7 +6,7 @@ use mathlib.Core.Bool.{true, false, false≢true}
 use mathlib.Core.List.{List, [], _∷_, _++_}
 use mathlib.Core.Option.{Option, none, some}
 use Rattle.silences.specs.Silences.{Silence, isAbove, Ascending}
-use Rattle.silences.specs.Rows.{IsNotAbove}
+use Rattle.silences.specs.Faults.{IsNotAbove}
 use Rattle.silences.proofs.SilenceOrder.{isBelow-iff}
 use Rattle.silences.proofs.StrictOrder.{not-below-iff}
 

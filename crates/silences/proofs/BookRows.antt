@@ -21,7 +21,7 @@ use Rattle.fields.specs.Tagged.{headLength}
 use Rattle.silences.specs.Silences.{Silence}
 use Rattle.silences.specs.Layout.{mostBytes}
 use Rattle.silences.specs.Reading.{silenceAt, readFrom, faultIn, silencesIn, fieldFault, silencesRead, isRow5, bookRows, bookRefusal, readBook}
-use Rattle.silences.specs.Rows.{IsNotAbove, IsFieldFault, IsOrderFault}
+use Rattle.silences.specs.Faults.{IsNotAbove, IsFieldFault, IsOrderFault}
 use Rattle.silences.proofs.FieldTest.{field-whole-is, tested-iff, field-whole-iff, field-faulty-iff}
 use Rattle.silences.proofs.AscendingAfter.{not-above-iff}
 use Rattle.silences.proofs.FieldsRead.{ReadsAs, stopped-faulty, stopped-order, reads-as, reads-as-is}

@@ -12,7 +12,7 @@ use Rattle.lists.proofs.Records.{each-length}
 use Rattle.silences.specs.Silences.{Silence, AllInRange}
 use Rattle.silences.specs.Layout.{fieldLength, fieldOf, layout}
 use Rattle.lists.specs.Bounds.{IsBytes}
-use Rattle.silences.specs.Rows.{IsFineBefore}
+use Rattle.silences.specs.Faults.{IsFineBefore}
 use Rattle.silences.proofs.FieldBytes.{field-length, field-of-silence, field-next-is, silence-of-field}
 use Rattle.silences.proofs.AscendingAfter.{AscendingAfter, ascending-after-iff}
 use Rattle.silences.proofs.FieldsRead.{FieldsRead, none-read, one-read}

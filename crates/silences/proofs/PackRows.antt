@@ -18,7 +18,7 @@ use Rattle.answers.proofs.AnswerByRows.{answer-gives-iff}
 use Rattle.silences.specs.Silences.{Silence}
 use Rattle.silences.specs.Layout.{layout}
 use Rattle.silences.specs.Packing.{recordWords, mostWords, silencesOf, isRow8, recordFault, roomRow, packRows, packRefusal, packed}
-use Rattle.silences.specs.Rows.{HasWordCount, IsRingFault, IsRecordFault, IsPackable}
+use Rattle.silences.specs.Faults.{HasWordCount, IsRingFault, IsRecordFault, IsPackable}
 use Rattle.silences.proofs.RecordRows.{records-have, records-none-iff, records-9-iff, records-7-iff}
 
 -- Row 8: the words to pack "aren't a multiple of 3, or exceed 3,000".

@@ -10,7 +10,7 @@ use Rattle.answers.specs.declared.refusals.Refusal.{Refusal}
 use Rattle.answers.specs.declared.refusals.Refusal.the-variants.{NotAbove, RingNumber}
 use Rattle.silences.specs.Silences.{Silence, Ascending}
 use Rattle.silences.specs.Packing.{silencesOf, recordFault}
-use Rattle.silences.specs.Rows.{AllRingNumbers, IsRecord, IsRingFault, IsRecordFault}
+use Rattle.silences.specs.Faults.{AllRingNumbers, IsRecord, IsRingFault, IsRecordFault}
 use Rattle.silences.proofs.AscendingAfter.{ascending-after-iff, not-above-iff}
 use Rattle.silences.proofs.RecordsPacked.{RecordStands, PacksAs, packed-all, stopped-ring-number, stopped-record, packs-as, packs-as-is}
 

@@ -16,7 +16,7 @@ use Rattle.answers.specs.declared.refusals.Refusal.the-variants.{NotAbove, Ring
 use Rattle.answers.specs.Rows.{firstGiven}
 use Rattle.silences.specs.Silences.{Silence, isAbove}
 use Rattle.silences.specs.Packing.{mostRingNumber, recordRows}
-use Rattle.silences.specs.Rows.{AllRingNumbers}
+use Rattle.silences.specs.Faults.{AllRingNumbers}
 use Rattle.silences.proofs.AscendingAfter.{AscendingAfter, lastAfter}
 
 -- `s` is record number `j` of the records `ss`, which are numbered from `i` on, and `fine` are those before it: they are fine.

@@ -11,7 +11,7 @@ use Rattle.silences.specs.Layout.{layout}
 use Rattle.silences.specs.Packing.{wordsOfSilences, silencesOf, recordWords, packed, unpacked}
 use Rattle.lists.specs.Bounds.{IsBytes, IsWords}
 use Rattle.silences.specs.Books.{IsBook}
-use Rattle.silences.specs.Rows.{AllRingNumbers, IsPackable}
+use Rattle.silences.specs.Faults.{AllRingNumbers, IsPackable}
 use Rattle.silences.proofs.AcceptedIsLayout.{book-accepted, accepted-iff}
 use Rattle.silences.proofs.WordsOfSilences.{words-length, silences-of-words, words-of-silences, silences-length, silences-in-range, in-range-rings}
 use Rattle.silences.proofs.UnpackRows.{unpacked-accepted-iff}

@@ -14,7 +14,7 @@ use Rattle.lists.proofs.ByPlace.{listOf-is}
 use Rattle.lists.proofs.Records.{each-length, part-places, records-step, records-end, records-of-words, words-of-records}
 use Rattle.silences.specs.Silences.{Silence, silence, AllInRange}
 use Rattle.silences.specs.Packing.{silenceWords, wordsOfSilences, recordWords, silenceOfWords, silencesOf}
-use Rattle.silences.specs.Rows.{AllRingNumbers}
+use Rattle.silences.specs.Faults.{AllRingNumbers}
 
 -- Silences have three words each.
 pub words-length : (ss : List Silence) → length (wordsOfSilences ss) ≡ recordWords * length ss

@@ -10,7 +10,7 @@
 -- | the sweep (rules 1 to 5)  | `sweepBy`, `IsSweptBy` (Sweeps) | `IsSweptOn` (SweepRules)                       | `swept-by-rules` (SweptByRules)     |
 --
 -- The conditions of these laws on what is lent are `OwnVectors` (ReadingRules), `CanVerify` (VerifyingRules) and `CanSweepOn` (SweepRules). The contract of `sweep_on`
--- is the computed definition alone, so that it holds on every input; scan and report use the rules. docs/DECISIONS.md, entry 68, says why. Read the modules in this
+-- is the computed definition alone, so that it holds on every input; scan and report use the rules. docs/DECISIONS.md, entry 19, says why. Read the modules in this
 -- order.
 pub mod Reads
 pub mod Sweeps
