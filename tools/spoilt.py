@@ -42,10 +42,10 @@ def copies(tree, check):
     def without_row(start):
         return with_text(page, re.sub(rf"(?m)^{start}.*\n", "", tree[page], count=1))
 
-    reckoned = "fn reckoned(m: usize) -> usize {\n    m * m\n}\n"
-    yield "the product of a function is added", at_look("{look}looks += reckoned(m);\n", reckoned), NO_SUM
-    yield "a function calls its product looks", at_look("{look}looks += reckoned(m);\n", "fn reckoned(m: usize) -> usize {\n    let looks = m * m;\n    looks\n}\n"), NO_SUM
-    yield "a function that counts a look returns a product", at_look("{look}looks += reckoned(m, edge);\n", "fn reckoned(m: usize, edge: u8) -> usize {\n    let mut looks = 0;\n    let same = edge == 0;\n    looks += 1; // one look\n    looks * m\n}\n"), NO_SUM
+    computed = "fn computed(m: usize) -> usize {\n    m * m\n}\n"
+    yield "the product of a function is added", at_look("{look}looks += computed(m);\n", computed), NO_SUM
+    yield "a function calls its product looks", at_look("{look}looks += computed(m);\n", "fn computed(m: usize) -> usize {\n    let looks = m * m;\n    looks\n}\n"), NO_SUM
+    yield "a function that counts a look returns a product", at_look("{look}looks += computed(m, edge);\n", "fn computed(m: usize, edge: u8) -> usize {\n    let mut looks = 0;\n    let same = edge == 0;\n    looks += 1; // one look\n    looks * m\n}\n"), NO_SUM
     yield "a product is added", at_look("{look}looks += m * m;\n"), NO_SUM
     yield "a number is added", at_look("{look}looks += 2;\n"), NO_SUM
     yield "a count is multiplied", at_look("{look}looks += looks * 2;\n"), NO_SUM

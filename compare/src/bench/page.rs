@@ -56,7 +56,7 @@ fn hiding(page: &mut String, results: &Results) {
     page.push_str(
         "## A report that hides\n\nOn 65,536 findings (a ring of 1 edge, a constant line, k = 0), a report with 1,000 ",
     );
-    page.push_str("silences takes so many times the scan alone of the same version:\n\n");
+    page.push_str("silences takes this multiple of the time of the same version's scan alone:\n\n");
     let head = heads(&["", "report over scan"], std::iter::empty());
     for row in results.rows_of(|kind| kind == Kind::AllFound) {
         let over_scan = |version| row.time_of(version, Call::Hiding) / row.time_of(version, Call::Scan);
