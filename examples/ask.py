@@ -3,14 +3,18 @@ import sys
 
 def number(value, length):
     if int(value) not in range(256**length):
-        sys.exit(f"ask.py: {value} does not fit into {length} bytes")
+        raise ValueError(f"{value} does not fit into {length} bytes")
     return int(value).to_bytes(length, "big")
 
 def field(tag, *parts):
     value = b"".join(parts)
     return bytes([tag]) + number(len(value), 2) + value
 
-cell, ring_number, allowance, ring, line, *silences = sys.argv[1:]
-asked = [field(0x34, number(cell, 4)), field(0x35, number(ring_number, 2)), field(0x33, number(allowance, 1)), field(0x31, open(ring, "rb").read()), field(0x32, open(line, "rb").read())]
-book = sorted(field(0x21, number(c, 4), number(r, 2), number(s, 4)) for c, r, s in (silence.split(":") for silence in silences))
+try:
+    cell, ring_number, allowance, ring, line, *silences = sys.argv[1:]
+    asked = [field(0x34, number(cell, 4)), field(0x35, number(ring_number, 2)), field(0x33, number(allowance, 1))]
+    asked += [field(0x31, open(ring, "rb").read()), field(0x32, open(line, "rb").read())]
+    book = sorted(field(0x21, number(c, 4), number(r, 2), number(s, 4)) for c, r, s in (silence.split(":") for silence in silences))
+except (ValueError, OSError) as error:
+    sys.exit(f"ask.py: {error}\n{__doc__}")
 sys.stdout.buffer.write(b"".join(asked + book))

@@ -1,4 +1,5 @@
-/* Outlines stored twice: finds a closed ring of edges in a line of edges, begun at any of its edges and with at most k edges that differ.
+/* Outlines stored twice: finds a closed ring of edges in a line of edges, starting at any of its edges and with at most k edges that differ.
+ * Link with target/native/libexports.a, which tools/native makes. docs/SPEC.md has all of this in full.
  *
  * Terms. A ring has m edges and a line has n, one byte each; every byte value is an edge code like any other. Rotation r of the ring, 0 <= r < m, has
  * the ring's edge (r + q) mod m at its place q. A start is a line place i with i + m <= n, and its window is the m edges from i on. The distance of a
@@ -6,9 +7,9 @@
  * is at most k, the allowance. It has three numbers: the start, the lowest rotation with that least distance, and the least distance. Places and
  * rotations count from 0.
  *
- * One stored copy is several findings. If an exact copy of the ring stands at start i, a window that begins s edges before or after it has a distance
+ * One stored copy can be several findings. If an exact copy of the ring stands at start i, a window that begins s edges before or after it has a distance
  * of at most s. So every start from i - k to i + k is a finding: at least 2 k + 1 of them, away from the line's ends. A reviewer who accepts that copy
- * needs as many silences: 5 at k = 2, so that a book of 1,000 silences holds at most 200 such copies.
+ * needs as many silences: 5 at k = 2, so that a book of 1,000 silences is full after some 200 separate copies.
  *
  * Calls. Every call takes every input. It is accepted or refused, and returns a struct outlines_answer by value. A refused call has written nothing
  * and returns zero in every count. A length counts elements: bytes of a ring, a line or a book, 32-bit words of an area of words. A pointer may be
@@ -47,7 +48,7 @@ enum outlines_refusal {
     OUTLINES_WORD_COUNT = 8,    /* the number of words to pack is not a multiple of 3, or is above 3,000; place 0 */
     OUTLINES_RING_NUMBER = 9,   /* a ring number to pack is above 65,535; place: its record number. Record numbers count from 0 */
     OUTLINES_OUTPUT_ROOM = 10,  /* the area lent to pack or unpack is too small for the whole output; place 0 */
-    OUTLINES_INPUT = 11         /* the report program's input is not as it must be; no call declared here gives it */
+    OUTLINES_INPUT = 11         /* the report program's input is not laid out as SPEC, section 8, says; no call declared here gives it */
 };
 
 /* What every call returns. A look is one line edge read by the quick scan, or one comparison of a line edge with a ring edge. */
@@ -77,7 +78,8 @@ struct outlines_answer outlines_scan(const uint8_t *ring, size_t ring_length, co
 /* The report: the quick scan, without the findings that the book hides. A finding is hidden exactly if the book has a record of this cell, this ring
  * number and the finding's start. Zero is an ordinary cell, ring number and start; no value stands for all. A record that names no finding hides
  * nothing.
- *   cell, ring_number     the cell that the line is of, and the number of the ring
+ *   cell, ring_number     the cell that the line is of, and the number of the ring; C cuts a larger number to 32 and 16 bits before the call, so test
+ *                         it first
  *   book, book_length     a silence book, as outlines_pack writes it: 0 to 13,000 bytes; an empty book is valid
  *   the others            as for outlines_scan, with the same room for findings however many are hidden
  * Returns found (hidden ones included), hidden, and the looks of the scan. Writes the words of the shown findings only, found - hidden of them, by
