@@ -1,8 +1,8 @@
 # Every target is described in `help`, which is what a bare `make` prints.
 .PHONY: help demo test compare bench
 help:
-	@echo 'make demo            prove the library and the report program, build both, run the example: about 3 minutes from nothing'
-	@echo "make test            the gate: every proof, must-fail edit and test; about 16 minutes; the last line is 'N passed, 0 failed'"
+	@echo 'make demo            prove the library and the report program, build both, run the example: 2 to 3 minutes from nothing'
+	@echo "make test            the gate: every proof, must-fail edit and test; about 14 minutes; the last line is 'N passed, 0 failed'"
 	@echo 'make compare         compare the built library and program with the second program; SEED=S for other cases'
 	@echo 'make compare LONG=1  compare 20,000 long rings and lines: about 25 minutes of one core; SEED=S for others'
 	@echo 'make bench           time the library beside the same rules in C and Rust; writes docs/BENCH.md and docs/bench.svg'
