@@ -1,5 +1,5 @@
-"""Spoilt copies of the tree, for tools/looks --try, and for tools/statements --try, which has its own. Each is spoilt in one way, and must be noticed for that
-reason; the tree itself must have no fault.
+"""Spoilt copies of the tree for tools/looks --try, and the run over spoilt copies, which tools/statements --try uses with its own copies. Each copy is spoilt in
+one way, and must be noticed for that reason; the tree itself must have no fault.
 
 The places to spoil are looked up in the tree itself: the first look, the first count that starts or is added, a public function that has the line, a function
 that reads an edge. No other line of the source is quoted here.

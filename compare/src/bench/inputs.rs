@@ -27,7 +27,8 @@ pub struct Input {
     pub ring: Vec<u8>,
     pub line: Vec<u8>,
     pub k: usize,
-    /// A book of 1,000 silences for this cell and ring number, every second finding among them.
+    /// A book of 1,000 silences for this cell and ring number; every second finding, at most 1,000 of them, is among
+    /// them.
     pub book: Vec<u8>,
 }
 
@@ -36,7 +37,8 @@ impl Input {
         Question { cell: CELL, ring_number: RING_NUMBER, ring: &self.ring, line: &self.line, k: self.k, book }
     }
 
-    /// Fills the book. Silences that name no finding are spread evenly over the line.
+    /// Fills the book: every second finding, thinned to at most 1,000 of them; then places 65 or 66 apart, from 0 on,
+    /// until there are 1,000 silences.
     pub fn silence(&mut self, findings: &[u32]) {
         let mut starts: Vec<u32> = findings.chunks(3).step_by(2).map(|finding| finding[0]).collect();
         let step = (starts.len() / SILENCES).max(1);
@@ -49,7 +51,7 @@ impl Input {
     }
 }
 
-/// "Tag 21 hex, length 10, cell (4 bytes), ring number (2), start (4)."
+/// "tag 21 hex, length 10, cell (4 bytes), ring number (2), start (4)."
 fn field(start: u32) -> Vec<u8> {
     [&[0x21, 0, 10], &CELL.to_be_bytes()[..], &RING_NUMBER.to_be_bytes(), &start.to_be_bytes()].concat()
 }
@@ -90,7 +92,7 @@ fn constant(name: &str, kind: Kind, m: usize, k: usize) -> Input {
     Input { name: name.to_string(), kind, ring: vec![1; m], line: vec![1; MOST_LINE], k, book: Vec::new() }
 }
 
-/// Lines of boundaries; one of them is the ring.
+/// A line of boundaries; the ring is one boundary more, planted in each tenth.
 fn outlined(m: usize, k: usize) -> Input {
     let mut numbers = Numbers::seeded(m as u64);
     let ring = boundary(&mut numbers, m);

@@ -11,7 +11,7 @@ fn late_break(m: usize, n: usize) -> (Vec<u8>, Vec<u8>) {
     (ring, vec![b'a'; n])
 }
 
-/// Copies of the ring about half a ring apart, where the tally is on the brink of being counted afresh.
+/// The ring over and over, with a foreign edge about every one and a half rings.
 fn half_apart(draw: &mut Draw, m: usize, n: usize) -> (Vec<u8>, Vec<u8>) {
     let part = draw.between(1, m / 2 + 1);
     let ring: Vec<u8> = (0..m).map(|place| (place % part) as u8).collect();

@@ -1,5 +1,5 @@
-//! What ACB and ACBq share: window after window is read, candidates are verified, and the next window starts past the
-//! edges that were read.
+//! What ACB and ACBq share: window after window is read, candidates are verified, and the next window starts just past
+//! the last edge read.
 use super::doubled;
 use super::findings::Findings;
 use super::nearest::nearest;

@@ -44,7 +44,7 @@ fn scan(ring: &[u8], line: &[u8], k: usize, words: &mut [u32]) -> Answer {
     Answer { found: findings.found, looks: sweep.looks, ..Answer::default() }
 }
 
-/// "The first afresh and each next by one step, at m = 1 too": on to the next finding or to the last start.
+/// "the first afresh and each next by one step, at m = 1 too": on to the next finding or to the last start.
 fn survey(ring: &[u8], line: &[u8], k: usize, words: &mut [u32]) -> Answer {
     let (m, n) = (ring.len(), line.len());
     let refusal = admit(m, k, n, words.len());

@@ -6,8 +6,9 @@ use crate::second::book::Silence;
 /// The records for which `*` stands.
 const ALL_RECORDS: u32 = 1_001;
 
-/// "Letters stand for their codes, `#` begins a list of codes, and `*` begins the first code, the last one and how many
-/// edges there are, of codes that rise by one and after the last one begin again at 0."
+/// "In a ring or a line, letters stand for their codes; `#` begins a list of codes; `*` begins three numbers: the first
+/// code, the last code and how many edges there are. The codes then rise by one from the first to the last and begin
+/// again at 0."
 pub fn edges(text: &str) -> Vec<u8> {
     let numbers = |list: &str| -> Vec<usize> { list.split(' ').map(number).collect() };
     if let Some(list) = text.strip_prefix('#') {
@@ -19,7 +20,7 @@ pub fn edges(text: &str) -> Vec<u8> {
     std::iter::successors(Some(first), next).map(|code| code as u8).take(count).collect()
 }
 
-/// "`*` in words stands for 1,001 records of cell 7, ring number 2 and every start from 0 on."
+/// "In words, `*` stands for 1,001 records of cell 7, ring number 2 and the starts 0, 1, 2 and so on."
 pub fn words(row: &Row) -> Vec<u32> {
     if row.text("words") == "*" {
         return (0..ALL_RECORDS).flat_map(|start| [7, 2, start]).collect();

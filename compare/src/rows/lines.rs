@@ -9,7 +9,7 @@ use crate::second::program::output;
 /// The most bytes or words that are shown one by one; for more a checksum is shown.
 const MOST_SHOWN: usize = 26;
 
-/// "A room that is left out is more than any call asks."
+/// "If a room is left out, it is more than any call requires."
 fn room(row: &Row) -> usize {
     row.number("room").unwrap_or(usize::MAX)
 }

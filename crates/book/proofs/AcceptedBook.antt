@@ -38,7 +38,7 @@ has-refusal (accepted ss) r e = absurd (accepted-not-refused refl e)
 has-refusal (refused q) r e = cc
 
 module _ (book : List ℕ) where
-  -- An accepted book has at most 13,000 records.
+  -- An accepted book has at most 13,000 records (a weak bound, enough against overflow).
   pub records-le : (records : ℕ) → recordCount (readBook book) ≡ accepted records → records ≤ mostBytes
   records-le records e =
       let has : HasRecords (readBook book) records = has-records (readBook book) records e in

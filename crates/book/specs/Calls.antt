@@ -1,5 +1,6 @@
 -- The contracts of the public functions on a book, one record each, for every input, accepted or refused. `paper` is the returned value as document 01's
 -- number, place and number of records; `written` is the lent area at exit. "Packer and unpacker return the number of records"; so does reading.
+-- `is` gives the result of `seek`, `seek_on` and `is_for`.
 --
 --   answerOf, paperOf            a `BookAnswer` as an answer, and its paper
 --   recordCount, recordsPaper    an answer with the number of silences instead of the silences, and its paper

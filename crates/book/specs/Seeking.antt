@@ -1,6 +1,8 @@
 -- Seeking an address in a book's bytes, as the report does for each finding: the first field from a byte offset on that is not below the address. Document 01
 -- has no such call. It is defined for any bytes and any offset. At a faulty field, at the book's end and past it nothing is found.
 --
+--   seekField    one step of seeking, at a field
+--   seekFields   seeking over at most a given number of fields
 --   seekFrom     the field found, with the byte offset just past it: a caller with rising addresses goes on from there and reads no field twice
 --   isFor        whether the field found is for the address
 --

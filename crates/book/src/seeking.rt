@@ -6,8 +6,9 @@ use silences::is_below;
 use silences::is_same;
 ghost use Rattle.book.specs.Calls.{IsSought, IsSoughtOn, IsAskedFor};
 
-// Returns the first field from byte offset `from` on that is not below the address. A caller with rising addresses
-// keeps it and goes on with `seek_on`, and so reads no field twice.
+// Returns the first field from byte offset `from` on that is not below the address; `Nothing` if a faulty field or the
+// book's end comes first. A caller with rising addresses keeps it and goes on with `seek_on`, and so reads no field
+// twice.
 pub fn seek(book: &[u8], from: usize, address: Address) -> Sought
     ensures { λ r. ⌜ IsSought (now (book .entry)) from address r ⌝ }
 {
@@ -32,7 +33,7 @@ pub fn seek(book: &[u8], from: usize, address: Address) -> Sought
 }
 
 // Seeks the next of rising addresses; `held` is what was returned for the one before. If it is not below the address it
-// is kept, else the address is sought from just past it.
+// is kept, else the address is sought from just past it. If `held` is `Nothing`, so is the result.
 pub fn seek_on(book: &[u8], held: Sought, address: Address) -> Sought
     ensures { λ r. ⌜ IsSoughtOn (now (book .entry)) held address r ⌝ }
 {

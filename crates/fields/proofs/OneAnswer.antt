@@ -1,4 +1,4 @@
--- The contract of `number_at` determines its result: it is one equation.
+-- The contract of `number_at` determines its result: its field `is` is an equation for the result.
 use Prim.Native.Nat.{ℕ}
 use mathlib.Core.Path.{_≡_, sym, _∙_}
 use mathlib.Core.List.{List}

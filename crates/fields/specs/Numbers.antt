@@ -1,9 +1,10 @@
 -- Document 01, "Silence book": "numbers high byte first". Defined for any count of bytes; a silence has numbers of 2 and of 4 bytes.
 --
---   bytesOf        number to bytes
---   numberAt       bytes to number
---   numberWithin   bytes to number, for any byte offset and count
---   IsNumberRead   the contract of `number_at`
+--   bytesOf           number to bytes
+--   numberAt          bytes to number
+--   mostNumberBytes   4, the most bytes of a number that is read
+--   numberWithin      bytes to number, for any byte offset and count
+--   IsNumberRead      the contract of `number_at`
 use Prim.Native.Nat.{ℕ, zero, suc, _+_, _*_, _/_, _%_, _^_, _<_}
 use mathlib.Core.Path.{_≡_}
 use mathlib.Core.Bool.{cond, _&&_}

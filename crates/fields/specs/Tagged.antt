@@ -4,7 +4,7 @@
 --   tagBytes, lengthBytes   "one-byte tag, two-byte length"
 --   headLength              the bytes of a field before its value
 --   field                   the bytes of a field
---   lengthAt                  the length in a field's two length bytes
+--   lengthAt                the length in a field's two length bytes
 --   fieldEnd                the byte offset just past a field
 --   isWhole                 whether a field has a given length and is not cut off
 use Prim.Native.Nat.{ℕ, _+_}

@@ -30,7 +30,7 @@ module _ (ring line : List ℕ) (below : ℕ) where
   unfolding moveOn
   move-stops left at near = rw (lt-ltb (stepOn ring line at .least) below near) refl
 
-  -- If it is not, the move goes on from there.
+  -- If the least count after a step is not below the bound, the move goes on from there.
   pub move-goes-on : (left : ℕ) (at : CountsAt) → below ≤ stepOn ring line at .least
       → moveOn ring line below (suc left) at ≡ moveOn ring line below left (stepOn ring line at)
   unfolding moveOn
@@ -95,14 +95,14 @@ module _ (ring line : List ℕ) (from steps below : ℕ) (old : List ℕ) (can :
       least-of-step : stepOn ring line here-at .least ≡ z .least
       least-of-step = ap (λ (p : CountsAt). p .least) step-is
 
-      -- If the least count is below the bound, returning there meets the contract.
+      -- If the least count after a turn is below the bound, returning there meets the contract.
       pub moving-stops : z .least < below → IsMovedOn ring line from steps below old new (record { start = record { 0 = i + 1 }; least = z .least; looks = looks + z .looks })
       moving-stops near = record {
         is = sym step-is ∙ sym (move-stops ring line below (from + steps - (i + 1)) here-at (omega (arith, least-of-step)))
             ∙ ap (λ (n : ℕ). moveOn ring line below n here-at) (sym one-less) ∙ before .still;
       }
 
-      -- If it is not, the invariant holds before the next turn.
+      -- If the least count after a turn is not below the bound, the invariant holds before the next turn.
       pub moving-turn : below ≤ z .least → Moving ring line from steps below old new (z .least) (looks + z .looks) (i + 1)
       moving-turn far = record {
         from-le = omega (arith, before .from-le);

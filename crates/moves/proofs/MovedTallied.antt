@@ -107,8 +107,8 @@ module _ (ring line : List ℕ) (below : ℕ) (some : 0 < length ring) (most : l
         can-move-iff m (length old) (length line) from steps .1
         (record { has-counts = record { some-edge = some; most = most; room = omega (arith, tallied .size) }; most-line = most-line; in-line = ends .in-line })
 
-    -- If the counts are the tally of start `from` and a window fits in the line at from + steps, then `move_counts` gives the tally of the start reached
-    -- (`IsReached`).
+    -- For a ring of 1 to 256 edges, a line of at most 2^32 edges and 1 step or more: if the counts are the tally of start `from` and a window fits in the line
+    -- at from + steps, then `move_counts` gives the tally of the start reached (`IsReached`).
     pub moved-tallied : (new : List ℕ) (r : Reached) → IsMoved ring line from steps below old new r → IsReached ring line from steps below new r
     moved-tallied new r moved =
         let is : reachedWith r new ≡ moveOn ring line below steps (unmoved from old) = rw can-be at (moved .is) in

@@ -1,6 +1,7 @@
 -- The counts moved along the line, a step at a time, whatever they hold. Rule 5: "it moves s steps, each 2·m looks (the leaving and the entering edge,
 -- each against m ring edges)". A move may also end early, at the first start whose least count is below a given bound: the survey moves on to the next finding.
 --
+--   sixteenBits               2^16, the number of values of a count
 --   changedCount, changedAt   count − (leaving edge differs) + (entering edge differs), mod 2^16
 --   earlier                   the rotation before a rotation
 --   steppedCounts             the counts after a step
@@ -9,6 +10,7 @@
 --   mostPlaces                2^32, the most places of a line
 --   canMove, CanMove          whether counts can be moved: the test, and the same as facts
 --   movedFrom                 the counts moved, or unchanged if they cannot be moved
+--   reachedWith               the returned struct and the final counts, as one point of a move
 --   IsMoved                   the contract of `move_counts`
 --   IsReached                 the result of moving a start's tally, as facts
 --   IsStepped, IsMovedOn      the contracts of private functions

@@ -85,9 +85,9 @@ fn can_move(m: usize, room: usize, n: usize, from: LinePlace, steps: usize) -> b
     steps <= n - m - start
 }
 
-// Moves the counts of a search along the line by at most `steps` steps; stops at the first start whose least count is
-// below `below`. If they cannot be moved, they stay as they are. They are copied into a tally and back once, 512 bytes
-// each way, whatever the number of steps.
+// Moves the counts of a search along the line by at most `steps` steps; stops at the first start reached whose least
+// count is below `below`. If they cannot be moved, they stay as they are, and `from`, least 0 and looks 0 are returned.
+// They are copied into a tally and back once, 512 bytes each way, whatever the number of steps.
 pub fn move_counts(
     counts: &mut [u16; MOST_COUNTS],
     ring: &[u8],

@@ -2,7 +2,7 @@
 --
 --   Calls      the contract of `pack`, the one public function
 --   Judging    definitions for the contract of the private `judge`
---   Putting    the contract of the private functions that write bytes
+--   Putting    the contract of the private `put_number` and `put_field`
 pub mod Calls
 pub mod Judging
 pub mod Putting

@@ -1,5 +1,7 @@
 // The report program of document 01: reads standard input, has `reply::answer` make the text, and writes it to standard output.
 // (crates/request reads the request that the input holds, crates/reply writes the text. The built program is target/native/report.)
+// The exit status is always 0, so a caller must test the output: accept it only if its last line is a whole
+// `found F hidden H looks L`, ended by LF (docs/SPEC.md, section 8).
 use reply::MOST_INPUT;
 use reply::MOST_TEXT;
 ghost use Prim.Native.Nat.{_≤_};
@@ -29,13 +31,14 @@ fn read_input(input: &mut [u8]) -> usize
     got
 }
 
+// Reads the input, makes the text and writes it.
 fn main() {
     let mut input = [0u8; MOST_READ];
     let got = read_input(&mut input);
     let mut text = [0u8; MOST_TEXT];
     let long = reply::answer(&input[..got], &mut text);
     if !io::write_all(libc::STDOUT_FILENO, &text[..long]) {
-        // A Rattle program has no exit status (it is always 0), so standard error is the only place to report a failed write.
+        // A Rattle program always exits with status 0, so standard error is the only place to report a failed write.
         io::write_all(
             libc::STDERR_FILENO,
             b"outlines: the report was not written whole\n",

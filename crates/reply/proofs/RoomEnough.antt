@@ -1,5 +1,5 @@
--- With more words than row 4 requires, the report's first row is the same as with exactly that many (`refusal-same`): row 4 is given with neither, and no other row
--- depends on the room.
+-- With at least as many words as row 4 requires, the report's first row is the same as with exactly that many (`refusal-same`): row 4 is given with neither, and no
+-- other row depends on the room.
 use Prim.Native.Nat.{ℕ, _≤_, _<_}
 use mathlib.Core.Path.{_≡_, refl, ap}
 use mathlib.Core.Bool.{Bool, true, false}

@@ -1,5 +1,5 @@
--- A request is never refused by 3, because its line has at most 4,096 edges, nor by 4, because the report is lent as many words as row 4 requires. So the program's
--- refusals are 11, and after it 1, 2, 5, 6 and 7.
+-- A request is never refused by 3, because its line has at most 4,096 edges, nor by 4, because the report is lent at least as many words as row 4 requires. So the
+-- program's refusals are 11, and after it 1, 2, 5, 6 and 7.
 use Prim.Native.Nat.{ℕ, _≤_}
 use mathlib.Core.Path.{_≡_}
 use mathlib.Core.Option.{some}

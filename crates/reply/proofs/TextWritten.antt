@@ -23,7 +23,7 @@ pub byte-stored : (byte : ℕ) (area : List ℕ) (at : ℕ) → at < length area
 unfolding putBytes putByte
 byte-stored byte area at room = record { is = simp (lt-ltb at (length area) room) }
 
--- And left out where there is none.
+-- A byte is left out where there is no room for it.
 pub byte-left-out : (byte : ℕ) (area : List ℕ) (at : ℕ) → length area ≤ at → IsWritten (byte ∷ []) area at area at
 unfolding putBytes putByte
 byte-left-out byte area at full = record { is = simp (le-ltb at (length area) full) }

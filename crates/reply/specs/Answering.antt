@@ -1,13 +1,14 @@
 -- Document 01, "The report program": the program's whole output for an input's bytes, on every input, and the contract of `answer`.
 --
---   reportLines    the lines of a report with these silences
---   requestText    the output for a request: the report's lines, or its refusal
---   answerText     the output for an input's bytes: "Refusal 11 comes before all others"
---   IsAnswered     the contract of `answer`
+--   reportLines             the lines of a report with these silences
+--   linesBy, requestText    the output for a request, the report's lines or its refusal: by the first row that is given; whole
+--   textBy, answerText      the output for an input's bytes: by what was read; whole. "Refusal 11 comes before all others"
+--   IsAnswered              the contract of `answer`
 --
 -- The report's refusals and counts are defined in crates/outlines, specs/Report.antt. "Book places count from the book's first byte": a request
--- holds its book apart, so the report's places are the right ones. The report is lent as many words as row 4 requires, so row 4 is never given; nor is
--- row 3, because a line has at most 4,096 edges (`rows-3-4-never` of proofs/RowsNeverGiven.antt).
+-- holds its book apart, so the report's places are the right ones. The definition takes exactly the room that row 4 requires; the code lends 12,288 words,
+-- which gives the same first row (`refusal-same` of proofs/RoomEnough.antt). So row 4 is never given; nor is row 3, because a line has at most 4,096 edges
+-- (`rows-3-4-never` of proofs/RowsNeverGiven.antt).
 use Prim.Native.Nat.{ℕ}
 use mathlib.Core.Path.{_≡_}
 use mathlib.Core.List.{List, _++_}
@@ -36,7 +37,7 @@ abbrev pub linesBy : Request → Option Refusal → List ℕ
 linesBy q none = reportLines q (silencesRead (q .book))
 linesBy q (some refusal) = refusalLine refusal
 
--- The output for a request: the report is lent exactly the words that row 4 requires.
+-- The output for a request, with exactly the room that row 4 requires.
 unfoldable pub requestText : Request → List ℕ
 requestText q =
     linesBy q (reportRefusal (length (q .ring)) (q .allowance) (length (q .line)) (roomRequired (length (q .ring)) (length (q .line))) (q .book))

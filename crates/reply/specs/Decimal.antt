@@ -1,8 +1,9 @@
 -- Document 01, "The report program": numbers as its output has them, in decimal digits without leading zeros, as bytes of ASCII.
 --
---   digit        the byte of a digit
---   decimal      the bytes of a number
---   IsDecimal    the same without division: bytes of digits that give the number, with no leading zero
+--   digit                     the byte of a digit
+--   digitsWithin, decimal     the bytes of a number: at most a given number of digits; all
+--   decimalValue, AllDigits   the number that digits give; each byte is a digit
+--   IsDecimal                 the bytes of a number without division: digits that give the number, with no leading zero
 --
 -- `decimal` recurses on a bound for the number of digits. Read instead its two equations `decimal-one` and `decimal-more` of proofs/DecimalDigits.antt, or
 -- `decimal-is` of proofs/DecimalReadBack.antt, which gives `IsDecimal`.

@@ -1,6 +1,7 @@
 -- Document 01, "The report program": the lines of its output. "The first line gives cell, ring number, m and k; then one line per shown finding (start,
 -- rotation, distance); the last gives the three counts. A refusal prints a single line, such as `refused 2 place 0`."
 --
+--   space, lf                        a space; LF, which ends a line
 --   lineOf                           words with one space between, and LF at the end
 --   firstLine, findingLine,          the document's four kinds of line
 --   lastLine, refusalLine

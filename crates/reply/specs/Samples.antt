@@ -50,7 +50,7 @@ unfolding sampleFields sampleBook ascii laidDown bytesOf
 sample-laid-down = refl
 
 -- Refusal 11. An empty input: place 0. Cut in its first head, in its first value, behind its first field, within the ring, behind the ring. Another tag first. An
--- input of 32,769 bytes, whatever they are: place 0.
+-- input of 32,769 bytes: place 0.
 row-11 : (answerText [] ≡ printed (ascii "refused 11 place 0"))
     × (answerText (take 2 sampleFields) ≡ printed (ascii "refused 11 place 0"))
     × (answerText (take 6 sampleFields) ≡ printed (ascii "refused 11 place 0"))
@@ -68,7 +68,7 @@ fieldsWith k ring n = laidDown (record { cell = 7; ringNumber = 2; allowance = k
 
 -- "Refusal 11 comes before all others": an empty ring is refused by 1, and by 11 where its line is cut as well; a line of 4,097 edges is wrongly long, so 11 at the
 -- offset where its field begins. The empty ring is also 1 before 2, and the fourth sample 2 before 6. "Book places count from the book's first byte": a book of one
--- byte is refused by 6 at place 0, and a book whose second field is cut by 6 at place 13.
+-- byte is refused by 6 at place 0, a book whose second field is cut by 6 at place 13, and two equal records by 7 at place 13.
 order-of-rows : (answerText (fieldsWith 0 [] 3) ≡ printed (ascii "refused 1 place 0"))
     × (answerText (take 21 (fieldsWith 0 [] 3)) ≡ printed (ascii "refused 11 place 19"))
     × (answerText (fieldsWith 0 (ascii "a") 4097) ≡ printed (ascii "refused 11 place 20"))

@@ -1,12 +1,18 @@
 -- The contracts of the private functions that write the text. Nothing here is part of what `answer` means.
 --
---   Text, putByte, putBytes    a text being written, and bytes put one after the other while there is room
---   IsWritten                  the contract of a writer of bytes; it requires no room
---   IsText                     the contract of a writer of a whole text; that there is room for it is shown once
---   hole, filled               a line's form with its numbers
---   findingsOf                 the findings of words
---   mostFirstLine, ..          the most bytes of each line and of a text
---   CanAnswer                  the precondition of `answer_request`
+--   Text, textIn                       a text being written
+--   putByte, putBytes                  bytes put one after the other while there is room
+--   IsWritten                          the contract of a writer of bytes; it requires no room
+--   IsText                             the contract of a writer of a whole text; that there is room for it is shown once
+--   hole, filled                       a line's form with its numbers
+--   findingOfNumbers, findingOfWords   the finding of three numbers; the same of a list of words
+--   findingsOf                         the findings of words
+--   countsOf                           the counts of a report of three numbers
+--   mostFirstLine, mostFindingLine,    the most bytes of each line and of a text
+--   mostLastLine, mostText
+--   mostFindingWords                   words for a finding at each edge of the longest line
+--   request                            the request of these numbers and bytes
+--   CanAnswer                          the precondition of `answer_request`
 use Prim.Native.Nat.{ℕ, _+_, _*_, _≤_}
 use mathlib.Core.Path.{_≡_}
 use mathlib.Core.Bool.{cond}
@@ -90,7 +96,7 @@ mostFindingLine = wordsEach + (4 + 3 + 3)
 abbrev pub mostLastLine : ℕ
 mostLastLine = 22 + (4 + 4 + 7)
 
--- The most bytes of a text: a line has at most one finding for each edge. (A refusal's line is shorter.)
+-- The most bytes of a text: one text line for each finding, and at most one finding for each edge of the line searched. (A refusal's line is shorter.)
 abbrev pub mostText : ℕ
 mostText = mostFirstLine + mostFindingLine * lineField .most + mostLastLine
 

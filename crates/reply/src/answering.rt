@@ -24,7 +24,8 @@ const MOST_FINDING_LINE: usize = WORDS_EACH + (4 + 3 + 3);
 // The most bytes of the last line: 22 that are not digits, and at most 4, 4 and 7 digits.
 const MOST_LAST_LINE: usize = 22 + (4 + 4 + 7);
 
-// Room for every text: a line has at most one finding for each edge. (A refusal's line is shorter.)
+// Room for every text: one text line for each finding, and at most one finding for each edge of the line searched. (A refusal's
+// line is shorter.)
 pub const MOST_TEXT: usize = MOST_FIRST_LINE + MOST_FINDING_LINE * MOST_LINE_BYTES + MOST_LAST_LINE;
 
 // Writes the text for a request and returns its length: the lines of the report, or the line of the report's refusal.

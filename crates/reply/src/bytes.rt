@@ -1,5 +1,6 @@
-// Writes one byte of the text. A byte for which there is no room is left out, so no writer has to require room. There always is
-// room: the proofs of `put_refusal` and `answer_request` show it once for each whole text.
+// Writes one byte of the text. A byte for which there is no room is left out, so `put_byte`, `put_decimal`, `put_line` and
+// `put_finding_lines` require no room. There always is room: the proofs of `put_refusal` and `answer_request` show it once for
+// each whole text.
 ghost use mathlib.Core.List.{[], _∷_};
 ghost use Rattle.reply.specs.Writing.{IsWritten};
 

@@ -1,4 +1,4 @@
-// The lines of the text. Each function returns the offset of the next byte.
+// The lines of the text. Each `put_..` function returns the offset of the next byte.
 use crate::bytes::put_byte;
 use crate::digits::put_decimal;
 use findings::WORDS_EACH;

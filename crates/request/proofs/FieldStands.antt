@@ -40,6 +40,6 @@ module _ (kind : FieldKind) (input : List ℕ) (at : ℕ) where
             not-cut = leb-true (nextAt input at) (length input) (short .1);
           }
 
-  -- It is false exactly where none stands.
+  -- The test is false exactly where no field of this kind stands.
   pub no-field-iff : (isField kind input at ≡ false) ↔ NoFieldAt kind input at
   no-field-iff = (λ e f. false≢true (sym e ∙ field-iff .1 f), λ none. sym (not-passed (isField kind input at) (λ e. none (field-iff .0 e))))

@@ -108,7 +108,7 @@ module _ {input : List ℕ} {cell ringNumber allowance ring line : ReadTo} (read
       line-within = omega (arith, line-field .ends, line-field .field .not-cut);
     }
 
-    -- And the parts with the fields' numbers and offsets meet the contract.
+    -- If no fault was found, the parts with the fields' numbers and offsets meet the contract.
     pub request-parts : {c r k : ℕ} → c ≡ numberAt 4 input headLength → r ≡ numberAt 2 input (cell .next + headLength)
         → k ≡ numberAt 1 input (ringNumber .next + headLength)
         → IsRequestRead input (PartsCase (record {

@@ -10,11 +10,13 @@ ghost use Rattle.request.specs.RequestReading.{IsRequestRead};
 // "It reads at most 32,768 bytes of standard input".
 pub const MOST_INPUT: usize = 32768;
 
-// The bytes of a cell, of a ring number and of an allowance.
+// The bytes of a cell.
 const CELL_BYTES: usize = 4;
 
+// The bytes of a ring number.
 const RING_NUMBER_BYTES: usize = 2;
 
+// The bytes of an allowance.
 const ALLOWANCE_BYTES: usize = 1;
 
 // The most edges of a line in the program's input.

@@ -1,5 +1,5 @@
-// The areas of a row: bytes to fill in, and areas to lend to a call. Every byte or word that is lent is a canary at
-// first, so that the program sees which of them the call wrote.
+// The areas of a row: bytes to fill in, and areas to lend to a call. All room lent to `pack`, `unpack` and the searches
+// is canaries at first, so that the program sees which bytes or words the call wrote.
 ghost use Prim.Native.Nat.{_≤_};
 ghost use lib.ListN.{length};
 
@@ -7,7 +7,7 @@ ghost use lib.ListN.{length};
 // that a row gives is longer, nor is the text of all rows.
 const AREA_BYTES: usize = 65537;
 
-// The canary in bytes. No call ends its output with a canary, in bytes or in words.
+// The canary in bytes. No row's output ends with a canary, in bytes or in words.
 const CANARY_BYTE: u8 = 0xA5;
 
 // The canary in words: four canary bytes, so that `inspect` works for bytes and words alike.

@@ -12,7 +12,8 @@ ghost use Prim.Native.Nat.{_<_};
 // The most words that a row gives: those of 1,001 records.
 pub const MOST_ROW_WORDS: usize = 3003;
 
-// The bytes of the book of 1,001 records. It is the byte offset of a fault that is left out: no book has a byte there.
+// The bytes of the book of 1,001 records. If a row gives no fault, this is its offset: no book has a byte there, so
+// nothing is written.
 const MOST_ROW_BOOK: usize = 13013;
 
 // The number mod 2^32.

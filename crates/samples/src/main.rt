@@ -1,5 +1,5 @@
-// Runs the calls on each edge that document 01 names, and prints a line for each. The rows are read from standard input
-// (crates/samples/stdin), a section for each kind of row. What is printed is compared with crates/samples/stdout.
+// Runs the calls at each limit that document 01 names, and prints a line for each row. The rows are read from standard
+// input (crates/samples/stdin), a section for each kind of row. What is printed is compared with crates/samples/stdout.
 mod answer_rows;
 mod area;
 mod book_rows;
@@ -48,6 +48,7 @@ fn run(call: usize, text: &[u8], index: usize) {
     }
 }
 
+// Reads the table of rows and runs each of its seven sections through its calls.
 fn main() {
     let mut input = area::zeros();
     let n = io::read_full(0, &mut input);

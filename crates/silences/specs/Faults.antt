@@ -1,5 +1,5 @@
--- Document 01, the table of refusals, rows 6 to 9: the column "Given exactly when" as propositions, without the definitions of reading and packing. "Within a
--- book the first faulty field decides", so a fault also says that everything before it is fine. Rows 5 and 10 are one comparison each and need no definition.
+-- Document 01, the table of refusals, rows 6 to 9: the column "Given exactly when" as propositions, without `readFrom` and `recordRows`. "Within a book the
+-- first faulty field decides", so a fault also says that everything before it is fine. Rows 5 and 10 are one comparison each and need no definition.
 -- That each row is given exactly then is proved for the definitions in proofs/BookRows.antt, PackRows.antt and UnpackRows.antt, and for the calls in
 -- RowsOfReading.antt and RowsOfUnpacking.antt of crates/book and RowsOfPacking.antt of crates/packing.
 --
@@ -9,7 +9,7 @@
 --   IsOrderFault      row 7, reading
 --   HasWordCount      row 8 is not given
 --   AllRingNumbers    no ring number is above 65,535
---   IsRecord          the record of a number in the words to pack, all records before it fine
+--   IsRecord          record number i of the words to pack; all records before it are fine
 --   IsRingFault       row 9
 --   IsRecordFault     row 7, packing
 --   IsPackable        none of rows 8, 9 and 7 is given

@@ -1,12 +1,15 @@
 -- Document 01, "What each call returns", rows 7 to 10: silences as words, what packing and unpacking give, and what they write into the lent area.
 --
---   silencesOf, wordsOfSilences   silences as words, three each: cell, ring number, start
---   isRow8, mostRingNumber        rows 8 and 9
---   recordRows, recordFault       "each record 9 before 7"
---   roomRow                       row 10
---   packRows, unpackRows          the rows of packing and unpacking in their order
---   packed, unpacked              what packing and unpacking give
---   areaAtExit                    the lent area at exit
+--   silenceWords, wordsOfSilences             silences as words, three each: cell, ring number, start
+--   recordWords, silenceOfWords, silencesOf   words as silences
+--   mostWords, isRow8                         row 8
+--   mostRingNumber                            the largest ring number (row 9)
+--   recordRows, recordFault                   "each record 9 before 7"
+--   roomRow                                   row 10
+--   packRows, unpackRows                      the rows of packing and unpacking in their order
+--   packRefusal, unpackRefusal                the first of these rows that is given
+--   packed, unpacked                          what packing and unpacking give
+--   areaAtExit                                the lent area at exit
 --
 -- The order of a record's words is our reading: document 01 lists cell, ring number and start in this order, and gives no other.
 use Prim.Native.Nat.{ℕ, suc, _*_, _%_, _^_}

@@ -1,11 +1,14 @@
 -- Document 01, "Silence book" and rows 5, 6 and 7: what reading a book's bytes gives, whatever bytes they are.
 --
---   lengthByTag             "tag 21 hex, length 10"
---   silenceAt               the silence whose value stands at a byte offset
---   FieldAt, fieldAt        what stands at a byte offset: a whole field, or a faulty one (row 6)
---   readFrom                the fields from a byte offset on; "the first faulty field decides, 6 before 7"
---   fieldFault, bookRows    rows 5, 6 and 7 in their order
---   readBook                a whole book
+--   lengthByTag                       "tag 21 hex, length 10"
+--   silenceAt                         the silence whose value stands at a byte offset
+--   FieldAt, fieldBy, fieldAt         what stands at a byte offset: a whole field, or a faulty one (row 6)
+--   before, readField                 a silence put in front of others; one field read
+--   fieldsFrom, readFrom              the fields from a byte offset on; "the first faulty field decides, 6 before 7"
+--   faultIn, silencesIn               the refusal of an answer; its silences
+--   fieldFault, isRow5, bookRows      rows 6 and 7; row 5; the three in their order
+--   bookRefusal                       the first of them that is given
+--   readBook, silencesRead            what reading a whole book gives; its silences
 --
 -- `readFrom` goes from field to field, so its recursion needs a number that falls: `fieldsFrom` counts down the bytes left. Two equations hide this count, and
 -- nothing after them uses it; read them instead: `readFrom-end` and `readFrom-step` of proofs/ReadFrom.antt. Places count from the book's first byte.

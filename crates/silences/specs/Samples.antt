@@ -1,4 +1,4 @@
--- Document 01's samples of books, computed: the book of the report program's example, inputs at the edges of rows 5 to 10, and what a silence names.
+-- Samples of books, computed: the book of document 01's example of the report program, inputs that each of rows 5 to 10 refuses, and what a silence names.
 use Prim.Native.Nat.{ℕ}
 use mathlib.Core.Path.{_≡_, refl}
 use mathlib.Core.Bool.{true, false}

@@ -3,7 +3,7 @@
 --
 --   cellBytes, ringNumberBytes, startBytes   "cell (4 bytes), ring number (2), start (4)"
 --   Silence, silence       cell, ring number, start
---   InRange                they fit their 4, 2 and 4 bytes
+--   InRange, AllInRange    they fit their 4, 2 and 4 bytes; each silence of a list does
 --   isBelow, Below         "by cell, then ring number, then start", as a test and as a proposition
 --   isAbove                whether a record is above the one before it, if there is one
 --   Ascending              "Records ascend strictly"

@@ -64,7 +64,7 @@ module _ (ring doubled table line : List ℕ) (k : ℕ) (at : Sweep) (old : List
       unfolding sweepBy
       way-none far = record { is = rw (← read-is, stopped, ← tallied .is, lt-ltb k (z .least) far) refl }
 
-      -- If it is at most k, the answer is `Found`, with the finding that `finding_at` returns.
+      -- If the candidate's least count is at most k, the answer is `Found`, with the finding that `finding_at` returns.
       pub way-found : (f : FindingStruct) → z .least ≤ k → IsFindingAt m new (read .start) (z .least) f → IsSweptTo ring doubled table line k at old new (Found next f)
       unfolding sweepBy
       way-found f near found = record { is = rw (← read-is, stopped, ← tallied .is, le-ltb k (z .least) near, ← found .is) refl }

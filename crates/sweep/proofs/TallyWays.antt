@@ -33,17 +33,17 @@ module _ (ring : List ℕ) {doubled line : List ℕ} {i : ℕ} {old : List ℕ} 
         (λ j. record { counts = counted .written j; least = counted .least-is j; looks = counted .looks-are j })
         ∙ ap (λ (w : List ℕ). countedTo doubled w old) (handed .is)
 
-    -- If there is no earlier tally, this meets the contract of `verify`.
+    -- If there is no earlier tally, counting the window at start i afresh meets the contract of `verify`.
     pub tallied-first : {last : LastVerified} → last ≡ Nothing → IsTalliedBy ring doubled line i last old new z
     unfolding tallyBy
     tallied-first none = record { is = rw none afresh-is }
 
-    -- So it does if the start is not beyond the last verified one.
+    -- If start i is not beyond the last verified one, counting its window afresh meets the contract of `verify`.
     pub tallied-behind : {last : LastVerified} {from : LinePlace} → last ≡ At from → i ≤ from .0 → IsTalliedBy ring doubled line i last old new z
     unfolding tallyBy
     tallied-behind {from = from} after behind = record { is = rw (after, le-leb i (from .0) behind) afresh-is }
 
-    -- So it does if the start is s beyond the last verified one and 2·s > m.
+    -- If start i is s beyond the last verified one and 2·s > m, counting its window afresh meets the contract of `verify`.
     pub tallied-far : {last : LastVerified} {from : LinePlace} → last ≡ At from → from .0 < i → length ring < 2 * (i - from .0) → IsTalliedBy ring doubled line i last old new z
     unfolding tallyBy
     tallied-far {from = from} after beyond far = record { is = rw (after, lt-leb i (from .0) beyond, lt-ltb (length ring) (2 * (i - from .0)) far) afresh-is }

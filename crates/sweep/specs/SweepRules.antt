@@ -4,13 +4,13 @@
 --
 --   sweptStart                   where the next window starts
 --   stateOf, foundOf, hasEnded   the parts of an answer: the sweep after it, the finding reported, whether the sweep has ended
---   StoppedTo                       a run of windows, each stopped at break k + 1
+--   StoppedTo                    a run of windows, each stopped at break k + 1
 --   IsCandidateRead              a window is read and is a candidate
 --   IsWindowsRead                windows are read, up to the next candidate
 --   CanSweepOn                   the sweep can go on by the rules
 --   IsCandidateSwept             a candidate is read and verified
 --   HasEnded                     no window fits in the line any more
---   stoppedState                    the sweep after a run of windows stopped at break k + 1
+--   stoppedState                 the sweep after a run of windows stopped at break k + 1
 --   IsSweptOn                    the sweep to the next candidate
 use Prim.Native.Nat.{ℕ, _+_, _-_, _≤_, _<_}
 use mathlib.Core.Path.{_≡_}
@@ -98,7 +98,7 @@ pub record IsCandidateSwept (ring line : List ℕ) (k : ℕ) (at : Sweep) (r : S
   pub before : TalliedBefore ring line (stateOf r .start .0) counts (lastOf (stateOf r .last))
   pub size : length counts ≡ mostCounts
 
--- No window fits in the line at the start of `at`: the sweep stays there, and the counts are still the tally of the last verified start.
+-- No window fits in the line at the start of `at`: the sweep stays there, and the counts are still the tally of the last verified start, if there is one.
 pub record HasEnded (ring line : List ℕ) (at next : Sweep) (counts : List ℕ) : Type 0 where
   pub past : IsPastLine ring line (at .start .0)
   pub next-is : next ≡ at

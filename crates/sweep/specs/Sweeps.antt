@@ -1,12 +1,12 @@
 -- What `sweep_on` computes, on every input, whatever vectors, doubled ring and counts it is lent. If they are the ring's own and the tally of the last verified start,
 -- this is what the rules give, `IsSweptOn` of SweepRules, by `swept-by-rules` of proofs/SweptByRules.antt.
 --
---   movedTo                the tally moved a number of steps
---   tallyBy                a start verified: counted afresh, or the tally moved (rule 5)
---   SweptTo, sweepBy       the result of a sweep; the sweep to the next candidate, which is verified (rule 4)
---   mostLooks              2^62, more looks than any sweep takes
---   canSweep, CanSweep     whether the sweep can go on: the test, and the same as facts
---   IsSweptBy              the contract of `sweep_on`
+--   movedTo                  the tally moved a number of steps
+--   tallyBy                  a start verified: counted afresh, or the tally moved (rule 5)
+--   SweptTo, sweepBy         the result of a sweep; the sweep to the next candidate, which is verified (rule 4)
+--   mostLooks                2^62, more looks than any sweep takes
+--   canSweep, CanSweep       whether the sweep can go on: the test, and the same as facts
+--   IsSweptBy                the contract of `sweep_on`
 --   IsTalliedBy, IsSweptTo   the contracts of `verify` and `to_candidate`
 use Prim.Native.Nat.{ℕ, _+_, _-_, _*_, _^_, _≤_}
 use mathlib.Core.Path.{_≡_}

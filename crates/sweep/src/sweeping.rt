@@ -26,8 +26,8 @@ pub struct Sweep {
     pub looks: usize,
 }
 
-// The answer of `sweep_on`, with the sweep after it: no candidate any more, because no window fits in the line; a
-// candidate that is no finding; a candidate that is a finding.
+// The answer of `sweep_on`, with the sweep after it: no candidate any more, because no window fits in the line (or the
+// sweep cannot go on: `can_sweep`); a candidate that is no finding; a candidate that is a finding.
 pub enum Swept {
     Ended(Sweep),
     NoFinding(Sweep),

@@ -1,5 +1,5 @@
 -- Counts of differing edges, one for each rotation. A window is counted afresh by comparing its edges with those of every rotation. The rotations are read off
--- the doubled ring, so no place is taken mod m. Then the least count is found, and the lowest rotation that has it.
+-- the doubled ring, so no comparison takes a place mod m. Then the least count is found, and the lowest rotation that has it.
 --
 --   mostCounts                 256: one count for each rotation of the longest ring
 --   leastOf                    the least of the first m counts

@@ -1,5 +1,5 @@
--- When counts are the tally of a start. The count of rotation r is kept under the number r. The same ring edge belongs to another rotation at the next start, so
--- a step along the line renumbers the counts (crates/moves).
+-- When counts are the tally of a start. The count of rotation r is kept under the number r. What is rotation r at start i is rotation r + 1 at start i + 1 (the
+-- last rotation becomes rotation 0), so a step along the line renumbers the counts (crates/moves).
 --
 --   Tallied     the counts are "the tally of one count per rotation" at a start
 --   CanTally    256 counts, and a ring of 1 to 256 edges

@@ -38,7 +38,7 @@ pub fn double(ring: &[u8]) -> [u8; DOUBLED]
 }
 
 // Compares one window edge with every rotation's edge over it and counts the differences. Rotation 0 has the ring's
-// edge at `place` there, rotation r the doubled ring's edge at place + r.
+// edge at `place` there, rotation r the doubled ring's edge at place + r. Returns the m looks.
 fn count_edge(
     counts: &mut [u16; MOST_COUNTS],
     doubled: &[u8],

@@ -1,5 +1,5 @@
-// Counts of differing edges, one for each rotation. A count is at most 256, one more than eight bits hold, so it is a
-// u16.
+// Counts of differing edges, one for each rotation. A tally's count is at most 256, one more than eight bits hold, so
+// it is a u16.
 use answers::LinePlace;
 use answers::RingPlace;
 use findings::Finding;
@@ -69,7 +69,8 @@ fn rotations(m: usize) -> usize
     if m < MOST_COUNTS { m } else { MOST_COUNTS }
 }
 
-// The lowest of m rotations whose count is `least`; m if none has that count. A larger m is taken as 256.
+// The lowest of m rotations whose count is `least`; m if none has that count. An m above 256 is taken as 256 (the
+// result is then 256 if none has it).
 fn lowest_rotation(counts: &[u16; MOST_COUNTS], m: usize, least: usize) -> RingPlace
     ensures { λ r. ⌜ IsLowestWith m (now (counts .entry)) least (r .0) ⌝ }
 {

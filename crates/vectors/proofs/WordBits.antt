@@ -50,7 +50,7 @@ pub bit-shr : (x s j : ℕ) → bit (x / 2 ^ s) j ≡ bit x (s + j)
 unfolding bit
 bit-shr x s j = rw (shr-shr x s j)
 
--- No bit below s is set in `x << s`.
+-- No bit below s is set in `x · 2^s`.
 pub bit-shl-low : (x s j : ℕ) → j < s → bit (x * 2 ^ s) j ≡ 0
 unfolding bit
 bit-shl-low x s j h =
@@ -59,7 +59,7 @@ bit-shl-low x s j h =
     (rw (pow-add 2 (suc (s - suc j)) j, sym (mul-assoc x (2 ^ suc (s - suc j)) (2 ^ j)), shl-shr (x * 2 ^ suc (s - suc j)) j)
     (shifted-even x (s - suc j)))
 
--- Bit s + j of `x << s` is bit j of x.
+-- Bit s + j of `x · 2^s` is bit j of x.
 pub bit-shl-high : (x s j : ℕ) → bit (x * 2 ^ s) (s + j) ≡ bit x j
 unfolding bit
 bit-shl-high x s j = rw (sym (shr-shr (x * 2 ^ s) s j)) (rw (shl-shr x s) refl)

@@ -5,11 +5,12 @@
 -- The width of a word is written once, in `wordBits`. Words are numbers. The code's `>>`, `<<`, `|` and `&` are here
 -- `x / 2 ^ j`, `x * 2 ^ j % 2 ^ wordBits`, `bitOr` and `bitAnd`.
 -- Letters: ws a vector, w the number of a word, x a word, j a place in a word, i a place in a vector, m a number of bits.
---     wordBits     the bits of a machine word           Vector     a list of machine words
---     wordCount    the words of m bits
---     bit          bit j of a word, 0 or 1              isSet      whether bit i of a vector is set
---     putBit, PutBit           one bit put in           orBelow, noBit, NoBit    no bit set
---     firstBits, FirstBits     the first m bits set
+--     wordBits, wordCount                  the bits of a machine word; the words of m bits
+--     Vector                               a list of machine words
+--     bit, isSet                           bit j of a word, 0 or 1; whether bit i of a vector is set
+--     putWord, putBit, PutBit              one bit put in: into a word, into a vector; the same as facts
+--     firstWord, firstBits, FirstBits      the first m bits set: one word, the vector; the same as facts
+--     orBelow, noBit, NoBit                the first words joined; whether no bit of them is set; no bit is set
 use mathlib.Core.Path.{_≡_}
 use mathlib.Core.Bool.{Bool, true, false, _||_}
 use mathlib.Core.List.{List, [], _∷_}

@@ -1,5 +1,6 @@
 -- A vector of m bits rotated by one place, in words: shifted down by one with the carry between words, and what was bit 0 put in at bit m − 1.
--- m need not be a multiple of the word's width. The words have room for m bits, and the bits from m on are 0.
+-- m need not be a multiple of the word's width. `rotated` satisfies `Rotated` if m is at least 1, the words have room for m bits and the
+-- bits from m on are 0 (`rotated-is` of proofs/WrapToLastBit.antt).
 --     shiftedWord, shifted, Shifted      down by one        WithinBits      no bit from m on
 --     rotated, Rotated                   rotated by one place
 use mathlib.Core.Path.{_≡_}

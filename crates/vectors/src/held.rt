@@ -1,4 +1,5 @@
-// Vectors of four words, held by value. A caller may use only the first `count` words; a count above 4 is taken as 4.
+// Vectors of four words, held by value. A caller can keep a vector in its first `count` words; a count above 4 is taken
+// as 4.
 use crate::widths::VECTOR_WORDS;
 use crate::widths::WORD_BITS;
 ghost use mathlib.Core.Path.{_≡_};
@@ -41,7 +42,7 @@ pub fn first_bits(m: usize) -> [u64; VECTOR_WORDS]
     new
 }
 
-// The word count, and at most the words of a vector.
+// The word count, but at most 4.
 fn within_words(count: usize) -> usize
     ensures { λ r. ⌜ r ≡ min count vectorWords ⌝ }
 {
@@ -86,7 +87,7 @@ fn grown_word(
 
 // The held vector of m bits, kept in its first `count` words, grown by one edge: rotated by one place, AND the edge's
 // occurrence vector. It is written word by word, without a loop, so that the compiler keeps a vector in registers and
-// makes straight code for each count of a caller's loop.
+// makes code of its own for each count that a caller passes as a literal.
 pub fn grown(
     held: [u64; VECTOR_WORDS],
     occurs: [u64; VECTOR_WORDS],
