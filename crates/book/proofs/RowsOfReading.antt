@@ -53,7 +53,7 @@ module _ (book : List ℕ) (r : BookAnswer) (meets : IsRead book r) where
   pub read-row-5 : (paperOf r .number ≡ 5) ↔ (mostBytes < length book)
   read-row-5 = row-5 book (bookRefusal book) (length (silencesRead book)) paper (λ q other. Iff·rfl)
 
-  -- No other row is given: the number is 0, 5, 6 or 7.
+  -- `read` gives no row but 5, 6 and 7: the number is 0, 5, 6 or 7.
   pub read-numbers : (paperOf r .number ≡ 0) ⊎ ((paperOf r .number ≡ 5) ⊎ ((paperOf r .number ≡ 6) ⊎ (paperOf r .number ≡ 7)))
   read-numbers =
       number-by 0 (length (silencesRead book)) (bookRefusal book) paper (λ (n : ℕ). (n ≡ 0) ⊎ ((n ≡ 5) ⊎ ((n ≡ 6) ⊎ (n ≡ 7)))) (inl refl)

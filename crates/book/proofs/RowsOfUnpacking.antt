@@ -49,7 +49,7 @@ module _ (book area : List ℕ) (r : BookAnswer) (out : List ℕ) (meets : IsUnp
   pub unpack-row-5 : (paperOf r .number ≡ 5) ↔ (mostBytes < length book)
   unpack-row-5 = row-5 book o records paper (unpack-row-iff book (length area))
 
-  -- No other row is given: the number is 0, 5, 6, 7 or 10.
+  -- `unpack` gives no row but 5, 6, 7 and 10: the number is 0, 5, 6, 7 or 10.
   pub unpack-numbers : (paperOf r .number ≡ 0) ⊎ ((paperOf r .number ≡ 5) ⊎ ((paperOf r .number ≡ 6) ⊎ ((paperOf r .number ≡ 7) ⊎ (paperOf r .number ≡ 10))))
   unpack-numbers =
       number-by 0 records o paper (λ (n : ℕ). (n ≡ 0) ⊎ ((n ≡ 5) ⊎ ((n ≡ 6) ⊎ ((n ≡ 7) ⊎ (n ≡ 10))))) (inl refl)

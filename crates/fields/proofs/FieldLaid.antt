@@ -24,7 +24,7 @@ numberAt-drop (suc count) bytes at i =
 
 -- The bytes of a number stand from byte offset `at` on, followed by `rest`.
 module _ (bytes : List ℕ) (at count number : ℕ) (rest : List ℕ) (laid : drop at bytes ≡ bytesOf count number ++ rest) where
-  -- The number is read back, if it fits its bytes.
+  -- A number whose bytes stand at `at` is read back there, if it fits its bytes.
   pub laid-number : number < 256 ^ count → numberAt count bytes at ≡ number
   laid-number fits =
       sym (ap (numberAt count bytes) (add-zero at))
@@ -32,13 +32,13 @@ module _ (bytes : List ℕ) (at count number : ℕ) (rest : List ℕ) (laid : dr
       ∙ ap (λ (l : List ℕ). numberAt count l 0) laid
       ∙ number-of-bytes count number [] rest fits
 
-  -- The rest stands behind the number.
+  -- If the bytes of a number stand at `at`, followed by `rest`, then `rest` stands just past the number.
   pub laid-number-rest : drop (at + count) bytes ≡ rest
   laid-number-rest = sym (drop-drop count at bytes) ∙ ap (drop count) laid ∙ drop-at (bytesOf count number) rest count (bytesOf-length count number)
 
 -- The bytes of a field stand from byte offset `at` on, followed by `rest`.
 module _ (bytes : List ℕ) (at tag : ℕ) (value rest : List ℕ) (laid : drop at bytes ≡ field tag value ++ rest) where
-  -- The byte at `at` is the field's tag.
+  -- If a field stands at `at`, the byte there is its tag.
   pub laid-tag : getD bytes at 0 ≡ tag
   laid-tag = sym (ap (λ (n : ℕ). getD bytes n 0) (add-zero at)) ∙ sym (getD-drop at bytes 0 0) ∙ ap (λ (l : List ℕ). getD l 0 0) laid
 
@@ -46,21 +46,21 @@ module _ (bytes : List ℕ) (at tag : ℕ) (value rest : List ℕ) (laid : drop 
   laid-length : drop (at + tagBytes) bytes ≡ bytesOf lengthBytes (length value) ++ (value ++ rest)
   laid-length = sym (drop-drop tagBytes at bytes) ∙ ap (drop tagBytes) laid ∙ append-assoc (bytesOf lengthBytes (length value)) value rest
 
-  -- The field's length bytes give the length of its value, if that fits two bytes.
+  -- If a field stands at `at`, its length bytes give the length of its value, if that fits two bytes.
   pub laid-long : length value < 256 ^ lengthBytes → lengthAt bytes at ≡ length value
   laid-long = laid-number bytes (at + tagBytes) lengthBytes (length value) (value ++ rest) laid-length
 
-  -- The field's value stands behind its head.
+  -- If a field stands at `at`, followed by `rest`, its value and then `rest` stand behind its head.
   pub laid-value : drop (at + headLength) bytes ≡ value ++ rest
   laid-value =
       let head : at + headLength ≡ at + tagBytes + lengthBytes = omega arith in
       ap (λ (n : ℕ). drop n bytes) head ∙ laid-number-rest bytes (at + tagBytes) lengthBytes (length value) (value ++ rest) laid-length
 
-  -- The rest stands behind the field's value.
+  -- If a field stands at `at`, followed by `rest`, then `rest` stands just past the field.
   pub laid-rest : drop (fieldEnd at (length value)) bytes ≡ rest
   laid-rest = sym (drop-drop (length value) (at + headLength) bytes) ∙ ap (drop (length value)) laid-value ∙ drop-append-seam value rest
 
-  -- The field is not cut off.
+  -- A field that stands at `at` is not cut off.
   pub laid-within : fieldEnd at (length value) ≤ length bytes
   laid-within = omega (arith, simp (length-drop, length-append, bytesOf-length) at (ap length laid))
 

@@ -26,11 +26,11 @@ module _ (bytes : List ℕ) (at count : ℕ) where
   zero-fits : 0 < 256 ^ count
   zero-fits = omega (arith, pow-le-pow-right {n = 256} (omega arith) {i = 0} {j = count} (omega arith))
 
-  -- For more than 4 bytes the contract requires 0.
+  -- For more than 4 bytes, 0 meets the contract of `number_at`.
   pub number-many : mostNumberBytes < count → IsNumberRead bytes at count 0
   number-many many = record { is = sym (numberWithin-many count bytes at many); lt = zero-fits }
 
-  -- For bytes that reach past the end the contract requires 0.
+  -- For bytes that reach past the end, 0 meets the contract of `number_at`.
   pub number-past : length bytes < at + count → IsNumberRead bytes at count 0
   number-past past = record { is = sym (numberWithin-past count bytes at past); lt = zero-fits }
 

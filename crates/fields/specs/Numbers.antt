@@ -32,7 +32,7 @@ numberWithin count bytes at =
     let number : ℕ = numberAt count bytes at in
     cond (leb count mostNumberBytes && leb (at + count) (length bytes)) number 0
 
--- The contract of `number_at`, which returns r: r is that number, and it fits `count` bytes.
+-- The contract of `number_at`, which returns r: r is `numberWithin`, and it fits `count` bytes.
 pub record IsNumberRead (bytes : List ℕ) (at count r : ℕ) : Type 0 where
   pub is : r ≡ numberWithin count bytes at
   pub lt : r < 256 ^ count

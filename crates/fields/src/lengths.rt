@@ -6,5 +6,5 @@ pub const TAG_BYTES: usize = 1;
 // "two-byte length"
 pub const LENGTH_BYTES: usize = 2;
 
-// Tag and length together.
+// The bytes of tag and length together.
 pub const HEAD_LENGTH: usize = TAG_BYTES + LENGTH_BYTES;

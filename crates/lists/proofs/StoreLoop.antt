@@ -33,14 +33,14 @@ module _ {f : ℕ → ℕ} {old : List ℕ} where
   pub stored-end : {xs : List ℕ} {r m : ℕ} → StoredFirst r f old xs → r ≡ m → StoredFirst m f old xs
   stored-end stored all = rw all at stored
 
-  -- A list with those facts is `storedFirst m f old`.
+  -- A list that satisfies `StoredFirst m f old` is `storedFirst m f old`.
   pub stored-is : {xs : List ℕ} {m : ℕ} → StoredFirst m f old xs → xs ≡ storedFirst m f old
   unfolding storedFirst
   stored-is {xs} {m} stored =
       listOf-is xs (length old) _ (stored .size)
       (λ p l. by-test (λ (x : ℕ). getD xs p 0 ≡ x) (ltb p m) (λ e. stored .first p (ltb-true p m e)) (λ e. stored .rest p (ltb-false p m e)))
 
-  -- If the list has m places only, it is `listOf m f`.
+  -- A list that satisfies `StoredFirst m f old` is `listOf m f`, if it has m places only.
   pub stored-all : {xs : List ℕ} {m : ℕ} → StoredFirst m f old xs → length old ≡ m → xs ≡ listOf m f
   stored-all {xs} {m} stored size = listOf-is xs m f (stored .size ∙ size) (stored .first)
 

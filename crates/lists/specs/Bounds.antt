@@ -9,7 +9,7 @@ use lib.ListN.{getD}
 pub record AllBelow (bound : ℕ) (numbers : List ℕ) : Type 0 where
   pub each-lt : (i : ℕ) → getD numbers i 0 < bound
 
--- The same as a test, for a bound above 0.
+-- Whether every number of the list is below the bound: `AllBelow` as a test, for a bound above 0.
 abbrev pub allBelow : ℕ → List ℕ → Bool
 allBelow bound [] = true
 allBelow bound (number ∷ numbers) = ltb number bound && allBelow bound numbers

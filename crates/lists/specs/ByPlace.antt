@@ -15,7 +15,7 @@ listOf (suc n) f = f zero ∷ listOf n (λ p. f (suc p))
 unfoldable pub storedFirst : ℕ → (ℕ → ℕ) → List ℕ → List ℕ
 storedFirst m f old = listOf (length old) (λ p. cond (ltb p m) (f p) (getD old p 0))
 
--- The same as facts about two lists (joined by `stored-is` of proofs/): `new` is `old` with f p stored at each of its first m places p.
+-- `storedFirst` as facts about two lists (joined by `stored-is` of proofs/): `new` is `old` with f p stored at each of its first m places p.
 pub record StoredFirst (m : ℕ) (f : ℕ → ℕ) (old new : List ℕ) : Type 0 where
   pub size : length new ≡ length old
   pub first : (p : ℕ) → p < m → getD new p 0 ≡ f p

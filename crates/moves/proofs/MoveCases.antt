@@ -13,7 +13,7 @@ use Rattle.lists.proofs.SizesTested.{lt-iff, le-iff, and-iff, test-same}
 use Rattle.moves.specs.declared.steps.Reached.{Reached}
 use Rattle.moves.specs.Moves.{mostPlaces, canMove, CanMove, IsMovedOn, IsMoved}
 
--- The test passes exactly when the counts can be moved.
+-- The test `canMove` passes exactly when the counts can be moved.
 pub can-move-iff : (m room n from steps : ℕ) → (canMove m room n from steps ≡ true) ↔ CanMove m room n from steps
 unfolding canMove
 can-move-iff m room n from steps =
@@ -22,7 +22,7 @@ can-move-iff m room n from steps =
       λ can. all .1 ((can .has-counts .some-edge, (can .has-counts .most, can .has-counts .room)), (can .most-line, can .in-line)),
     )
 
--- If m, the counts and n are within the limits and a window fits in the line at `from`, the test passes exactly when `steps` is at most n − m − from.
+-- If m, the counts and n are within the limits and a window fits in the line at `from`, the test `canMove` passes exactly when `steps` is at most n − m − from.
 pub can-move-last : (m room n from steps : ℕ) → HasCounts m room → n ≤ mostPlaces → m ≤ n → from ≤ n - m → leb steps (n - m - from) ≡ canMove m room n from steps
 can-move-last m room n from steps has-counts most-line long begins =
     test-same (le-iff steps (n - m - from)) (can-move-iff m room n from steps) (
@@ -34,10 +34,10 @@ module _ (ring line : List ℕ) (from steps below : ℕ) (old : List ℕ) where
   abbrev test : Bool
   test = canMove (length ring) (length old) (length line) from steps
 
-  -- If the test passes and the counts are moved, the contract of `move_counts` is met.
+  -- If the test `canMove` passes and the counts are moved, the contract of `move_counts` is met.
   pub moved-yes : (new : List ℕ) (r : Reached) → test ≡ true → IsMovedOn ring line from steps below old new r → IsMoved ring line from steps below old new r
   moved-yes new r passed moved = record { is = rw passed (moved .is) }
 
-  -- If the test fails, leaving the counts as they were and returning `from`, 0 and 0 meets the contract.
+  -- If the test `canMove` fails, leaving the counts as they were and returning `from`, 0 and 0 meets the contract of `move_counts`.
   pub moved-no : test ≡ false → IsMoved ring line from steps below old old (record { start = record { 0 = from }; least = 0; looks = 0 })
   moved-no failed = record { is = rw failed refl }

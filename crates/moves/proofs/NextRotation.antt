@@ -23,7 +23,7 @@ pub earlier-first : (m r : ℕ) → r ≡ 0 → earlier m r ≡ m - 1
 unfolding earlier
 earlier-first m r first = rw (eq-eqb r 0 first) refl
 
--- The rotation before any other r is r − 1.
+-- The rotation before r is r − 1, if r is not 0.
 pub earlier-later : (m r : ℕ) → (r ≡ 0 → ⊥) → earlier m r ≡ r - 1
 unfolding earlier
 earlier-later m r later = rw (ne-eqb r 0 later) refl

@@ -120,6 +120,6 @@ pub record CanMove (m room n from steps : ℕ) : Type 0 where
   pub most-line : n ≤ mostPlaces
   pub in-line : from + steps + m ≤ n
 
--- The contract of these three: the counts are moved by at most `steps` steps.
+-- The contract of `move_along`, `move_tally` and `moved_tally`: the counts are moved by at most `steps` steps.
 pub record IsMovedOn (ring line : List ℕ) (from steps below : ℕ) (old new : List ℕ) (r : Reached) : Type 0 where
   pub is : reachedWith r new ≡ moveOn ring line below steps (unmoved from old)

@@ -69,7 +69,7 @@ module _ (words area : List ℕ) (r : BookAnswer) (out : List ℕ) (meets : IsPa
   pub pack-row-10-place : paperOf r .number ≡ 10 → paperOf r .place ≡ 0
   pack-row-10-place = refusal-place-is 0 (answerBy o records) paper OutputRoom (omega arith)
 
-  -- No other row is given: the number is 0, 8, 9, 7 or 10.
+  -- `pack` gives no row but 8, 9, 7 and 10: the number is 0, 8, 9, 7 or 10.
   pub pack-numbers : (paperOf r .number ≡ 0) ⊎ ((paperOf r .number ≡ 8) ⊎ ((paperOf r .number ≡ 9) ⊎ ((paperOf r .number ≡ 7) ⊎ (paperOf r .number ≡ 10))))
   pack-numbers =
       number-by 0 records o paper (λ (n : ℕ). (n ≡ 0) ⊎ ((n ≡ 8) ⊎ ((n ≡ 9) ⊎ ((n ≡ 7) ⊎ (n ≡ 10))))) (inl refl)

@@ -40,7 +40,7 @@ pub decimal-one : (n : ℕ) → n < 10 → decimal n ≡ digit n ∷ []
 unfolding decimal
 decimal-one n h = within-one n n h
 
--- Any other number is the digits of a tenth of it, and its last digit.
+-- A number of 10 or more is the digits of a tenth of it, and its last digit.
 pub decimal-more : (n : ℕ) → 10 ≤ n → decimal n ≡ decimal (n / 10) ++ digit (n % 10) ∷ []
 unfolding decimal
 decimal-more n h =

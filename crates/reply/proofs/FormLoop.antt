@@ -40,7 +40,7 @@ module _ {form numbers area out : List ℕ} {at done used next : ℕ} (now : Fil
           same number-put;
     }
 
-    -- A turn elsewhere puts the byte.
+    -- A turn at any other byte puts that byte.
     pub form-byte : (getD form done 0 ≡ hole → ⊥) → IsWritten (getD form done 0 ∷ []) out next put last → Filling form numbers area at (done + 1) used put last
     unfolding filled
     form-byte other byte-put = record {
@@ -49,7 +49,7 @@ module _ {form numbers area out : List ℕ} {at done used next : ℕ} (now : Fil
       left = put-turn (now .left) (rw (add-one done, drop-cons form done 0 more, ne-eqb (getD form done 0) hole other)) same byte-put;
     }
 
-  -- At the end nothing is left.
+  -- At the end the whole form is put, with its numbers.
   pub form-end : length form ≤ done → IsWritten (filled form numbers) area at out next
   unfolding filled
   form-end all = put-end (now .left) (rw (drop-of-length-le form all))

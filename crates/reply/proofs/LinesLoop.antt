@@ -30,7 +30,7 @@ module _ {words area out : List ℕ} {at done next : ℕ} (now : PuttingLines wo
   lines-turn h is same line-put =
       record { done-le = h; left = put-turn (now .left) (rw (findingsOf-step words done h, is)) same line-put }
 
-  -- At the end no line is left.
+  -- At the end all lines are put.
   pub lines-end : length words < done + wordsEach → IsWritten (findingLines (findingsOf words)) area at out next
   unfolding findingLines
   lines-end h = put-end (now .left) (ap findingLines (findingsOf-end words done h))

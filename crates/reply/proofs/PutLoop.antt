@@ -10,7 +10,7 @@ use lib.ListN.{length}
 use Rattle.reply.specs.Writing.{textIn, putBytes, IsWritten}
 use Rattle.reply.proofs.TextWritten.{putBytes-append}
 
--- The invariant of such a loop.
+-- The invariant of a loop that puts bytes piece by piece.
 pub record StillToPut (left bytes area : List ℕ) (at : ℕ) (out : List ℕ) (next : ℕ) : Type 0 where
   pub length-is : length out ≡ length area
   pub whole-is : putBytes left (textIn out next) ≡ putBytes bytes (textIn area at)

@@ -22,7 +22,7 @@ module _ (m k n room : ℕ) (book : List ℕ) (enough : 0 < m → m ≤ n → ro
       go false e = simp e
       go true e = simp (e, le-ltb room (roomRequired m n) (enough some-edge (leb-true m n e)), le-ltb (roomRequired m n) (roomRequired m n) (omega arith))
 
-  -- The first of the report's rows that is given is the same with either room.
+  -- With at least as many words as row 4 requires, the first of the report's rows that is given is the same as with exactly that many.
   pub refusal-same : reportRefusal m k n room book ≡ reportRefusal m k n (roomRequired m n) book
   unfolding reportRows admitRows firstGiven
   refusal-same = go (eqb m 0) refl

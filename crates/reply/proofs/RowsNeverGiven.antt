@@ -27,7 +27,7 @@ module _ (q : Request) (line-le : length (q .line) ≤ lineField .most) where
   early-rows =
       by-row m (q .allowance) n (roomRequired m n) (λ (r : Refusal). numberOf r ≤ 2) (λ _. omega arith) (λ _. omega arith) (λ long. absurd (omega arith)) (λ short. absurd (omega arith))
 
-  -- A request's refusal is neither 3 nor 4.
+  -- A request whose line has at most 4,096 edges is refused neither by 3 nor by 4.
   pub rows-3-4-never : (refusal : Refusal) → reportRefusal m (q .allowance) n (roomRequired m n) (q .book) ≡ some refusal
       → (numberOf refusal ≡ 3 → ⊥) × (numberOf refusal ≡ 4 → ⊥)
   rows-3-4-never =

@@ -29,7 +29,7 @@ module _ (words : List ℕ) (at : ℕ) where
       ∙ ap (λ (f : Finding). f ∷ findingsOf (drop (at + wordsEach) words))
       (λ i. findingOfNumbers ((word 0 (omega arith) ∙ ap (λ (j : ℕ). getD words j 0) (add-zero at)) i) (word 1 (omega arith) i) (word 2 (omega arith) i))
 
-  -- Where fewer are left, there are no more findings.
+  -- Where fewer than three words are left from `at` on, there are no more findings.
   pub findingsOf-end : length words < at + wordsEach → findingsOf (drop at words) ≡ []
   unfolding findingsOf
   findingsOf-end = records-end wordsEach findingOfWords (omega arith) words at

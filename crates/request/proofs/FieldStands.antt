@@ -14,7 +14,7 @@ use Rattle.request.specs.Fields.{nextAt, isField}
 use Rattle.request.specs.RowEleven.{IsFieldAt, NoFieldAt}
 
 module _ (kind : FieldKind) (input : List ℕ) (at : ℕ) where
-  -- The test is true exactly where a field of this kind stands.
+  -- The test `isField` is true exactly where a field of this kind stands.
   pub field-iff : (isField kind input at ≡ true) ↔ IsFieldAt kind input at
   unfolding isField
   field-iff = (
@@ -40,6 +40,6 @@ module _ (kind : FieldKind) (input : List ℕ) (at : ℕ) where
             not-cut = leb-true (nextAt input at) (length input) (short .1);
           }
 
-  -- The test is false exactly where no field of this kind stands.
+  -- The test `isField` is false exactly where no field of this kind stands.
   pub no-field-iff : (isField kind input at ≡ false) ↔ NoFieldAt kind input at
   no-field-iff = (λ e f. false≢true (sym e ∙ field-iff .1 f), λ none. sym (not-passed (isField kind input at) (λ e. none (field-iff .0 e))))

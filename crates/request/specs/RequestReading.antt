@@ -43,7 +43,7 @@ pub record PartsWithin (input : List ℕ) (p : Parts) : Type 0 where
   pub line-within : p .«line_to» ≤ length input
   pub line-most : p .«line_to» ≤ p .«line_from» + lineField .most
 
--- The same of a returned value. A refusal has no offsets, so nothing is required of it.
+-- The byte offsets of a returned value lie in the input (`PartsWithin`). A refusal has no offsets, so nothing is required of it.
 abbrev pub PartsWithinBy : List ℕ → Requested → Type 0
 PartsWithinBy input (PartsCase p) = PartsWithin input p
 PartsWithinBy input (Refused refusal) = Unit {0}

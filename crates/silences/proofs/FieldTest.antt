@@ -67,7 +67,7 @@ module _ (book : List ℕ) (at : ℕ) where
         λ t. (t .tag-is, (t .long-is, t .within)),
       )
 
-  -- A whole field passes the tests, its silence is the one of its value, and it ends just past its value.
+  -- A whole field passes the three tests (`IsTested`), its silence is the one of its value, and it ends just past its value.
   pub field-whole-is : (s : Silence) (next : ℕ) → fieldAt book at ≡ whole s next
       → IsTested book at × (s ≡ silenceAt book (at + headLength)) × (next ≡ fieldEnd at valueLength)
   field-whole-is s next e =
@@ -82,12 +82,12 @@ module _ (book : List ℕ) (at : ℕ) where
       let f : IsTested book at × (s ≡ silenceAt book (at + headLength)) × (next ≡ fieldEnd at valueLength) = field-whole-is s next e in
       (omega arith, omega (arith, f .0 .within))
 
-  -- If the tests pass, the field is whole, with the silence of its value and its end just past the value.
+  -- If the three tests pass (`IsTested`), the field is whole, with the silence of its value and its end just past the value.
   pub field-is-whole : {s : Silence} {next : ℕ} → IsTested book at → s ≡ silenceAt book (at + headLength) → next ≡ fieldEnd at valueLength
       → fieldAt book at ≡ whole s next
   field-is-whole t is-silence is-next = field-by ∙ ap (λ (b : Bool). cond b here faulty) (test-iff .1 t) ∙ ap₂ whole (sym is-silence) (sym is-next)
 
-  -- If the tests do not pass, the field is faulty.
+  -- If the three tests do not all pass (`IsTested`), the field is faulty.
   pub field-is-faulty : (IsTested book at → ⊥) → fieldAt book at ≡ faulty
   field-is-faulty fails = field-by ∙ by-test (λ (f : FieldAt). f ≡ faulty) test (λ t. absurd (fails (test-iff .0 t))) (λ t. refl)
 
@@ -103,7 +103,7 @@ module _ (book : List ℕ) (at : ℕ) where
   begins-are : IsField book at → (i : ℕ) → i < headLength → getD book (at + i) 0 ≡ getD (0x21 ∷ 0x00 ∷ 0x0a ∷ []) i 0
   begins-are f i h = sym (getD-drop at book i 0) ∙ sym (getD-take headLength (drop at book) i 0 h) ∙ ap (λ (l : List ℕ). getD l i 0) (f .begins)
 
-  -- The tests pass exactly where row 6 sees a field: two bytes make 10 only as 00 0A.
+  -- The three tests (`IsTested`) pass exactly where row 6 sees a field: two bytes make 10 only as 00 0A.
   pub tested-iff : IsTested book at ↔ IsField book at
   unfolding listOf
   tested-iff = (

@@ -87,7 +87,7 @@ roomRow output room = row (ltb room (length output)) OutputRoom
 unfoldable pub packRows : List ℕ → ℕ → List (Option Refusal)
 packRows words room = row (isRow8 words) WordCount ∷ recordFault words ∷ roomRow (layout (silencesOf words)) room ∷ []
 
--- The refusal of the first of these rows that is given, if one is.
+-- The refusal of the first row of packing that is given, if one is.
 abbrev pub packRefusal : List ℕ → ℕ → Option Refusal
 packRefusal words room = firstGiven (packRows words room)
 
@@ -99,7 +99,7 @@ packed words room = answerBy (packRefusal words room) (silencesOf words)
 unfoldable pub unpackRows : List ℕ → ℕ → List (Option Refusal)
 unpackRows book room = bookRows book ++ roomRow (wordsOfSilences (silencesRead book)) room ∷ []
 
--- The refusal of the first of these rows that is given, if one is.
+-- The refusal of the first row of unpacking that is given, if one is.
 abbrev pub unpackRefusal : List ℕ → ℕ → Option Refusal
 unpackRefusal book room = firstGiven (unpackRows book room)
 

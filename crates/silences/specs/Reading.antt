@@ -101,7 +101,7 @@ isRow5 book = ltb mostBytes (length book)
 unfoldable pub bookRows : List ℕ → List (Option Refusal)
 bookRows book = row (isRow5 book) BookLength ∷ fieldFault book ∷ []
 
--- The refusal of the first of these rows that is given, if one is.
+-- The refusal of the first of a book's rows that is given, if one is.
 abbrev pub bookRefusal : List ℕ → Option Refusal
 bookRefusal book = firstGiven (bookRows book)
 

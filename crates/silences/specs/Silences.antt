@@ -58,7 +58,7 @@ isBelow a b =
     || (eqb (a .cell) (b .cell)
     && (ltb (a .ringNumber) (b .ringNumber) || (eqb (a .ringNumber) (b .ringNumber) && ltb (a .start) (b .start))))
 
--- The same order as a proposition: the first of the three numbers in which a and b differ decides.
+-- The order "by cell, then ring number, then start" as a proposition: the first of the three numbers in which a and b differ decides.
 pub data Below (a b : Silence) : Type 0 where
   by-cell : a .cell < b .cell → Below a b
   by-ring-number : a .cell ≡ b .cell → a .ringNumber < b .ringNumber → Below a b
@@ -84,7 +84,7 @@ unfoldable pub names : List Silence → ℕ → ℕ → ℕ → Bool
 names [] cell ringNumber start = false
 names (s ∷ ss) cell ringNumber start = isSame s (silence cell ringNumber start) || names ss cell ringNumber start
 
--- The same as a proposition: `named` is such a silence, and it stands in the list.
+-- Some silence of the list has this cell, ring number and start, as a proposition: `named` is such a silence, and it stands in the list.
 pub record Names (ss : List Silence) (cell ringNumber start : ℕ) : Type 0 where
   pub named : Silence
   pub among : List·Memᴰ named ss

@@ -93,7 +93,7 @@ module _ (table window : List ℕ) (k words : ℕ) where
   pub read-sum : readWith table window k words .looks + readWith table window k words .left ≡ m
   read-sum = read-goes m full 0 0 .looks-are ∙ omega arith
 
-  -- At least one edge is read.
+  -- If the window has an edge, at least one edge is read.
   pub read-some : 0 < m → readWith table window k words .left < m
   read-some some = omega (arith, read-goes m full 0 0 .left-le)
 

@@ -16,7 +16,7 @@ use Rattle.sweep.specs.declared.sweeping.Swept.the-variants.{Ended}
 use Rattle.sweep.specs.Reads.{CanReadWindows}
 use Rattle.sweep.specs.Sweeps.{mostLooks, canSweep, CanSweep, IsSweptTo, IsSweptBy}
 
--- The test passes exactly when the sweep can go on.
+-- The test `canSweep` passes exactly when the sweep can go on.
 pub can-sweep-iff : (m n start looks : ℕ) → (canSweep m n start looks ≡ true) ↔ CanSweep m n start looks
 unfolding canSweep
 can-sweep-iff m n start looks =
@@ -26,7 +26,7 @@ can-sweep-iff m n start looks =
       λ can. all .1 ((can .can-read .some-edge, can .can-read .most), (can .can-read .most-line, (can .can-read .start-le, can .looks-le))),
     )
 
--- If ring, line and start are within the limits, the test passes exactly when the looks so far are at most 2^62.
+-- If ring, line and start are within the limits, the test `canSweep` passes exactly when the looks so far are at most 2^62.
 pub can-sweep-last : (m n start looks : ℕ) → CanReadWindows m n start → leb looks mostLooks ≡ canSweep m n start looks
 can-sweep-last m n start looks can-read =
     test-same (le-iff looks mostLooks) (can-sweep-iff m n start looks) (λ room. record { can-read = can-read; looks-le = room }, λ can. can .looks-le)
@@ -35,10 +35,10 @@ module _ (ring doubled table line : List ℕ) (k : ℕ) (at : Sweep) (old : List
   abbrev test : Bool
   test = canSweep (length ring) (length line) (at .start .0) (at .looks)
 
-  -- If the test passes and the sweep goes on to the next candidate, the contract of `sweep_on` is met.
+  -- If the test `canSweep` passes and the sweep goes on to the next candidate, the contract of `sweep_on` is met.
   pub swept-yes : (new : List ℕ) (r : Swept) → test ≡ true → IsSweptTo ring doubled table line k at old new r → IsSweptBy ring doubled table line k at old new r
   swept-yes new r passed swept = record { is = rw passed (swept .is) }
 
-  -- If the test fails, ending where the sweep is and leaving the counts as they were meets the contract.
+  -- If the test `canSweep` fails, ending where the sweep is and leaving the counts as they were meets the contract of `sweep_on`.
   pub swept-no : test ≡ false → IsSweptBy ring doubled table line k at old old (Ended at)
   swept-no failed = record { is = rw failed refl }

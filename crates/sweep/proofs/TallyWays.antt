@@ -75,7 +75,7 @@ module _ (ring doubled line : List ℕ) (i : ℕ) (old : List ℕ) where
       (λ _. omega (arith, move-looks-le ring line 0 (i - from) (unmoved from old), mul-le-mul-right m near, mul-le-mul most most))
       (λ _. omega arith)
 
-  -- No verification takes more than 256·256 looks.
+  -- For a ring of at most 256 edges, no verification takes more than 256·256 looks.
   pub tally-looks : (last : LastVerified) → m ≤ mostCounts → tallyBy ring doubled line i last old .looks ≤ mostTally
   unfolding tallyBy
   tally-looks Nothing most = afresh-looks (windowAt m line i)

@@ -85,7 +85,7 @@ module _ {ring table line : List ℕ} {k from i looks : ℕ} (known : StillWindo
     unfolding windowsOn
     windows-stop few = rw (fits-line-iff ring line i .1 in-line, is-read, le-leb (r .breaks) k few) at from-here
 
-    -- If it has more, the invariant holds at the next start.
+    -- If the window has more than k breaks, the invariant holds at the next start.
     pub windows-turn : k < r .breaks → StillWindows ring table line k from (i + r .left + 1) (looks + r .looks)
     unfolding windowsOn
     windows-turn many = record {

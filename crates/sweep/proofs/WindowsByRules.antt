@@ -85,6 +85,6 @@ module _ (ring table line : List ℕ) (k from : ℕ) (own : OwnVectors ring tabl
       (stopped-here i looks h in-line (leb-false (read i .breaks) k many))))
       (λ out. ended i looks h (past-line-iff ring line i .0 out))
 
-  -- Windows read with the ring's own vectors from `from` on, up to the next candidate, are read by the rules.
+  -- Windows read with the ring's own vectors from a start of at most n + 1 on, up to the next candidate, are read by the rules.
   pub windows-by-rules : from ≤ n + 1 → IsWindowsRead ring line k from (windowsBy ring table line k from)
   windows-by-rules start-le = windows-on (n + 1 - from) from 0 (omega arith) none-stopped

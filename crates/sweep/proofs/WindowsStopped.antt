@@ -12,17 +12,17 @@ use Rattle.meaning.proofs.ScanLoop.{ScanLoop, scan-stopped}
 use Rattle.sweep.specs.SweepRules.{StoppedTo, none-stopped, one-stopped}
 
 module _ (ring line : List ℕ) (k from : ℕ) where
-  -- After the run, the next window does not start before the first one.
+  -- After a run of stopped windows, the next window does not start before the first one.
   pub stopped-from-le : {i looks : ℕ} → StoppedTo ring line k from i looks → from ≤ i
   stopped-from-le none-stopped = omega arith
   stopped-from-le (one-stopped before in-line many) = omega (arith, stopped-from-le before)
 
-  -- After the run, the next window starts at n + 1 at most.
+  -- After a run of stopped windows that begins at n + 1 at most, the next window starts at n + 1 at most.
   pub stopped-start-le : {i looks : ℕ} → from ≤ length line + 1 → StoppedTo ring line k from i looks → i ≤ length line + 1
   stopped-start-le l none-stopped = l
   stopped-start-le l (one-stopped before in-line many) = omega (arith, in-line)
 
-  -- The invariant of the loop over windows holds after the run, with the same findings and the run's looks added.
+  -- The invariant of the loop over windows holds after a run of stopped windows, with the same findings and the run's looks added.
   pub stopped-scanned : {i looks : ℕ} (last : Option ℕ) (found : List Finding) (looks₀ : ℕ) → StoppedTo ring line k from i looks
       → ScanLoop ring line k from last found looks₀ → ScanLoop ring line k i last found (looks₀ + looks)
   stopped-scanned last found looks₀ none-stopped h = rw add-zero h

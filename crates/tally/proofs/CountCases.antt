@@ -11,7 +11,7 @@ use Rattle.tally.specs.declared.counts.Least.{Least}
 use Rattle.tally.specs.Counts.{mostCounts, canCount, countedTo, HasCounts, CanCount, IsCountedAfresh, IsCounted}
 use Rattle.lists.proofs.SizesTested.{lt-iff, le-iff, and-iff, test-same}
 
--- The test passes exactly when the window can be counted.
+-- The test `canCount` passes exactly when the window can be counted.
 pub can-count-iff : (m room long : ℕ) → (canCount m room long ≡ true) ↔ CanCount m room long
 unfolding canCount
 can-count-iff m room long =
@@ -20,7 +20,7 @@ can-count-iff m room long =
       λ can. all .1 ((can .has-counts .some-edge, can .has-counts .most), (can .has-counts .room, can .twice)),
     )
 
--- If m is 1 to 256 and there are m counts, the test passes exactly when the doubled ring has 2·m edges.
+-- If m is 1 to 256 and there are at least m counts, the test `canCount` passes exactly when the doubled ring has at least 2·m edges.
 pub can-count-last : (m room long : ℕ) → HasCounts m room → leb (2 * m) long ≡ canCount m room long
 can-count-last m room long has-counts =
     test-same (le-iff (2 * m) long) (can-count-iff m room long) (λ twice. record { has-counts = has-counts; twice = twice }, λ can. can .twice)
@@ -29,12 +29,12 @@ module _ (doubled window old : List ℕ) where
   abbrev test : Bool
   test = canCount (length window) (length old) (length doubled)
 
-  -- If the test passes and the window is counted afresh, the contract of `count_afresh` is met.
+  -- If the test `canCount` passes and the window is counted afresh, the contract of `count_afresh` is met.
   pub counted-yes : (new : List ℕ) (z : Least) → test ≡ true → IsCountedAfresh doubled window old new z → IsCounted doubled window old new z
   unfolding countedTo
   counted-yes new z passed counted = record { written = rw passed (counted .written); least-is = rw passed (counted .least-is); looks-are = rw passed (counted .looks-are) }
 
-  -- If the test fails, leaving the counts as they were and returning 0 and 0 meets the contract.
+  -- If the test `canCount` fails, leaving the counts as they were and returning 0 and 0 meets the contract of `count_afresh`.
   pub counted-no : test ≡ false → IsCounted doubled window old old (record { least = 0; looks = 0 })
   unfolding countedTo
   counted-no failed = record { written = rw failed refl; least-is = rw failed refl; looks-are = rw failed refl }

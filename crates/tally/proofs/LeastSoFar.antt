@@ -64,13 +64,13 @@ module _ {top : ℕ} {counts : List ℕ} {least r : ℕ} (known : LeastSoFar top
 
 -- The same turns for a loop that first stores a count v at r.
 module _ {top : ℕ} {counts : List ℕ} {least r v : ℕ} (known : LeastSoFar top counts least r) (room : r < length counts) where
-  -- If v is less, the turn takes it.
+  -- If the count v stored at r is less than the least, the turn takes it.
   pub least-so-far-stored-less : v < least → LeastSoFar top (set counts r v) v (r + 1)
   least-so-far-stored-less less =
       let here : getD (set counts r v) r 0 ≡ v = getD-set-same counts r v 0 room in
       rw here at (least-so-far-less (stored-after known v) (omega arith))
 
-  -- If v is not less, the turn keeps the least.
+  -- If the count v stored at r is not less than the least, the turn keeps the least.
   pub least-so-far-stored-kept : least ≤ v → LeastSoFar top (set counts r v) least (r + 1)
   least-so-far-stored-kept kept =
       let here : getD (set counts r v) r 0 ≡ v = getD-set-same counts r v 0 room in

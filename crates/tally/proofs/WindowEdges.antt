@@ -16,7 +16,7 @@ module _ (line : List ℕ) (i m : ℕ) where
   pub no-window : length line < i + m → IsWindow line i m []
   no-window past = record { is = rw (lt-leb (i + m) (length line) past) refl }
 
-  -- If they fit, the line's part from i to i + m meets the contract.
+  -- If m edges from i on fit in the line, the line's part from i to i + m meets the contract.
   pub part-window : i + m ≤ length line → IsWindow line i m (take (i + m - i) (drop i line))
   unfolding window
   part-window in-line =
@@ -28,11 +28,11 @@ module _ {ring line : List ℕ} {i : ℕ} {edges : List ℕ} (answer : IsWindow 
   pub fitting-window : edges ≡ window (length ring) line i
   fitting-window = answer .is ∙ rw (fits-line-iff ring line i .1 in-line) refl
 
-  -- The returned window has m edges.
+  -- If a window fits in the line at i, the window that `window` returns has m edges.
   pub fitting-length : length edges ≡ length ring
   unfolding window
   fitting-length = ap length fitting-window ∙ length-take-le (length ring) (drop i line) (omega (arith, length-drop i line))
 
-  -- Its edge at place q is the line's edge at i + q.
+  -- If a window fits in the line at i, the edge at place q of what `window` returns is the line's edge at i + q.
   pub fitting-edge : (q : ℕ) → q < length ring → getD edges q 0 ≡ windowEdge line i q
   fitting-edge q l = ap (λ (xs : List ℕ). getD xs q 0) fitting-window ∙ window-edge-is (length ring) line i q l

@@ -66,8 +66,8 @@ afreshCount doubled window r = count (differsThere doubled window r) 0 (length w
 abbrev pub afreshCounts : List ℕ → List ℕ → List ℕ → List ℕ
 afreshCounts doubled window old = storedFirst (length window) (afreshCount doubled window) old
 
--- Whether a window of m edges can be counted with `room` counts and a doubled ring of `long` edges: m is 1 to 256, there are m counts, and there are 2·m edges
--- of the doubled ring.
+-- Whether a window of m edges can be counted with `room` counts and a doubled ring of `long` edges: m is 1 to 256, there are at least m counts, and the doubled
+-- ring has at least 2·m edges.
 unfoldable pub canCount : ℕ → ℕ → ℕ → Bool
 canCount m room long = (ltb 0 m && leb m mostCounts) && (leb m room && leb (2 * m) long)
 

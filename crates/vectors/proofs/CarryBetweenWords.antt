@@ -31,7 +31,7 @@ module _ (x next : ℕ) where
         zero-max,
       ) refl
 
--- The shifted vector has as many words.
+-- The shifted vector has as many words as before.
 pub shifted-length : (ws : List ℕ) → length (shifted ws) ≡ length ws
 unfolding shifted
 shifted-length ws = listOf-length (length ws) (λ w. shiftedWord (getD ws w 0) (getD ws (w + 1) 0))

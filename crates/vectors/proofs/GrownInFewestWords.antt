@@ -52,6 +52,7 @@ module _ (m count : ℕ) (occurs held : List ℕ) (some : 0 < m) (most : m ≤ v
       (λ not-inner. dite (decLt w count) (λ last. word-last w (omega (arith, not-inner)))
       (λ past. word-spare w (omega (arith, past)) (omega (arith, grown-words-length m count occurs held)))))
 
-  -- In the vector grown word by word, bit r below m is set exactly when bit (r + 1) mod m was and the edge occurs at r, and no bit from m on is set.
+  -- If a vector of 1 to 256 bits is kept in the fewest words that hold them and grown word by word, bit r below m is set exactly when bit (r + 1) mod m was and the
+  -- edge occurs at r, and no bit from m on is set.
   pub grown-words-is : Grown m occurs held (grownWords m count occurs held)
   grown-words-is = rw grown-words-are (grown-is m occurs held (is .words) some (omega (arith, is .size)) (is .within))

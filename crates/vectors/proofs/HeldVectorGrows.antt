@@ -47,7 +47,8 @@ grown-of m occurs old mid new turn and = record {
 }
 
 module _ (m : ℕ) (occurs held : List ℕ) where
-  -- `grown` gives the grown vector: bit r below m is set exactly when bit (r + 1) mod m was and the edge occurs at r, and no bit from m on is set.
+  -- For m of 1 or more, and a vector of m bits whose words have room for them, `grown` gives the grown vector: bit r below m is set exactly when bit (r + 1) mod m
+  -- was and the edge occurs at r, and no bit from m on is set.
   pub grown-is : Vector held → 0 < m → m ≤ wordBits * length held → WithinBits m held → Grown m occurs held (grown m occurs held)
   unfolding grown
   grown-is vector some room within =

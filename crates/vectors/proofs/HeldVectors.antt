@@ -21,7 +21,7 @@ use Rattle.vectors.proofs.GrownInFewestWords.{grown-words-is}
 use Rattle.vectors.proofs.PartOfTable.{part-vector}
 
 module _ (m : ℕ) (most : m ≤ vectorBits) where
-  -- `first_bits` returns a vector of m bits.
+  -- For m of at most 256, `first_bits` returns a vector of m bits.
   pub first-held : HeldVector m (firstBits m vectorWords)
   first-held = record {
     size = first-bits-length m vectorWords;
@@ -29,7 +29,7 @@ module _ (m : ℕ) (most : m ≤ vectorBits) where
     within = first-bits-within m (firstBits m vectorWords) (first-bits-is m vectorWords most);
   }
 
-  -- In what `first_bits` returns, each of the m bits is set.
+  -- For m of at most 256, each of the m bits is set in what `first_bits` returns.
   pub first-set : (r : ℕ) → r < m → isSet (firstBits m vectorWords) r ≡ true
   first-set r h = first-bits-is m vectorWords most .low r h
 
@@ -43,11 +43,11 @@ module _ (m count : ℕ) (occurs held : List ℕ) (some : 0 < m) (most : m ≤ v
   }
 
 module _ (m count : ℕ) (held : List ℕ) (few : count ≡ wordCount m) (is : HeldVector m held) where
-  -- `no_bit` returns true exactly when none of the m bits is set.
+  -- For a vector of m bits and the fewest words that hold them, `no_bit` returns true exactly when none of the m bits is set.
   pub no-bit-iff : (noBit held count ≡ true) ↔ ((r : ℕ) → r < m → isSet held r ≡ false)
   no-bit-iff = rw few (noBit-iff m held (is .words) (is .within))
 
-  -- If `no_bit` returns false, one of the m bits is set.
+  -- For a vector of m bits and the fewest words that hold them: if `no_bit` returns false, one of the m bits is set.
   pub no-bit-no : noBit held count ≡ false → (r : ℕ) × (r < m) × (isSet held r ≡ true)
   no-bit-no said = noBit-no m held (is .words) (is .within) (rw few at said)
 
@@ -66,7 +66,8 @@ pub record GrownByEdge (m : ℕ) (ring : List ℕ) (code : ℕ) (held new : List
   pub vector : HeldVector m new
   pub each : (r : ℕ) → r < m → isSet new r ≡ (isSet held ((r + 1) % m) && eqb (getD ring r 0) code)
 
--- What `occurrences`, `vector_of` and `grown` return makes one such turn.
+-- What `occurrences`, `vector_of` and `grown` return makes one turn of the loop that reads a window (`GrownByEdge`), for a ring of 1 to 256 edges and the fewest
+-- words that hold as many bits.
 pub grown-by-edge : (m count code : ℕ) (ring table occurs held new : List ℕ) → m ≡ length ring → 0 < m → m ≤ vectorBits → count ≡ wordCount m
     → Occurrences ring table → HeldVector m held → occurs ≡ vectorAt table (code * vectorWords) vectorWords → new ≡ grownWords m count occurs held
     → GrownByEdge m ring code held new

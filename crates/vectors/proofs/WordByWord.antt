@@ -11,7 +11,7 @@ use Rattle.lists.specs.ByPlace.{listOf}
 use Rattle.lists.proofs.ByPlace.{listOf-length, listOf-at, listOf-past}
 use Rattle.vectors.proofs.VectorBits.{isSet-word, isSet-past}
 
--- Bit i of `listOf count f` is bit i mod 64 of the word f (i / 64).
+-- For i below 64·count, bit i of `listOf count f` is bit i mod 64 of the word f (i / 64).
 pub vectorOf-isSet : (count : ℕ) (f : ℕ → ℕ) (i : ℕ) → i < wordBits * count
     → isSet (listOf count f) i ≡ eqb (bit (f (i / wordBits)) (i % wordBits)) 1
 vectorOf-isSet count f i h =

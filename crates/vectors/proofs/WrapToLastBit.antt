@@ -43,7 +43,8 @@ pub rotated-length : (m : ℕ) (ws : List ℕ) → length (rotated m ws) ≡ len
 unfolding rotated putBit
 rotated-length m ws = simp length-set (shifted-length ws)
 
--- `rotated` rotates a vector of m bits: bit r below m is what bit (r + 1) mod m was, and no bit from m on is set.
+-- For m of 1 or more, `rotated` rotates a vector of m bits whose words have room for them: bit r below m is what bit (r + 1) mod m was, and no bit from m on is
+-- set.
 pub rotated-is : (m : ℕ) (ws : List ℕ) → Vector ws → 0 < m → m ≤ wordBits * length ws → WithinBits m ws → Rotated m ws (rotated m ws)
 unfolding rotated
 rotated-is m ws vector some room within =
