@@ -51,6 +51,7 @@ module _ {C : Type 0} (zeros counts : C) where
 
 -- The paper p of an answer that o decides, whatever its counts are.
 module _ {C : Type 0} (zeros counts : C) (o : Option Refusal) {p : Paper C} (paper : p ≡ answerPaper zeros (answerBy o counts)) where
+  -- The paper's number is the answer's.
   number-is : p .number ≡ answerPaper zeros (answerBy o counts) .number
   number-is = ap (λ (x : Paper C). x .number) paper
 

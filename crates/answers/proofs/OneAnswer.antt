@@ -15,7 +15,7 @@ use Rattle.answers.specs.Refusals.{numberOf, placeOf, IsNumber, IsPlace}
 use Rattle.answers.specs.Places.{IsRingPlace, IsLinePlace}
 use Rattle.answers.specs.Paper.{Answer, accepted, refused, Paper, answerPaper}
 
--- The refusal that has this number and this place.
+-- The refusal that has this number and this place, for a number of the table.
 unfoldable refusalOf : ℕ → ℕ → Refusal
 refusalOf number place =
     cond (eqb number 1) Ring

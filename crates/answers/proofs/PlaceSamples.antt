@@ -1,4 +1,4 @@
--- The two conversions of a place, computed on a window that crosses the ring's seam and on each kind of input that document 01 leaves open.
+-- The two conversions of a place, computed on a window that crosses the ring's seam and on kinds of input that document 01 leaves open.
 use Prim.Native.Nat.{ℕ}
 use mathlib.Core.Path.{_≡_, refl}
 use Rattle.answers.specs.declared.places.RingPlace.{RingPlace}

@@ -1,6 +1,6 @@
--- A place converted and converted back is the same place, both ways. Window place q becomes the ring place (r + q) mod m. Adding m − r gives q + m mod m, which
--- is q. Required: the rotation is below m, the place is in the window or the ring, and start + m is at most the largest usize. Every window of document 01
--- meets this, because its lines have at most 65,536 edges.
+-- A place converted and converted back is the same place, both ways. Window place q becomes the ring place (r + q) mod m. Adding m − r gives (q + m) mod m,
+-- which is q. Required: the rotation is below m, the place is in the window or the ring, and start + m is at most the largest usize. Every window of document
+-- 01 meets this, because its lines have at most 65,536 edges.
 use Prim.Native.Nat.{ℕ, _+_, _-_, _%_, _≤_, _<_, min}
 use mathlib.Core.Path.{_≡_, ap, _∙_}
 use native.Mathlib.Nat.{mod-eq-of-lt, mod-add-mod, add-mod-mod, add-mod-right}
@@ -41,7 +41,7 @@ module _ (start : LinePlace) (rotation : RingPlace) (m : ℕ) (turned : rotation
   unfolding way
   way-lt place = around-lt m (place .0 + (m - rotation .0)) (omega arith)
 
-  -- z + m is z mod m, for z below m.
+  -- (z + m) mod m is z, for z below m.
   whole-turn : (a z : ℕ) → a ≡ z + m → z < m → a % m ≡ z
   whole-turn a z e h = ap (λ (n : ℕ). n % m) e ∙ add-mod-right z m ∙ mod-eq-of-lt h
 

@@ -31,7 +31,7 @@ pub record IsRow (o : Option Refusal) (refusal : Refusal) (Yes No : Type 0) : Ty
   pub no : (o ≡ none) ↔ No
   pub only : (q : Refusal) → o ≡ some q → q ≡ refusal
 
--- A row with a test is such a row, if the test passes exactly when `Yes` holds, and `No` holds exactly when `Yes` does not.
+-- A row with a test meets `IsRow`, if the test passes exactly when `Yes` holds, and `No` holds exactly when `Yes` does not.
 pub is-row : {test : Bool} {refusal : Refusal} {Yes No : Type 0} → ((test ≡ true) ↔ Yes) → (No → Yes → ⊥) → ((Yes → ⊥) → No)
     → IsRow (row test refusal) refusal Yes No
 is-row {test = true} passes not-both one-of = record {
@@ -92,7 +92,7 @@ module _ {o : Option Refusal} {rows : List (Option Refusal)} where
   no-fault not-given rest = record { exactly = Iff·trans (none-given-iff o rows) (Iff·and not-given (rest .exactly)) }
 
 module _ {o : Option Refusal} {refusal : Refusal} {Yes No : Type 0} (is : IsRow o refusal Yes No) where
-  -- If P holds for the row's refusal and for every other row that is given, it holds for every row of the list.
+  -- If P holds for the row's refusal and for every other row that is given, it holds for every row of the list that is given.
   pub row-has : {P : Refusal → Type 0} {rows : List (Option Refusal)} → P refusal → EachRow P rows → EachRow P (o ∷ rows)
   row-has {P} h others = each (λ q e. subst P (sym (is .only q e)) h) others
 
@@ -108,7 +108,7 @@ module _ {o : Option Refusal} {refusal : Refusal} {Yes No : Type 0} (is : IsRow 
   pub no-row : {rows : List (Option Refusal)} {P : Type 0} → NoneExactly rows P → NoneExactly (o ∷ rows) (No × P)
   no-row rest = no-fault (is .no) rest
 
-  -- The same for the last row of a list.
+  -- In a list of this row alone, no row is given exactly when `No` holds.
   pub no-last-row : NoneExactly (o ∷ []) No
   unfolding firstGiven
   no-last-row = record { exactly = Iff·trans (none-given-iff o []) (λ h. is .no .0 (h .0), λ h. (is .no .1 h, refl)) }

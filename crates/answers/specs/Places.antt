@@ -2,13 +2,15 @@
 -- only the rules below turn one into the other." The rule used is "Rotation r of the ring .. has at its place q the ring's edge (r + q) mod m",
 -- for the window at a start: place q of the window is the line place start + q.
 --
+--   around                     a number mod m
+--   lastPlace                  the largest place, 2^64 − 1
 --   ringPlaceOf                ring place = (rotation + (line place − start)) mod m
 --   linePlaceOf                line place = start + (ring place − rotation) mod m
 --   IsRingPlace, IsLinePlace   the contracts of `to_ring` and `to_line`
 --
 -- In the document m is above 0, a rotation is below m, and a place is within the window or the ring. Here every input has a value. With m = 0 a
--- number mod m is 0. A line place before the start counts as the start. A rotation or a ring place of m or more counts mod m. A line place too
--- large for a usize counts as the largest.
+-- number mod m is 0. A line place before the start counts as the start. A line place past the window goes round the ring again. A rotation or a
+-- ring place of m or more counts mod m. A line place too large for a usize counts as the largest.
 use Prim.Native.Nat.{ℕ, _+_, _-_, _^_, _%_, min, pred}
 use mathlib.Core.Path.{_≡_}
 use mathlib.Core.Bool.{cond}

@@ -1,8 +1,8 @@
 -- Document 01, "What each call returns": the table of refusals, rows 1 to 11. This file gives the number and the place of each refusal. Each call
 -- defines when its rows are given.
 --
---   numberOf    the column "No."
---   placeOf     the column "Place"
+--   numberOf             the column "No."
+--   placeOf              the column "Place"
 --   IsNumber, IsPlace    the contracts of `number_of` and `place_of`
 --
 -- A refusal whose place is always 0 holds no place. All 11 rows are here, and no other.
@@ -36,7 +36,7 @@ numberOf OutputRoom = 10
 -- "the program's input isn't as laid down below"
 numberOf (Input place) = 11
 
--- The place of a refusal. Above each case stand the row's number and the table's words.
+-- The place of a refusal. Above each case stand the row's number and the table's words; for row 11 the words of "The report program".
 abbrev pub placeOf : Refusal → ℕ
 -- 1: "0"
 placeOf Ring = 0

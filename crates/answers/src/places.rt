@@ -5,7 +5,8 @@
 // round. The rest is for a reader to check, because `.0` gives a place's number and any number can be wrapped. In the
 // search a ring place is made in three ways: by `to_ring`, as rotation 0 (`count_edges`), and from the index of a count
 // (`lowest_rotation`); never from a line place's number. A place's number is used as an index, as a word of a finding, as
-// the start in a silence's address, and in sums and comparisons with lengths and with places of the same kind.
+// the start in a silence's address, and in sums, differences and comparisons with lengths, limits and places of the same
+// kind.
 ghost use mathlib.Core.Path.{_≡_};
 ghost use Prim.Native.Nat.{_+_};
 ghost use Rattle.answers.specs.Places.{around, IsRingPlace, IsLinePlace};

@@ -2,6 +2,7 @@
 // gives one that is not always 0.
 ghost use Rattle.answers.specs.Refusals.{IsNumber, IsPlace};
 
+// A refusal: one row of the table, with its place if the row has one.
 pub enum Refusal {
     // 1: m = 0 or m > 256
     Ring,
@@ -23,11 +24,12 @@ pub enum Refusal {
     RingNumber(usize),
     // 10: packing or unpacking lacks room for its whole output
     OutputRoom,
-    // 11: the program's input isn't as laid down; the offset where the first such field begins or should begin
+    // 11: the program's input isn't as laid down; the offset where the first such field begins or should begin, or 0 if
+    // the input is too long
     Input(usize),
 }
 
-// The column "No.".
+// The number of a refusal: the table's column "No.".
 pub fn number_of(refusal: Refusal) -> usize
     ensures { λ r. ⌜ IsNumber refusal r ⌝ }
 {
@@ -46,7 +48,7 @@ pub fn number_of(refusal: Refusal) -> usize
     }
 }
 
-// The column "Place".
+// The place of a refusal: the table's column "Place".
 pub fn place_of(refusal: Refusal) -> usize
     ensures { λ r. ⌜ IsPlace refusal r ⌝ }
 {

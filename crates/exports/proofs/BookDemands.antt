@@ -146,18 +146,19 @@ unpack-pack book area {out} {r} bytes e zero-is area′ {out′} {r′} room e�
       front-is = written-front (layout ss) area′ (given .written-is) (length book) (ap length book-is) ∙ book-is;
     }
 
--- the paper and the area at exit of pack and unpack, by the first row that is given
+-- the paper of pack and unpack in the struct, by the first row that is given
 records-by : (o : Option Refusal) (ss : List Silence)
     → counted recordCounts (recordsPaper (answerBy o ss)) ≡ answerPaper noReportCounts (answerBy o (recordCounts (length ss)))
 records-by none ss = refl
 records-by (some q) ss = refl
 
+-- the area at exit of pack and unpack, by the first row that is given
 area-by : (output : List Silence → List ℕ) (o : Option Refusal) (ss : List Silence) (area : List ℕ)
     → areaAtExit output (answerBy o ss) area ≡ areaBy o (written (output ss) area) area
 area-by output none ss area = refl
 area-by output (some q) ss area = refl
 
--- The rows of a book agree with those of the page: 5, then the first faulty field.
+-- For a book of bytes, its rows agree with those of the page of demands: 5, then the first faulty field.
 pub book-agrees : (book : List ℕ) → IsBytes book → AllAgree (bookRows book) (bookTable book)
 unfolding bookRows
 book-agrees book bytes = (
@@ -182,7 +183,7 @@ module _ (book area : List ℕ) {out : List ℕ} {r : AnswerStruct} (bytes : IsB
       let plain = row-agrees (is-room-row (wordsOfSilences (silencesRead book)) (length area)) refl number place in
       Iff·trans (λ h. (h .0, h .1, there .1 (h .2)), λ h. (h .0, h .1, there .0 (h .2))) plain
 
-  -- `outlines_unpack` meets the demands.
+  -- `outlines_unpack` meets the demands, for a book of bytes.
   pub unpack-meets : UnpackMeets book area r out
   unfolding unpacked unpackRows
   unpack-meets = record {
@@ -208,7 +209,7 @@ pack-agrees words room = (
   ),
 )
 
--- `outlines_pack` meets the demands.
+-- `outlines_pack` meets the demands, for 32-bit words.
 pub pack-meets : (words area : List ℕ) {out : List ℕ} {r : AnswerStruct} → IsWords words → IsPackExported words area r out → PackMeets words area r out
 unfolding packed
 pack-meets words area are-words e = record {

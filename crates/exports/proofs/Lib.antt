@@ -1,4 +1,5 @@
--- The exported calls meet the demands, each has one answer only, and what the proofs of the functions cite.
+-- Proofs that each exported call meets its demands (SearchDemands, BookDemands, ReportDemands, from RowsAgree) and has one answer only (OneAnswer); laws that the
+-- functions' proofs cite (BookPlaces, ReportPlaces, PassedOn).
 pub mod RowsAgree
 pub mod SearchDemands
 pub mod BookDemands

@@ -85,6 +85,7 @@ module _ (cell ringNumber : ℕ) (ring line : List ℕ) (k : ℕ) (book words : 
       (search-agrees (length ring) k (length line) (length words)) (λ _. book-agrees book bytes)
 
   module _ (zero-is : r .refusal ≡ 0) where
+    -- what an accepted report gives: no row is given, and its counts and words are those of the silences read
     taken : Accepts rows (reportCounts ring line k cell ringNumber (silencesRead book))
         (written (wordsOf (shown (silencesRead book) cell ringNumber (findings ring line k))) words) r out
     taken = accepts reported-by-rows zero-is
@@ -94,15 +95,17 @@ module _ (cell ringNumber : ℕ) (ring line : List ℕ) (k : ℕ) (book words : 
     unfolding reportRows
     none-of-either = none-append-iff (admitRows (length ring) k (length line) (length words)) (bookRows book) .0 (taken .none-given)
 
+    -- the ring has at least one edge
     some-edge : 0 < length ring
     some-edge = no-row-iff (length ring) k (length line) (length words) .0 (none-of-either .0) .some-edge
 
+    -- an accepted report meets demand 2
     accepted-demand-2 : Demand2 (BookNames book cell ringNumber) ring line k words r out
     accepted-demand-2 =
         report-demand-2 cell ringNumber ring line k bytes (book-accepted-iff book (silencesRead book) .1 (none-of-either .1, refl)) some-edge
         (ap (λ (c : ReportCounts). c .found) (taken .counts-are)) (ap (λ (c : ReportCounts). c .hidden) (taken .counts-are)) (taken .written)
 
-  -- `outlines_report` meets the demands.
+  -- `outlines_report` meets the demands, for a book of bytes.
   pub report-meets : ReportMeets cell ringNumber ring line k book words r out
   report-meets = record {
     demand-1 = demand-1-met report-agrees reported-by-rows;

@@ -30,7 +30,7 @@ pub record IsGivenAt (o : Option Refusal) (number place : ℕ) : Type 0 where
 not-given : {o : Option Refusal} {number place : ℕ} → o ≡ none → IsGivenAt o number place → ⊥
 not-given none-is g = none-some (sym none-is ∙ g .given)
 
--- A row of the call agrees with a row of the page: the page's row holds of exactly the number and place of the refusal that the call's row gives.
+-- A row of a call agrees with a row of the page of demands: the page's row holds of exactly the number and place of the refusal that the call's row gives.
 abbrev pub Agrees : Option Refusal → Row → Type 0
 Agrees o r = (number place : ℕ) → r number place ↔ IsGivenAt o number place
 
@@ -51,7 +51,7 @@ agree-append (o ∷ os) [] os′ rs′ a b = absurd a
 agree-append (none ∷ os) (r ∷ rs) os′ rs′ a b = (a .0, λ e. agree-append os rs os′ rs′ (a .1 e) b)
 agree-append (some q ∷ os) (r ∷ rs) os′ rs′ a b = (a .0, λ e. absurd (none-some (sym e)))
 
--- A row with place 0 that gives its refusal exactly when a condition holds agrees with the page's row of that number and condition.
+-- A row with place 0 that gives its refusal exactly when a condition holds agrees with the row of the page of demands with that number and condition.
 pub row-agrees : {o : Option Refusal} {q : Refusal} {Yes No : Type 0} → IsRow o q Yes No → placeOf q ≡ 0 → Agrees o (rowOf (numberOf q) Yes)
 row-agrees {q = q} is no-place number place = (
   λ h. record { refusal = q; given = is .yes .1 (h .2); number-is = h .0; place-is = h .1 ∙ sym no-place },
@@ -59,7 +59,7 @@ row-agrees {q = q} is no-place number place = (
       (g .number-is ∙ ap numberOf same, g .place-is ∙ ap placeOf same ∙ no-place, is .yes .0 (g .given ∙ ap some same)),
 )
 
--- A row that gives one of two refusals, each at any place, agrees with the page's row of their two conditions.
+-- A row that gives one of two refusals, each at any place, agrees with the row of the page of demands with their two conditions.
 pub faults-agree : {o : Option Refusal} {A B : ℕ → Type 0} (one other : ℕ → Refusal) {a b : ℕ}
     → ((p : ℕ) → (numberOf (one p) ≡ a) × (placeOf (one p) ≡ p)) → ((p : ℕ) → (numberOf (other p) ≡ b) × (placeOf (other p) ≡ p))
     → ((p : ℕ) → (o ≡ some (one p)) ↔ A p) → ((p : ℕ) → (o ≡ some (other p)) ↔ B p)
@@ -114,7 +114,7 @@ pub record GoesByRows (os : List (Option Refusal)) (counts : ReportCounts) (new 
   pub paper : paperOf r ≡ answerPaper noReportCounts (answerBy (firstGiven os) counts)
   pub written : out ≡ areaBy (firstGiven os) new area
 
--- A call that answers by its rows meets demand 1, if its rows agree with those of the page.
+-- A call that answers by its rows meets demand 1, if its rows agree with those of the page of demands.
 pub demand-1-met : {os : List (Option Refusal)} {rs : List Row} {counts : ReportCounts} {new area out : List ℕ} {r : Answer}
     → AllAgree os rs → GoesByRows os counts new area r out → Demand1 rs r area out
 demand-1-met {os} {rs} {counts} {new} {area} {out} {r} agree by = go (firstGiven os) refl (by .paper) (by .written)
@@ -168,7 +168,7 @@ pub record Accepts (os : List (Option Refusal)) (counts : ReportCounts) (new : L
   pub counts-are : paperOf r .counts ≡ counts
   pub written : out ≡ new
 
--- Such a call with refusal 0 is accepted in that sense.
+-- If a call that answers by its rows has refusal 0, `Accepts` holds.
 pub accepts : {os : List (Option Refusal)} {counts : ReportCounts} {new area out : List ℕ} {r : Answer}
     → GoesByRows os counts new area r out → r .refusal ≡ 0 → Accepts os counts new r out
 accepts {os} {counts} {new} {area} {out} {r} by zero-is =

@@ -28,7 +28,7 @@ use Rattle.exports.specs.Exported.{paperOf, counted, searchCounts, IsExp
 use Rattle.exports.specs.Demands.{searchTable, NeverNamed, Demand1, Demand2, Demand3, SurveyMeets, ScanMeets, SameWords}
 use Rattle.exports.proofs.RowsAgree.{AllAgree, row-agrees, GoesByRows, Accepts, demand-1-met, accepts}
 
--- The rows of a search agree with those of the page, 1 to 4.
+-- The rows of a search agree with those of the page of demands, 1 to 4.
 pub search-agrees : (m k n room : ℕ) → AllAgree (admitRows m k n room) (searchTable m k n room)
 unfolding admitRows
 search-agrees m k n room = (
@@ -36,7 +36,8 @@ search-agrees m k n room = (
   λ _. (row-agrees (is-row-2 m k n room) refl, λ _. (row-agrees (is-row-3 m k n room) refl, λ _. (row-agrees (is-row-4 m k n room) refl, λ _. tt))),
 )
 
--- If the shown findings are exactly those not named, then a start is among them exactly when some rotation differs in at most k places and it is not named.
+-- For a ring that is not empty: if the shown findings are exactly those not named, then a start is among them exactly when some rotation differs in at most k places and
+-- it is not named.
 pub start-shown-iff : (Named : ℕ → Type 0) {ring line : List ℕ} {k : ℕ} {shown : List Finding} → 0 < length ring
     → ((f : Finding) → List·Memᴰ f shown ↔ (IsFinding ring line k f × (Named (f .start) → ⊥)))
     → (i : ℕ) → ((f : Finding) × (f .start ≡ i) × List·Memᴰ f shown)
@@ -74,12 +75,15 @@ module _ (ring line : List ℕ) (k looks : ℕ) (words : List ℕ) {r : Answer} 
   search-demand-1 = demand-1-met (search-agrees (length ring) k (length line) (length words)) searched-by-rows
 
   module _ (zero-is : r .refusal ≡ 0) where
+    -- what an accepted search gives: no row is given, and it counts and writes all findings
     taken : Accepts (admitRows (length ring) k (length line) (length words)) (held ring line k looks) (written (wordsOf (findings ring line k)) words) r out
     taken = accepts searched-by-rows zero-is
 
+    -- the call is within the limits and has room
     admitted : Admitted (length ring) k (length line) (length words)
     admitted = no-row-iff (length ring) k (length line) (length words) .0 (taken .none-given)
 
+    -- the answer's looks are the search's
     looks-are : r .looks ≡ looks
     looks-are = ap (λ (c : ReportCounts). c .looks) (taken .counts-are)
 
@@ -101,7 +105,7 @@ module _ (ring line : List ℕ) (k looks : ℕ) (words : List ℕ) {r : Answer} 
           words-are = taken .written;
         }
 
--- An answer whose looks are those of the quick scan meets demand 3.
+-- An answer whose looks are those of the quick scan meets demand 3, if the ring is not empty.
 pub looks-demand-3 : {ring line : List ℕ} {k : ℕ} {r : Answer} → 0 < length ring → r .looks ≡ quickLooks ring line k → Demand3 ring line k r
 looks-demand-3 {ring} {line} {k} pos are = record {
   looks-are = are;

@@ -7,7 +7,7 @@
 --   Demand1                                  accepted, or refused by the first row that is given; a refusal has 0 in every count and writes nothing
 --   BookNames, NeverNamed                    which starts a book names
 --   Demand2                                  which findings are written, and which are hidden
---   UnpackDemand2, PackDemand2, GivesBack    books: what is accepted, what is written, and that reading gives it back
+--   UnpackDemand2, PackDemand2, GivesBack    books: what is accepted, what is written, and that each call gives back what the other was given
 --   Demand3                                  the looks of scan and report
 --   SurveyMeets, ScanMeets, ReportMeets,     the demands on each call
 --   UnpackMeets, PackMeets
@@ -126,7 +126,7 @@ pub record Demand2 (Named : ℕ → Type 0) (ring line : List ℕ) (k : ℕ) (wo
   pub start-iff : (i : ℕ)
       → ((f : Finding) × (f .start ≡ i) × List·Memᴰ f shown)
       ↔ ((IsStart ring line i × ((q : ℕ) × (q < length ring) × (distance ring line i q ≤ k))) × (Named i → ⊥))
-  -- "It carries start, rotation, distance: the least distance, and the lowest r that reaches it."
+  -- A finding is among the shown exactly when the book does not name its start; by `IsFinding` it carries "the least distance, and the lowest r that reaches it".
   pub shown-iff : (f : Finding) → List·Memᴰ f shown ↔ (IsFinding ring line k f × (Named (f .start) → ⊥))
   -- A finding is among the hidden exactly when the book names its start.
   pub hidden-iff : (f : Finding) → List·Memᴰ f hidden ↔ (IsFinding ring line k f × Named (f .start))
@@ -136,7 +136,7 @@ pub record Demand2 (Named : ℕ → Type 0) (ring line : List ℕ) (k : ℕ) (wo
   -- "found (hidden ones included), hidden"
   pub found-is : r .found ≡ length shown + length hidden
   pub hidden-is : r .hidden ≡ length hidden
-  -- "Words after the last one written keep their values."
+  -- The words of the shown findings stand first. "Words after the last one written keep their values."
   pub words-are : out ≡ written (wordsOf shown) words
 
 -- Demand 2 on unpacking: a book is accepted exactly when it is the layout of ascending silences in range, at most 1,000 of them, and there is room for their words.
@@ -183,7 +183,8 @@ pub record ScanMeets (ring line : List ℕ) (k : ℕ) (words : List ℕ) (r : An
   pub demand-2 : r .refusal ≡ 0 → Demand2 NeverNamed ring line k words r out
   pub demand-3 : r .refusal ≡ 0 → Demand3 ring line k r
 
--- Demand 3: the quick scan lists exactly the survey's findings. For the same ring, line, allowance and lent words, survey and scan differ in their looks alone.
+-- Demand 3: the quick scan lists exactly the survey's findings. For the same ring, line, allowance and lent words, survey and scan return the same refusal, place and
+-- found, and leave the same words.
 pub record SameWords (survey scan : Answer) (survey-out scan-out : List ℕ) : Type 0 where
   pub refusal-is : scan .refusal ≡ survey .refusal
   pub place-is : scan .place ≡ survey .place

@@ -1,12 +1,14 @@
--- The contracts of the calls for C and Rust programs. Each returns one struct of five numbers. What survey, scan, report, pack and unpack answer is defined in their
--- own crates (findings, outlines, silences); this file only says how the struct holds that answer.
+-- The contracts of the calls for C and Rust programs. Each returns one struct of five numbers. What survey, scan, report, pack and unpack answer is defined in
+-- crates/findings, outlines, silences, book and meaning; this file only says how the struct holds that answer.
 --
---   paperOf          the number, place and counts that the struct stands for
---   searchCounts     "found and looks"; a search counts nothing hidden
---   recordCounts     "the number of records", as found
---   counted          the same paper, with its counts as the struct holds them
---   IsExported       the contract that all five calls share: the struct's paper, and the lent area at exit
---   Is..Exported     the contract of each call
+--   paperOf                              the number, place and counts that the struct stands for
+--   searchCounts                         "found and looks"; a search counts nothing hidden
+--   recordCounts                         "the number of records", as found
+--   counted                              a paper with its counts as the struct holds them
+--   IsExported                           the contract that all five calls share: the struct's paper, and the lent area at exit
+--   IsSurveyExported, IsScanExported,    the contract of each call
+--   IsReportExported, IsPackExported,
+--   IsUnpackExported
 use Prim.Native.Nat.{ℕ}
 use mathlib.Core.Path.{_≡_}
 use mathlib.Core.List.{List}
@@ -32,7 +34,7 @@ searchCounts c = record { found = c .found; hidden = 0; looks = c .looks }
 abbrev pub recordCounts : ℕ → ReportCounts
 recordCounts records = record { found = records; hidden = 0; looks = 0 }
 
--- The same number and place, with the counts as the struct holds them.
+-- A paper with its counts as the struct holds them; number and place stay.
 abbrev pub counted : {C : Type 0} → (C → ReportCounts) → Paper C → Paper ReportCounts
 counted held p = record { number = p .number; place = p .place; counts = held (p .counts) }
 

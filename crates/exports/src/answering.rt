@@ -14,8 +14,8 @@ ghost use Rattle.findings.specs.Searching.{paperOf as searchPaperOf};
 ghost use Rattle.outlines.specs.Report.{noReportCounts, paperOf as reportPaperOf};
 ghost use Rattle.exports.specs.Exported.{paperOf, searchCounts, recordCounts, counted};
 
-// `refusal` is 0 where the call is accepted. A count that a call does not have is 0; pack and unpack return the number of records
-// in `found`.
+// What every exported call returns. `refusal` is 0 where the call is accepted. A count that a call does not have is 0; pack and
+// unpack return the number of records in `found`.
 #[repr(C)]
 pub struct Answer {
     pub refusal: u32,

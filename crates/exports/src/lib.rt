@@ -1,6 +1,6 @@
 // The library's five calls for programs in C and Rust, over the C calling convention; include/outlines.h declares them for C. Each
-// passes its arguments to the Rattle call of the same name and returns that call's answer as one struct, by value. Each takes
-// every input. A slice is a pointer and a length.
+// passes its arguments to the Rattle call of that name without `outlines_` and returns that call's answer as one struct, by value.
+// Each takes every input. A slice is a pointer and a length.
 mod answering;
 mod books;
 mod searches;

@@ -62,12 +62,12 @@ module _ (m k n room : ℕ) where
   row-4-iff =
       past-row is-row-1 (omega arith) (past-row is-row-2 (omega arith) (past-row is-row-3 (omega arith) (at-row is-row-4 end))) .exactly
 
-  -- No row is given exactly when m is 1 to 256, k < m, n ≤ 65,536, and n ≥ m implies enough words.
+  -- None of rows 1 to 4 is given exactly when m is 1 to 256, k < m, n ≤ 65,536, and n ≥ m implies enough words.
   pub none-iff : (refusalOf m k n room ≡ none) ↔ (IsRing m × ((k < m) × ((n ≤ mostLine) × (m ≤ n → roomRequired m n ≤ room))))
   unfolding admitRows
   none-iff = no-row is-row-1 (no-row is-row-2 (no-row is-row-3 (no-last-row is-row-4))) .exactly
 
-  -- No row is given exactly when the call is admitted: the same conditions as one record.
+  -- None of rows 1 to 4 is given exactly when `Admitted` holds.
   pub no-row-iff : (refusalOf m k n room ≡ none) ↔ Admitted m k n room
   no-row-iff =
       Iff·trans none-iff (

@@ -21,6 +21,7 @@ abbrev verdictBack : Option Refusal → Verdict
 verdictBack none = Accepted
 verdictBack (some refusal) = RefusedBy refusal
 
+-- from what it holds a verdict is computed back
 verdict-back : (r : Verdict) → verdictBack (verdictOf r) ≡ r
 verdict-back Accepted = refl
 verdict-back (RefusedBy refusal) = refl
@@ -38,6 +39,7 @@ abbrev answerBack : Answer Counts → Searched
 answerBack (accepted counts) = CountsCase (counts .found) (counts .looks)
 answerBack (refused refusal) = Refused refusal
 
+-- from its answer an enum is computed back
 answer-back : (r : Searched) → answerBack (answerOf r) ≡ r
 answer-back (CountsCase found looks) = refl
 answer-back (Refused refusal) = refl

@@ -18,7 +18,7 @@ use Rattle.findings.specs.Putting.{wordsPut, canPut, CanPut, IsFindingPu
 pub finding-words : {f : Finding} → f .start < 2 ^ 32 → f .rotation < 2 ^ 32 → f .distance < 2 ^ 32 → IsWords (findingWords f)
 finding-words start rotation distance = below-more start (below-more rotation (below-more distance (below-none (omega arith))))
 
--- The test passes exactly when the finding can be put.
+-- The test `canPut` passes exactly when the finding can be put.
 pub can-put-iff : (lent before : ℕ) (f : Finding) → (canPut lent before f ≡ true) ↔ CanPut lent before f
 unfolding canPut
 can-put-iff lent before f =
@@ -27,7 +27,7 @@ can-put-iff lent before f =
       λ can. all .1 (can .room, can .words),
     )
 
--- If there is room, and start and rotation are 32-bit words, the test passes exactly when the distance is a 32-bit word.
+-- If there is room, and start and rotation are 32-bit words, the test `canPut` passes exactly when the distance is a 32-bit word.
 pub can-put-last : (lent before : ℕ) (f : Finding) → before < lent / wordsEach → f .start < 2 ^ 32 → f .rotation < 2 ^ 32 → leb (f .distance) 4294967295 ≡ canPut lent before f
 can-put-last lent before f more start rotation =
     test-same (le-iff (f .distance) 4294967295) (can-put-iff lent before f) (
@@ -36,11 +36,11 @@ can-put-last lent before f more start rotation =
     )
 
 module _ (words : List ℕ) (before : ℕ) (f : Finding) where
-  -- If the test passes and the finding's words are put, the contract is met.
+  -- If the test `canPut` passes and the finding's words are put, the contract of `put_finding` is met.
   pub put-yes : (out : List ℕ) → canPut (length words) before f ≡ true → out ≡ wordsPut before f words → IsFindingPut words before f out
   put-yes out passed put = record { written = rw passed put }
 
-  -- If the test fails and the words stay as they were, the contract is met.
+  -- If the test `canPut` fails and the words stay as they were, the contract of `put_finding` is met.
   pub put-no : canPut (length words) before f ≡ false → IsFindingPut words before f words
   put-no failed = record { written = rw failed refl }
 

@@ -31,13 +31,13 @@ module _ (ring line : List ℕ) (k : ℕ) (words : List ℕ) where
   words-by o e = ap (λ (p : Option Refusal). areaBy p (written (wordsOf (findings ring line k)) words) words) e
 
 module _ {ring line : List ℕ} {k expected : ℕ} {words : List ℕ} where
-  -- If a row is given, returning its refusal and leaving the words as they were meets the contract.
+  -- If a row is given, returning its refusal and leaving the words as they were meets the contract of a search.
   pub refused-search : {refusal : Refusal} → some refusal ≡ refusalOf (length ring) k (length line) (length words)
       → IsSearched ring line k expected words (Refused refusal) words
   refused-search {refusal} e =
       record { paper = paper-by ring line k words (some refusal) expected e; written = words-by ring line k words (some refusal) e }
 
-  -- If no row is given and the line is searched, returning found and looks meets the contract.
+  -- If no row is given and the line is searched, returning found and looks meets the contract of a search.
   pub accepted-search : {found looks : ℕ} {out : List ℕ} → none ≡ refusalOf (length ring) k (length line) (length words)
       → LineSearched ring line k expected words found looks out → IsSearched ring line k expected words (CountsCase found looks) out
   accepted-search e done =

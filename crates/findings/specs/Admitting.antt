@@ -1,7 +1,7 @@
--- Document 01, "What each call returns", rows 1 to 4: when survey, scan and report are refused before they read any edge.
+-- Document 01, "What each call returns", rows 1 to 4 of the table: the refusals that lengths, k and room decide.
 --
 --   mostRing, mostLine    the document's limits
---   roomRequired             the words that row 4 requires
+--   roomRequired          the words that row 4 requires
 --   isRow1 to isRow4      the tests: whether each row is given
 --   admitRows             "Order: survey and scan 1 to 4"
 --   refusalOf             the refusal of the first of these rows that is given, if one is
@@ -30,7 +30,7 @@ mostRing = 256
 abbrev pub mostLine : ℕ
 mostLine = 65536
 
--- "3·(n − m + 1) words": room for as many findings as there are starts.
+-- "3·(n − m + 1) words": room for as many findings as there are starts (for n ≥ m).
 abbrev pub roomRequired : ℕ → ℕ → ℕ
 roomRequired m n = wordsEach * (n - m + 1)
 
@@ -55,7 +55,7 @@ unfoldable pub admitRows : ℕ → ℕ → ℕ → ℕ → List (Option Refusal)
 admitRows m k n room =
     row (isRow1 m) Ring ∷ row (isRow2 m k) Allowance ∷ row (isRow3 n) Line ∷ row (isRow4 m n room) FindingsRoom ∷ []
 
--- The refusal of the first of these rows that is given; none if no row is.
+-- The refusal of the first of rows 1 to 4 that is given; none if no row is.
 abbrev pub refusalOf : ℕ → ℕ → ℕ → ℕ → Option Refusal
 refusalOf m k n room = firstGiven (admitRows m k n room)
 

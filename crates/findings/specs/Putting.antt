@@ -30,7 +30,7 @@ pub record CanPut (lent before : ℕ) (f : Finding) : Type 0 where
   pub room : wordsEach * before + wordsEach ≤ lent
   pub words : IsWords (findingWords f)
 
--- The same as a test.
+-- `CanPut` as a test.
 unfoldable pub canPut : ℕ → ℕ → Finding → Bool
 canPut lent before f = leb (wordsEach * before + wordsEach) lent && isWords (findingWords f)
 

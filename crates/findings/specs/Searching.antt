@@ -1,5 +1,5 @@
 -- Document 01, "What each call returns", for the plain survey and the quick scan: "Survey and scan return found and looks", and the findings go into the lent
--- words. The two differ only in how many looks they take, so every definition here takes the looks as an argument.
+-- words. The two differ only in how many looks they take, so `searched`, `LineSearched`, `searchPaper` and `IsSearched` take the looks as an argument.
 --
 --   Counts, noCounts     found and looks; both zero
 --   searched             the answer that a search must give: its counts, or a refusal

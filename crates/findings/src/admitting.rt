@@ -1,4 +1,4 @@
-// Rows 1 to 4 of document 01's table: the calls that are refused before any edge is read.
+// Rows 1 to 4 of document 01's table: the refusals that lengths, k and room decide.
 use answers::Refusal;
 ghost use Rattle.findings.specs.Admitting.{IsVerdict};
 

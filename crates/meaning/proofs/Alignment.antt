@@ -1,6 +1,6 @@
 -- An alignment c compares each line place p with the ring place (c + p) mod m. Start i under rotation r is the alignment c = r + i·(m − 1), because then
--- c + i = r + i·m, which is r mod m. So what holds in every alignment holds at every start under every rotation, and no proof subtracts one place from
--- another.
+-- c + i = r + i·m, which is r mod m. So what holds in every alignment holds at every start under every rotation, and no ring place is computed by subtracting
+-- a line place.
 use Prim.Native.Nat.{ℕ, suc, pred, _+_, _*_, _%_, _≤_, _<_}
 use mathlib.Core.Path.{_≡_, sym, ap, _∙_}
 use mathlib.Core.Bool.{Bool, true, false, not, _&&_, true≢false}

@@ -1,5 +1,5 @@
 -- The findings at places below i. Each place adds at most one, and a place without a finding adds none. So if no place from s on is a start, the findings
--- below s are all findings. There are at most n − m + 1, one for each start, and none in a line shorter than the ring.
+-- below s are all findings. For n ≥ m there are at most n − m + 1, one for each start. In a line shorter than the ring there are none.
 use Prim.Native.Nat.{ℕ, zero, suc, _+_, _-_, _≤_, _<_}
 use mathlib.Core.Path.{_≡_, sym, ap, ap₂, _∙_}
 use mathlib.Core.Bool.{_&&_}
@@ -42,20 +42,20 @@ module _ (ring line : List ℕ) (k : ℕ) where
       ∙ ap₂ (λ (a b : List Finding). a ++ b) (below-same i d (λ j lo hi. h j lo (omega arith))) (h (i + d) (omega arith) (omega arith))
       ∙ append-nil _
 
-  -- If a window at s would reach past the line's end, all findings are below s.
+  -- If s ≤ n and a window at s would reach past the line's end, all findings are below s.
   pub findings-below : (s : ℕ) → s ≤ length line → IsPastLine ring line s → findings ring line k ≡ findingsBelow ring line k s
   findings-below s in-line past =
       let all : s + (length line - s) ≡ length line = omega arith in
       sym (ap (findingsBelow ring line k) all)
       ∙ below-same s (length line - s) (λ j lo hi. found-no-start ring line k j (past-no-start ring line j (omega arith)))
 
-  -- There are at most n − m + 1 findings. (So 3·(n − m + 1) words are room for all, by `words-length`.)
+  -- For n ≥ m and a ring that is not empty, there are at most n − m + 1 findings. (So 3·(n − m + 1) words are room for all, by `words-length`.)
   pub findings-length-le : 0 < length ring → length ring ≤ length line → length (findings ring line k) ≤ length line - length ring + 1
   findings-length-le pos h =
       let s : ℕ = length line - length ring + 1 in
       rw (findings-below s (omega arith) (omega arith)) (below-length-le ring line k s)
 
-  -- "A line shorter than the ring is accepted: no start, no look, zero findings."
+  -- A line shorter than the ring has "zero findings".
   pub findings-short : length line < length ring → findings ring line k ≡ []
   unfolding findingsBelow
   findings-short h = findings-below 0 (omega arith) (omega arith)

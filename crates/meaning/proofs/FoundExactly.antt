@@ -1,6 +1,6 @@
--- The list `findings` has every finding and nothing else: f is in it exactly when `IsFinding` holds for f, and it has a finding at a start exactly when some
--- rotation differs from the window in at most k places. The list joins the lists `foundAt` of all places, so a member comes from one place. The lowest
--- rotation is unique, so what `IsFinding` describes is what `findingAt` computes.
+-- For a ring that is not empty, the list `findings` has every finding and nothing else: f is in it exactly when `IsFinding` holds for f, and it has a finding
+-- at a start exactly when some rotation differs from the window in at most k places. The list joins the lists `foundAt` of all places, so a member comes from
+-- one place. The lowest rotation is unique, so what `IsFinding` describes is what `findingAt` computes.
 use Prim.Native.Nat.{ℕ, zero, suc, _≤_, _<_}
 use mathlib.Core.Path.{_≡_, refl, sym, ap, _∙_, subst}
 use mathlib.Core.Logic.{_↔_, ⊎-elim}
@@ -82,12 +82,12 @@ module _ (ring line : List ℕ) (k : ℕ) where
         Memᴰ·cast whole
         (mem-below (length line) i (omega (arith, h .is-start .fits-in-line)) (h .is-start) (omega (arith, h .at-most-k)))
 
-    -- f is in the list of findings exactly when it is a finding: its start is a start, its distance is the one under its rotation and at most k, no rotation
-    -- has a smaller distance, and no lower rotation has the same.
+    -- For a ring that is not empty, f is in the list of findings exactly when it is a finding: its start is a start, its distance is the one under its
+    -- rotation and at most k, no rotation has a smaller distance, and no lower rotation has the same.
     pub findings-iff : (f : Finding) → List·Memᴰ f (findings ring line k) ↔ IsFinding ring line k f
     findings-iff f = (findings-yes f, findings-by f)
 
-    -- The list has a finding at i exactly when i is a start and some rotation differs from its window in at most k places.
+    -- For a ring that is not empty, the list of findings has one at i exactly when i is a start and some rotation differs from its window in at most k places.
     pub found-iff : (i : ℕ)
         → ((f : Finding) × (f .start ≡ i) × List·Memᴰ f (findings ring line k))
         ↔ (IsStart ring line i × ((r : ℕ) × (r < length ring) × (distance ring line i r ≤ k)))

@@ -5,13 +5,13 @@
 --   FitDecided      `fits-iff`                             the test for a stretch that fits is right
 --   NothingLost     `nothing-lost`                         a jump passes over no finding
 --   QuickFindsAll   `quick-finds-all`                      the rules report exactly the findings
---   LookBound       `quickLooks-le`                        the quick scan takes at most 3·m·n − 2·m·m + m looks
---   SurveyLooks     `surveyLooks-is`                       the plain survey takes 2·m·n − m·m looks
+--   LookBound       `quickLooks-le`                        for n ≥ m the quick scan takes at most 3·m·n − 2·m·m + m looks
+--   SurveyLooks     `surveyLooks-is`                       for n ≥ m the plain survey takes 2·m·n − m·m looks
 --   AroundCopy      `found-after`, `found-before`          every start within k − d places of a copy with d differing edges is found
 --
 -- The other modules are their lemmas, and what the proofs of code cite. Each group below uses only itself and the groups above it.
 
--- counts, the lowest number at which a function is least, and "some number": they mention no ring
+-- counts, the lowest number at which a function is least, and whether some number below n passes a test: they mention no ring
 pub mod Count
 pub mod Lowest
 pub mod Some

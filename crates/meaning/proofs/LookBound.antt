@@ -110,16 +110,16 @@ module _ (ring line : List ℕ) (k : ℕ) where
         ap (λ (x : ℕ). m * x) n,
       ))
 
-  -- The bound is "at most 3·m·n".
+  -- For n ≥ m the look bound, 3·m·n − 2·m·m + m, is "at most 3·m·n".
   pub look-bound-le : 0 < m → m ≤ length line → 3 * m * length line - 2 * m * m + m ≤ 3 * m * length line
   look-bound-le pos h = omega (arith, mul-le-mul-left m pos, mul-le-mul-left m h)
 
-  -- "A line shorter than the ring is accepted: no start, no look, zero findings."
+  -- On a line shorter than the ring the quick scan takes "no look".
   pub quickLooks-short : length line < m → quickLooks ring line k ≡ 0
   unfolding readLooks verifyLooks candidatesOf
   quickLooks-short h = rw (windows-start, windows-end ring line k 0 (omega arith))
 
-  -- On every line the looks are at most 3·m·n.
+  -- On every line the quick scan takes at most 3·m·n looks, for a ring that is not empty.
   pub quickLooks-most : 0 < m → quickLooks ring line k ≤ 3 * m * length line
   quickLooks-most pos =
       ⊎-elim

@@ -41,7 +41,7 @@ module _ (f : ℕ → ℕ) where
   cond-same true = refl
   cond-same false = refl
 
-  -- `lowest f n` is the lowest number below n at which f is least.
+  -- For n > 0, `lowest f n` is the lowest number below n at which f is least.
   pub lowest-is : (n : ℕ) → 0 < n → IsLowest f n (lowest f n)
   unfolding lowest
   lowest-is zero h = omega arith

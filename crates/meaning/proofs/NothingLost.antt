@@ -130,7 +130,7 @@ module _ (ring line : List ℕ) (pos : 0 < length ring) (k i : ℕ) where
       → (i′ : ℕ) → i ≤ i′ → i′ < nextStart ring (readWindow ring line k i) → foundAt ring line k i′ ≡ []
   nothing-lost h i′ lo hi = found-no ring line k i′ (omega (arith, breaks-le i′ (lowestRotation ring line i′) lo hi))
 
-  -- The same in the words of the meaning: if the window at i is stopped at break k + 1, no finding starts at i or at a place jumped over.
+  -- In the words of the meaning: if the window at i is stopped at break k + 1, no finding starts at i or at a place jumped over.
   pub no-finding-jumped : k < readWindow ring line k i .breaks
       → (f : Finding) → i ≤ f .start → f .start < nextStart ring (readWindow ring line k i) → IsFinding ring line k f → ⊥
   no-finding-jumped h f lo hi is = omega (arith, breaks-le (f .start) (f .rotation) lo hi, is .distance-is, is .at-most-k)

@@ -30,7 +30,7 @@ module _ (ring line : List ℕ) (k : ℕ) where
   scan-start pos = record { found-are = rw windows-start at (quick-finds-all ring line k pos); looks-are = rw windows-start (omega arith) }
 
   module _ (i : ℕ) (last : Option ℕ) (found : List Finding) (looks : ℕ) (h : ScanLoop i last found looks) where
-    -- The looks so far are never above all looks.
+    -- The looks so far are never above all looks of the quick scan.
     pub scan-so-far-le : looks ≤ quickLooks ring line k
     scan-so-far-le = omega (arith, h .looks-are)
 
@@ -51,7 +51,7 @@ module _ (ring line : List ℕ) (k : ℕ) where
       abbrev w : Reading
       w = readWindow ring line k i
 
-      -- Where the next window starts, m − j + 1 further on.
+      -- Where the window after the one at i starts: m − j + 1 further on, with j edges read.
       abbrev pub nextPlace : ℕ
       nextPlace = i + (m - w .read + 1)
 

@@ -1,5 +1,5 @@
--- The test `fitsInLine` decides whether a window fits in the line, and `isStart` whether a place is a start. `fits-is-start` is the only law which says that
--- every window in the line is at a start.
+-- The test `fitsInLine` decides whether a window fits in the line, and `isStart` whether a place is a start. Only `fits-is-start` states that every window in
+-- the line is at a start; if start gets a second condition, this law is what changes.
 use Prim.Native.Nat.{ℕ, _+_, _≤_}
 use mathlib.Core.Path.{_≡_}
 use mathlib.Core.Bool.{true, false}

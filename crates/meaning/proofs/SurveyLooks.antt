@@ -23,7 +23,7 @@ module _ (ring line : List ℕ) where
   unfolding surveyLooksBelow
   one-place i = refl
 
-  -- The first window is counted afresh: m·m looks.
+  -- The plain survey counts the first window afresh: m·m looks.
   pub surveyLooks-first : FitsInLine ring line 0 → surveyLooksBelow ring line 1 ≡ afreshLooks m
   unfolding surveyLooksBelow
   surveyLooks-first h = rw (fits-line-iff ring line 0 .1 h) (omega arith)
@@ -39,18 +39,18 @@ module _ (ring line : List ℕ) where
       ap (surveyLooksBelow ring line) (add-suc i d) ∙ one-place (i + d)
       ∙ rw (past-line-iff ring line (i + d) .1 (omega arith)) (add-zero _) ∙ below-past i d h
 
-  -- The windows at places 0 to s cost m·m + s·2·m looks.
+  -- The windows at places 0 to s cost the plain survey m·m + s·2·m looks.
   pub surveyLooks-below : (s : ℕ) → FitsInLine ring line s → surveyLooksBelow ring line (suc s) ≡ afreshLooks m + s * stepLooks m
   surveyLooks-below zero h = surveyLooks-first (omega arith) ∙ omega arith
   surveyLooks-below (suc s) h = surveyLooks-step s h ∙ omega (arith, surveyLooks-below s (omega arith))
 
-  -- If a window at i would reach past the line's end, all looks are those for the places below i.
+  -- If i ≤ n and a window at i would reach past the line's end, all looks of the plain survey are those for the places below i.
   pub surveyLooks-end : (i : ℕ) → i ≤ length line → IsPastLine ring line i → surveyLooks ring line ≡ surveyLooksBelow ring line i
   surveyLooks-end i in-line past =
       let all : i + (length line - i) ≡ length line = omega arith in
       sym (ap (surveyLooksBelow ring line) all) ∙ below-past i (length line - i) past
 
-  -- The plain survey takes "2·m·n − m·m looks for n ≥ m".
+  -- The plain survey takes "2·m·n − m·m looks for n ≥ m", for a ring that is not empty.
   pub surveyLooks-is : 0 < m → m ≤ length line → surveyLooks ring line ≡ 2 * m * length line - m * m
   surveyLooks-is pos h =
       let s : ℕ = length line - m in

@@ -1,5 +1,5 @@
--- One step of the tally. Start i under rotation r and start i + 1 under rotation (r + 1) mod m compare the same line places with the same ring places. So the
--- two distances differ only by the leaving edge and the entering edge, and both are compared with the same ring edge, the one at r.
+-- One step of the tally. Start i under rotation r and start i + 1 under rotation (r + 1) mod m compare each line place that both windows contain with the same
+-- ring place. So the two distances differ only by the leaving edge and the entering edge, and both are compared with the same ring edge, the one at r.
 use Prim.Native.Nat.{ℕ, suc, _+_, _-_, _%_, _<_}
 use mathlib.Core.Path.{_≡_, ap, ap₂, _∙_}
 use mathlib.Core.List.{List}

@@ -81,7 +81,7 @@ module _ (ring line : List ℕ) (k i : ℕ) where
   abbrev pub ReadTo : ℕ → ℕ → Type 0
   ReadTo left breaks = (readWindow ring line k i .read + left ≡ m) × (readWindow ring line k i .breaks ≡ breaks)
 
-  -- With no edge left, the window is read.
+  -- With no edge left, the window is read, with `breaks` breaks.
   pub window-end : (breaks : ℕ) (bits : ℕ → Bool) → WindowLoop 0 breaks bits → ReadTo 0 breaks
   unfolding readLeft
   window-end breaks bits h =
@@ -105,7 +105,7 @@ module _ (ring line : List ℕ) (k i : ℕ) where
     unfolding readLeft
     goes-on-read = rw (le-ltb k (h .so-far .breaks) (omega (arith, h .breaks-is))) at (h .goes-on)
 
-    -- If a bit is still set, the grown stretch is held.
+    -- If a bit is still set after the next edge, the invariant holds with the grown stretch held.
     pub window-grows : someBelow bits′ m ≡ true → WindowLoop left breaks bits′
     unfolding readEdge
     window-grows e = record {
@@ -117,7 +117,7 @@ module _ (ring line : List ℕ) (k i : ℕ) where
       goes-on = rw (grown-fits, e) at goes-on-read;
     }
 
-    -- If no bit is set, the edge is a break: one break more, and every bit is set again.
+    -- If no bit is set after the next edge, that edge is a break: the invariant holds with one break more and every bit set again.
     pub window-breaks : someBelow bits′ m ≡ false → (all : ℕ → Bool) → AllSet ring all → WindowLoop left (suc breaks) all
     unfolding readEdge BitsOf AllSet begins
     window-breaks e all all-set = record {
@@ -129,7 +129,7 @@ module _ (ring line : List ℕ) (k i : ℕ) where
       goes-on = rw (grown-fits, e) at goes-on-read;
     }
 
-  -- At break k + 1 reading stops.
+  -- With more than k breaks reading the window ends here.
   pub window-stopped : (left breaks : ℕ) (bits : ℕ → Bool) → k < breaks → WindowLoop left breaks bits → ReadTo left breaks
   unfolding readLeft
   window-stopped zero breaks bits many h = window-end breaks bits h

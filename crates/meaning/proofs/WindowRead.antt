@@ -1,5 +1,5 @@
--- What holds for every window that was read: it has its start, at most m edges were read, and reading ended with all of them read and at most k breaks, or at
--- break k + 1. Induction on the edges left.
+-- What holds for every window that was read: its start is the place where it was read, at most m edges were read, and reading ended with all of them read and
+-- at most k breaks, or at break k + 1. Induction on the edges left.
 use Prim.Native.Nat.{ℕ, zero, suc, _+_, _≤_, _<_}
 use mathlib.Core.Path.{_≡_, refl, _∙_}
 use mathlib.Core.Bool.{true, false, and-false}

@@ -37,7 +37,7 @@ module _ (ring line : List ℕ) (k : ℕ) where
   pub windowsAt : ℕ → List Reading
   windowsAt i = windowsFrom ring line k (length line + 1) i
 
-  -- "The first window starts at 0."
+  -- "The first window starts at 0": the windows of a line are those from place 0 on.
   pub windows-start : windows ring line k ≡ windowsAt 0
   unfolding windowsAt
   windows-start = refl

@@ -1,4 +1,5 @@
--- The helpers of the meanings, which mention no ring and no line: counting, the lowest number at which a function is least, and "some number".
+-- The helpers of the meanings, which mention no ring and no line: counting, the lowest number at which a function is least, and whether some number
+-- below n passes a test.
 use Prim.Native.Nat.{ℕ, zero, suc, _+_}
 use mathlib.Core.Bool.{Bool, true, false, cond, _||_}
 use lib.Dec.{ltb}

@@ -54,7 +54,7 @@ Rising lo hi (f ∷ fs) = (lo ≤ f .start) × Rising (suc (f .start)) hi fs
 abbrev pub wordsEach : ℕ
 wordsEach = 3
 
--- The words of one finding, in this order.
+-- The words of one finding: start, rotation, distance.
 abbrev pub findingWords : Finding → List ℕ
 findingWords f = f .start ∷ f .rotation ∷ f .distance ∷ []
 

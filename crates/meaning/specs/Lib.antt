@@ -4,29 +4,42 @@
 -- Elsewhere: the refusals, and ring places and line places as two types ("never added or compared directly"), in crates/answers; the silence book
 -- in crates/silences.
 --
--- | the document's word       | here                                    | module   |
--- |---------------------------|-----------------------------------------|----------|
--- | m, n, k                   | `length ring`, `length line`, `k`       |          |
--- | rotation r at place q     | `rotationEdge ring r q`                 | Meanings |
--- | window in the line        | `FitsInLine`; the test `fitsInLine`     | Meanings |
--- | start                     | `IsStart`; the test `isStart`           | Meanings |
--- | window                    | `window`; its edges `windowEdge`        | Meanings |
--- | distance                  | `distance ring line i r`                | Meanings |
--- | least distance, lowest r  | `leastDistance`, `lowestRotation`       | Meanings |
--- | finding                   | `IsFinding`; the list `findings`        | Findings |
--- | words of findings         | `wordsOf`                               | Findings |
--- | stretch that fits         | `Fits`; the test `fits`                 | Stretch  |
--- | rules 1 to 3              | `windows`, `readWindow`, `readEdge`     | Rules    |
--- | candidate (rule 4)        | `isCandidate`, `candidates`             | Rules    |
--- | what the rules report     | `quickFindings`                         | Rules    |
--- | looks (rules 1 and 5)     | `quickLooks`                            | Looks    |
--- | looks of the plain survey | `surveyLooks`                           | Looks    |
--- | samples P1 to P12         | `samples`, `samples-right`              | Samples  |
--- | readings that look right  | each refuted                            | Misread  |
--- | (helpers)                 | `count`, `lowest`, `someBelow`          | Counting |
+-- | the document's word         | here                                     | module   |
+-- |-----------------------------|------------------------------------------|----------|
+-- | m, n, k                     | `length ring`, `length line`, `k`        |          |
+-- | rotation r at place q       | `rotationEdge ring r q`                  | Meanings |
+-- | window in the line          | `FitsInLine`; the test `fitsInLine`      | Meanings |
+-- | window past the line's end  | `IsPastLine`                             | Meanings |
+-- | start                       | `IsStart`; the test `isStart`            | Meanings |
+-- | window                      | `window`; its edges `windowEdge`         | Meanings |
+-- | differ at place q           | `differs ring line i r q`                | Meanings |
+-- | distance                    | `distance ring line i r`                 | Meanings |
+-- | least distance, lowest r    | `leastDistance`, `lowestRotation`        | Meanings |
+-- | finding                     | `IsFinding`; the list `findings`         | Findings |
+-- | by rising start             | `Rising`                                 | Findings |
+-- | words of findings           | `wordsOf`                                | Findings |
+-- | stretch that fits           | `Fits`; the test `fits`                  | Stretch  |
+-- | window as far as it is read | `Reading`                                | Rules    |
+-- | rules 1 to 3                | `windows`, `readWindow`, `readEdge`      | Rules    |
+-- | next window (rule 3)        | `nextStart`                              | Rules    |
+-- | candidate (rule 4)          | `isCandidate`, `candidates`              | Rules    |
+-- | reported (rule 4)           | `reported`                               | Rules    |
+-- | what the rules report       | `quickFindings`                          | Rules    |
+-- | looks of reading (rule 1)   | `readLooks`                              | Looks    |
+-- | looks of verifying (rule 5) | `tallyLooks`, `afreshLooks`, `stepLooks` | Looks    |
+-- | looks (rules 1 and 5)       | `quickLooks`                             | Looks    |
+-- | looks of the plain survey   | `surveyLooks`                            | Looks    |
+-- | samples P1 to P12           | `samples`, `samples-right`               | Samples  |
+-- | samples of our own          | `own-samples`, `own-samples-right`       | Samples  |
+-- | readings that look right    | each refuted                             | Misread  |
+-- | (helpers)                   | `count`, `lowest`, `someBelow`           | Counting |
 --
--- Where a word has two forms, the lower-case one computes, and the upper-case one states the same as a fact: start, finding, fit. proofs/ has the
--- laws that join the two: `start-iff`, `findings-iff`, `fits-iff`.
+-- The table leaves out the parts of these definitions: `oneIf` (Counting); `unequal` (Meanings); `Finding`, `findingAt`, `foundAt`, `findingsBelow`,
+-- `wordsEach`, `findingWords` (Findings); `begins` (Stretch); `unread`, `readLeft`, `windowsFrom`, `candidatesOf` (Rules); `verifyLooks`,
+-- `surveyLooksBelow` (Looks); `Sample`, `finding`, `answered` (Samples).
+--
+-- Where a word has two forms, the lower-case one computes, and the upper-case one states the same as a fact: window in the line, start, finding, fit.
+-- proofs/ has the laws that join the two: `fits-line-iff`, `start-iff`, `findings-iff`, `fits-iff`.
 pub mod Counting
 pub mod Meanings
 pub mod Findings

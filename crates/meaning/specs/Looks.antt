@@ -28,7 +28,8 @@ unfoldable pub tallyLooks : ℕ → Option ℕ → ℕ → ℕ
 tallyLooks m none i = afreshLooks m
 tallyLooks m (some last) i = cond (ltb m (2 * (i - last))) (afreshLooks m) ((i - last) * stepLooks m)
 
--- Rules 4 and 5. The looks of verifying a list of candidates. Each is verified in turn, and is then the last verified one.
+-- Rules 4 and 5. The looks of verifying a list of candidates, after the last verified start if there is one. Each candidate is verified in turn, and is
+-- then the last verified one.
 unfoldable pub verifyLooks : ℕ → Option ℕ → List ℕ → ℕ
 verifyLooks m last [] = 0
 verifyLooks m last (i ∷ starts) = tallyLooks m last i + verifyLooks m (some i) starts

@@ -1,7 +1,7 @@
 -- Document 01, "Meanings", up to the distance: rotation, start, window, distance, the least distance and the lowest rotation that reaches it.
 -- The document's limits (m 1 to 256, n at most 65,536, k below m) are refusals of the calls and are stated there. Here every definition gives a value
--- for all lists. For an empty ring the value means nothing, and the laws require 0 < m. `getD` gives 0 past a list's end. At a start no definition reads
--- there: line places stay below n because i + m ≤ n, and ring places are taken mod m.
+-- for all lists. For an empty ring the value means nothing, and laws that depend on it require 0 < m. `getD` gives 0 past a list's end. At a start no
+-- definition reads there: line places stay below n because i + m ≤ n, and ring places are taken mod m.
 use Prim.Native.Nat.{ℕ, _+_, _%_, _≤_, _<_}
 use mathlib.Core.Bool.{Bool, not}
 use mathlib.Core.List.{List}
@@ -21,7 +21,7 @@ pub record FitsInLine (ring line : List ℕ) (i : ℕ) : Type 0 where
 pub record IsPastLine (ring line : List ℕ) (i : ℕ) : Type 0 where
   pub past : length line < i + length ring
 
--- Whether a window fits in the line at place i. This test decides which windows rule 1 reads, and at which places the survey counts its tally.
+-- Whether a window fits in the line at place i. This test decides which windows rule 1 reads, and at which places the survey verifies.
 abbrev pub fitsInLine : List ℕ → List ℕ → ℕ → Bool
 fitsInLine ring line i = leb (i + length ring) (length line)
 
@@ -33,11 +33,11 @@ pub record IsStart (ring line : List ℕ) (i : ℕ) : Type 0 where
 abbrev pub isStart : List ℕ → List ℕ → ℕ → Bool
 isStart ring line i = fitsInLine ring line i
 
--- "Its window is the m edges from i."
+-- The window of start i: "Its window is the m edges from i."
 unfoldable pub window : ℕ → List ℕ → ℕ → List ℕ
 window m line i = take m (drop i line)
 
--- The window's edge at place q, counted from its start.
+-- The edge at place q of the window at i: the line's edge at i + q.
 abbrev pub windowEdge : List ℕ → ℕ → ℕ → ℕ
 windowEdge line i q = getD line (i + q) 0
 
@@ -57,6 +57,6 @@ distance ring line i r = count (differs ring line i r) 0 (length ring)
 unfoldable pub lowestRotation : List ℕ → List ℕ → ℕ → ℕ
 lowestRotation ring line i = lowest (distance ring line i) (length ring)
 
--- The "least distance over all r": the distance under that rotation.
+-- The "least distance over all r": the distance under the lowest rotation that reaches it.
 abbrev pub leastDistance : List ℕ → List ℕ → ℕ → ℕ
 leastDistance ring line i = distance ring line i (lowestRotation ring line i)

@@ -1,5 +1,6 @@
--- Document 01, "Readings that look right", those about the search. Each wrong reading is written out as a definition and refuted by a sample, which
--- antt computes. (The reading of cell 0 as all cells is about silences, and is refuted in ReportSamples of crates/outlines.)
+-- Document 01, "Readings that look right", those about the search. Each wrong reading is written with a definition of its own or with the rules'
+-- definitions, and is refuted by a sample, which antt computes. (The reading of cell 0 as all cells is about silences, and is refuted in ReportSamples
+-- of crates/outlines.)
 use Prim.Native.Nat.{ℕ, zero, suc, _+_, _-_, _*_, _/_, min}
 use mathlib.Core.Path.{_≡_, refl}
 use mathlib.Core.Bool.{Bool, true, false, cond, _&&_, _||_}

@@ -1,6 +1,6 @@
 -- Document 01, "Sample rings": P1 to P12 as one table under one claim, which antt computes. A second table of the same form pins what no row of the
--- first does: rule 5's choice between a fresh count and steps, the plain survey's looks, and the codes 0 and 255. A number that the document leaves
--- out of a row is left out here.
+-- first does: rule 5's choice between a fresh count and steps, the break edge, the last verified start, steps across a stopped window, the plain
+-- survey's looks, and the codes 0 and 255. A number that the document leaves out of a row is left out here.
 use Prim.Native.Nat.{ℕ}
 use Prim.Native.String.{String}
 use mathlib.Core.Path.{_≡_, refl}

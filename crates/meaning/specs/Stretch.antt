@@ -16,7 +16,8 @@ pub record Fits (ring stretch : List ℕ) : Type 0 where
   pub is-rotation : rotation < length ring
   pub begins-it : (q : ℕ) → q < length stretch → getD stretch q 0 ≡ rotationEdge ring rotation q
 
--- Whether the stretch is the beginning of rotation r: its first edge is the ring's edge at r mod m, and the rest is the beginning of rotation r + 1.
+-- Whether the stretch is the beginning of rotation r (at most m edges: tested in `fits`): its first edge is the ring's edge at r mod m, and the rest is
+-- the beginning of rotation r + 1.
 unfoldable pub begins : List ℕ → ℕ → List ℕ → Bool
 begins ring r [] = true
 begins ring r (x ∷ rest) = eqb x (getD ring (r % length ring) 0) && begins ring (suc r) rest

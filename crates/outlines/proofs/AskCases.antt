@@ -14,9 +14,11 @@ use Rattle.outlines.specs.Hiding.{addressOf, heldFor, hides, IsHiddenOrS
 
 module _ {book : List ℕ} (asked : BookAsked) (cell ringNumber : ℕ) (f : Finding) {address : Address} {held : Sought} (sought : IsSoughtOn book (asked .held) address held)
     {t : Bool} (asked-for : IsAskedFor held address t) (address-is : silenceOf address ≡ addressOf cell ringNumber f) where
+  -- the field sought is the field for the finding
   held-is : soughtOf held ≡ heldFor cell ringNumber book f (soughtOf (asked .held))
   held-is = rw address-is at (sought .is)
 
+  -- counting by the answer t of `is_for` meets the contract of `ask`
   is-asked : {now-shown now-hidden : ℕ} → now-shown ≡ cond t (asked .shown) (asked .shown + 1) → now-hidden ≡ cond t (asked .hidden + 1) (asked .hidden)
       → IsHiddenOrShown cell ringNumber book asked f (record { shown = now-shown; hidden = now-hidden; held = held })
   is-asked s h =
@@ -31,6 +33,6 @@ module _ {book : List ℕ} (asked : BookAsked) (cell ringNumber : ℕ) (f : Find
   pub ask-hidden : t ≡ true → IsHiddenOrShown cell ringNumber book asked f (record { shown = asked .shown; hidden = asked .hidden + 1; held = held })
   ask-hidden e = is-asked (rw e refl) (rw e refl)
 
-  -- If it has not, counting the finding as shown meets the contract.
+  -- If the field does not have the finding's address, counting the finding as shown meets the contract of `ask`.
   pub ask-shown : t ≡ false → IsHiddenOrShown cell ringNumber book asked f (record { shown = asked .shown + 1; hidden = asked .hidden; held = held })
   ask-shown e = is-asked (rw e refl) (rw e refl)

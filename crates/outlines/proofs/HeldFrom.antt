@@ -1,6 +1,6 @@
 -- The book's part of the loop's invariant. The field that the loop holds was sought for a start that is not above the next window's start. Starts rise, so
--- going on from this field to the next finding's address gives what seeking from the book's first byte would give. The field then has the finding's address
--- exactly when the book names the finding.
+-- going on from this field to the next finding's address gives what seeking from the book's first byte would give. If the book is accepted, the field then
+-- has the finding's address exactly when the book names the finding.
 use Prim.Native.Nat.{ℕ, _≤_}
 use mathlib.Core.Path.{_≡_, refl, sym, subst}
 use mathlib.Core.List.{List}

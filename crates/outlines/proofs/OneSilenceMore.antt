@@ -17,6 +17,7 @@ use Rattle.outlines.specs.declared.reporting.Reported.{Reported}
 use Rattle.outlines.specs.Report.{isHidden, those, hidden, IsReported}
 use Rattle.outlines.proofs.SilencesAlike.{NamesAlike, hidden-same, reports-same}
 
+-- the first two of three tests joined by "or" can be exchanged
 or-other : (a b c : Bool) → (a || (b || c)) ≡ (b || (a || c))
 or-other true true c = refl
 or-other true false c = refl
@@ -87,6 +88,7 @@ module _ (cell ringNumber : ℕ) (s : Silence) (xs ys : List Silence) where
     module _ (book book′ words : List ℕ) (is : readBook book ≡ accepted (xs ++ s ∷ ys)) (is′ : readBook book′ ≡ accepted (xs ++ ys))
         (r r′ : Reported) (out out′ : List ℕ) (p : IsReported cell ringNumber ring line k book words r out)
         (p′ : IsReported cell ringNumber ring line k book′ words r′ out′) where
+      -- if s names the address of no finding, the report without s is the same
       without : ((f : Finding) → IsFinding ring line k f → isSame s (silence cell ringNumber (f .start)) ≡ false) → (r ≡ r′) × (out ≡ out′)
       without idle =
           reports-same (xs ++ s ∷ ys) (xs ++ ys) cell ringNumber ring line k book book′ words is is′ (λ f h. named-same f (idle f h)) r r′ out out′ p p′

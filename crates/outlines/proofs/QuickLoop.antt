@@ -35,7 +35,7 @@ use Rattle.outlines.proofs.ShownAndHidden.{shown-hidden-length}
 use Rattle.outlines.proofs.HeldFrom.{HeldFrom, held-start, held-later, held-turn, held-hides}
 use Rattle.outlines.proofs.SweepKeeps.{SweepKeeps, SweepTurn, sweep-start, sweep-turn}
 
--- The loop's invariant.
+-- The invariant of the loop of `scan_windows`.
 pub record QuickLoop (cell ringNumber : ℕ) (ring doubled table line : List ℕ) (k : ℕ) (book counts₀ area : List ℕ) (at : Sweep) (asked : BookAsked) (counts words : List ℕ) : Type 0 where
   pub can : CanScan ring doubled table line k book counts₀ area
   pub so-far : List Finding
@@ -76,15 +76,15 @@ module _ {cell ringNumber : ℕ} {ring doubled table line : List ℕ} {k : ℕ} 
     counts-add : asked .shown + asked .hidden ≡ length (h .so-far)
     counts-add = omega (arith, h .in-words .count-is, h .hidden-is, shown-hidden-length ss cell ringNumber (h .so-far))
 
-    -- Shown and hidden together are at most 65,536.
+    -- The numbers of shown and of hidden findings so far add up to at most 65,536.
     pub quick-found-le : asked .shown + asked .hidden ≤ mostLine
     quick-found-le = omega (arith, counts-add, scan-found-le ring line k _ _ _ _ (h .sweep .scanning), below-length-le ring line k (length line), h .can .admitted .most-line)
 
-    -- The words keep their length.
+    -- The lent words keep their length.
     pub quick-length : length words ≡ length area
     quick-length = so-far-length (h .in-words) (omega (arith, counts-add, scan-found-le ring line k _ _ _ _ (h .sweep .scanning), room-for-all ring line k (h .can .admitted)))
 
-    -- If no window fits in the line any more, the contract is met.
+    -- If no window fits in the line any more, the contract of `scan_windows` is met.
     pub quick-end : IsPastLine ring line (at .start .0)
         → LineScanned cell ringNumber ring line k book area (asked .shown + asked .hidden) (asked .hidden) (at .looks) words
     quick-end past =
@@ -99,6 +99,7 @@ module _ {cell ringNumber : ℕ} {ring doubled table line : List ℕ} {k : ℕ} 
         }
 
     module _ {r : Swept} {next : Sweep} {counts′ : List ℕ} (swept : IsSweptBy ring doubled table line k at counts counts′ r) (is-next : stateOf r ≡ next) where
+      -- what the turn gives for the sweep's part of the invariant
       turn : SweepTurn ring line k (h .so-far) at r counts′
       turn = sweep-turn (h .can) (h .sweep) swept
 
@@ -106,7 +107,7 @@ module _ {cell ringNumber : ℕ} {ring doubled table line : List ℕ} {k : ℕ} 
       pub quick-less : FitsInLine ring line (at .start .0) → length line + 1 - next .start .0 < length line + 1 - at .start .0
       quick-less in-line = rw is-next at (turn .less in-line)
 
-      -- If the turn reports no finding, the invariant holds with the same words and counts.
+      -- If the turn reports no finding, the invariant holds with the same words; nothing more is shown or hidden.
       pub quick-none : foundOf r ≡ [] → QuickLoop cell ringNumber ring doubled table line k book counts₀ area next asked counts′ words
       quick-none e = record {
         can = h .can;
@@ -125,6 +126,7 @@ module _ {cell ringNumber : ℕ} {ring doubled table line : List ℕ} {k : ℕ} 
             record { start-lt = turn .found f e .are-words .each-lt 0; shown-le = omega arith; hidden-le = omega arith }
 
         module _ {asked′ : BookAsked} (asks : IsHiddenOrShown cell ringNumber book asked f asked′) {out : List ℕ} (put : IsShownPut words (asked .shown) (asked′ .shown) f out) where
+          -- after the turn the sweep's part of the invariant holds, with f behind the findings so far
           sweep-next : SweepKeeps ring line k (h .so-far ++ f ∷ []) next counts′
           sweep-next = rw (is-next, e) at (turn .keeps)
 

@@ -44,20 +44,20 @@ module _ {cell ringNumber : ℕ} {ring line : List ℕ} {k : ℕ} {book words : 
     written = sym (ap (λ (o : Option Refusal). areaBy o (written (wordsOf (shown (silencesRead book) cell ringNumber (findings ring line k))) words) words) e);
   }
 
-  -- If one of rows 1 to 4 is given, returning its refusal and leaving the words meets the contract.
+  -- If one of rows 1 to 4 is given, returning the first one's refusal and leaving the words meets the contract of `report`.
   pub report-refused-row : {refusal : Refusal} → some refusal ≡ refusalOf (length ring) k (length line) (length words)
       → IsReported cell ringNumber ring line k book words (Refused refusal) words
   unfolding reportRows
   report-refused-row e = report-refused (first-append-some (admitRows (length ring) k (length line) (length words)) (bookRows book) (sym e))
 
-  -- If none of them is given and the book has a refusal, returning this and leaving the words meets the contract.
+  -- If none of rows 1 to 4 is given and the book has a refusal, returning this and leaving the words meets the contract of `report`.
   pub report-refused-book : {refusal : Refusal} → none ≡ refusalOf (length ring) k (length line) (length words) → bookRefusal book ≡ some refusal
       → IsReported cell ringNumber ring line k book words (Refused refusal) words
   unfolding reportRows
   report-refused-book no-row e =
       report-refused (first-append-none (admitRows (length ring) k (length line) (length words)) (bookRows book) (sym no-row) ∙ e)
 
-  -- If no row is given and the line is scanned with the book, returning found, hidden and looks meets the contract.
+  -- If no row is given and the line is scanned with the book, returning found, hidden and looks meets the contract of `report`.
   pub report-accepted : {found hid looks : ℕ} {out : List ℕ} → LineScanned cell ringNumber ring line k book words found hid looks out
       → IsReported cell ringNumber ring line k book words (CountsCase found hid looks) out
   unfolding reportAnswer reportedWords

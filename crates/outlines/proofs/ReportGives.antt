@@ -1,5 +1,5 @@
--- What follows for an accepted report: found is the number of findings, hidden the number of those that the book names, and the looks are the steps of rules 1 to 5,
--- "never above 3·m·n − 2·m·m + m, which is at most 3·m·n". RowsOfReport states when a report is accepted and what a refusal returns.
+-- What follows for an accepted report: found is the number of findings, hidden the number of those that the book names, and the looks are the steps of rules 1 to 5.
+-- "For n ≥ m they are never above 3·m·n − 2·m·m + m, which is at most 3·m·n." RowsOfReport states when a report is accepted and what a refusal returns.
 use Prim.Native.Nat.{ℕ, _+_, _-_, _*_, _≤_, _<_}
 use mathlib.Core.Path.{_≡_, refl, ap, _∙_}
 use mathlib.Core.List.{List}

@@ -14,6 +14,7 @@ abbrev answerBack : Answer ReportCounts → Reported
 answerBack (accepted c) = CountsCase (c .found) (c .hidden) (c .looks)
 answerBack (refused refusal) = Refused refusal
 
+-- from its answer an enum is computed back
 answer-back : (r : Reported) → answerBack (answerOf r) ≡ r
 answer-back (CountsCase found hid looks) = refl
 answer-back (Refused refusal) = refl

@@ -1,5 +1,6 @@
--- Rows 1 to 7 of the table hold for every answer that meets the contract of `report`. The first row that is given (`reportRefusal`) decides the paper and the words. So
--- the paper has a row's number exactly when that row is the first (`AnswerByRows` of crates/answers), and FirstOfReport states when it is.
+-- Rows 1 to 7 of the table hold for every answer that meets the contract of `report`, if the book is a list of bytes. The first row that is given (`reportRefusal`)
+-- decides the paper and the words. So the paper has a row's number exactly when that row is the first (`AnswerByRows` of crates/answers), and FirstOfReport states when
+-- it is.
 use Prim.Native.Nat.{ℕ, _≤_}
 use mathlib.Core.Path.{_≡_, refl, ap, _∙_}
 use mathlib.Core.Logic.{Iff·trans, Iff·and, Iff·rfl}

@@ -22,6 +22,7 @@ pub record SameButLooks (a b : Paper Counts) : Type 0 where
   pub place-is : a .place ≡ b .place
   pub found-is : a .counts .found ≡ b .counts .found
 
+-- the papers by the same first row, with the same found, are equal but for their looks
 row-same : (o : Option Refusal) (found looks looks′ : ℕ)
     → SameButLooks (answerPaper noCounts (answerBy o (record { found = found; looks = looks }))) (answerPaper noCounts (answerBy o (record { found = found; looks = looks′ })))
 row-same none found looks looks′ = record { number-is = refl; place-is = refl; found-is = refl }

@@ -1,5 +1,6 @@
 -- What follows for every answer that meets the contract of `scan`: rows 1 to 4 of the table hold, and an accepted scan has counted all findings. Its looks are
--- the steps of rules 1 to 5, "never above 3·m·n − 2·m·m + m, which is at most 3·m·n". SearchGives of crates/findings proves what holds for every search.
+-- the steps of rules 1 to 5. "For n ≥ m they are never above 3·m·n − 2·m·m + m, which is at most 3·m·n." SearchGives of crates/findings proves what holds for
+-- every search.
 use Prim.Native.Nat.{ℕ, _+_, _-_, _*_, _≤_, _<_}
 use mathlib.Core.Path.{_≡_, refl}
 use mathlib.Core.List.{List}
@@ -33,11 +34,11 @@ module _ (ring line : List ℕ) (k : ℕ) (words : List ℕ) (r : Searched) (out
       → paperOf r .counts .looks ≤ 3 * length ring * length line - 2 * length ring * length ring + length ring
   scan-looks-le zero-is h = rw (scan-looks-are zero-is) (quickLooks-le ring line k h)
 
-  -- The looks are at most 3·m·n on every input, accepted or refused.
+  -- The looks of `scan` are at most 3·m·n on every input, accepted or refused.
   pub scan-looks-most : paperOf r .counts .looks ≤ 3 * length ring * length line
   scan-looks-most =
       looks-of-search meets (λ (looks : ℕ). looks ≤ 3 * length ring * length line) (omega arith) (λ some-edge. quickLooks-most ring line k some-edge)
 
-  -- On a line shorter than the ring there is "no look", accepted or refused.
+  -- On a line shorter than the ring `scan` takes "no look", accepted or refused.
   pub scan-no-looks : length line < length ring → paperOf r .counts .looks ≡ 0
   scan-no-looks short = looks-of-search meets (λ (looks : ℕ). looks ≡ 0) refl (λ some-edge. quickLooks-short ring line k short)

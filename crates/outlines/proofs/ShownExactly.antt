@@ -23,12 +23,12 @@ module _ (silences : List Silence) (cell ringNumber : ℕ) where
       go false e = (λ _ n. false≢true (sym e ∙ names-iff cell ringNumber (f .start) silences .1 n), λ _. refl)
 
   module _ (ring line : List ℕ) (k : ℕ) (pos : 0 < length ring) (f : Finding) where
-    -- f is among the shown exactly when it is a finding and the silences do not name its cell, ring number and start.
+    -- For a ring that is not empty, f is among the shown exactly when it is a finding and the silences do not name its cell, ring number and start.
     pub shown-iff : List·Memᴰ f (shown silences cell ringNumber (findings ring line k))
         ↔ (IsFinding ring line k f × (Names silences cell ringNumber (f .start) → ⊥))
     shown-iff = Iff·trans (taken-iff (isShown silences cell ringNumber) (findings ring line k) f) (Iff·and (findings-iff ring line k pos f) (not-named-iff f))
 
-    -- f is among the hidden exactly when it is a finding and the silences name its cell, ring number and start.
+    -- For a ring that is not empty, f is among the hidden exactly when it is a finding and the silences name its cell, ring number and start.
     pub hidden-iff : List·Memᴰ f (hidden silences cell ringNumber (findings ring line k))
         ↔ (IsFinding ring line k f × Names silences cell ringNumber (f .start))
     hidden-iff = Iff·trans (taken-iff (isHidden silences cell ringNumber) (findings ring line k) f) (Iff·and (findings-iff ring line k pos f) (names-iff cell ringNumber (f .start) silences))

@@ -27,11 +27,11 @@ module _ (ss ts : List Silence) (cell ringNumber : ℕ) where
   abbrev pub NamesAlike : List Finding → Type 0
   NamesAlike fs = (f : Finding) → List·Memᴰ f fs → isHidden ss cell ringNumber f ≡ isHidden ts cell ringNumber f
 
-  -- if so, the same findings are shown
+  -- if each finding of a list is named by both lists of silences or by neither, both show the same ones
   shown-same : (fs : List Finding) → NamesAlike fs → shown ss cell ringNumber fs ≡ shown ts cell ringNumber fs
   shown-same fs h = taken-same (isShown ss cell ringNumber) (isShown ts cell ringNumber) fs (λ f m. ap not (h f m))
 
-  -- If so, the same findings are hidden.
+  -- If each finding of a list is named by both lists of silences or by neither, both hide the same ones.
   pub hidden-same : (fs : List Finding) → NamesAlike fs → hidden ss cell ringNumber fs ≡ hidden ts cell ringNumber fs
   hidden-same fs h = taken-same (isHidden ss cell ringNumber) (isHidden ts cell ringNumber) fs h
 
@@ -65,7 +65,7 @@ module _ (ss ts : List Silence) (cell ringNumber : ℕ) where
             let named : NamesAlike (findings ring line k) = λ f m. alike f (findings-iff ring line k pos f .0 m) in
             accepted-same (shown-same (findings ring line k) named) (hidden-same (findings ring line k) named)
 
-    -- Two reports whose books name the same findings give the same answer and leave the same words.
+    -- Two reports that differ only in their books give the same answer and leave the same words, if both books are accepted and name the same findings.
     pub reports-same : (r r′ : Reported) (out out′ : List ℕ) → IsReported cell ringNumber ring line k book words r out
         → IsReported cell ringNumber ring line k book′ words r′ out′ → (r ≡ r′) × (out ≡ out′)
     unfolding reportAnswer reportedWords

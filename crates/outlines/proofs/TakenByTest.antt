@@ -13,6 +13,7 @@ use Rattle.meaning.specs.Findings.{Rising}
 use Rattle.outlines.specs.Report.{those}
 
 module _ (takes : Finding → Bool) where
+  -- a finding of the list that the test takes is among those taken
   taken-in : (fs : List Finding) (f : Finding) → List·Memᴰ f fs → takes f ≡ true → List·Memᴰ f (those takes fs)
   unfolding those
   taken-in [] f h e = absurd (List·Memᴰ·not-nil h)
@@ -21,6 +22,7 @@ module _ (takes : Finding → Bool) where
       (λ _. ⊎-elim (λ q. List·Memᴰ·head q) (λ m. List·Memᴰ·tail (taken-in fs f m e)) (List·Memᴰ·cases-cons h))
       (λ left. ⊎-elim (λ q. absurd (false≢true (sym left ∙ ap takes (sym q) ∙ e))) (λ m. taken-in fs f m e) (List·Memᴰ·cases-cons h))
 
+  -- a finding among those taken is in the list, and the test takes it
   taken-of : (fs : List Finding) (f : Finding) → List·Memᴰ f (those takes fs) → List·Memᴰ f fs × (takes f ≡ true)
   unfolding those
   taken-of [] f = λ h. absurd (List·Memᴰ·not-nil h)

@@ -2,7 +2,7 @@
 -- records ascend, so the loop keeps the field found last ("held") and goes on from it, never back.
 --
 --   addressOf          the address of a finding: cell, ring number, start
---   heldFor            the first field of the book that is not below this address, sought from the field held
+--   heldFor            the first field of the book, from the field held on, that is not below this address; `faulty` if a faulty field or the book's end comes first
 --   hides              whether that field has this very address
 --   CanAsk             the precondition of `ask`
 --   IsHiddenOrShown    the contract of `ask`
@@ -24,12 +24,12 @@ use Rattle.outlines.specs.declared.asking.BookAsked.{BookAsked}
 abbrev pub addressOf : ℕ → ℕ → Finding → Silence
 addressOf cell ringNumber f = silence cell ringNumber (f .start)
 
--- The field for a finding, given the field held: the held one if it is not below the finding's address, else the first field behind it that is not; `faulty` if there
--- is none.
+-- The field for a finding, given the field held: the held one if it is not below the finding's address, else the first field behind it that is not; `faulty` if a
+-- faulty field or the book's end comes first, or if the held one is `faulty`.
 abbrev pub heldFor : ℕ → ℕ → List ℕ → Finding → FieldAt → FieldAt
 heldFor cell ringNumber book f held = seekField (addressOf cell ringNumber f) held (seekFrom book (addressOf cell ringNumber f))
 
--- Whether that field has the finding's address: then the book hides the finding.
+-- Whether the field for a finding, given the field held, has the finding's address. If so, `ask` counts the finding as hidden.
 abbrev pub hides : ℕ → ℕ → List ℕ → Finding → FieldAt → Bool
 hides cell ringNumber book f held = isFor (addressOf cell ringNumber f) (heldFor cell ringNumber book f held)
 

@@ -22,7 +22,7 @@ pub record CanScanLine (ring line : List ℕ) (k : ℕ) (book words : List ℕ) 
   pub admitted : Admitted (length ring) k (length line) (length words)
   pub book-read : bookRefusal book ≡ none
 
--- The precondition of `scan_windows`: the same, and the ring's vectors, its double and 256 counts are lent. The counts may hold anything.
+-- The precondition of `scan_windows`: none of refusals 1 to 7 is given, and the ring's vectors, its double and 256 counts are lent. The counts may hold anything.
 pub record CanScan (ring doubled table line : List ℕ) (k : ℕ) (book counts words : List ℕ) : Type 0 where
   pub admitted : Admitted (length ring) k (length line) (length words)
   pub book-read : bookRefusal book ≡ none
@@ -30,8 +30,8 @@ pub record CanScan (ring doubled table line : List ℕ) (k : ℕ) (book counts w
   pub twice : IsDoubled ring doubled
   pub size : length counts ≡ mostCounts
 
--- The contract of both: no refusal is given; found is the number of findings, `hid` the number of those that the book's silences hide, the looks are the quick scan's,
--- and the words of the shown findings are written.
+-- The contract of `scan_line` and `scan_windows`: no refusal is given; found is the number of findings, `hid` the number of those that the book's silences hide, the
+-- looks are the quick scan's, and the words of the shown findings are written.
 pub record LineScanned (cell ringNumber : ℕ) (ring line : List ℕ) (k : ℕ) (book words : List ℕ) (found hid looks : ℕ) (out : List ℕ) : Type 0 where
   pub admitted : Admitted (length ring) k (length line) (length words)
   pub book-read : bookRefusal book ≡ none

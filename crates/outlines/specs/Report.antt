@@ -1,14 +1,14 @@
 -- Document 01, "What each call returns", the report: "The report, given a 32-bit cell and a 16-bit ring number, runs the quick scan and returns found
 -- (hidden ones included), hidden, looks"; "the report writes the shown ones only". Its contract, `IsReported`, is one record and holds on every input.
 --
---   isHidden, isShown              a silence of the book names the finding's cell, ring number and start; none does
+--   isHidden, isShown              a silence of the book names the report's cell and ring number and the finding's start; none does
 --   those                          the findings of a list that pass a test, in their order
 --   shown, hidden                  the findings of a list that are shown, and those that are hidden
 --   reportRows                     "report 1 to 7"
 --   reportRefusal                  the refusal of the first of these rows that is given, if one is
 --   ReportCounts, noReportCounts   found, hidden and looks; all zero
 --   reportCounts                   the counts of a report, given the silences of its book
---   reportAnswer                       the answer that a report must give: its counts, or a refusal
+--   reportAnswer                   the answer that a report must give: its counts, or a refusal
 --   reportedWords                  the lent words at exit
 --   answerOf, paperOf              a returned enum as an answer, and as document 01's number, place and counts
 --   IsReported                     the contract of `report`
@@ -30,7 +30,7 @@ use Rattle.findings.specs.Admitting.{admitRows}
 use Rattle.outlines.specs.declared.reporting.Reported.{Reported}
 use Rattle.outlines.specs.declared.reporting.Reported.the-variants.{Counts as CountsCase, Refused}
 
--- A finding is hidden exactly when one of the silences names its cell, ring number and start.
+-- A finding is hidden exactly when one of the silences names the report's cell and ring number and the finding's start.
 abbrev pub isHidden : List Silence → ℕ → ℕ → Finding → Bool
 isHidden silences cell ringNumber f = names silences cell ringNumber (f .start)
 
@@ -56,7 +56,7 @@ hidden silences cell ringNumber fs = those (isHidden silences cell ringNumber) f
 unfoldable pub reportRows : ℕ → ℕ → ℕ → ℕ → List ℕ → List (Option Refusal)
 reportRows m k n room book = admitRows m k n room ++ bookRows book
 
--- The refusal of the first of these rows that is given; none if no row is.
+-- The refusal of the first of rows 1 to 7 that is given; none if no row is.
 abbrev pub reportRefusal : ℕ → ℕ → ℕ → ℕ → List ℕ → Option Refusal
 reportRefusal m k n room book = firstGiven (reportRows m k n room book)
 
@@ -83,7 +83,7 @@ unfoldable pub reportAnswer : List ℕ → List ℕ → ℕ → ℕ → ℕ → 
 reportAnswer ring line k cell ringNumber book room =
     answerBy (reportRefusal (length ring) k (length line) room book) (reportCounts ring line k cell ringNumber (silencesRead book))
 
--- The lent words at exit: the words of the shown findings without a gap, then the rest as it was. A refusal "writes nothing to any lent area".
+-- The lent words after a report: the words of the shown findings without a gap, then the rest as it was. A refusal "writes nothing to any lent area".
 unfoldable pub reportedWords : List ℕ → List ℕ → ℕ → ℕ → ℕ → List ℕ → List ℕ → List ℕ
 reportedWords ring line k cell ringNumber book words =
     areaBy (reportRefusal (length ring) k (length line) (length words) book)

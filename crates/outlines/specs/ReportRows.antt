@@ -1,6 +1,6 @@
 -- Document 01, "What each call returns": rows 1 to 7 of the table as they read for the report, with "Given exactly when", number and place written out, in their
 -- order. The contract uses `reportRows` of specs/Report.antt. This is the same table in plain comparisons, and proofs/RowsOfReport.antt proves it for every answer
--- that meets the contract. The number is one of 0 to 7, so exactly one of the eight conditions holds.
+-- that meets the contract, if the book is a list of bytes. The number is one of 0 to 7, so exactly one of the eight conditions holds.
 --
 --   ReportRows    the table, for an answer's paper and the words at exit
 use Prim.Native.Nat.{ℕ, _+_, _-_, _*_, _≤_, _<_}

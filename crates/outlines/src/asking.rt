@@ -13,8 +13,8 @@ ghost use Rattle.silences.specs.Addresses.{silenceOf};
 ghost use Rattle.findings.specs.Putting.{findingOf};
 ghost use Rattle.outlines.specs.Hiding.{CanAsk, IsHiddenOrShown, IsShownPut};
 
-// The number of findings shown so far, of those hidden, and the field that the book gave for the last start. Starts
-// rise, so no field before that one is read again.
+// How many findings were shown so far, how many were hidden, and the field that the book gave for the last start asked
+// for (at first start 0). Starts rise, so no field before that one is read again.
 pub struct BookAsked {
     pub shown: usize,
     pub hidden: usize,
@@ -33,7 +33,8 @@ pub fn address_of(cell: u32, ring_number: u16, start: LinePlace) -> Address
     }
 }
 
-// Counts one finding more: as hidden if the book has a field for its address, else as shown. No word is written.
+// Counts one finding more: as hidden if the field sought from the held one on has its address, else as shown. No word is
+// written.
 pub fn ask(
     cell: u32,
     ring_number: u16,

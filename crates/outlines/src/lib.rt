@@ -1,9 +1,9 @@
-// Outlines stored twice: a ring's rotated copies in a line of edges, with at most k differing edges.
+// Finds where a ring occurs in a line of edges, in any rotation, with at most k differing edges.
 //
 // `scan` is the quick scan of document 01, rules 1 to 5; its contract is in specs/Scan.antt. `report` is the same scan
 // with a silence book, which is asked for each finding before its words are written; its contract is in
 // specs/Report.antt. One loop serves both (src/quick.rt): the scan lends it an empty book. `survey`, the plain survey,
-// is re-exported from crates/survey. No public function has a `requires`: each takes every input.
+// is re-exported from crates/survey. No function handed out here has a `requires`: each takes every input.
 mod asking;
 mod quick;
 mod reporting;

@@ -27,6 +27,6 @@ module _ (ring line : List ℕ) (k : ℕ) (words : List ℕ) (r : Searched) (out
       → paperOf r .counts .looks ≡ 2 * length ring * length line - length ring * length ring
   survey-looks-are zero-is h = accepted-gives meets zero-is .looks-are ∙ surveyLooks-is ring line (accepted-gives meets zero-is .admitted .some-edge) h
 
-  -- On a line shorter than the ring the looks are 0, accepted or refused.
+  -- On a line shorter than the ring the looks of `survey` are 0, accepted or refused.
   pub survey-looks-short : length line < length ring → paperOf r .counts .looks ≡ 0
   survey-looks-short h = looks-of-search meets (λ (looks : ℕ). looks ≡ 0) refl (λ some-edge. surveyLooks-short ring line h)

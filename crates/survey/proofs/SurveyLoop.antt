@@ -1,6 +1,6 @@
--- The loop of `survey_starts`. Before start i the words of the findings below i are put, the looks are those of the starts below i, and the counts are the tally of
--- start i − 1. A turn verifies the starts from i to the one reached; only that one may be a finding. When no window fits in the line any more, all findings are
--- found.
+-- The loop of `survey_starts`. Before start i the words of the findings below i are put, the looks are those of the starts below i, and for i above 0 the counts
+-- are the tally of start i − 1. A turn verifies the starts from i to the one reached; only that one may be a finding. When no window fits in the line any more,
+-- all findings are found.
 use Prim.Native.Nat.{ℕ, _+_, _-_, _*_, _≤_, _<_}
 use mathlib.Core.Path.{_≡_, refl, sym, ap, _∙_}
 use mathlib.Core.List.{List, [], _∷_, _++_, append-nil}
@@ -27,7 +27,7 @@ use Rattle.findings.specs.Putting.{findingOf, IsFindingPut}
 use Rattle.survey.specs.Survey.{CanVerifyOn, IsVerifiedOn, CanSurvey, LineSurveyed}
 use Rattle.findings.proofs.WordsSoFar.{admitted-words, WordsSoFar, so-far-none, so-far-length, so-far-more}
 
--- The invariant before start i.
+-- The invariant of the loop of `survey_starts`, before start i.
 pub record SurveyKeeps (ring doubled line : List ℕ) (k : ℕ) (area : List ℕ) (i found looks : ℕ) (counts words : List ℕ) : Type 0 where
   pub can : CanSurvey ring doubled line k counts area
   pub start-le : i ≤ length line
@@ -55,7 +55,7 @@ module _ {ring doubled line : List ℕ} {k : ℕ} {area : List ℕ} {i found loo
   admitted : Admitted (length ring) k (length line) (length area)
   admitted = keeps .can .admitted
 
-  -- If no window fits in the line at i, the contract is met.
+  -- If no window fits in the line at i, the contract of `survey_starts` is met.
   pub survey-end : IsPastLine ring line i → LineSurveyed ring line k area found looks words
   survey-end past =
       let all : findingsBelow ring line k i ≡ findings ring line k = sym (findings-below ring line k i (keeps .start-le) past) in
@@ -65,7 +65,7 @@ module _ {ring doubled line : List ℕ} {k : ℕ} {area : List ℕ} {i found loo
         written = keeps .put .words-are ∙ ap (λ (l : List Finding). written (wordsOf l) area) all;
       }
 
-  -- At most i findings are found.
+  -- Before start i at most i findings are found.
   pub survey-found-le : found ≤ i
   survey-found-le = omega (arith, keeps .put .count-is, below-length-le ring line k i)
 
@@ -143,7 +143,7 @@ module _ {ring doubled line : List ℕ} {k : ℕ} {area : List ℕ} {i found loo
           survey-turn (least-no ring line k start counts′ (reached .least) (admitted .some-edge) (verified .tallied) (verified .least-is) far)
           (rw append-nil (keeps .put)) (keeps .length-is)
 
-      -- If the least count is at most k, the start reached is a finding, and the invariant holds once its words are put.
+      -- If the least count of the start reached is at most k, it is a finding, and the invariant holds once its words are put.
       pub survey-found : {f : FindingStruct} {out : List ℕ} → reached .least ≤ k → IsFindingAt (length ring) counts′ (reached .start) (reached .least) f
           → IsFindingPut words found (findingOf f) out → SurveyKeeps ring doubled line k area (start + 1) (found + 1) (looks + reached .looks) counts′ out
       survey-found {f} near carried put =

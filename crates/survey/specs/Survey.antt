@@ -3,8 +3,9 @@
 -- `surveyLooks` of crates/meaning.
 --
 --   IsSurveyed                   the contract of `survey`
---   CanVerifyOn, IsVerifiedOn    precondition and contract of `verify_on`, which verifies starts up to the next finding or the last start
---   CanSurvey, LineSurveyed      precondition and contract of `survey_starts`, which surveys the line of an accepted call
+--   CanVerifyOn, IsVerifiedOn    precondition and contract of `verify_on`, which counts start 0 afresh, or moves the tally of the start before on to the next finding
+--                                or the last start
+--   CanSurvey, LineSurveyed      precondition and contract of `survey_starts`, which surveys the line of an accepted call; `survey_line` has the same contract
 use Prim.Native.Nat.{ℕ, _+_, _-_, _≤_, _<_}
 use mathlib.Core.Path.{_≡_}
 use mathlib.Core.List.{List}
@@ -24,8 +25,8 @@ IsSurveyed ring line k words r out = IsSearched ring line k (surveyLooks ring li
 
 -- From here on: preconditions and contracts of private functions.
 
--- Precondition of `verify_on` at start i: ring, allowance and line are within the limits, the ring's double is lent, a window fits in the line at i, and for i
--- above 0 the counts are the tally of start i − 1.
+-- Precondition of `verify_on` at start i: there are 256 counts; ring, allowance and line are within the limits; the ring's double is lent; a window fits in the
+-- line at i; and for i above 0 the counts are the tally of start i − 1.
 pub record CanVerifyOn (ring doubled line : List ℕ) (k i : ℕ) (counts : List ℕ) : Type 0 where
   pub can-tally : CanTally ring counts
   pub allowed : k < length ring

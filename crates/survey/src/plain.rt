@@ -16,9 +16,9 @@ ghost use lib.ListN.{length};
 ghost use Rattle.findings.specs.Admitting.{Admitted};
 ghost use Rattle.survey.specs.Survey.{CanVerifyOn, IsVerifiedOn, CanSurvey, LineSurveyed, IsSurveyed};
 
-// Verifies the starts from `start` on, "the first afresh and each next by one step, at m = 1 too": rule 5's test 2·s > m
-// is not made here. The tally is moved on to the next finding, or to the last start, so it is copied once for each
-// finding and not once for each start.
+// Counts start 0 afresh; from a later start it moves the tally of the start before, one step for each start, to the next
+// finding or the last start. Rule 5's test 2·s > m is not made here: "each next by one step, at m = 1 too". The tally is
+// copied once for each such move, not once for each start.
 fn verify_on(
     counts: &mut [u16; MOST_COUNTS],
     ring: &[u8],
