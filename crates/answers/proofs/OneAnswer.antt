@@ -1,4 +1,4 @@
--- Number and place determine the refusal, and the paper determines the answer, whatever its counts are. `refusalOf` and `answerOf` compute the refusal and the
+-- Number and place determine the refusal, and the paper determines the answer, whatever its counts are. `refusalOf` and `answerWith` compute the refusal and the
 -- answer back, so two with the same paper are equal. So any two answers that meet a contract on the paper are equal. The last four laws are about the functions
 -- of this crate, whose contracts are one equation each.
 use Prim.Native.Nat.{ℕ, _≤_}
@@ -64,18 +64,18 @@ number-in (Input place) = omega arith
 
 module _ {C : Type 0} (zeros : C) where
   -- The answer that has this paper.
-  unfoldable answerOf : Paper C → Answer C
-  answerOf p = cond (eqb (p .number) 0) (accepted (p .counts)) (refused (refusalOf (p .number) (p .place)))
+  unfoldable answerWith : Paper C → Answer C
+  answerWith p = cond (eqb (p .number) 0) (accepted (p .counts)) (refused (refusalOf (p .number) (p .place)))
 
   -- From its paper an answer is computed back.
-  answer-back : (a : Answer C) → answerOf (answerPaper zeros a) ≡ a
-  unfolding answerOf
+  answer-back : (a : Answer C) → answerWith (answerPaper zeros a) ≡ a
+  unfolding answerWith
   answer-back (accepted counts) = refl
   answer-back (refused r) = rw (ne-eqb (numberOf r) 0 (λ e. omega (arith, number-in r .0))) (ap refused (refusal-back r))
 
   -- The paper determines the answer.
   pub answer-unique : (a b : Answer C) → answerPaper zeros a ≡ answerPaper zeros b → a ≡ b
-  answer-unique a b e = sym (answer-back a) ∙ ap answerOf e ∙ answer-back b
+  answer-unique a b e = sym (answer-back a) ∙ ap answerWith e ∙ answer-back b
 
 -- Any two answers of `number_of` are equal.
 pub number-of-unique : (refusal : Refusal) (a b : ℕ) → IsNumber refusal a → IsNumber refusal b → a ≡ b

@@ -10,7 +10,7 @@ use mathlib.Core.Option.{Option, none, some}
 use native.Mathlib.Nat.{zero-add}
 use native.Mathlib.Omega.{arith}
 use lib.ListN.{length, length-append}
-use Rattle.lists.specs.Records.{wordsOfEach}
+use Rattle.lists.specs.Records.{numbersOfEach}
 use Rattle.answers.specs.Paper.{accepted}
 use Rattle.silences.specs.Silences.{Silence, silence, isBelow, Below, isSame, names, Names}
 use Rattle.silences.specs.Layout.{fieldOf, layout}
@@ -85,7 +85,7 @@ module _ (address : Silence) where
 -- the fields after some that were read, from where those end
 read-after : {book : List ℕ} {stop : ℕ} (ss ts : List Silence) (last : Option Silence) (at : ℕ) → FieldsRead book last at (ss ++ ts) stop
     → FieldsRead book (lastAfter last ss) (at + length (layout ss)) ts stop
-unfolding wordsOfEach
+unfolding numbersOfEach
 read-after {book} {stop} [] ts last at f = let stays : at ≡ at + 0 = omega arith in subst (λ (n : ℕ). FieldsRead book last n ts stop) stays f
 read-after {book} {stop} (s ∷ ss) ts last at (one-read {next = next} e above more) =
     let from : next + length (layout ss) ≡ at + length (fieldOf s ++ layout ss) =

@@ -9,7 +9,7 @@ use native.Mathlib.Omega.{arith}
 use lib.ListN.{length, length-append}
 use lib.Seq.{sets}
 use Rattle.lists.specs.Areas.{written}
-use Rattle.lists.specs.Records.{wordsOfEach}
+use Rattle.lists.specs.Records.{numbersOfEach}
 use Rattle.lists.proofs.Areas.{written-length, written-more}
 use Rattle.lists.proofs.Records.{each-more}
 use Rattle.answers.specs.Paper.{Answer, accepted}
@@ -60,7 +60,7 @@ pub record PutSoFar (book area : List ℕ) (records : ℕ) (words : List ℕ) (a
 module _ {book area : List ℕ} {records : ℕ} where
   -- The invariant holds before the first field.
   pub put-start : recordCount (readBook book) ≡ accepted records → recordWords * records ≤ length area → PutSoFar book area records area 0 0
-  unfolding written wordsOfEach
+  unfolding written numbersOfEach
   put-start e room =
       let all : HasRecords (readBook book) records = has-records (readBook book) records e in
       let read : IsReadWhole (all .silences) book = accepted-whole-iff book (all .silences) .0 (all .is) in

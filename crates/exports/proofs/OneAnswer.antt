@@ -4,39 +4,39 @@ use mathlib.Core.Path.{_≡_, sym, ap, _∙_}
 use mathlib.Core.List.{List}
 use Rattle.answers.specs.Paper.{Paper}
 use Rattle.outlines.specs.Report.{ReportCounts}
-use Rattle.exports.specs.declared.answering.Answer.{Answer}
+use Rattle.exports.specs.declared.answering.Answer.{Answer as AnswerStruct}
 use Rattle.exports.specs.Exported.{IsExported, IsSurveyExported, IsScanExported, IsReportExported, IsPackExported, IsUnpackExported}
 
 -- the struct that holds a paper
-abbrev answerOf : Paper ReportCounts → Answer
-answerOf p = record { refusal = p .number; place = p .place; found = p .counts .found; hidden = p .counts .hidden; looks = p .counts .looks }
+abbrev structWith : Paper ReportCounts → AnswerStruct
+structWith p = record { refusal = p .number; place = p .place; found = p .counts .found; hidden = p .counts .hidden; looks = p .counts .looks }
 
 -- two structs with the same paper are equal, and so are two areas with the same content
-exported-unique : {p : Paper ReportCounts} {area out out′ : List ℕ} {a b : Answer} → IsExported p area a out → IsExported p area b out′ → (a ≡ b) × (out ≡ out′)
-exported-unique h h′ = (ap answerOf (h .paper ∙ sym (h′ .paper)), h .written ∙ sym (h′ .written))
+exported-unique : {p : Paper ReportCounts} {area out out′ : List ℕ} {a b : AnswerStruct} → IsExported p area a out → IsExported p area b out′ → (a ≡ b) × (out ≡ out′)
+exported-unique h h′ = (ap structWith (h .paper ∙ sym (h′ .paper)), h .written ∙ sym (h′ .written))
 
 -- Any two answers of `outlines_survey` are equal, and any two areas at exit.
-pub survey-unique : (ring line : List ℕ) (k : ℕ) (words : List ℕ) (a b : Answer) (out out′ : List ℕ) → IsSurveyExported ring line k words a out
+pub survey-unique : (ring line : List ℕ) (k : ℕ) (words : List ℕ) (a b : AnswerStruct) (out out′ : List ℕ) → IsSurveyExported ring line k words a out
     → IsSurveyExported ring line k words b out′ → (a ≡ b) × (out ≡ out′)
 survey-unique ring line k words a b out out′ h h′ = exported-unique h h′
 
 -- Any two answers of `outlines_scan` are equal, and any two areas at exit.
-pub scan-unique : (ring line : List ℕ) (k : ℕ) (words : List ℕ) (a b : Answer) (out out′ : List ℕ) → IsScanExported ring line k words a out
+pub scan-unique : (ring line : List ℕ) (k : ℕ) (words : List ℕ) (a b : AnswerStruct) (out out′ : List ℕ) → IsScanExported ring line k words a out
     → IsScanExported ring line k words b out′ → (a ≡ b) × (out ≡ out′)
 scan-unique ring line k words a b out out′ h h′ = exported-unique h h′
 
 -- Any two answers of `outlines_report` are equal, and any two areas at exit.
-pub report-unique : (cell ringNumber : ℕ) (ring line : List ℕ) (k : ℕ) (book words : List ℕ) (a b : Answer) (out out′ : List ℕ)
+pub report-unique : (cell ringNumber : ℕ) (ring line : List ℕ) (k : ℕ) (book words : List ℕ) (a b : AnswerStruct) (out out′ : List ℕ)
     → IsReportExported cell ringNumber ring line k book words a out → IsReportExported cell ringNumber ring line k book words b out′
     → (a ≡ b) × (out ≡ out′)
 report-unique cell ringNumber ring line k book words a b out out′ h h′ = exported-unique h h′
 
 -- Any two answers of `outlines_pack` are equal, and any two areas at exit.
-pub pack-unique : (words area : List ℕ) (a b : Answer) (out out′ : List ℕ) → IsPackExported words area a out → IsPackExported words area b out′
+pub pack-unique : (words area : List ℕ) (a b : AnswerStruct) (out out′ : List ℕ) → IsPackExported words area a out → IsPackExported words area b out′
     → (a ≡ b) × (out ≡ out′)
 pack-unique words area a b out out′ h h′ = exported-unique h h′
 
 -- Any two answers of `outlines_unpack` are equal, and any two areas at exit.
-pub unpack-unique : (book area : List ℕ) (a b : Answer) (out out′ : List ℕ) → IsUnpackExported book area a out → IsUnpackExported book area b out′
+pub unpack-unique : (book area : List ℕ) (a b : AnswerStruct) (out out′ : List ℕ) → IsUnpackExported book area a out → IsUnpackExported book area b out′
     → (a ≡ b) × (out ≡ out′)
 unpack-unique book area a b out out′ h h′ = exported-unique h h′

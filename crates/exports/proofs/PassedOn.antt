@@ -14,8 +14,8 @@ use Rattle.findings.specs.Searching.{paperOf as searchPaperOf, IsSearched}
 use Rattle.findings.proofs.RowsOfSearching.{rows-of-search}
 use Rattle.outlines.specs.declared.reporting.Reported.{Reported}
 use Rattle.outlines.specs.Report.{ReportCounts, paperOf as reportPaperOf, IsReported}
-use Rattle.exports.specs.declared.answering.Answer.{Answer}
-use Rattle.exports.specs.Exported.{paperOf, counted, IsExported}
+use Rattle.exports.specs.declared.answering.Answer.{Answer as AnswerStruct}
+use Rattle.exports.specs.Exported.{paperOf, paperInStruct, IsExported}
 use Rattle.exports.proofs.BookPlaces.{packed-place-le, unpacked-place-le}
 use Rattle.exports.proofs.ReportPlaces.{report-place-le}
 
@@ -42,6 +42,6 @@ pub unpack-place : {book area out : List ℕ} {r : BookAnswer} → IsUnpacked bo
 unpack-place {book} {area} h = omega (arith, place-is (h .paper), unpacked-place-le book (length area))
 
 -- If the call's own contract gives its paper and its area at exit, the struct that holds that paper meets the exported contract with the same paper and area.
-pub passed-on : {C : Type 0} (held : C → ReportCounts) {p q : Paper C} {area out : List ℕ} {a : Answer} → p ≡ q → out ≡ area → paperOf a ≡ counted held p
-    → IsExported (counted held q) area a out
-passed-on held paper written e = record { paper = e ∙ ap (counted held) paper; written = written }
+pub passed-on : {C : Type 0} (held : C → ReportCounts) {p q : Paper C} {area out : List ℕ} {a : AnswerStruct} → p ≡ q → out ≡ area → paperOf a ≡ paperInStruct held p
+    → IsExported (paperInStruct held q) area a out
+passed-on held paper written e = record { paper = e ∙ ap (paperInStruct held) paper; written = written }

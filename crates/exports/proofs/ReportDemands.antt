@@ -18,14 +18,14 @@ use Rattle.lists.specs.Bounds.{IsBytes}
 use Rattle.silences.specs.Silences.{Silence, Names}
 use Rattle.silences.specs.Reading.{silencesRead, bookRows, readBook}
 use Rattle.silences.proofs.BookRows.{book-accepted-iff}
-use Rattle.findings.specs.Admitting.{admitRows, refusalOf}
+use Rattle.findings.specs.Admitting.{admitRows, admitRefusal}
 use Rattle.findings.proofs.AdmitRows.{no-row-iff}
 use Rattle.silences.proofs.AcceptedIsLayout.{book-accepted, accepted-iff}
 use Rattle.outlines.specs.Report.{shown, hidden, ReportCounts, reportCounts, reportRows, reportAnswer, reportedWords}
 use Rattle.outlines.proofs.ShownExactly.{shown-iff, hidden-iff}
 use Rattle.outlines.proofs.ShownAndHidden.{shown-hidden-length}
 use Rattle.outlines.proofs.ShownRising.{shown-rising, hidden-rising}
-use Rattle.exports.specs.declared.answering.Answer.{Answer}
+use Rattle.exports.specs.declared.answering.Answer.{Answer as AnswerStruct}
 use Rattle.exports.specs.Exported.{IsReportExported}
 use Rattle.exports.specs.Demands.{searchTable, bookTable, reportTable, BookNames, Demand2, ReportMeets}
 use Rattle.exports.proofs.RowsAgree.{AllAgree, agree-append, GoesByRows, Accepts, demand-1-met, accepts}
@@ -45,7 +45,7 @@ module _ (cell ringNumber : ℕ) (ring line : List ℕ) (k : ℕ) where
   fs = findings ring line k
 
   -- demand 2 on a report with these silences
-  report-demand-2 : {book words : List ℕ} {ss : List Silence} {r : Answer} {out : List ℕ} → IsBytes book → readBook book ≡ accepted ss → 0 < length ring → r .found ≡ length fs → r .hidden ≡ length (hidden ss cell ringNumber fs) → out ≡ written (wordsOf (shown ss cell ringNumber fs)) words
+  report-demand-2 : {book words : List ℕ} {ss : List Silence} {r : AnswerStruct} {out : List ℕ} → IsBytes book → readBook book ≡ accepted ss → 0 < length ring → r .found ≡ length fs → r .hidden ≡ length (hidden ss cell ringNumber fs) → out ≡ written (wordsOf (shown ss cell ringNumber fs)) words
       → Demand2 (BookNames book cell ringNumber) ring line k words r out
   report-demand-2 {book} {words} {ss} bytes is pos found-is hidden-is words-are =
       let named : (i : ℕ) → Names ss cell ringNumber i ↔ BookNames book cell ringNumber i = named-iff bytes is cell ringNumber in
@@ -66,7 +66,7 @@ module _ (cell ringNumber : ℕ) (ring line : List ℕ) (k : ℕ) where
         words-are = words-are;
       }
 
-module _ (cell ringNumber : ℕ) (ring line : List ℕ) (k : ℕ) (book words : List ℕ) {r : Answer} {out : List ℕ} (bytes : IsBytes book)
+module _ (cell ringNumber : ℕ) (ring line : List ℕ) (k : ℕ) (book words : List ℕ) {r : AnswerStruct} {out : List ℕ} (bytes : IsBytes book)
     (e : IsReportExported cell ringNumber ring line k book words r out) where
   abbrev rows : List (Option Refusal)
   rows = reportRows (length ring) k (length line) (length words) book
@@ -91,7 +91,7 @@ module _ (cell ringNumber : ℕ) (ring line : List ℕ) (k : ℕ) (book words : 
     taken = accepts reported-by-rows zero-is
 
     -- no row is given, neither of 1 to 4 nor of the book
-    none-of-either : (refusalOf (length ring) k (length line) (length words) ≡ none) × (firstGiven (bookRows book) ≡ none)
+    none-of-either : (admitRefusal (length ring) k (length line) (length words) ≡ none) × (firstGiven (bookRows book) ≡ none)
     unfolding reportRows
     none-of-either = none-append-iff (admitRows (length ring) k (length line) (length words)) (bookRows book) .0 (taken .none-given)
 

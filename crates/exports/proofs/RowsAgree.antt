@@ -15,7 +15,7 @@ use Rattle.answers.proofs.FirstRow.{none-some}
 use Rattle.answers.proofs.RowsExactly.{IsRow}
 use Rattle.answers.proofs.AnswerByRows.{accepted-number-iff, accepted-counts}
 use Rattle.outlines.specs.Report.{ReportCounts, noReportCounts}
-use Rattle.exports.specs.declared.answering.Answer.{Answer}
+use Rattle.exports.specs.declared.answering.Answer.{Answer as AnswerStruct}
 use Rattle.exports.specs.Exported.{paperOf}
 use Rattle.exports.specs.Demands.{Row, rowOf, FirstRow, NoRow, Demand1}
 
@@ -110,12 +110,12 @@ none-agrees (some q ∷ os) (r ∷ rs) a = (
 )
 
 -- A call answers by the first row that is given: its struct and its area at exit are that refusal's; or, if no row is given, `counts` and `new`.
-pub record GoesByRows (os : List (Option Refusal)) (counts : ReportCounts) (new area : List ℕ) (r : Answer) (out : List ℕ) : Type 0 where
+pub record GoesByRows (os : List (Option Refusal)) (counts : ReportCounts) (new area : List ℕ) (r : AnswerStruct) (out : List ℕ) : Type 0 where
   pub paper : paperOf r ≡ answerPaper noReportCounts (answerBy (firstGiven os) counts)
   pub written : out ≡ areaBy (firstGiven os) new area
 
 -- A call that answers by its rows meets demand 1, if its rows agree with those of the page of demands.
-pub demand-1-met : {os : List (Option Refusal)} {rs : List Row} {counts : ReportCounts} {new area out : List ℕ} {r : Answer}
+pub demand-1-met : {os : List (Option Refusal)} {rs : List Row} {counts : ReportCounts} {new area out : List ℕ} {r : AnswerStruct}
     → AllAgree os rs → GoesByRows os counts new area r out → Demand1 rs r area out
 demand-1-met {os} {rs} {counts} {new} {area} {out} {r} agree by = go (firstGiven os) refl (by .paper) (by .written)
   where
@@ -163,13 +163,13 @@ demand-1-met {os} {rs} {counts} {new} {area} {out} {r} agree by = go (firstGiven
         some-same h = cc
 
 -- What an accepted call that answers by its rows gives: no row is given, and the counts and the area at exit are the call's own.
-pub record Accepts (os : List (Option Refusal)) (counts : ReportCounts) (new : List ℕ) (r : Answer) (out : List ℕ) : Type 0 where
+pub record Accepts (os : List (Option Refusal)) (counts : ReportCounts) (new : List ℕ) (r : AnswerStruct) (out : List ℕ) : Type 0 where
   pub none-given : firstGiven os ≡ none
   pub counts-are : paperOf r .counts ≡ counts
   pub written : out ≡ new
 
 -- If a call that answers by its rows has refusal 0, `Accepts` holds.
-pub accepts : {os : List (Option Refusal)} {counts : ReportCounts} {new area out : List ℕ} {r : Answer}
+pub accepts : {os : List (Option Refusal)} {counts : ReportCounts} {new area out : List ℕ} {r : AnswerStruct}
     → GoesByRows os counts new area r out → r .refusal ≡ 0 → Accepts os counts new r out
 accepts {os} {counts} {new} {area} {out} {r} by zero-is =
     let none-given = accepted-number-iff noReportCounts counts (firstGiven os) (by .paper) .0 zero-is in

@@ -19,13 +19,13 @@ use Rattle.meaning.proofs.SurveyLooks.{surveyLooks-is, surveyLooks-short}
 use Rattle.answers.specs.declared.refusals.Refusal.{Refusal}
 use Rattle.answers.specs.Paper.{Paper, answerPaper}
 use Rattle.answers.specs.Rows.{answerBy}
-use Rattle.findings.specs.Admitting.{admitRows, refusalOf, Admitted}
+use Rattle.findings.specs.Admitting.{admitRows, admitRefusal, Admitted}
 use Rattle.findings.specs.Searching.{Counts, noCounts, searched, searchPaper, searchedWords}
 use Rattle.findings.proofs.AdmitRows.{is-row-1, is-row-2, is-row-3, is-row-4, no-row-iff}
 use Rattle.outlines.specs.Report.{ReportCounts, noReportCounts}
-use Rattle.exports.specs.declared.answering.Answer.{Answer}
-use Rattle.exports.specs.Exported.{paperOf, counted, searchCounts, IsExported, IsSurveyExported, IsScanExported}
-use Rattle.exports.specs.Demands.{searchTable, NeverNamed, Demand1, Demand2, Demand3, SurveyMeets, ScanMeets, SameWords}
+use Rattle.exports.specs.declared.answering.Answer.{Answer as AnswerStruct}
+use Rattle.exports.specs.Exported.{paperOf, paperInStruct, searchInStruct, IsExported, IsSurveyExported, IsScanExported}
+use Rattle.exports.specs.Demands.{searchTable, NeverNamed, Demand1, Demand2, Demand3, SurveyMeets, ScanMeets, SurveyScanSame}
 use Rattle.exports.proofs.RowsAgree.{AllAgree, row-agrees, GoesByRows, Accepts, demand-1-met, accepts}
 
 -- The rows of a search agree with those of the page of demands, 1 to 4.
@@ -50,23 +50,23 @@ start-shown-iff Named {ring} {line} {k} pos shown-iff i = (
 )
 
 -- the counts of a search as the struct holds them
-abbrev held : List ℕ → List ℕ → ℕ → ℕ → ReportCounts
-held ring line k looks = record { found = length (findings ring line k); hidden = 0; looks = looks }
+abbrev countsInStruct : List ℕ → List ℕ → ℕ → ℕ → ReportCounts
+countsInStruct ring line k looks = record { found = length (findings ring line k); hidden = 0; looks = looks }
 
 -- the paper of a search in the struct, by the first row that is given
-counted-by : (o : Option Refusal) (c : Counts)
-    → counted searchCounts (answerPaper noCounts (answerBy o c)) ≡ answerPaper noReportCounts (answerBy o (searchCounts c))
-counted-by none c = refl
-counted-by (some q) c = refl
+in-struct-by : (o : Option Refusal) (c : Counts)
+    → paperInStruct searchInStruct (answerPaper noCounts (answerBy o c)) ≡ answerPaper noReportCounts (answerBy o (searchInStruct c))
+in-struct-by none c = refl
+in-struct-by (some q) c = refl
 
-module _ (ring line : List ℕ) (k looks : ℕ) (words : List ℕ) {r : Answer} {out : List ℕ}
-    (exported : IsExported (counted searchCounts (searchPaper ring line k (length words) looks)) (searchedWords ring line k words) r out) where
+module _ (ring line : List ℕ) (k looks : ℕ) (words : List ℕ) {r : AnswerStruct} {out : List ℕ}
+    (exported : IsExported (paperInStruct searchInStruct (searchPaper ring line k (length words) looks)) (searchedWords ring line k words) r out) where
   -- a search answers by rows 1 to 4
-  searched-by-rows : GoesByRows (admitRows (length ring) k (length line) (length words)) (held ring line k looks) (written (wordsOf (findings ring line k)) words) words r out
+  searched-by-rows : GoesByRows (admitRows (length ring) k (length line) (length words)) (countsInStruct ring line k looks) (written (wordsOf (findings ring line k)) words) words r out
   unfolding searched searchedWords
   searched-by-rows = record {
     paper = exported .paper
-        ∙ counted-by (refusalOf (length ring) k (length line) (length words)) (record { found = length (findings ring line k); looks = looks });
+        ∙ in-struct-by (admitRefusal (length ring) k (length line) (length words)) (record { found = length (findings ring line k); looks = looks });
     written = exported .written;
   }
 
@@ -76,7 +76,7 @@ module _ (ring line : List ℕ) (k looks : ℕ) (words : List ℕ) {r : Answer} 
 
   module _ (zero-is : r .refusal ≡ 0) where
     -- what an accepted search gives: no row is given, and it counts and writes all findings
-    taken : Accepts (admitRows (length ring) k (length line) (length words)) (held ring line k looks) (written (wordsOf (findings ring line k)) words) r out
+    taken : Accepts (admitRows (length ring) k (length line) (length words)) (countsInStruct ring line k looks) (written (wordsOf (findings ring line k)) words) r out
     taken = accepts searched-by-rows zero-is
 
     -- the call is within the limits and has room
@@ -106,7 +106,7 @@ module _ (ring line : List ℕ) (k looks : ℕ) (words : List ℕ) {r : Answer} 
         }
 
 -- An answer whose looks are those of the quick scan meets demand 3, if the ring is not empty.
-pub looks-demand-3 : {ring line : List ℕ} {k : ℕ} {r : Answer} → 0 < length ring → r .looks ≡ quickLooks ring line k → Demand3 ring line k r
+pub looks-demand-3 : {ring line : List ℕ} {k : ℕ} {r : AnswerStruct} → 0 < length ring → r .looks ≡ quickLooks ring line k → Demand3 ring line k r
 looks-demand-3 {ring} {line} {k} pos are = record {
   looks-are = are;
   looks-le = λ fits. omega (arith, quickLooks-le ring line k fits);
@@ -116,7 +116,7 @@ looks-demand-3 {ring} {line} {k} pos are = record {
 
 module _ (ring line : List ℕ) (k : ℕ) (words : List ℕ) where
   -- `outlines_survey` meets the demands.
-  pub survey-meets : {r : Answer} {out : List ℕ} → IsSurveyExported ring line k words r out → SurveyMeets ring line k words r out
+  pub survey-meets : {r : AnswerStruct} {out : List ℕ} → IsSurveyExported ring line k words r out → SurveyMeets ring line k words r out
   survey-meets e =
       let looks : ℕ = surveyLooks ring line in
       record {
@@ -127,7 +127,7 @@ module _ (ring line : List ℕ) (k : ℕ) (words : List ℕ) where
       }
 
   -- `outlines_scan` meets the demands.
-  pub scan-meets : {r : Answer} {out : List ℕ} → IsScanExported ring line k words r out → ScanMeets ring line k words r out
+  pub scan-meets : {r : AnswerStruct} {out : List ℕ} → IsScanExported ring line k words r out → ScanMeets ring line k words r out
   scan-meets e =
       let looks : ℕ = quickLooks ring line k in
       record {
@@ -137,10 +137,10 @@ module _ (ring line : List ℕ) (k : ℕ) (words : List ℕ) where
       }
 
 -- two answers by the same first row, with the same found, agree in all but their looks
-same-but-looks : (o : Option Refusal) (found looks looks′ : ℕ) {r r′ : Answer} {out out′ : List ℕ}
+same-but-looks : (o : Option Refusal) (found looks looks′ : ℕ) {r r′ : AnswerStruct} {out out′ : List ℕ}
     → paperOf r ≡ answerPaper noReportCounts (answerBy o (record { found = found; hidden = 0; looks = looks }))
     → paperOf r′ ≡ answerPaper noReportCounts (answerBy o (record { found = found; hidden = 0; looks = looks′ }))
-    → out′ ≡ out → SameWords r r′ out out′
+    → out′ ≡ out → SurveyScanSame r r′ out out′
 same-but-looks none found looks looks′ p p′ same = record {
   refusal-is = ap (λ (x : Paper ReportCounts). x .number) p′ ∙ sym (ap (λ (x : Paper ReportCounts). x .number) p);
   place-is = ap (λ (x : Paper ReportCounts). x .place) p′ ∙ sym (ap (λ (x : Paper ReportCounts). x .place) p);
@@ -155,8 +155,8 @@ same-but-looks (some q) found looks looks′ p p′ same = record {
 }
 
 -- On the same arguments, survey and scan give the same refusal and place, the same found, and the same words at exit.
-pub survey-scan-same : (ring line : List ℕ) (k : ℕ) (words : List ℕ) {r r′ : Answer} {out out′ : List ℕ}
-    → IsSurveyExported ring line k words r out → IsScanExported ring line k words r′ out′ → SameWords r r′ out out′
+pub survey-scan-same : (ring line : List ℕ) (k : ℕ) (words : List ℕ) {r r′ : AnswerStruct} {out out′ : List ℕ}
+    → IsSurveyExported ring line k words r out → IsScanExported ring line k words r′ out′ → SurveyScanSame r r′ out out′
 survey-scan-same ring line k words e e′ =
-    same-but-looks (refusalOf (length ring) k (length line) (length words)) (length (findings ring line k)) (surveyLooks ring line) (quickLooks ring line k)
+    same-but-looks (admitRefusal (length ring) k (length line) (length words)) (length (findings ring line k)) (surveyLooks ring line) (quickLooks ring line k)
     (searched-by-rows ring line k (surveyLooks ring line) words e .paper) (searched-by-rows ring line k (quickLooks ring line k) words e′ .paper) (e′ .written ∙ sym (e .written))

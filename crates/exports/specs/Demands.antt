@@ -1,4 +1,4 @@
--- The three demands on the calls, stated for what a C caller gets: the struct `Answer` and the lent area at exit. Read this page beside document 01. Nothing here
+-- The three demands on the calls, stated for what a C caller gets: the struct of five numbers and the lent area at exit. Read this page beside document 01. Nothing here
 -- says how a call works. proofs/SearchDemands.antt (survey and scan), proofs/ReportDemands.antt and proofs/BookDemands.antt prove that each call meets its demands.
 --
 --   Row, rowOf, FirstRow, NoRow              a row of the table of refusals; the first row that is given; no row is given
@@ -11,7 +11,7 @@
 --   Demand3                                  the looks of scan and report
 --   SurveyMeets, ScanMeets, ReportMeets,     the demands on each call
 --   UnpackMeets, PackMeets
---   SameWords                                survey and scan give the same findings
+--   SurveyScanSame                           survey and scan give the same findings
 --
 -- The theorems require that a book's numbers are below 256 and that words are below 2^32. A C caller's types guarantee both.
 use Prim.Native.Nat.{ℕ, _+_, _-_, _*_, _%_, _≤_, _<_}
@@ -28,7 +28,7 @@ use Rattle.silences.specs.Layout.{layout}
 use Rattle.silences.specs.Books.{IsBook}
 use Rattle.silences.specs.Packing.{silencesOf, wordsOfSilences}
 use Rattle.silences.specs.Faults.{IsFieldFault, IsOrderFault, IsRingFault, IsRecordFault, IsPackable}
-use Rattle.exports.specs.declared.answering.Answer.{Answer}
+use Rattle.exports.specs.declared.answering.Answer.{Answer as AnswerStruct}
 
 -- A row of a call: `r number place` says that the row is given, with this number and this place.
 abbrev pub Row : Type 1
@@ -95,7 +95,7 @@ packTable words room =
 
 -- Demand 1: a call is accepted, or refused with a number of the table under exactly the condition given there; a refusal has zero in every count and writes nothing.
 -- `rows` are the call's rows, `area` its lent area at entry and `out` the same area at exit.
-pub record Demand1 (rows : List Row) (r : Answer) (area out : List ℕ) : Type 0 where
+pub record Demand1 (rows : List Row) (r : AnswerStruct) (area out : List ℕ) : Type 0 where
   -- The answer's refusal is 0 exactly when no row is given, and then its place is 0.
   pub accepted-iff : (r .refusal ≡ 0) ↔ NoRow rows
   pub accepted-place : r .refusal ≡ 0 → r .place ≡ 0
@@ -119,7 +119,7 @@ abbrev pub NeverNamed : ℕ → Type 0
 NeverNamed start = ⊥
 
 -- Demand 2 on an accepted survey, scan or report: it writes exactly the findings whose starts the book does not name. `Named` says which starts it names.
-pub record Demand2 (Named : ℕ → Type 0) (ring line : List ℕ) (k : ℕ) (words : List ℕ) (r : Answer) (out : List ℕ) : Type 0 where
+pub record Demand2 (Named : ℕ → Type 0) (ring line : List ℕ) (k : ℕ) (words : List ℕ) (r : AnswerStruct) (out : List ℕ) : Type 0 where
   pub shown : List Finding
   pub hidden : List Finding
   -- A start is among the shown exactly when some rotation differs from its window in at most k places and the book does not name it.
@@ -140,21 +140,21 @@ pub record Demand2 (Named : ℕ → Type 0) (ring line : List ℕ) (k : ℕ) (wo
   pub words-are : out ≡ written (wordsOf shown) words
 
 -- Demand 2 on unpacking: a book is accepted exactly when it is the layout of ascending silences in range, at most 1,000 of them, and there is room for their words.
-pub record UnpackDemand2 (book area : List ℕ) (r : Answer) (out : List ℕ) : Type 0 where
+pub record UnpackDemand2 (book area : List ℕ) (r : AnswerStruct) (out : List ℕ) : Type 0 where
   pub accepted-iff : (r .refusal ≡ 0) ↔ ((ss : List Silence) × IsBook ss book × (length (wordsOfSilences ss) ≤ length area))
   -- "return the number of records and leave room beyond their output unwritten"
   pub found-is : (ss : List Silence) → IsBook ss book → r .refusal ≡ 0 → r .found ≡ length ss
   pub words-are : (ss : List Silence) → IsBook ss book → r .refusal ≡ 0 → out ≡ written (wordsOfSilences ss) area
 
 -- Demand 2 on packing: words are accepted exactly when they are silences that can be packed and there is room for their layout; the layout, a book, is written.
-pub record PackDemand2 (words area : List ℕ) (r : Answer) (out : List ℕ) : Type 0 where
+pub record PackDemand2 (words area : List ℕ) (r : AnswerStruct) (out : List ℕ) : Type 0 where
   pub accepted-iff : (r .refusal ≡ 0) ↔ (IsPackable words × (length (layout (silencesOf words)) ≤ length area))
   pub found-is : r .refusal ≡ 0 → r .found ≡ length (silencesOf words)
   pub book-is : r .refusal ≡ 0 → IsBook (silencesOf words) (layout (silencesOf words))
   pub bytes-are : r .refusal ≡ 0 → out ≡ written (layout (silencesOf words)) area
 
 -- Demand 3 on an accepted scan or report: its looks are the steps of rules 1 to 5, within the document's bound.
-pub record Demand3 (ring line : List ℕ) (k : ℕ) (r : Answer) : Type 0 where
+pub record Demand3 (ring line : List ℕ) (k : ℕ) (r : AnswerStruct) : Type 0 where
   -- "Looks are the sum over rules 1 and 5."
   pub looks-are : r .looks ≡ quickLooks ring line k
   -- "For n ≥ m they are never above 3·m·n − 2·m·m + m, which is at most 3·m·n."
@@ -165,44 +165,44 @@ pub record Demand3 (ring line : List ℕ) (k : ℕ) (r : Answer) : Type 0 where
 
 -- Demand 2 on packing and unpacking in turn: the second call gives back what the first was given (`given`). It accepts what the first wrote, counts as many records,
 -- and its area at exit (`out`) begins with `given`.
-pub record GivesBack (given : List ℕ) (first second : Answer) (out : List ℕ) : Type 0 where
+pub record GivesBack (given : List ℕ) (first second : AnswerStruct) (out : List ℕ) : Type 0 where
   pub accepted : second .refusal ≡ 0
   pub found-is : second .found ≡ first .found
   pub front-is : take (length given) out ≡ given
 
 -- The demands on `outlines_survey`. "2·m·n − m·m looks for n ≥ m, else 0"
-pub record SurveyMeets (ring line : List ℕ) (k : ℕ) (words : List ℕ) (r : Answer) (out : List ℕ) : Type 0 where
+pub record SurveyMeets (ring line : List ℕ) (k : ℕ) (words : List ℕ) (r : AnswerStruct) (out : List ℕ) : Type 0 where
   pub demand-1 : Demand1 (searchTable (length ring) k (length line) (length words)) r words out
   pub demand-2 : r .refusal ≡ 0 → Demand2 NeverNamed ring line k words r out
   pub looks-are : r .refusal ≡ 0 → length ring ≤ length line → r .looks ≡ 2 * length ring * length line - length ring * length ring
   pub no-looks : r .refusal ≡ 0 → length line < length ring → r .looks ≡ 0
 
 -- The demands on `outlines_scan`.
-pub record ScanMeets (ring line : List ℕ) (k : ℕ) (words : List ℕ) (r : Answer) (out : List ℕ) : Type 0 where
+pub record ScanMeets (ring line : List ℕ) (k : ℕ) (words : List ℕ) (r : AnswerStruct) (out : List ℕ) : Type 0 where
   pub demand-1 : Demand1 (searchTable (length ring) k (length line) (length words)) r words out
   pub demand-2 : r .refusal ≡ 0 → Demand2 NeverNamed ring line k words r out
   pub demand-3 : r .refusal ≡ 0 → Demand3 ring line k r
 
 -- Demand 3: the quick scan lists exactly the survey's findings. For the same ring, line, allowance and lent words, survey and scan return the same refusal, place and
 -- found, and leave the same words.
-pub record SameWords (survey scan : Answer) (survey-out scan-out : List ℕ) : Type 0 where
+pub record SurveyScanSame (survey scan : AnswerStruct) (survey-out scan-out : List ℕ) : Type 0 where
   pub refusal-is : scan .refusal ≡ survey .refusal
   pub place-is : scan .place ≡ survey .place
   pub found-is : scan .found ≡ survey .found
   pub words-are : scan-out ≡ survey-out
 
 -- The demands on `outlines_report`.
-pub record ReportMeets (cell ringNumber : ℕ) (ring line : List ℕ) (k : ℕ) (book words : List ℕ) (r : Answer) (out : List ℕ) : Type 0 where
+pub record ReportMeets (cell ringNumber : ℕ) (ring line : List ℕ) (k : ℕ) (book words : List ℕ) (r : AnswerStruct) (out : List ℕ) : Type 0 where
   pub demand-1 : Demand1 (reportTable (length ring) k (length line) (length words) book) r words out
   pub demand-2 : r .refusal ≡ 0 → Demand2 (BookNames book cell ringNumber) ring line k words r out
   pub demand-3 : r .refusal ≡ 0 → Demand3 ring line k r
 
 -- The demands on `outlines_unpack`.
-pub record UnpackMeets (book area : List ℕ) (r : Answer) (out : List ℕ) : Type 0 where
+pub record UnpackMeets (book area : List ℕ) (r : AnswerStruct) (out : List ℕ) : Type 0 where
   pub demand-1 : Demand1 (unpackTable book (length area)) r area out
   pub demand-2 : UnpackDemand2 book area r out
 
 -- The demands on `outlines_pack`.
-pub record PackMeets (words area : List ℕ) (r : Answer) (out : List ℕ) : Type 0 where
+pub record PackMeets (words area : List ℕ) (r : AnswerStruct) (out : List ℕ) : Type 0 where
   pub demand-1 : Demand1 (packTable words (length area)) r area out
   pub demand-2 : PackDemand2 words area r out

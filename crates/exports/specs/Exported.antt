@@ -2,9 +2,9 @@
 -- crates/findings, outlines, silences, book and meaning; this file only says how the struct holds that answer.
 --
 --   paperOf                              the number, place and counts that the struct stands for
---   searchCounts                         "found and looks"; a search counts nothing hidden
---   recordCounts                         "the number of records", as found
---   counted                              a paper with its counts as the struct holds them
+--   searchInStruct                       "found and looks"; a search counts nothing hidden
+--   recordsInStruct                      "the number of records", as found
+--   paperInStruct                        a paper with its counts as the struct holds them
 --   IsExported                           the contract that all five calls share: the struct's paper, and the lent area at exit
 --   IsSurveyExported, IsScanExported,    the contract of each call
 --   IsReportExported, IsPackExported,
@@ -20,50 +20,50 @@ use Rattle.silences.specs.Packing.{wordsOfSilences, packed, unpacked, areaAtExi
 use Rattle.book.specs.Calls.{recordsPaper}
 use Rattle.findings.specs.Searching.{Counts, searchPaper, searchedWords}
 use Rattle.outlines.specs.Report.{ReportCounts, noReportCounts, reportAnswer, reportedWords}
-use Rattle.exports.specs.declared.answering.Answer.{Answer}
+use Rattle.exports.specs.declared.answering.Answer.{Answer as AnswerStruct}
 
 -- The paper of a struct. "A refusal carries its number and place, zero in every count"; an accepted answer has number 0, which no refusal has.
-abbrev pub paperOf : Answer → Paper ReportCounts
+abbrev pub paperOf : AnswerStruct → Paper ReportCounts
 paperOf a = record { number = a .refusal; place = a .place; counts = record { found = a .found; hidden = a .hidden; looks = a .looks } }
 
 -- "Survey and scan return found and looks": hidden is 0.
-abbrev pub searchCounts : Counts → ReportCounts
-searchCounts c = record { found = c .found; hidden = 0; looks = c .looks }
+abbrev pub searchInStruct : Counts → ReportCounts
+searchInStruct c = record { found = c .found; hidden = 0; looks = c .looks }
 
 -- "Packer and unpacker return the number of records": they stand in found, and the rest is 0.
-abbrev pub recordCounts : ℕ → ReportCounts
-recordCounts records = record { found = records; hidden = 0; looks = 0 }
+abbrev pub recordsInStruct : ℕ → ReportCounts
+recordsInStruct records = record { found = records; hidden = 0; looks = 0 }
 
 -- A paper with its counts as the struct holds them; number and place stay.
-abbrev pub counted : {C : Type 0} → (C → ReportCounts) → Paper C → Paper ReportCounts
-counted held p = record { number = p .number; place = p .place; counts = held (p .counts) }
+abbrev pub paperInStruct : {C : Type 0} → (C → ReportCounts) → Paper C → Paper ReportCounts
+paperInStruct held p = record { number = p .number; place = p .place; counts = held (p .counts) }
 
 -- The contract of an exported call: the returned struct has this paper, and the lent area holds `area-given` at exit.
-pub record IsExported (paper-given : Paper ReportCounts) (area-given : List ℕ) (r : Answer) (out : List ℕ) : Type 0 where
+pub record IsExported (paper-given : Paper ReportCounts) (area-given : List ℕ) (r : AnswerStruct) (out : List ℕ) : Type 0 where
   pub paper : paperOf r ≡ paper-given
   pub written : out ≡ area-given
 
 -- The contract of `outlines_survey`. `words` are the lent words at entry, `out` the same at exit.
-abbrev pub IsSurveyExported : List ℕ → List ℕ → ℕ → List ℕ → Answer → List ℕ → Type 0
+abbrev pub IsSurveyExported : List ℕ → List ℕ → ℕ → List ℕ → AnswerStruct → List ℕ → Type 0
 IsSurveyExported ring line k words r out =
-    IsExported (counted searchCounts (searchPaper ring line k (length words) (surveyLooks ring line))) (searchedWords ring line k words) r out
+    IsExported (paperInStruct searchInStruct (searchPaper ring line k (length words) (surveyLooks ring line))) (searchedWords ring line k words) r out
 
 -- The contract of `outlines_scan`: that of the survey, with the looks of the quick scan.
-abbrev pub IsScanExported : List ℕ → List ℕ → ℕ → List ℕ → Answer → List ℕ → Type 0
+abbrev pub IsScanExported : List ℕ → List ℕ → ℕ → List ℕ → AnswerStruct → List ℕ → Type 0
 IsScanExported ring line k words r out =
-    IsExported (counted searchCounts (searchPaper ring line k (length words) (quickLooks ring line k))) (searchedWords ring line k words) r out
+    IsExported (paperInStruct searchInStruct (searchPaper ring line k (length words) (quickLooks ring line k))) (searchedWords ring line k words) r out
 
 -- The contract of `outlines_report`.
-abbrev pub IsReportExported : ℕ → ℕ → List ℕ → List ℕ → ℕ → List ℕ → List ℕ → Answer → List ℕ → Type 0
+abbrev pub IsReportExported : ℕ → ℕ → List ℕ → List ℕ → ℕ → List ℕ → List ℕ → AnswerStruct → List ℕ → Type 0
 IsReportExported cell ringNumber ring line k book words r out =
     IsExported (answerPaper noReportCounts (reportAnswer ring line k cell ringNumber book (length words))) (reportedWords ring line k cell ringNumber book words) r out
 
 -- The contract of `outlines_pack`. `area` is the area lent for the book, `out` the same at exit.
-abbrev pub IsPackExported : List ℕ → List ℕ → Answer → List ℕ → Type 0
+abbrev pub IsPackExported : List ℕ → List ℕ → AnswerStruct → List ℕ → Type 0
 IsPackExported words area r out =
-    IsExported (counted recordCounts (recordsPaper (packed words (length area)))) (areaAtExit layout (packed words (length area)) area) r out
+    IsExported (paperInStruct recordsInStruct (recordsPaper (packed words (length area)))) (areaAtExit layout (packed words (length area)) area) r out
 
 -- The contract of `outlines_unpack`. `area` is the area lent for the words, `out` the same at exit.
-abbrev pub IsUnpackExported : List ℕ → List ℕ → Answer → List ℕ → Type 0
+abbrev pub IsUnpackExported : List ℕ → List ℕ → AnswerStruct → List ℕ → Type 0
 IsUnpackExported book area r out =
-    IsExported (counted recordCounts (recordsPaper (unpacked book (length area)))) (areaAtExit wordsOfSilences (unpacked book (length area)) area) r out
+    IsExported (paperInStruct recordsInStruct (recordsPaper (unpacked book (length area)))) (areaAtExit wordsOfSilences (unpacked book (length area)) area) r out

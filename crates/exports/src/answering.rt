@@ -12,7 +12,7 @@ ghost use Rattle.answers.specs.Paper.{answerPaper, refused};
 ghost use Rattle.book.specs.Calls.{paperOf as bookPaperOf};
 ghost use Rattle.findings.specs.Searching.{paperOf as searchPaperOf};
 ghost use Rattle.outlines.specs.Report.{noReportCounts, paperOf as reportPaperOf};
-ghost use Rattle.exports.specs.Exported.{paperOf, searchCounts, recordCounts, counted};
+ghost use Rattle.exports.specs.Exported.{paperOf, searchInStruct, recordsInStruct, paperInStruct};
 
 // What every exported call returns. `refusal` is 0 where the call is accepted. A count that a call does not have is 0; pack and
 // unpack return the number of records in `found`.
@@ -44,7 +44,7 @@ fn refused_answer(refusal: Refusal) -> Answer
 // The answer of survey and scan.
 pub fn search_answer(searched: Searched) -> Answer
     requires { ⌜ searchPaperOf searched .place < 2 ^ 32 ⌝ }
-    ensures { λ r. ⌜ paperOf r ≡ counted searchCounts (searchPaperOf searched) ⌝ }
+    ensures { λ r. ⌜ paperOf r ≡ paperInStruct searchInStruct (searchPaperOf searched) ⌝ }
 {
     match searched {
         Searched::Counts { found, looks } => Answer {
@@ -82,7 +82,7 @@ pub fn report_answer(reported: Reported) -> Answer
 // The answer of pack and unpack.
 pub fn book_answer(answer: BookAnswer) -> Answer
     requires { ⌜ bookPaperOf answer .place < 2 ^ 32 ⌝ }
-    ensures { λ r. ⌜ paperOf r ≡ counted recordCounts (bookPaperOf answer) ⌝ }
+    ensures { λ r. ⌜ paperOf r ≡ paperInStruct recordsInStruct (bookPaperOf answer) ⌝ }
 {
     match answer {
         BookAnswer::Records(records) => Answer {

@@ -8,7 +8,7 @@ use lib.ListN.{length}
 use Rattle.meaning.specs.Findings.{findings}
 use Rattle.answers.specs.Paper.{Paper}
 use Rattle.answers.proofs.AnswerByRows.{accepted-number-iff, accepted-counts}
-use Rattle.findings.specs.Admitting.{refusalOf, Admitted}
+use Rattle.findings.specs.Admitting.{admitRefusal, Admitted}
 use Rattle.findings.specs.Searching.{Counts, noCounts, searched, searchPaper}
 use Rattle.findings.proofs.AdmitRows.{no-row-iff}
 
@@ -23,7 +23,7 @@ pub search-counts : (ring line : List ℕ) (k room looks : ℕ) (p : Paper Count
     → AcceptedSearch ring line k room looks p
 unfolding searched
 search-counts ring line k room looks p paper zero-is =
-    let row = refusalOf (length ring) k (length line) room in
+    let row = admitRefusal (length ring) k (length line) room in
     let counts : Counts = record { found = length (findings ring line k); looks = looks } in
     let no-row : row ≡ none = accepted-number-iff noCounts counts row paper .0 zero-is in
     let same : p .counts ≡ counts = accepted-counts noCounts counts row paper no-row in

@@ -1,4 +1,4 @@
--- Rows 1 to 4 of the table hold for every answer of survey and scan that meets the contract. The first row that is given (`refusalOf`) decides the paper and the
+-- Rows 1 to 4 of the table hold for every answer of survey and scan that meets the contract. The first row that is given (`admitRefusal`) decides the paper and the
 -- words. So the paper has a row's number exactly when that row is the first (`AnswerByRows` of crates/answers), and AdmitRows states when it is.
 use Prim.Native.Nat.{ℕ, _≤_}
 use mathlib.Core.Path.{ap}
@@ -13,7 +13,7 @@ use Rattle.answers.specs.declared.refusals.Refusal.{Refusal}
 use Rattle.answers.specs.declared.refusals.Refusal.the-variants.{Ring, Allowance, Line, FindingsRoom}
 use Rattle.answers.proofs.AnswerByRows.{row-number-iff, accepted-number-iff, number-by, place-by, refused-counts, refused-area}
 use Rattle.findings.specs.declared.searching.Searched.{Searched}
-use Rattle.findings.specs.Admitting.{refusalOf}
+use Rattle.findings.specs.Admitting.{admitRefusal}
 use Rattle.findings.specs.Searching.{Counts, noCounts, searched, searchedWords, paperOf, IsSearched}
 use Rattle.findings.specs.SearchRows.{SearchRows}
 use Rattle.findings.proofs.AdmitRows.{row-1-iff, row-2-iff, row-3-iff, row-4-iff, none-iff, row-numbers, row-places}
@@ -26,7 +26,7 @@ rows-of-search {ring} {line} {k} {expected} {words} meets =
     let m = length ring in
     let n = length line in
     let room = length words in
-    let row : Option Refusal = refusalOf m k n room in
+    let row : Option Refusal = admitRefusal m k n room in
     let counts : Counts = record { found = length (findings ring line k); looks = expected } in
     let paper = meets .paper in
     record {

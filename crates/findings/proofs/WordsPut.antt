@@ -5,7 +5,7 @@ use mathlib.Core.List.{List, [], _∷_, _++_}
 use native.Mathlib.Omega.{arith}
 use lib.ListN.{length}
 use lib.Seq.{sets}
-use Rattle.lists.specs.Records.{wordsOfEach}
+use Rattle.lists.specs.Records.{numbersOfEach}
 use Rattle.meaning.specs.Findings.{Finding, findingWords, wordsEach, wordsOf}
 use Rattle.lists.specs.Areas.{written}
 use Rattle.meaning.proofs.Words.{words-length, words-append}
@@ -15,7 +15,7 @@ use Rattle.findings.specs.Putting.{wordsPut}
 -- Putting f into an area that has the words of the `found` findings fs at its front gives the area with the words of fs and f at its front.
 pub put-more : (fs : List Finding) (f : Finding) (found : ℕ) (area : List ℕ) → found ≡ length fs → wordsEach * found + wordsEach ≤ length area
     → wordsPut found f (written (wordsOf fs) area) ≡ written (wordsOf (fs ++ f ∷ [])) area
-unfolding wordsOfEach
+unfolding numbersOfEach
 put-more fs f found area e room =
     let at : wordsEach * found ≡ length (wordsOf fs) = omega (arith, words-length fs) in
     ap (λ (n : ℕ). sets (written (wordsOf fs) area) n (findingWords f)) at
@@ -24,7 +24,7 @@ put-more fs f found area e room =
 
 -- Writing the words of no finding leaves the area as it was.
 pub put-none : (area : List ℕ) → area ≡ written (wordsOf []) area
-unfolding wordsOfEach written
+unfolding numbersOfEach written
 put-none area = refl
 
 -- An area that has room for the words of fs keeps its length when they are written.

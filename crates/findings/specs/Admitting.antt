@@ -4,8 +4,8 @@
 --   roomRequired          the words that row 4 requires
 --   isRow1 to isRow4      the tests: whether each row is given
 --   admitRows             "Order: survey and scan 1 to 4"
---   refusalOf             the refusal of the first of these rows that is given, if one is
---   IsRing                row 1 is not given
+--   admitRefusal          the refusal of the first of these rows that is given, if one is
+--   IsRingLength          row 1 is not given
 --   Admitted              none of these rows is given
 --   verdictOf             the refusal that a verdict holds, if it holds one
 --   IsVerdict             the contract of `admit`
@@ -56,11 +56,11 @@ admitRows m k n room =
     row (isRow1 m) Ring ∷ row (isRow2 m k) Allowance ∷ row (isRow3 n) Line ∷ row (isRow4 m n room) FindingsRoom ∷ []
 
 -- The refusal of the first of rows 1 to 4 that is given; none if no row is.
-abbrev pub refusalOf : ℕ → ℕ → ℕ → ℕ → Option Refusal
-refusalOf m k n room = firstGiven (admitRows m k n room)
+abbrev pub admitRefusal : ℕ → ℕ → ℕ → ℕ → Option Refusal
+admitRefusal m k n room = firstGiven (admitRows m k n room)
 
 -- "Ring: m edges, 1 to 256": row 1 is not given.
-pub record IsRing (m : ℕ) : Type 0 where
+pub record IsRingLength (m : ℕ) : Type 0 where
   pub some-edge : 0 < m
   pub most : m ≤ mostRing
 
@@ -80,4 +80,4 @@ verdictOf (Refused refusal) = some refusal
 -- The contract of `admit`, which returns the verdict r: r holds the refusal of the first row that is given, and accepts if no row is. `room` is the number of
 -- words lent for findings.
 pub record IsVerdict (m k n room : ℕ) (r : Verdict) : Type 0 where
-  pub is : verdictOf r ≡ refusalOf m k n room
+  pub is : verdictOf r ≡ admitRefusal m k n room

@@ -1,5 +1,5 @@
 -- Document 01, "What each call returns": rows 1 to 4 of the table as they read for survey and scan, with "Given exactly when", number and place written out, in
--- their order. The contracts use `refusalOf` of specs/Admitting.antt. This is the same table in plain comparisons, and proofs/RowsOfSearching.antt proves it
+-- their order. The contracts use `admitRefusal` of specs/Admitting.antt. This is the same table in plain comparisons, and proofs/RowsOfSearching.antt proves it
 -- for every answer that meets the contract. The number is one of 0 to 4, so exactly one of the five conditions holds.
 --
 --   SearchRows    the table, for an answer's paper and the words at exit
@@ -9,7 +9,7 @@ use mathlib.Core.Logic.{_↔_, _⊎_}
 use mathlib.Core.List.{List}
 use lib.ListN.{length}
 use Rattle.answers.specs.Paper.{Paper}
-use Rattle.findings.specs.Admitting.{IsRing}
+use Rattle.findings.specs.Admitting.{IsRingLength}
 use Rattle.findings.specs.Searching.{Counts}
 
 -- The table for a search with m, k, n and the lent words. p is the paper of its answer, `out` are the words at exit.
@@ -17,13 +17,13 @@ pub record SearchRows (m k n : ℕ) (words : List ℕ) (p : Paper Counts) (out :
   -- "m = 0 or m > 256"
   pub row-1 : (p .number ≡ 1) ↔ ((m ≡ 0) ⊎ (256 < m))
   -- "k ≥ m", row 1 not given
-  pub row-2 : (p .number ≡ 2) ↔ (IsRing m × (m ≤ k))
+  pub row-2 : (p .number ≡ 2) ↔ (IsRingLength m × (m ≤ k))
   -- "n > 65,536", rows 1 and 2 not given
-  pub row-3 : (p .number ≡ 3) ↔ (IsRing m × ((k < m) × (65536 < n)))
+  pub row-3 : (p .number ≡ 3) ↔ (IsRingLength m × ((k < m) × (65536 < n)))
   -- "n ≥ m and fewer than 3·(n − m + 1) words are lent for findings", rows 1 to 3 not given
-  pub row-4 : (p .number ≡ 4) ↔ (IsRing m × ((k < m) × ((n ≤ 65536) × ((m ≤ n) × (length words < 3 * (n - m + 1))))))
+  pub row-4 : (p .number ≡ 4) ↔ (IsRingLength m × ((k < m) × ((n ≤ 65536) × ((m ≤ n) × (length words < 3 * (n - m + 1))))))
   -- Accepted exactly when none of these rows is given.
-  pub accepted : (p .number ≡ 0) ↔ (IsRing m × ((k < m) × ((n ≤ 65536) × (m ≤ n → 3 * (n - m + 1) ≤ length words))))
+  pub accepted : (p .number ≡ 0) ↔ (IsRingLength m × ((k < m) × ((n ≤ 65536) × (m ≤ n → 3 * (n - m + 1) ≤ length words))))
   -- No other number is given.
   pub number-le : p .number ≤ 4
   -- Each of these rows has place 0, and so has an accepted answer.

@@ -18,7 +18,7 @@ use Rattle.answers.specs.Paper.{Answer, accepted, refused, Paper, answerPaper}
 use Rattle.answers.specs.Rows.{answerBy, areaBy}
 use Rattle.findings.specs.declared.searching.Searched.{Searched}
 use Rattle.findings.specs.declared.searching.Searched.the-variants.{Counts as CountsCase, Refused}
-use Rattle.findings.specs.Admitting.{refusalOf}
+use Rattle.findings.specs.Admitting.{admitRefusal}
 
 -- "found and looks"
 pub record Counts : Type 0 where
@@ -33,12 +33,12 @@ noCounts = record { found = 0; looks = 0 }
 -- looks.
 unfoldable pub searched : List ℕ → List ℕ → ℕ → ℕ → ℕ → Answer Counts
 searched ring line k room looks =
-    answerBy (refusalOf (length ring) k (length line) room) (record { found = length (findings ring line k); looks = looks })
+    answerBy (admitRefusal (length ring) k (length line) room) (record { found = length (findings ring line k); looks = looks })
 
 -- The lent words after a search: the words of the findings "by rising start", then the rest as it was. If the call is refused, all as it was.
 unfoldable pub searchedWords : List ℕ → List ℕ → ℕ → List ℕ → List ℕ
 searchedWords ring line k words =
-    areaBy (refusalOf (length ring) k (length line) (length words)) (written (wordsOf (findings ring line k)) words) words
+    areaBy (admitRefusal (length ring) k (length line) (length words)) (written (wordsOf (findings ring line k)) words) words
 
 -- The contract of the search itself, once the call is accepted: all findings are counted, the looks are `expected`, and the findings' words are written.
 pub record LineSearched (ring line : List ℕ) (k expected : ℕ) (words : List ℕ) (found looks : ℕ) (out : List ℕ) : Type 0 where

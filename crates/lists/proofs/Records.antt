@@ -10,29 +10,29 @@ use lib.ListN.{length, getD, take, drop, length-append, length-drop, take-append
 use lib.Seq.{drop-drop, take-at, drop-at, length-take-le, getD-take, getD-drop}
 use Rattle.lists.specs.ByPlace.{listOf}
 use Rattle.lists.proofs.ByPlace.{listOf-is}
-use Rattle.lists.specs.Records.{wordsOfEach, firstRecords, recordsOf}
+use Rattle.lists.specs.Records.{numbersOfEach, firstRecords, recordsOf}
 
 module _ {A : Type 0} (numbers : A → List ℕ) where
   -- If each record has `width` numbers, a list of records has `width` times as many numbers as records.
-  pub each-length : (width : ℕ) → ((x : A) → length (numbers x) ≡ width) → (xs : List A) → length (wordsOfEach numbers xs) ≡ width * length xs
-  unfolding wordsOfEach
+  pub each-length : (width : ℕ) → ((x : A) → length (numbers x) ≡ width) → (xs : List A) → length (numbersOfEach numbers xs) ≡ width * length xs
+  unfolding numbersOfEach
   each-length width each [] = sym (mul-zero width)
   each-length width each (x ∷ xs) =
-      length-append (numbers x) (wordsOfEach numbers xs)
+      length-append (numbers x) (numbersOfEach numbers xs)
       ∙ ap₂ (λ (a b : ℕ). a + b) (each x) (each-length width each xs)
       ∙ omega (arith, mul-suc width (length xs))
 
   -- The numbers of two lists of records joined are the numbers of the first, then those of the second.
-  pub each-append : (a b : List A) → wordsOfEach numbers (a ++ b) ≡ wordsOfEach numbers a ++ wordsOfEach numbers b
-  unfolding wordsOfEach
+  pub each-append : (a b : List A) → numbersOfEach numbers (a ++ b) ≡ numbersOfEach numbers a ++ numbersOfEach numbers b
+  unfolding numbersOfEach
   each-append [] b = refl
   each-append (x ∷ a) b =
-      ap (λ (l : List ℕ). numbers x ++ l) (each-append a b) ∙ sym (append-assoc (numbers x) (wordsOfEach numbers a) (wordsOfEach numbers b))
+      ap (λ (l : List ℕ). numbers x ++ l) (each-append a b) ∙ sym (append-assoc (numbers x) (numbersOfEach numbers a) (numbersOfEach numbers b))
 
   -- The numbers of a record added at the end stand at the end.
-  pub each-more : (xs : List A) (x : A) → wordsOfEach numbers (xs ++ x ∷ []) ≡ wordsOfEach numbers xs ++ numbers x
-  unfolding wordsOfEach
-  each-more xs x = each-append xs (x ∷ []) ∙ ap (λ (l : List ℕ). wordsOfEach numbers xs ++ l) (append-nil (numbers x))
+  pub each-more : (xs : List A) (x : A) → numbersOfEach numbers (xs ++ x ∷ []) ≡ numbersOfEach numbers xs ++ numbers x
+  unfolding numbersOfEach
+  each-more xs x = each-append xs (x ∷ []) ∙ ap (λ (l : List ℕ). numbersOfEach numbers xs ++ l) (append-nil (numbers x))
 
 -- Of the `width` numbers from place `at` on, number j is the list's number at place `at` + j.
 pub part-at : (width : ℕ) (numbers : List ℕ) (at j : ℕ) → j < width → getD (take width (drop at numbers)) j 0 ≡ getD numbers (at + j) 0
@@ -79,21 +79,21 @@ module _ {A : Type 0} (width : ℕ) (of : List ℕ → A) (some-number : 0 < wid
 
   module _ (numbers : A → List ℕ) where
     -- Records laid out and read back are the same records, if each has `width` numbers and is read back as itself.
-    pub records-of-words : ((x : A) → length (numbers x) ≡ width) → ((x : A) → of (numbers x) ≡ x) → (xs : List A) → recordsOf width of (wordsOfEach numbers xs) ≡ xs
-    unfolding wordsOfEach
+    pub records-of-words : ((x : A) → length (numbers x) ≡ width) → ((x : A) → of (numbers x) ≡ x) → (xs : List A) → recordsOf width of (numbersOfEach numbers xs) ≡ xs
+    unfolding numbersOfEach
     records-of-words each back [] = records-end [] 0 (omega arith)
     records-of-words each back (x ∷ xs) =
-        let rest : List ℕ = wordsOfEach numbers xs in
+        let rest : List ℕ = numbersOfEach numbers xs in
         records-cons (numbers x ++ rest) (omega (arith, each x, length-append (numbers x) rest))
         ∙ ap₂ (λ (y : A) (ys : List A). y ∷ ys) (ap of (take-at (numbers x) rest width (each x)) ∙ back x)
         (ap (recordsOf width of) (drop-at (numbers x) rest width (each x)) ∙ records-of-words each back xs)
 
     -- Numbers read as records and laid out again are the same numbers, if their count is a multiple of `width` and each `width` of them come back as they were.
-    pub words-of-records : ((l : List ℕ) → length l ≡ width → numbers (of l) ≡ l) → (l : List ℕ) → length l % width ≡ 0 → wordsOfEach numbers (recordsOf width of l) ≡ l
-    unfolding recordsOf firstRecords wordsOfEach
+    pub words-of-records : ((l : List ℕ) → length l ≡ width → numbers (of l) ≡ l) → (l : List ℕ) → length l % width ≡ 0 → numbersOfEach numbers (recordsOf width of l) ≡ l
+    unfolding recordsOf firstRecords numbersOfEach
     words-of-records back l whole = first-words (length l / width) l (omega (arith, mod-add-div (length l) width))
       where
-        first-words : (count : ℕ) (l : List ℕ) → length l ≡ width * count → wordsOfEach numbers (firstRecords count width of l) ≡ l
+        first-words : (count : ℕ) (l : List ℕ) → length l ≡ width * count → numbersOfEach numbers (firstRecords count width of l) ≡ l
         first-words zero [] e = refl
         first-words zero (x ∷ l) e = absurd (omega (arith, mul-zero width))
         first-words (suc count) l e =

@@ -7,7 +7,7 @@
 --   IsWords, isWords           every number of a list is a 32-bit word (below 2^32): the fact, and the test   Bounds
 --   listOf                     the list of n numbers that has f p at place p                                  ByPlace
 --   storedFirst, StoredFirst   a list with f p stored at each of its first m places p; the same as facts      ByPlace
---   wordsOfEach                the numbers of a list of records, one record after the other                   Records
+--   numbersOfEach              the numbers of a list of records, one record after the other                   Records
 --   firstRecords, recordsOf    the records of a list of numbers: the first few, and all                       Records
 --   ascii                      the ASCII codes of a text                                                      Texts
 pub mod Areas

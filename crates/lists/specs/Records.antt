@@ -4,9 +4,9 @@ use mathlib.Core.List.{List, [], _∷_, _++_}
 use lib.ListN.{length, take, drop}
 
 -- The numbers of a list of records; `numbers` gives those of one record.
-unfoldable pub wordsOfEach : {A : Type 0} → (A → List ℕ) → List A → List ℕ
-wordsOfEach numbers [] = []
-wordsOfEach numbers (x ∷ xs) = numbers x ++ wordsOfEach numbers xs
+unfoldable pub numbersOfEach : {A : Type 0} → (A → List ℕ) → List A → List ℕ
+numbersOfEach numbers [] = []
+numbersOfEach numbers (x ∷ xs) = numbers x ++ numbersOfEach numbers xs
 
 -- The first `count` records of a list of numbers; `of` gives the record of its `width` numbers.
 unfoldable pub firstRecords : {A : Type 0} → ℕ → ℕ → (List ℕ → A) → List ℕ → List A

@@ -27,7 +27,7 @@ module _ (ring line : List ℕ) (pos : 0 < length ring) (k i : ℕ) where
 
   -- The invariant while the window is read: the held stretch is the line's, and the `past` edges that were read before it have, in every alignment, at least as
   -- many unlike places as there are breaks.
-  record Counting (left : ℕ) (w : Reading) : Type 0 where
+  record BreaksCost (left : ℕ) (w : Reading) : Type 0 where
     past : ℕ
     all : w .read + left ≡ length ring
     parts : length (w .held) + past ≡ w .read
@@ -35,11 +35,11 @@ module _ (ring line : List ℕ) (pos : 0 < length ring) (k i : ℕ) where
     cost : (c : ℕ) → w .breaks ≤ count (unlike ring line c) (i + left + length (w .held)) past
 
   -- Before the first edge nothing is held, and nothing is past.
-  counting-start : Counting (length ring) (unread i)
+  counting-start : BreaksCost (length ring) (unread i)
   counting-start = record { past = 0; all = omega arith; parts = omega arith; from-line = tt; cost = λ c. omega arith }
 
   -- Wherever reading ends, all edges read have at least as many unlike places as there are breaks.
-  counting-end : (left : ℕ) (w : Reading) → Counting left w → Costs w
+  counting-end : (left : ℕ) (w : Reading) → BreaksCost left w → Costs w
   counting-end left w h c =
       let at : i + (length ring - w .read) ≡ i + left = omega (arith, h .all) in
       omega (
@@ -50,7 +50,7 @@ module _ (ring line : List ℕ) (pos : 0 < length ring) (k i : ℕ) where
         ap (λ (n : ℕ). count (unlike ring line c) n (w .read)) at,
       )
 
-  module _ (left : ℕ) (w : Reading) (h : Counting (suc left) w) where
+  module _ (left : ℕ) (w : Reading) (h : BreaksCost (suc left) w) where
     abbrev grown : List ℕ
     grown = windowEdge line i left ∷ w .held
 
@@ -65,10 +65,10 @@ module _ (ring line : List ℕ) (pos : 0 < length ring) (k i : ℕ) where
         subst (λ (n : ℕ). w .breaks ≤ count (unlike ring line c) n (h .past)) at (h .cost c)
 
     -- If the grown stretch fits, it is held. If not, its edges join those past, which then have one unlike place more, for the new break.
-    counting-turn : Counting left (readEdge ring (windowEdge line i left) w)
+    counting-turn : BreaksCost left (readEdge ring (windowEdge line i left) w)
     unfolding readEdge
     counting-turn =
-        by-test (Counting left) (fits ring grown)
+        by-test (BreaksCost left) (fits ring grown)
         (λ _. record {
           past = h .past;
           all = omega (arith, h .all);
@@ -92,7 +92,7 @@ module _ (ring line : List ℕ) (pos : 0 < length ring) (k i : ℕ) where
         })
 
   -- `Costs` holds after the edges left are read, until reading stops.
-  left-costs : (left : ℕ) (w : Reading) → Counting left w → Costs (readLeft ring line k i left w)
+  left-costs : (left : ℕ) (w : Reading) → BreaksCost left w → Costs (readLeft ring line k i left w)
   unfolding readLeft
   left-costs zero w h = counting-end zero w h
   left-costs (suc left) w h =

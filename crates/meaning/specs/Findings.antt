@@ -6,7 +6,7 @@ use mathlib.Core.Bool.{cond, _&&_}
 use mathlib.Core.List.{List, [], _∷_, _++_}
 use lib.Dec.{leb}
 use lib.ListN.{length}
-use Rattle.lists.specs.Records.{wordsOfEach}
+use Rattle.lists.specs.Records.{numbersOfEach}
 use Rattle.meaning.specs.Meanings.{IsStart, isStart, distance, lowestRotation, leastDistance}
 
 -- A finding "carries start, rotation, distance".
@@ -60,4 +60,4 @@ findingWords f = f .start ∷ f .rotation ∷ f .distance ∷ []
 
 -- The words of a list of findings, one after the other without a gap.
 abbrev pub wordsOf : List Finding → List ℕ
-wordsOf fs = wordsOfEach findingWords fs
+wordsOf fs = numbersOfEach findingWords fs

@@ -33,8 +33,8 @@ pub record Sample : Type 0 where
   pub survey-looks : Option ℕ
 
 -- A row as the tables below write it. The findings are given once: the rules are to report the same.
-abbrev row : String → List ℕ → List ℕ → ℕ → List Finding → Option ℕ → Option ℕ → Option ℕ → Sample
-row name ring line k found looks cands survey =
+abbrev sampleRow : String → List ℕ → List ℕ → ℕ → List Finding → Option ℕ → Option ℕ → Option ℕ → Sample
+sampleRow name ring line k found looks cands survey =
     record {
       name = name;
       ring = ring;
@@ -70,18 +70,18 @@ answered s =
 -- The document's table. For P11 it gives "none, one candidate".
 unfoldable pub samples : List Sample
 samples =
-    row "P1" (ascii "GGGTCTA") (ascii "GATACGATACCTAGGGTGATAGAATAG") 0 (finding 10 4 0 ∷ []) none none none
-    ∷ row "P2" (ascii "GGGTCTA") (ascii "GATACGATACCTAGGGTGATAGAATAG") 1 (finding 9 3 1 ∷ finding 10 4 0 ∷ finding 11 5 1 ∷ []) none none none
-    ∷ row "P3" (ascii "ABCDEFGH") (ascii "BCzEzGzA") 3 (finding 0 1 3 ∷ []) none none none
-    ∷ row "P4" (ascii "ABCDEFGH") (ascii "BCzEzGzA") 2 [] none none none
-    ∷ row "P5" (ascii "a") (ascii "ba") 0 (finding 1 0 0 ∷ []) (some 3) none none
-    ∷ row "P6" (ascii "aa") (ascii "aaa") 0 (finding 0 0 0 ∷ finding 1 0 0 ∷ []) (some 12) none none
-    ∷ row "P7" (ascii "abcd") (ascii "zzzzzzzzzz") 1 [] (some 6) none none
-    ∷ row "P8" (ascii "abc") (ascii "ab") 0 [] (some 0) none none
-    ∷ row "P9" (ascii "abc") (ascii "cab") 0 (finding 0 2 0 ∷ []) (some 12) none none
-    ∷ row "P10" (ascii "ab") (ascii "zbz") 1 (finding 0 0 1 ∷ finding 1 1 1 ∷ []) none none none
-    ∷ row "P11" (ascii "abcdef") (ascii "bcdfab") 1 [] (some 42) (some 1) none
-    ∷ row "P12" (ascii "abcdef") (ascii "bcdfab") 3 (finding 0 1 3 ∷ []) (some 42) none none
+    sampleRow "P1" (ascii "GGGTCTA") (ascii "GATACGATACCTAGGGTGATAGAATAG") 0 (finding 10 4 0 ∷ []) none none none
+    ∷ sampleRow "P2" (ascii "GGGTCTA") (ascii "GATACGATACCTAGGGTGATAGAATAG") 1 (finding 9 3 1 ∷ finding 10 4 0 ∷ finding 11 5 1 ∷ []) none none none
+    ∷ sampleRow "P3" (ascii "ABCDEFGH") (ascii "BCzEzGzA") 3 (finding 0 1 3 ∷ []) none none none
+    ∷ sampleRow "P4" (ascii "ABCDEFGH") (ascii "BCzEzGzA") 2 [] none none none
+    ∷ sampleRow "P5" (ascii "a") (ascii "ba") 0 (finding 1 0 0 ∷ []) (some 3) none none
+    ∷ sampleRow "P6" (ascii "aa") (ascii "aaa") 0 (finding 0 0 0 ∷ finding 1 0 0 ∷ []) (some 12) none none
+    ∷ sampleRow "P7" (ascii "abcd") (ascii "zzzzzzzzzz") 1 [] (some 6) none none
+    ∷ sampleRow "P8" (ascii "abc") (ascii "ab") 0 [] (some 0) none none
+    ∷ sampleRow "P9" (ascii "abc") (ascii "cab") 0 (finding 0 2 0 ∷ []) (some 12) none none
+    ∷ sampleRow "P10" (ascii "ab") (ascii "zbz") 1 (finding 0 0 1 ∷ finding 1 1 1 ∷ []) none none none
+    ∷ sampleRow "P11" (ascii "abcdef") (ascii "bcdfab") 1 [] (some 42) (some 1) none
+    ∷ sampleRow "P12" (ascii "abcdef") (ascii "bcdfab") 3 (finding 0 1 3 ∷ []) (some 42) none none
     ∷ []
 
 -- Computed from the meanings and rules, every row has the answers of the document's table.
@@ -95,14 +95,14 @@ samples-right = refl
 -- the codes 0 and 255.
 unfoldable pub own-samples : List Sample
 own-samples =
-    row "afresh where 2·s > m" (ascii "aab") (ascii "baaab") 0 (finding 0 2 0 ∷ finding 2 0 0 ∷ []) (some 27) (some 2) (some 21)
-    ∷ row "one step" (ascii "aaa") (ascii "aaaa") 0 (finding 0 0 0 ∷ finding 1 0 0 ∷ []) (some 21) (some 2) (some 15)
-    ∷ row "two steps over a start that is no candidate" (ascii "aaaab") (ascii "baaaaab") 0 (finding 0 4 0 ∷ finding 2 0 0 ∷ []) (some 60) (some 2) (some 45)
-    ∷ row "one edge" (ascii "a") (ascii "aaa") 0 (finding 0 0 0 ∷ finding 1 0 0 ∷ finding 2 0 0 ∷ []) (some 6) (some 3) (some 5)
-    ∷ row "the break edge is in no stretch" (ascii "abc") (ascii "aac") 1 (finding 0 0 1 ∷ []) (some 12) (some 1) (some 9)
-    ∷ row "a candidate is the last verified one, finding or not" (ascii "abc") (ascii "aaaa") 1 [] (some 21) (some 2) (some 15)
-    ∷ row "the tally is kept over a jump" (ascii "aaaaaab") (ascii "aabaaaabaa") 0 (finding 0 4 0 ∷ finding 3 2 0 ∷ []) (some 111) (some 2) (some 91)
-    ∷ row "codes 0 and 255" (0 ∷ 255 ∷ []) (255 ∷ 0 ∷ 255 ∷ 255 ∷ []) 0 (finding 0 1 0 ∷ finding 1 0 0 ∷ []) (some 14) (some 2) (some 12)
+    sampleRow "afresh where 2·s > m" (ascii "aab") (ascii "baaab") 0 (finding 0 2 0 ∷ finding 2 0 0 ∷ []) (some 27) (some 2) (some 21)
+    ∷ sampleRow "one step" (ascii "aaa") (ascii "aaaa") 0 (finding 0 0 0 ∷ finding 1 0 0 ∷ []) (some 21) (some 2) (some 15)
+    ∷ sampleRow "two steps over a start that is no candidate" (ascii "aaaab") (ascii "baaaaab") 0 (finding 0 4 0 ∷ finding 2 0 0 ∷ []) (some 60) (some 2) (some 45)
+    ∷ sampleRow "one edge" (ascii "a") (ascii "aaa") 0 (finding 0 0 0 ∷ finding 1 0 0 ∷ finding 2 0 0 ∷ []) (some 6) (some 3) (some 5)
+    ∷ sampleRow "the break edge is in no stretch" (ascii "abc") (ascii "aac") 1 (finding 0 0 1 ∷ []) (some 12) (some 1) (some 9)
+    ∷ sampleRow "a candidate is the last verified one, finding or not" (ascii "abc") (ascii "aaaa") 1 [] (some 21) (some 2) (some 15)
+    ∷ sampleRow "the tally is kept over a jump" (ascii "aaaaaab") (ascii "aabaaaabaa") 0 (finding 0 4 0 ∷ finding 3 2 0 ∷ []) (some 111) (some 2) (some 91)
+    ∷ sampleRow "codes 0 and 255" (0 ∷ 255 ∷ []) (255 ∷ 0 ∷ 255 ∷ 255 ∷ []) 0 (finding 0 1 0 ∷ finding 1 0 0 ∷ []) (some 14) (some 2) (some 12)
     ∷ []
 
 -- Computed from the meanings and rules, our own rows are right too.

@@ -23,7 +23,7 @@ use Rattle.findings.proofs.SearchAnswers.{refused-search, accepted-search}
 use Rattle.outlines.specs.declared.reporting.Reported.{Reported}
 use Rattle.outlines.specs.declared.reporting.Reported.the-variants.{Counts as CountsCase, Refused}
 use Rattle.outlines.specs.Scan.{IsScanned}
-use Rattle.outlines.specs.Report.{those, shown, hidden, reportRefusal, ReportCounts, noReportCounts, reportCounts, reportAnswer, reportedWords, IsReported}
+use Rattle.outlines.specs.Report.{takenBy, shown, hidden, reportRefusal, ReportCounts, noReportCounts, reportCounts, reportAnswer, reportedWords, IsReported}
 use Rattle.outlines.specs.LineScan.{LineScanned}
 use Rattle.outlines.proofs.OneScanAnswer.{scan-unique}
 use Rattle.outlines.proofs.FirstOfReport.{accepted-book-row}
@@ -40,7 +40,7 @@ no-silence = book-accepted-iff [] [] .0 empty-book .1
 module _ (cell ringNumber : ℕ) where
   -- with no silence all findings are shown
   shown-all : (fs : List Finding) → shown (silencesRead []) cell ringNumber fs ≡ fs
-  unfolding those names
+  unfolding takenBy names
   shown-all fs = rw no-silence (go fs)
     where
       go : (l : List Finding) → shown [] cell ringNumber l ≡ l
@@ -49,7 +49,7 @@ module _ (cell ringNumber : ℕ) where
 
   -- and none is hidden
   hidden-none : (fs : List Finding) → length (hidden (silencesRead []) cell ringNumber fs) ≡ 0
-  unfolding those names
+  unfolding takenBy names
   hidden-none fs = rw no-silence (go fs)
     where
       go : (l : List Finding) → length (hidden [] cell ringNumber l) ≡ 0

@@ -13,13 +13,13 @@ use Rattle.answers.proofs.FirstRow.{first-append-none, first-append-some}
 use Rattle.answers.proofs.RowsExactly.{early-iff, late-iff, none-append-iff}
 use Rattle.silences.specs.Reading.{bookRows, bookRefusal}
 use Rattle.silences.proofs.BookRows.{refusal-has}
-use Rattle.findings.specs.Admitting.{admitRows, refusalOf, Admitted}
+use Rattle.findings.specs.Admitting.{admitRows, admitRefusal, Admitted}
 use Rattle.findings.proofs.AdmitRows.{row-numbers, no-row-iff}
 use Rattle.outlines.specs.Report.{reportRows, reportRefusal}
 
 module _ (m k n room : ℕ) (book : List ℕ) where
   -- A refusal with number 1 to 4 is the report's exactly when it is that of rows 1 to 4.
-  pub early-row-iff : (q : Refusal) → numberOf q ≤ 4 → (reportRefusal m k n room book ≡ some q) ↔ (refusalOf m k n room ≡ some q)
+  pub early-row-iff : (q : Refusal) → numberOf q ≤ 4 → (reportRefusal m k n room book ≡ some q) ↔ (admitRefusal m k n room ≡ some q)
   unfolding reportRows
   early-row-iff q early =
       early-iff (admitRows m k n room) (bookRows book) q
@@ -37,22 +37,22 @@ module _ (m k n room : ℕ) (book : List ℕ) where
   none-row-iff = Iff·trans (none-append-iff (admitRows m k n room) (bookRows book)) (Iff·and (no-row-iff m k n room) Iff·rfl)
 
   -- If P holds for the refusal of rows 1 to 4 and for the book's, then P holds for the report's.
-  pub report-row-has : (P : Refusal → Type 0) → ((q : Refusal) → refusalOf m k n room ≡ some q → P q) → ((q : Refusal) → bookRefusal book ≡ some q → P q)
+  pub report-row-has : (P : Refusal → Type 0) → ((q : Refusal) → admitRefusal m k n room ≡ some q → P q) → ((q : Refusal) → bookRefusal book ≡ some q → P q)
       → (q : Refusal) → reportRefusal m k n room book ≡ some q → P q
   unfolding reportRows
-  report-row-has P early late q e = go (refusalOf m k n room) refl
+  report-row-has P early late q e = go (admitRefusal m k n room) refl
     where
-      go : (o : Option Refusal) → refusalOf m k n room ≡ o → P q
+      go : (o : Option Refusal) → admitRefusal m k n room ≡ o → P q
       go none no-row = late q (sym (first-append-none (admitRows m k n room) (bookRows book) no-row) ∙ e)
       go (some p) is =
           let same : p ≡ q = let first = first-append-some (admitRows m k n room) (bookRows book) is in cc in
           subst P same (early p is)
 
   -- If the book is accepted, the report's refusal is that of rows 1 to 4.
-  pub accepted-book-row : bookRefusal book ≡ none → reportRefusal m k n room book ≡ refusalOf m k n room
+  pub accepted-book-row : bookRefusal book ≡ none → reportRefusal m k n room book ≡ admitRefusal m k n room
   unfolding reportRows
-  accepted-book-row read = go (refusalOf m k n room) refl
+  accepted-book-row read = go (admitRefusal m k n room) refl
     where
-      go : (o : Option Refusal) → refusalOf m k n room ≡ o → firstGiven (admitRows m k n room ++ bookRows book) ≡ o
+      go : (o : Option Refusal) → admitRefusal m k n room ≡ o → firstGiven (admitRows m k n room ++ bookRows book) ≡ o
       go none no-row = first-append-none (admitRows m k n room) (bookRows book) no-row ∙ read
       go (some p) is = first-append-some (admitRows m k n room) (bookRows book) is

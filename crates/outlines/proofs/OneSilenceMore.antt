@@ -14,7 +14,7 @@ use Rattle.silences.specs.Silences.{Silence, silence, isSame, names}
 use Rattle.silences.specs.Reading.{readBook}
 use Rattle.silences.proofs.SilenceOrder.{isSame-iff}
 use Rattle.outlines.specs.declared.reporting.Reported.{Reported}
-use Rattle.outlines.specs.Report.{isHidden, those, hidden, IsReported}
+use Rattle.outlines.specs.Report.{isHidden, takenBy, hidden, IsReported}
 use Rattle.outlines.proofs.SilencesAlike.{NamesAlike, hidden-same, reports-same}
 
 -- the first two of three tests joined by "or" can be exchanged
@@ -64,7 +64,7 @@ module _ (cell ringNumber : ℕ) (s : Silence) (xs ys : List Silence) where
   -- of findings by rising start, one silence more hides at most one finding more
   one-more : (lo hi : ℕ) (fs : List Finding) → Rising lo hi fs
       → length (hidden (xs ++ s ∷ ys) cell ringNumber fs) ≤ length (hidden (xs ++ ys) cell ringNumber fs) + 1
-  unfolding those
+  unfolding takenBy
   one-more lo hi [] rising = omega arith
   one-more lo hi (f ∷ fs) rising = go (isSame s (silence cell ringNumber (f .start))) refl (one-more (suc (f .start)) hi fs (rising .1))
     where

@@ -25,9 +25,9 @@ use Rattle.sweep.specs.declared.sweeping.Sweep.{Sweep}
 use Rattle.sweep.specs.declared.sweeping.Swept.{Swept}
 use Rattle.sweep.specs.Sweeps.{IsSweptBy}
 use Rattle.sweep.specs.SweepRules.{stateOf, foundOf}
-use Rattle.sweep.specs.VerifyingRules.{lastOf}
+use Rattle.sweep.specs.VerifyingRules.{lastStart}
 use Rattle.outlines.specs.declared.asking.BookAsked.{BookAsked}
-use Rattle.outlines.specs.Report.{isHidden, isShown, those, shown, hidden}
+use Rattle.outlines.specs.Report.{isHidden, isShown, takenBy, shown, hidden}
 use Rattle.outlines.specs.Hiding.{hides, CanAsk, IsHiddenOrShown, IsShownPut}
 use Rattle.outlines.specs.LineScan.{CanScan, LineScanned}
 use Rattle.outlines.proofs.TakenByTest.{taken-more-no, taken-more-yes}
@@ -55,10 +55,10 @@ room-for-all ring line k admitted =
 module _ {cell ringNumber : ℕ} {ring doubled table line : List ℕ} {k : ℕ} {book counts₀ area : List ℕ} where
   -- The invariant holds before the first window, with nothing found and the field that the book gives for start 0.
   pub quick-start : (can : CanScan ring doubled table line k book counts₀ area) {at : Sweep} {asked : BookAsked} {first : Address}
-      → at .start .0 ≡ 0 → lastOf (at .last) ≡ none → at .looks ≡ 0
+      → at .start .0 ≡ 0 → lastStart (at .last) ≡ none → at .looks ≡ 0
       → asked .shown ≡ 0 → asked .hidden ≡ 0 → silenceOf first ≡ silence cell ringNumber 0 → IsSought book 0 first (asked .held)
       → QuickLoop cell ringNumber ring doubled table line k book counts₀ area at asked counts₀ area
-  unfolding those
+  unfolding takenBy
   quick-start can {at} s l o no-shown no-hidden zero sought = record {
     can = can;
     so-far = [];

@@ -17,7 +17,7 @@ use Rattle.book.specs.declared.answering.BookAnswer.{BookAnswer}
 use Rattle.book.specs.declared.answering.BookAnswer.the-variants.{Records, Refused as BookRefused}
 use Rattle.book.specs.Calls.{IsRead}
 use Rattle.book.proofs.AcceptedBook.{has-records, has-refusal, read-answer-is}
-use Rattle.findings.specs.Admitting.{admitRows, refusalOf}
+use Rattle.findings.specs.Admitting.{admitRows, admitRefusal}
 use Rattle.outlines.specs.declared.reporting.Reported.the-variants.{Counts as CountsCase, Refused}
 use Rattle.outlines.specs.Report.{shown, reportRows, reportRefusal, noReportCounts, reportCounts, reportAnswer, reportedWords, IsReported}
 use Rattle.outlines.specs.LineScan.{LineScanned}
@@ -45,13 +45,13 @@ module _ {cell ringNumber : ℕ} {ring line : List ℕ} {k : ℕ} {book words : 
   }
 
   -- If one of rows 1 to 4 is given, returning the first one's refusal and leaving the words meets the contract of `report`.
-  pub report-refused-row : {refusal : Refusal} → some refusal ≡ refusalOf (length ring) k (length line) (length words)
+  pub report-refused-row : {refusal : Refusal} → some refusal ≡ admitRefusal (length ring) k (length line) (length words)
       → IsReported cell ringNumber ring line k book words (Refused refusal) words
   unfolding reportRows
   report-refused-row e = report-refused (first-append-some (admitRows (length ring) k (length line) (length words)) (bookRows book) (sym e))
 
   -- If none of rows 1 to 4 is given and the book has a refusal, returning this and leaving the words meets the contract of `report`.
-  pub report-refused-book : {refusal : Refusal} → none ≡ refusalOf (length ring) k (length line) (length words) → bookRefusal book ≡ some refusal
+  pub report-refused-book : {refusal : Refusal} → none ≡ admitRefusal (length ring) k (length line) (length words) → bookRefusal book ≡ some refusal
       → IsReported cell ringNumber ring line k book words (Refused refusal) words
   unfolding reportRows
   report-refused-book no-row e =

@@ -10,7 +10,7 @@ use Rattle.meaning.specs.Looks.{quickLooks, surveyLooks}
 use Rattle.answers.specs.declared.refusals.Refusal.{Refusal}
 use Rattle.answers.specs.Paper.{Paper, answerPaper}
 use Rattle.findings.specs.declared.searching.Searched.{Searched}
-use Rattle.findings.specs.Admitting.{refusalOf}
+use Rattle.findings.specs.Admitting.{admitRefusal}
 use Rattle.answers.specs.Rows.{answerBy}
 use Rattle.findings.specs.Searching.{Counts, noCounts, searched, paperOf, searchPaper}
 use Rattle.outlines.specs.Scan.{IsScanned}
@@ -31,7 +31,7 @@ row-same (some refusal) found looks looks′ = record { number-is = refl; place-
 -- The papers of two searches that differ only in their looks are equal but for the looks.
 search-same : (ring line : List ℕ) (k room looks looks′ : ℕ) → SameButLooks (searchPaper ring line k room looks) (searchPaper ring line k room looks′)
 unfolding searched
-search-same ring line k room looks looks′ = row-same (refusalOf (length ring) k (length line) room) (length (findings ring line k)) looks looks′
+search-same ring line k room looks looks′ = row-same (admitRefusal (length ring) k (length line) room) (length (findings ring line k)) looks looks′
 
 -- Survey and scan give the same number, place and found, and the same words, on every input.
 pub survey-scan-same : (ring line : List ℕ) (k : ℕ) (words : List ℕ) (surveyed scanned : Searched) (out out′ : List ℕ)

@@ -14,7 +14,7 @@ use Rattle.answers.specs.Rows.{answerBy, areaBy}
 use Rattle.silences.specs.Silences.{Silence}
 use Rattle.silences.specs.Reading.{readBook, silencesRead}
 use Rattle.silences.proofs.BookRows.{book-accepted-iff}
-use Rattle.findings.specs.Admitting.{refusalOf}
+use Rattle.findings.specs.Admitting.{admitRefusal}
 use Rattle.findings.proofs.AdmitRows.{no-row-iff}
 use Rattle.outlines.specs.declared.reporting.Reported.{Reported}
 use Rattle.outlines.specs.Report.{isHidden, isShown, shown, hidden, reportRefusal, noReportCounts, reportCounts, reportAnswer, reportedWords, IsReported}
@@ -37,8 +37,8 @@ module _ (ss ts : List Silence) (cell ringNumber : ℕ) where
 
   module _ (ring line : List ℕ) (k : ℕ) (book book′ words : List ℕ) (is : readBook book ≡ accepted ss) (is′ : readBook book′ ≡ accepted ts)
       (alike : (f : Finding) → IsFinding ring line k f → isHidden ss cell ringNumber f ≡ isHidden ts cell ringNumber f) where
-    abbrev row : Option Refusal
-    row = refusalOf (length ring) k (length line) (length words)
+    abbrev first-refusal : Option Refusal
+    first-refusal = admitRefusal (length ring) k (length line) (length words)
 
     -- Both books are accepted, so the refusal of rows 1 to 4 decides what a report returns and writes. If there is none, the silences decide. So any value `by` that is
     -- the same for each refusal, and for equal shown and hidden findings, is the same for the two reports.
@@ -56,9 +56,9 @@ module _ (ss ts : List Silence) (cell ringNumber : ℕ) where
           read .1,
           accepted-book-row (length ring) k (length line) (length words) book′ (read′ .0),
           read′ .1,
-        ) (go row refl)
+        ) (go first-refusal refl)
       where
-        go : (o : Option Refusal) → row ≡ o → by o ss ≡ by o ts
+        go : (o : Option Refusal) → first-refusal ≡ o → by o ss ≡ by o ts
         go (some refusal) e = refused-same refusal
         go none e =
             let pos : 0 < length ring = no-row-iff (length ring) k (length line) (length words) .0 e .some-edge in

@@ -22,15 +22,15 @@ use Rattle.sweep.specs.declared.sweeping.Swept.{Swept}
 use Rattle.sweep.specs.declared.sweeping.Swept.the-variants.{Ended, NoFinding, Found}
 use Rattle.sweep.specs.Sweeps.{IsSweptBy}
 use Rattle.sweep.specs.SweepRules.{stateOf, foundOf, hasEnded, CanSweepOn, IsSweptOn}
-use Rattle.sweep.specs.VerifyingRules.{TalliedBefore, lastOf}
+use Rattle.sweep.specs.VerifyingRules.{TalliedBefore, lastStart}
 use Rattle.sweep.proofs.SweptByRules.{swept-by-rules}
 use Rattle.sweep.proofs.WindowsStopped.{stopped-from-le, stopped-start-le, stopped-scanned}
 use Rattle.outlines.specs.LineScan.{CanScan}
 
 -- The invariant before a turn, with the findings so far.
 pub record SweepKeeps (ring line : List ℕ) (k : ℕ) (so-far : List Finding) (at : Sweep) (counts : List ℕ) : Type 0 where
-  pub scanning : ScanLoop ring line k (at .start .0) (lastOf (at .last)) so-far (at .looks)
-  pub before : TalliedBefore ring line (at .start .0) counts (lastOf (at .last))
+  pub scanning : ScanLoop ring line k (at .start .0) (lastStart (at .last)) so-far (at .looks)
+  pub before : TalliedBefore ring line (at .start .0) counts (lastStart (at .last))
   pub size : length counts ≡ mostCounts
   pub start-le : at .start .0 ≤ length line + 1
 
@@ -56,7 +56,7 @@ module _ {ring doubled table line : List ℕ} {k : ℕ} {book counts₀ area : L
   n = length line
 
   -- The invariant holds before the first window, with nothing found.
-  pub sweep-start : {at : Sweep} → at .start .0 ≡ 0 → lastOf (at .last) ≡ none → at .looks ≡ 0 → SweepKeeps ring line k [] at counts₀
+  pub sweep-start : {at : Sweep} → at .start .0 ≡ 0 → lastStart (at .last) ≡ none → at .looks ≡ 0 → SweepKeeps ring line k [] at counts₀
   sweep-start s l o = record {
     scanning = rw (s, l, o) (scan-start ring line k (can .admitted .some-edge));
     before = rw l tt;
@@ -97,7 +97,7 @@ module _ {ring doubled table line : List ℕ} {k : ℕ} {book counts₀ area : L
           let start-is : next .start .0 ≡ on .stop = ap (λ (s : Sweep). s .start .0) (e .next-is) in
           record {
             keeps = record {
-              scanning = rw (append-nil, e .next-is) (stopped-scanned ring line k (at .start .0) (lastOf (at .last)) so-far (at .looks) (on .stopped-to) (h .scanning));
+              scanning = rw (append-nil, e .next-is) (stopped-scanned ring line k (at .start .0) (lastStart (at .last)) so-far (at .looks) (on .stopped-to) (h .scanning));
               before = rw (e .next-is) (e .before);
               size = e .size;
               start-le = omega (arith, stopped-start-le ring line k (at .start .0) (h .start-le) (on .stopped-to));
@@ -112,12 +112,12 @@ module _ {ring doubled table line : List ℕ} {k : ℕ} {book counts₀ area : L
       turn-verified r verified on =
           let c = on .candidate verified in
           let rises : at .start .0 ≤ on .stop = stopped-from-le ring line k (at .start .0) (on .stopped-to) in
-          let left = stopped-scanned ring line k (at .start .0) (lastOf (at .last)) so-far (at .looks) (on .stopped-to) (h .scanning) in
+          let left = stopped-scanned ring line k (at .start .0) (lastStart (at .last)) so-far (at .looks) (on .stopped-to) (h .scanning) in
           record {
             keeps = record {
               scanning =
                   rw (c .start-is, c .last-is, c .looks-are, c .found-are)
-                  (scan-verified ring line k (on .stop) (lastOf (at .last)) so-far _ left (c .in-line) (c .few));
+                  (scan-verified ring line k (on .stop) (lastStart (at .last)) so-far _ left (c .in-line) (c .few));
               before = c .before;
               size = c .size;
               start-le = omega (arith, c .start-is, c .in-line);

@@ -2,7 +2,7 @@
 -- (hidden ones included), hidden, looks"; "the report writes the shown ones only". Its contract, `IsReported`, is one record and holds on every input.
 --
 --   isHidden, isShown              a silence of the book names the report's cell and ring number and the finding's start; none does
---   those                          the findings of a list that pass a test, in their order
+--   takenBy                        the findings of a list that pass a test, in their order
 --   shown, hidden                  the findings of a list that are shown, and those that are hidden
 --   reportRows                     "report 1 to 7"
 --   reportRefusal                  the refusal of the first of these rows that is given, if one is
@@ -39,17 +39,17 @@ abbrev pub isShown : List Silence → ℕ → ℕ → Finding → Bool
 isShown silences cell ringNumber f = not (isHidden silences cell ringNumber f)
 
 -- The findings of a list that pass the test `takes`, in their order.
-unfoldable pub those : (Finding → Bool) → List Finding → List Finding
-those takes [] = []
-those takes (f ∷ fs) = cond (takes f) (f ∷ those takes fs) (those takes fs)
+unfoldable pub takenBy : (Finding → Bool) → List Finding → List Finding
+takenBy takes [] = []
+takenBy takes (f ∷ fs) = cond (takes f) (f ∷ takenBy takes fs) (takenBy takes fs)
 
 -- The findings of a list that are shown.
 abbrev pub shown : List Silence → ℕ → ℕ → List Finding → List Finding
-shown silences cell ringNumber fs = those (isShown silences cell ringNumber) fs
+shown silences cell ringNumber fs = takenBy (isShown silences cell ringNumber) fs
 
 -- The findings of a list that are hidden. "Hidden counts findings, not records."
 abbrev pub hidden : List Silence → ℕ → ℕ → List Finding → List Finding
-hidden silences cell ringNumber fs = those (isHidden silences cell ringNumber) fs
+hidden silences cell ringNumber fs = takenBy (isHidden silences cell ringNumber) fs
 
 -- "report 1 to 7": the rows for m, k, n, the number of words lent and the book, each with its refusal if it is given. The book's rows are tested for every line, also
 -- for one shorter than the ring.

@@ -4,7 +4,7 @@ use Prim.Native.Nat.{ℕ}
 use mathlib.Core.Path.{_≡_, refl}
 use mathlib.Core.List.{List, [], _∷_}
 use lib.ListN.{length}
-use Rattle.lists.specs.Records.{wordsOfEach}
+use Rattle.lists.specs.Records.{numbersOfEach}
 use Rattle.meaning.specs.Counting.{count, lowest, someBelow}
 use Rattle.meaning.specs.Meanings.{differs, distance, lowestRotation}
 use Rattle.meaning.specs.Findings.{foundAt, findingsBelow, findings, wordsOf}
@@ -15,7 +15,7 @@ use Rattle.meaning.specs.Looks.{readLooks, tallyLooks, verifyLooks}
 use Rattle.meaning.specs.Samples.{finding}
 use Rattle.lists.specs.Texts.{ascii}
 use Rattle.silences.specs.Silences.{Silence, silence, isSame, names}
-use Rattle.outlines.specs.Report.{those, shown, hidden, reportCounts}
+use Rattle.outlines.specs.Report.{takenBy, shown, hidden, reportCounts}
 
 -- P2's ring.
 unfoldable ring2 : List ℕ
@@ -36,17 +36,17 @@ sample-hidden : (shown silence10 7 2 (findings ring2 line2 1) ≡ finding 9 3 1 
     × (length (hidden silence10 8 2 (findings ring2 line2 1)) ≡ 0)
     × (length (hidden silence10 0 2 (findings ring2 line2 1)) ≡ 0)
     × (length (hidden silence10 7 3 (findings ring2 line2 1)) ≡ 0)
-unfolding ring2 line2 silence10 those isSame names ascii count lowest differs distance lowestRotation foundAt findingsBelow
+unfolding ring2 line2 silence10 takenBy isSame names ascii count lowest differs distance lowestRotation foundAt findingsBelow
 sample-hidden = (refl, refl, refl, refl, refl, refl)
 
 -- A silence for cell 0 hides in cell 0 alone. "Letting cell 0 in a silence stand for all cells" is one of the readings that look right and are wrong.
 sample-cell-0 : (length (hidden (silence 0 2 10 ∷ []) 7 2 (findings ring2 line2 1)) ≡ 0) × (length (hidden (silence 0 2 10 ∷ []) 0 2 (findings ring2 line2 1)) ≡ 1)
-unfolding ring2 line2 those isSame names ascii count lowest differs distance lowestRotation foundAt findingsBelow
+unfolding ring2 line2 takenBy isSame names ascii count lowest differs distance lowestRotation foundAt findingsBelow
 sample-cell-0 = (refl, refl)
 
 -- "found 2 hidden 1 looks 12", and the one line "0 0 0": of the six words lent, three are written and three kept. As cell 8 nothing is hidden.
 sample-example : (reportCounts (ascii "aa") (ascii "aaa") 0 7 2 (silence 7 2 1 ∷ []) ≡ record { found = 2; hidden = 1; looks = 12 })
     × (reportCounts (ascii "aa") (ascii "aaa") 0 8 2 (silence 7 2 1 ∷ []) ≡ record { found = 2; hidden = 0; looks = 12 })
     × (written (wordsOf (shown (silence 7 2 1 ∷ []) 7 2 (findings (ascii "aa") (ascii "aaa") 0))) (1 ∷ 2 ∷ 3 ∷ 4 ∷ 5 ∷ 6 ∷ []) ≡ 0 ∷ 0 ∷ 0 ∷ 4 ∷ 5 ∷ 6 ∷ [])
-unfolding those wordsOfEach written isSame names ascii count lowest someBelow differs distance lowestRotation foundAt findingsBelow begins fits readEdge readLeft readWindow windowsFrom candidatesOf reported readLooks tallyLooks verifyLooks
+unfolding takenBy numbersOfEach written isSame names ascii count lowest someBelow differs distance lowestRotation foundAt findingsBelow begins fits readEdge readLeft readWindow windowsFrom candidatesOf reported readLooks tallyLooks verifyLooks
 sample-example = (refl, refl, refl)

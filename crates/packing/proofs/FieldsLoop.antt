@@ -9,7 +9,7 @@ use mathlib.Core.List.{List, _++_}
 use native.Mathlib.Omega.{arith}
 use lib.ListN.{length, drop, length-append}
 use Rattle.lists.specs.Areas.{written, writtenAt}
-use Rattle.lists.specs.Records.{wordsOfEach}
+use Rattle.lists.specs.Records.{numbersOfEach}
 use Rattle.lists.proofs.Areas.{writtenAt-zero, writtenAt-none, writtenAt-append}
 use Rattle.silences.specs.Silences.{Silence}
 use Rattle.silences.specs.Layout.{fieldOf, layout}
@@ -36,7 +36,7 @@ module _ {words area : List ℕ} where
   module _ {at to : ℕ} {out : List ℕ} (now : PutFields words area at to out) where
     -- the layout from a record on is its field and then the layout from the next record on
     layout-step : at + recordWords ≤ length words → layoutFrom words at ≡ fieldOf (silenceFrom words at) ++ layoutFrom words (at + recordWords)
-    unfolding wordsOfEach
+    unfolding numbersOfEach
     layout-step h = ap layout (silencesOf-step words at h)
 
     -- There is room for the next field.
@@ -68,7 +68,7 @@ module _ {words area : List ℕ} where
 
     -- When fewer than three words are left, the whole layout is written.
     pub fields-end : length words < at + recordWords → out ≡ written (layout (silencesOf words)) area
-    unfolding wordsOfEach
+    unfolding numbersOfEach
     fields-end h =
         sym (writtenAt-none to out)
         ∙ ap (λ (ss : List Silence). writtenAt to (layout ss) out) (sym (silencesOf-end words at h))

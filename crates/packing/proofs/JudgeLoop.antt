@@ -11,7 +11,7 @@ use mathlib.Core.Option.{Option, none, some}
 use native.Mathlib.Omega.{arith}
 use lib.ListN.{length, drop, length-append}
 use lib.Seq.{append-snoc}
-use Rattle.lists.specs.Records.{wordsOfEach}
+use Rattle.lists.specs.Records.{numbersOfEach}
 use Rattle.lists.proofs.Records.{each-more}
 use Rattle.answers.specs.declared.refusals.Refusal.{Refusal}
 use Rattle.answers.specs.declared.refusals.Refusal.the-variants.{NotAbove, RingNumber}
@@ -51,7 +51,7 @@ judged-by words e = ap (λ (o : Option Refusal). answerBy o (sizes (silencesOf w
 module _ {words : List ℕ} where
   -- The invariant holds at the start: no record is passed.
   pub judge-start : JudgedTo words none 0 0 0
-  unfolding wordsOfEach
+  unfolding numbersOfEach
   judge-start =
       record {
         at-le = omega arith;
@@ -96,7 +96,7 @@ module _ {words : List ℕ} where
         -- If this record is above the last, the invariant holds again with it passed and counted.
         pub judge-turn : {field : ℕ} → isAbove last (silenceFrom words at) ≡ true → length (fieldOf (silenceFrom words at)) ≡ field
             → JudgedTo words (some (silenceFrom words at)) (records + 1) (bytes + field) (at + recordWords)
-        unfolding wordsOfEach
+        unfolding numbersOfEach
         judge-turn {field} e long =
             let here : Silence = silenceFrom words at in
             let others : List Silence = silencesOf (drop (at + recordWords) words) in

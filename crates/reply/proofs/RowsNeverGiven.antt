@@ -8,7 +8,7 @@ use lib.ListN.{length}
 use Rattle.answers.specs.declared.refusals.Refusal.{Refusal}
 use Rattle.answers.specs.Refusals.{numberOf}
 use Rattle.silences.proofs.BookRows.{refusal-has}
-use Rattle.findings.specs.Admitting.{roomRequired, refusalOf}
+use Rattle.findings.specs.Admitting.{roomRequired, admitRefusal}
 use Rattle.findings.proofs.AdmitRows.{by-row}
 use Rattle.outlines.specs.Report.{reportRefusal}
 use Rattle.outlines.proofs.FirstOfReport.{report-row-has}
@@ -23,7 +23,7 @@ module _ (q : Request) (line-le : length (q .line) ≤ lineField .most) where
   n = length (q .line)
 
   -- of rows 1 to 4 only 1 and 2 are given
-  early-rows : (refusal : Refusal) → refusalOf m (q .allowance) n (roomRequired m n) ≡ some refusal → numberOf refusal ≤ 2
+  early-rows : (refusal : Refusal) → admitRefusal m (q .allowance) n (roomRequired m n) ≡ some refusal → numberOf refusal ≤ 2
   early-rows =
       by-row m (q .allowance) n (roomRequired m n) (λ (r : Refusal). numberOf r ≤ 2) (λ _. omega arith) (λ _. omega arith) (λ long. absurd (omega arith)) (λ short. absurd (omega arith))
 

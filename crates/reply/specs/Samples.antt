@@ -17,8 +17,8 @@ use Rattle.fields.specs.Tagged.{isWhole}
 use Rattle.silences.specs.Reading.{lengthByTag, silenceAt, fieldBy, fieldAt, fieldsFrom, readFrom, bookRows, readBook}
 use Rattle.answers.specs.Rows.{firstGiven}
 use Rattle.findings.specs.Admitting.{admitRows}
-use Rattle.outlines.specs.Report.{those, reportRows}
-use Rattle.request.specs.Fields.{isField}
+use Rattle.outlines.specs.Report.{takenBy, reportRows}
+use Rattle.request.specs.Fields.{isFieldAt}
 use Rattle.request.specs.Input.{firstFault, inputFault, partsFrom, requestOf, laidDown}
 use Rattle.reply.specs.Decimal.{digitsWithin, decimal}
 use Rattle.reply.specs.Lines.{lf, firstLine, findingLine, findingLines, lastLine, refusalLineOf}
@@ -41,7 +41,7 @@ printed letters = letters ++ lf ∷ []
 -- "Output, whole": the text for the sample's input.
 sample-right : answerText (sampleFields ++ sampleBook)
     ≡ printed (ascii "cell 7 ring 2 edges 2 allow 0") ++ (printed (ascii "0 0 0") ++ printed (ascii "found 2 hidden 1 looks 12"))
-unfolding sampleFields sampleBook ascii answerText requestOf inputFault firstFault partsFrom isField numberAt requestText reportLines firstLine findingLine findingLines lastLine digitsWithin decimal reportRows admitRows firstGiven bookRows readBook readFrom fieldsFrom fieldAt fieldBy lengthByTag isWhole silenceAt isBelow isSame names those findingsBelow foundAt lowestRotation lowest distance count differs readLooks tallyLooks verifyLooks windowsFrom candidatesOf readWindow readLeft readEdge begins fits someBelow
+unfolding sampleFields sampleBook ascii answerText requestOf inputFault firstFault partsFrom isFieldAt numberAt requestText reportLines firstLine findingLine findingLines lastLine digitsWithin decimal reportRows admitRows firstGiven bookRows readBook readFrom fieldsFrom fieldAt fieldBy lengthByTag isWhole silenceAt isBelow isSame names takenBy findingsBelow foundAt lowestRotation lowest distance count differs readLooks tallyLooks verifyLooks windowsFrom candidatesOf readWindow readLeft readEdge begins fits someBelow
 sample-right = refl
 
 -- The sample's input is this request, laid down.
@@ -59,7 +59,7 @@ row-11 : (answerText [] ≡ printed (ascii "refused 11 place 0"))
     × (answerText (take 21 sampleFields) ≡ printed (ascii "refused 11 place 21"))
     × (answerText (0x35 ∷ sampleFields) ≡ printed (ascii "refused 11 place 0"))
     × (answerText (sampleFields ++ replicate 32742 0x21) ≡ printed (ascii "refused 11 place 0"))
-unfolding sampleFields ascii answerText requestOf inputFault firstFault partsFrom isField numberAt refusalLineOf digitsWithin decimal
+unfolding sampleFields ascii answerText requestOf inputFault firstFault partsFrom isFieldAt numberAt refusalLineOf digitsWithin decimal
 row-11 = (refl, refl, refl, refl, refl, refl, refl, refl)
 
 -- The input of cell 7, ring number 2, this allowance, this ring, a line of `n` edges and no book.
@@ -76,7 +76,7 @@ order-of-rows : (answerText (fieldsWith 0 [] 3) ≡ printed (ascii "refused 1 pl
     × (answerText (sampleFields ++ 0x21 ∷ []) ≡ printed (ascii "refused 6 place 0"))
     × (answerText (sampleFields ++ (sampleBook ++ 0x21 ∷ [])) ≡ printed (ascii "refused 6 place 13"))
     × (answerText (sampleFields ++ (sampleBook ++ sampleBook)) ≡ printed (ascii "refused 7 place 13"))
-unfolding sampleFields sampleBook ascii laidDown bytesOf answerText requestOf inputFault firstFault partsFrom isField numberAt requestText refusalLineOf digitsWithin decimal reportRows admitRows firstGiven bookRows readBook readFrom fieldsFrom fieldAt fieldBy lengthByTag isWhole silenceAt isBelow
+unfolding sampleFields sampleBook ascii laidDown bytesOf answerText requestOf inputFault firstFault partsFrom isFieldAt numberAt requestText refusalLineOf digitsWithin decimal reportRows admitRows firstGiven bookRows readBook readFrom fieldsFrom fieldAt fieldBy lengthByTag isWhole silenceAt isBelow
 order-of-rows = (refl, refl, refl, refl, refl, refl, refl)
 
 -- Digits: no leading zero, and a 0 for zero.

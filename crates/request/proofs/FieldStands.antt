@@ -1,4 +1,4 @@
--- The test `isField` is true exactly where a field stands (`IsFieldAt`): its four comparisons are the record's four facts.
+-- The test `isFieldAt` is true exactly where a field stands (`IsFieldAt`): its four comparisons are the record's four facts.
 use Prim.Native.Nat.{ℕ}
 use mathlib.Core.Path.{_≡_, sym, _∙_}
 use mathlib.Core.Bool.{true, false, false≢true}
@@ -10,13 +10,13 @@ use borrow.Author.Tests.{le-leb, eq-eqb, leb-true, eqb-true}
 use Rattle.lists.proofs.Cases.{and-true, not-passed}
 use Rattle.fields.specs.Tagged.{lengthAt}
 use Rattle.request.specs.declared.field.FieldKind.{FieldKind}
-use Rattle.request.specs.Fields.{nextAt, isField}
+use Rattle.request.specs.Fields.{nextAt, isFieldAt}
 use Rattle.request.specs.RowEleven.{IsFieldAt, NoFieldAt}
 
 module _ (kind : FieldKind) (input : List ℕ) (at : ℕ) where
-  -- The test `isField` is true exactly where a field of this kind stands.
-  pub field-iff : (isField kind input at ≡ true) ↔ IsFieldAt kind input at
-  unfolding isField
+  -- The test `isFieldAt` is true exactly where a field of this kind stands.
+  pub field-iff : (isFieldAt kind input at ≡ true) ↔ IsFieldAt kind input at
+  unfolding isFieldAt
   field-iff = (
     passed,
     λ f.
@@ -28,7 +28,7 @@ module _ (kind : FieldKind) (input : List ℕ) (at : ℕ) where
         ),
   )
     where
-      passed : isField kind input at ≡ true → IsFieldAt kind input at
+      passed : isFieldAt kind input at ≡ true → IsFieldAt kind input at
       passed h =
           let tagged = and-true (eqb (getD input at 0) (kind .tag)) _ h in
           let long = and-true (leb (kind .least) (lengthAt input at)) _ (tagged .1) in
@@ -40,6 +40,6 @@ module _ (kind : FieldKind) (input : List ℕ) (at : ℕ) where
             not-cut = leb-true (nextAt input at) (length input) (short .1);
           }
 
-  -- The test `isField` is false exactly where no field of this kind stands.
-  pub no-field-iff : (isField kind input at ≡ false) ↔ NoFieldAt kind input at
-  no-field-iff = (λ e f. false≢true (sym e ∙ field-iff .1 f), λ none. sym (not-passed (isField kind input at) (λ e. none (field-iff .0 e))))
+  -- The test `isFieldAt` is false exactly where no field of this kind stands.
+  pub no-field-iff : (isFieldAt kind input at ≡ false) ↔ NoFieldAt kind input at
+  no-field-iff = (λ e f. false≢true (sym e ∙ field-iff .1 f), λ none. sym (not-passed (isFieldAt kind input at) (λ e. none (field-iff .0 e))))

@@ -7,7 +7,7 @@ use mathlib.Core.List.{List, _∷_}
 use mathlib.Core.Option.{Option, some}
 use Rattle.request.specs.declared.field.FieldKind.{FieldKind}
 use Rattle.request.specs.declared.field.ReadTo.{ReadTo}
-use Rattle.request.specs.Fields.{nextAt, isField}
+use Rattle.request.specs.Fields.{nextAt, isFieldAt}
 use Rattle.request.specs.Input.{firstFault}
 use Rattle.request.specs.RowEleven.{IsFieldAt, NoFieldAt}
 use Rattle.request.specs.Parsing.{past, IsPast}
@@ -44,9 +44,9 @@ module _ {kind : FieldKind} {input : List ℕ} {before : ReadTo} where
     -- The fault that the reading leads to is the same before and after this field.
     pub past-fault : (kinds : List FieldKind) → faultBy (kind ∷ kinds) input before ≡ faultBy kinds input r
     unfolding past firstFault
-    past-fault kinds = go (before .faulty) refl (isField kind input (before .next)) refl ∙ ap (faultBy kinds input) (sym (read .is))
+    past-fault kinds = go (before .faulty) refl (isFieldAt kind input (before .next)) refl ∙ ap (faultBy kinds input) (sym (read .is))
       where
-        go : (s : Bool) → before .faulty ≡ s → (t : Bool) → isField kind input (before .next) ≡ t
+        go : (s : Bool) → before .faulty ≡ s → (t : Bool) → isFieldAt kind input (before .next) ≡ t
             → faultBy (kind ∷ kinds) input before ≡ faultBy kinds input (past kind input before)
         go true e t d = simp e
         go false e true d = simp (e, d)
@@ -55,9 +55,9 @@ module _ {kind : FieldKind} {input : List ℕ} {before : ReadTo} where
     -- If no fault is found up to the end of this field, it stands, and none was found before it.
     pub past-stands : r .faulty ≡ false → FieldRead kind input before r
     unfolding past
-    past-stands all = go (before .faulty) refl (isField kind input (before .next)) refl (ap (λ (x : ReadTo). x .faulty) (sym (read .is)) ∙ all)
+    past-stands all = go (before .faulty) refl (isFieldAt kind input (before .next)) refl (ap (λ (x : ReadTo). x .faulty) (sym (read .is)) ∙ all)
       where
-        go : (s : Bool) → before .faulty ≡ s → (t : Bool) → isField kind input (before .next) ≡ t → past kind input before .faulty ≡ false → FieldRead kind input before r
+        go : (s : Bool) → before .faulty ≡ s → (t : Bool) → isFieldAt kind input (before .next) ≡ t → past kind input before .faulty ≡ false → FieldRead kind input before r
         go true e t d h = absurd (false≢true (sym (simp e at h)))
         go false e false d h = absurd (false≢true (sym (simp (e, d) at h)))
         go false e true d h = record { earlier = e; field = field-iff kind input (before .next) .0 d; ends = ap (λ (x : ReadTo). x .next) (read .is) ∙ simp (e, d) }

@@ -18,7 +18,7 @@ use Rattle.fields.specs.Tagged.{headLength, field, fieldEnd}
 use Rattle.fields.proofs.NumberBytes.{numberAt-lt, bytes-of-number}
 use Rattle.fields.proofs.FieldLaid.{field-then}
 use Rattle.request.specs.declared.field.FieldKind.{FieldKind}
-use Rattle.request.specs.Fields.{cellField, ringNumberField, allowanceField, ringField, lineField, inputFields, nextAt, valueAt, isField}
+use Rattle.request.specs.Fields.{cellField, ringNumberField, allowanceField, ringField, lineField, inputFields, nextAt, valueAt, isFieldAt}
 use Rattle.request.specs.Input.{Request, mostInput, firstFault, inputFault, partsFrom, numberIn, requestOfParts, requestBy, requestOf, laidDown, CanLayDown}
 use Rattle.request.specs.RowEleven.{IsFieldAt}
 use Rattle.request.proofs.FieldStands.{field-iff}
@@ -30,9 +30,9 @@ module _ (input : List ℕ) (is-bytes : IsBytes input) where
   first-stands : (kind : FieldKind) (kinds : List FieldKind) (at : ℕ) → firstFault (kind ∷ kinds) input at ≡ none
       → IsFieldAt kind input at × (firstFault kinds input (nextAt input at) ≡ none)
   unfolding firstFault
-  first-stands kind kinds at e = go (isField kind input at) refl e
+  first-stands kind kinds at e = go (isFieldAt kind input at) refl e
     where
-      go : (t : Bool) → isField kind input at ≡ t → cond t (firstFault kinds input (nextAt input at)) (some at) ≡ none
+      go : (t : Bool) → isFieldAt kind input at ≡ t → cond t (firstFault kinds input (nextAt input at)) (some at) ≡ none
           → IsFieldAt kind input at × (firstFault kinds input (nextAt input at) ≡ none)
       go true stands e = (field-iff kind input at .0 stands, e)
       go false missing e = absurd (let z : _≡_ {A = ℕ} 0 1 = cc in omega arith)

@@ -14,7 +14,7 @@ use Rattle.answers.specs.declared.refusals.Refusal.the-variants.{Input}
 use Rattle.answers.specs.Paper.{refused}
 use Rattle.answers.proofs.AnswerCases.{accepted-not-refused}
 use Rattle.request.specs.declared.field.FieldKind.{FieldKind}
-use Rattle.request.specs.Fields.{inputFields, nextAt, isField}
+use Rattle.request.specs.Fields.{inputFields, nextAt, isFieldAt}
 use Rattle.request.specs.Input.{mostInput, firstFault, inputFault, requestBy, requestOf}
 use Rattle.request.specs.RowEleven.{FirstFault, here, later, IsInputFault, longer, no-field}
 use Rattle.request.proofs.FieldStands.{field-iff, no-field-iff}
@@ -32,9 +32,9 @@ module _ (input : List ℕ) where
   fault-found : (kinds : List FieldKind) (at : ℕ) {place : ℕ} → firstFault kinds input at ≡ some place → FirstFault input kinds at place
   unfolding firstFault
   fault-found [] at e = absurd (none-not-some e)
-  fault-found (kind ∷ kinds) at {place} e = go (isField kind input at) refl (fault-found kinds (nextAt input at)) e
+  fault-found (kind ∷ kinds) at {place} e = go (isFieldAt kind input at) refl (fault-found kinds (nextAt input at)) e
     where
-      go : (t : Bool) → isField kind input at ≡ t → (firstFault kinds input (nextAt input at) ≡ some place → FirstFault input kinds (nextAt input at) place)
+      go : (t : Bool) → isFieldAt kind input at ≡ t → (firstFault kinds input (nextAt input at) ≡ some place → FirstFault input kinds (nextAt input at) place)
           → cond t (firstFault kinds input (nextAt input at)) (some at) ≡ some place → FirstFault input (kind ∷ kinds) at place
       go true stands among-later e = later (field-iff kind input at .0 stands) (among-later e)
       go false missing among-later e = subst (FirstFault input (kind ∷ kinds) at) (place-same e) (here (no-field-iff kind input at .0 missing))

@@ -7,7 +7,7 @@
 --   inputFields                   the five in their order
 --   between                       the bytes from one byte offset up to another
 --   nextAt, valueAt               the byte offset just past a field, and the field's value
---   isField                       whether a field of a kind stands at a byte offset
+--   isFieldAt                     whether a field of a kind stands at a byte offset
 use Prim.Native.Nat.{ℕ, _+_, _-_}
 use mathlib.Core.Bool.{Bool, _&&_}
 use mathlib.Core.List.{List, [], _∷_}
@@ -54,7 +54,7 @@ valueAt input at = between input (at + headLength) (nextAt input at)
 
 -- Whether a field of this kind stands at `at`: it has the kind's tag, its length is within the kind's bounds, and it is not cut. (Past the input's end a byte
 -- reads as 0, which is no kind's tag.)
-unfoldable pub isField : FieldKind → List ℕ → ℕ → Bool
-isField kind input at =
+unfoldable pub isFieldAt : FieldKind → List ℕ → ℕ → Bool
+isFieldAt kind input at =
     eqb (getD input at 0) (kind .tag)
     && (leb (kind .least) (lengthAt input at) && (leb (lengthAt input at) (kind .most) && leb (nextAt input at) (length input)))

@@ -25,7 +25,7 @@ use Rattle.answers.specs.Paper.{Answer, accepted, refused}
 use Rattle.fields.specs.Numbers.{numberAt, bytesOf}
 use Rattle.fields.specs.Tagged.{field}
 use Rattle.request.specs.declared.field.FieldKind.{FieldKind}
-use Rattle.request.specs.Fields.{cellField, ringNumberField, allowanceField, ringField, lineField, inputFields, nextAt, valueAt, isField}
+use Rattle.request.specs.Fields.{cellField, ringNumberField, allowanceField, ringField, lineField, inputFields, nextAt, valueAt, isFieldAt}
 
 -- A request: all that one report of the program is made from.
 pub record Request : Type 0 where
@@ -46,7 +46,7 @@ unfoldable pub firstFault : List FieldKind → List ℕ → ℕ → Option ℕ
 firstFault [] input at = none
 firstFault (kind ∷ kinds) input at =
     let among-later : Option ℕ = firstFault kinds input (nextAt input at) in
-    cond (isField kind input at) among-later (some at)
+    cond (isFieldAt kind input at) among-later (some at)
 
 -- The place of row 11, or `none` if the input is as laid down: "a longer input is refusal 11, place 0, and is tested first".
 unfoldable pub inputFault : List ℕ → Option ℕ

@@ -5,7 +5,7 @@ use crate::books;
 use crate::calls::READ;
 use crate::paper;
 use crate::printing;
-use crate::printing::Shown;
+use crate::printing::PrintedAs;
 use crate::table;
 use book::BookAnswer;
 
@@ -26,5 +26,5 @@ pub fn book_row(call: usize, row: &[u8]) {
     let mut words = area::book_room();
     let space: &mut [u32] = &mut words;
     paper::print_book(read_or_unpack(call, book, area::lend(space, room)));
-    printing::end_row(Shown::Words, space, room);
+    printing::end_row(PrintedAs::Words, space, room);
 }

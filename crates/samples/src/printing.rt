@@ -6,7 +6,7 @@ use crate::table;
 ghost use Prim.Native.Nat.{_<_};
 
 // How the bytes or words that a call wrote are shown: bytes in hex, words in threes as document 01 writes a finding.
-pub enum Shown {
+pub enum PrintedAs {
     Bytes,
     Words,
 }
@@ -59,13 +59,13 @@ pub fn print_number(label: usize, value: usize) {
 }
 
 // Prints one byte, which the word has four times over, or one word.
-fn print_value(shown: Shown, at: usize, word: u32) {
+fn print_value(shown: PrintedAs, at: usize, word: u32) {
     match shown {
-        Shown::Bytes => {
+        PrintedAs::Bytes => {
             print_text(b" ");
             io::print_hex(1, (word % 256) as u64, 2);
         }
-        Shown::Words => {
+        PrintedAs::Words => {
             print_text(table::field(b" |,|,", at % 3));
             io::print_decimal(1, word as u64);
         }
@@ -82,7 +82,7 @@ fn sum_with(sum: usize, word: u32) -> usize
 
 // Prints the words if they are few, and returns their checksum: for each word, 31 times the sum so far plus the word,
 // mod 1,000,003.
-fn print_values(shown: Shown, words: &[u32]) -> usize {
+fn print_values(shown: PrintedAs, words: &[u32]) -> usize {
     let mut sum: usize = 0;
     let mut at: usize = 0;
     while at < words.len() {
@@ -98,7 +98,7 @@ fn print_values(shown: Shown, words: &[u32]) -> usize {
 
 // Ends the line of a row: prints what the call wrote into the first `room` words of the area, and whether all words
 // after them are kept.
-pub fn end_row(shown: Shown, area: &[u32], room: usize) {
+pub fn end_row(shown: PrintedAs, area: &[u32], room: usize) {
     let seen = area::inspect(area, room);
     let count = seen.written;
     print_number(WRITTEN_LABEL, count);
@@ -117,5 +117,5 @@ pub fn end_row(shown: Shown, area: &[u32], room: usize) {
 pub fn end_row_of_bytes(bytes: &[u8], room: usize) {
     let mut words = area::book_room();
     filling::fill_words(WordKind::Spread, bytes, &mut words);
-    end_row(Shown::Bytes, &words, room);
+    end_row(PrintedAs::Bytes, &words, room);
 }

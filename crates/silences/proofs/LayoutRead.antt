@@ -7,7 +7,7 @@ use mathlib.Core.Option.{Option, none, some}
 use native.Mathlib.Omega.{arith}
 use lib.ListN.{length, take, drop, length-append, take-append-drop}
 use lib.Seq.{take-at, drop-drop, drop-append-seam}
-use Rattle.lists.specs.Records.{wordsOfEach}
+use Rattle.lists.specs.Records.{numbersOfEach}
 use Rattle.lists.proofs.Records.{each-length}
 use Rattle.silences.specs.Silences.{Silence, AllInRange}
 use Rattle.silences.specs.Layout.{fieldLength, fieldOf, layout}
@@ -29,7 +29,7 @@ read-ascends (one-read e above more) = (above, read-ascends more)
 -- reading stops where their layout ends
 read-stop-is : {book : List ℕ} {last : Option Silence} {at : ℕ} {ss : List Silence} {stop : ℕ} → FieldsRead book last at ss stop
     → stop ≡ at + length (layout ss)
-unfolding wordsOfEach
+unfolding numbersOfEach
 read-stop-is none-read = omega arith
 read-stop-is {book} (one-read {at = at} {s = s} {next = next} {ss = ss} e above more) =
     omega (arith, field-next-is book at s next e, read-stop-is more, length-append (fieldOf s) (layout ss))
@@ -43,7 +43,7 @@ module _ (book : List ℕ) (bytes : IsBytes book) where
   -- their bytes are their layout
   read-bytes-are : {last : Option Silence} {at : ℕ} {ss : List Silence} {stop : ℕ} → FieldsRead book last at ss stop
       → drop at book ≡ layout ss ++ drop stop book
-  unfolding wordsOfEach
+  unfolding numbersOfEach
   read-bytes-are none-read = refl
   read-bytes-are (one-read {at = at} {s = s} {next = next} {ss = ss} {stop = stop} e above more) =
       silence-of-field book bytes at s next e .bytes-are
@@ -64,7 +64,7 @@ module _ (book : List ℕ) (bytes : IsBytes book) where
 -- a layout is read, wherever it stands
 layout-read : (ss : List Silence) (last : Option Silence) (book rest : List ℕ) (at stop : ℕ) → AllInRange ss → AscendingAfter last ss
     → drop at book ≡ layout ss ++ rest → stop ≡ at + length (layout ss) → FieldsRead book last at ss stop
-unfolding wordsOfEach
+unfolding numbersOfEach
 layout-read [] last book rest at stop in-range ascends laid is-stop =
     let stays : at ≡ stop = omega arith in
     subst (FieldsRead book last at []) stays none-read

@@ -9,7 +9,7 @@ use native.Mathlib.Omega.{arith}
 use lib.ListN.{length, getD, drop}
 use Rattle.lists.specs.Bounds.{IsWords}
 use Rattle.lists.specs.ByPlace.{listOf}
-use Rattle.lists.specs.Records.{wordsOfEach}
+use Rattle.lists.specs.Records.{numbersOfEach}
 use Rattle.lists.proofs.ByPlace.{listOf-is}
 use Rattle.lists.proofs.Records.{each-length, part-places, records-step, records-end, records-of-words, words-of-records}
 use Rattle.silences.specs.Silences.{Silence, silence, AllInRange}
@@ -53,7 +53,7 @@ module _ (words : List ℕ) (at : ℕ) where
 
 -- Silences whose words are 32-bit words are in range, if no ring number is above 65,535.
 pub silences-in-range : (ss : List Silence) → IsWords (wordsOfSilences ss) → AllRingNumbers ss → AllInRange ss
-unfolding wordsOfEach
+unfolding numbersOfEach
 silences-in-range [] w rings = tt
 silences-in-range (s ∷ ss) w rings = (
   record { cell-lt = w .each-lt 0; ring-number-lt = omega (arith, rings .0); start-lt = w .each-lt 2 },

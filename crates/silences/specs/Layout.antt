@@ -11,7 +11,7 @@
 use Prim.Native.Nat.{ℕ, _+_, _*_}
 use mathlib.Core.Path.{_≡_, refl}
 use mathlib.Core.List.{List, _++_}
-use Rattle.lists.specs.Records.{wordsOfEach}
+use Rattle.lists.specs.Records.{numbersOfEach}
 use Rattle.fields.specs.Numbers.{bytesOf}
 use Rattle.fields.specs.Tagged.{headLength, field}
 use Rattle.silences.specs.Silences.{Silence, cellBytes, ringNumberBytes, startBytes}
@@ -46,7 +46,7 @@ fieldOf s = field silenceTag (valueOf s)
 
 -- The bytes of the book of a list of silences: their fields, one after the other. The empty list gives the empty book.
 abbrev pub layout : List Silence → List ℕ
-layout = wordsOfEach fieldOf
+layout = numbersOfEach fieldOf
 
 -- The most silences of a book. Document 01 gives this number as bytes (row 5: 13,000) and as words (row 8: 3,000).
 abbrev pub mostSilences : ℕ

@@ -20,7 +20,7 @@ use mathlib.Core.Option.{Option, none, some}
 use lib.Dec.{ltb, eqb}
 use lib.ListN.{length, getD}
 use Rattle.lists.specs.Areas.{written}
-use Rattle.lists.specs.Records.{wordsOfEach, recordsOf}
+use Rattle.lists.specs.Records.{numbersOfEach, recordsOf}
 use Rattle.answers.specs.declared.refusals.Refusal.{Refusal}
 use Rattle.answers.specs.declared.refusals.Refusal.the-variants.{NotAbove, WordCount, RingNumber, OutputRoom}
 use Rattle.answers.specs.Paper.{Answer, accepted, refused}
@@ -35,7 +35,7 @@ silenceWords s = s .cell ∷ s .ringNumber ∷ s .start ∷ []
 
 -- The words of a list of silences, one after the other.
 abbrev pub wordsOfSilences : List Silence → List ℕ
-wordsOfSilences = wordsOfEach silenceWords
+wordsOfSilences = numbersOfEach silenceWords
 
 -- "words to pack aren't a multiple of 3": the number of words of a record.
 abbrev pub recordWords : ℕ

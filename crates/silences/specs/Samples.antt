@@ -8,7 +8,7 @@ use Rattle.answers.specs.declared.refusals.Refusal.the-variants.{BookLength, Fi
 use Rattle.answers.specs.Paper.{accepted, refused}
 use Rattle.answers.specs.Rows.{firstGiven}
 use Rattle.lists.specs.Areas.{written}
-use Rattle.lists.specs.Records.{wordsOfEach, firstRecords, recordsOf}
+use Rattle.lists.specs.Records.{numbersOfEach, firstRecords, recordsOf}
 use Rattle.fields.specs.Numbers.{bytesOf, numberAt}
 use Rattle.fields.specs.Tagged.{isWhole}
 use Rattle.silences.specs.Silences.{silence, isBelow, isSame, names}
@@ -22,7 +22,7 @@ example = 0x21 ∷ 0x00 ∷ 0x0a ∷ 0x00 ∷ 0x00 ∷ 0x00 ∷ 0x07 ∷ 0x00 �
 
 -- It is the layout of the one silence (7, 2, 1), and reading it gives that silence.
 example-right : (layout (silence 7 2 1 ∷ []) ≡ example) × (readBook example ≡ accepted (silence 7 2 1 ∷ []))
-unfolding example bytesOf valueOf fieldOf wordsOfEach firstGiven bookRows readBook readFrom fieldsFrom fieldAt fieldBy lengthByTag isWhole silenceAt numberAt isBelow
+unfolding example bytesOf valueOf fieldOf numbersOfEach firstGiven bookRows readBook readFrom fieldsFrom fieldAt fieldBy lengthByTag isWhole silenceAt numberAt isBelow
 example-right = (refl, refl)
 
 -- "An empty book is valid."
@@ -43,7 +43,7 @@ rows-6-7 : (readBook (example ++ example) ≡ refused (NotAbove 13))
     × (readBook (0x21 ∷ 0x00 ∷ 0x0b ∷ example) ≡ refused (Field 0))
     × (readBook (0x22 ∷ example) ≡ refused (Field 0))
     × (readBook (layout (silence 0x01020304 0x0506 0x0708090a ∷ [])) ≡ accepted (silence 0x01020304 0x0506 0x0708090a ∷ []))
-unfolding example bytesOf valueOf fieldOf wordsOfEach firstGiven bookRows readBook readFrom fieldsFrom fieldAt fieldBy lengthByTag isWhole silenceAt numberAt isBelow
+unfolding example bytesOf valueOf fieldOf numbersOfEach firstGiven bookRows readBook readFrom fieldsFrom fieldAt fieldBy lengthByTag isWhole silenceAt numberAt isBelow
 rows-6-7 = (refl, refl, refl, refl, refl, refl)
 
 -- The words 7, 2, 1 packed into 15 bytes: the example's book, and two bytes as they were. With 12 bytes of room: row 10. On a refusal nothing is written.
@@ -51,7 +51,7 @@ packed-right : (packed (7 ∷ 2 ∷ 1 ∷ []) 15 ≡ accepted (silence 7 2 1 ∷
     × (areaAtExit layout (accepted (silence 7 2 1 ∷ [])) (replicate 13 0x60 ++ 0x61 ∷ 0x62 ∷ []) ≡ example ++ 0x61 ∷ 0x62 ∷ [])
     × (packed (7 ∷ 2 ∷ 1 ∷ []) 12 ≡ refused OutputRoom)
     × (areaAtExit layout (refused OutputRoom) (0x61 ∷ []) ≡ 0x61 ∷ [])
-unfolding written example bytesOf valueOf fieldOf wordsOfEach firstGiven packed packRows recordRows recordsOf firstRecords isBelow
+unfolding written example bytesOf valueOf fieldOf numbersOfEach firstGiven packed packRows recordRows recordsOf firstRecords isBelow
 packed-right = (refl, refl, refl, refl)
 
 -- Four words: row 8. A ring number of 65,536 in record 1, which is also below record 0: row 9, before row 7. Equal neighbours: row 7 at record 1. There is no
@@ -59,12 +59,12 @@ packed-right = (refl, refl, refl, refl)
 rows-8-9-7 : (packed (7 ∷ 2 ∷ 1 ∷ 7 ∷ []) 0 ≡ refused WordCount)
     × (packed (7 ∷ 2 ∷ 1 ∷ 6 ∷ 65536 ∷ 1 ∷ []) 0 ≡ refused (RingNumber 1))
     × (packed (7 ∷ 2 ∷ 1 ∷ 7 ∷ 2 ∷ 1 ∷ []) 0 ≡ refused (NotAbove 1))
-unfolding bytesOf valueOf fieldOf wordsOfEach firstGiven packed packRows recordRows recordsOf firstRecords isBelow
+unfolding bytesOf valueOf fieldOf numbersOfEach firstGiven packed packRows recordRows recordsOf firstRecords isBelow
 rows-8-9-7 = (refl, refl, refl)
 
 -- The example unpacked: its silence with room for three words, whose words are 7, 2, 1; row 10 with room for two.
 unpacked-right : (unpacked example 3 ≡ accepted (silence 7 2 1 ∷ [])) × (wordsOfSilences (silence 7 2 1 ∷ []) ≡ 7 ∷ 2 ∷ 1 ∷ []) × (unpacked example 2 ≡ refused OutputRoom)
-unfolding example unpacked unpackRows wordsOfEach firstGiven bookRows readBook readFrom fieldsFrom fieldAt fieldBy lengthByTag isWhole silenceAt numberAt isBelow
+unfolding example unpacked unpackRows numbersOfEach firstGiven bookRows readBook readFrom fieldsFrom fieldAt fieldBy lengthByTag isWhole silenceAt numberAt isBelow
 unpacked-right = (refl, refl, refl)
 
 -- A silence names its own cell, ring number and start: (7, 2, 1) names nothing in cell 0, and (0, 2, 1) nothing in cell 7.

@@ -8,7 +8,7 @@ use native.Mathlib.Omega.{arith}
 use lib.ListN.{length}
 use borrow.Author.Tests.{lt-ltb, le-ltb}
 use Rattle.findings.specs.declared.searching.Finding.{Finding as FindingStruct}
-use Rattle.tally.specs.Counts.{mostCounts, TallyTo, IsFindingAt}
+use Rattle.tally.specs.Counts.{mostCounts, TallyResult, IsFindingAt}
 use Rattle.moves.specs.Moves.{mostPlaces}
 use Rattle.tally.specs.declared.counts.Least.{Least}
 use Rattle.sweep.specs.declared.verifying.LastVerified.the-variants.{At}
@@ -52,7 +52,7 @@ module _ (ring doubled table line : List ℕ) (k : ℕ) (at : Sweep) (old : List
           omega (
             arith,
             sweep-looks-le ring table line k at can read read-is,
-            ap (λ (t : TallyTo). t .looks) (tallied .is),
+            ap (λ (t : TallyResult). t .looks) (tallied .is),
             tally-looks ring doubled line (read .start .0) old (at .last) (can .can-read .most),
           )
 

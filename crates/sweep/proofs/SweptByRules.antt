@@ -13,7 +13,7 @@ use Rattle.meaning.specs.Findings.{foundAt}
 use Rattle.meaning.specs.Looks.{tallyLooks}
 use Rattle.lists.proofs.Cases.{by-test}
 use Rattle.meaning.proofs.Starts.{fits-is-start}
-use Rattle.tally.specs.Counts.{findingWith, TallyTo}
+use Rattle.tally.specs.Counts.{findingWith, TallyResult}
 use Rattle.tally.specs.Tallied.{Verified}
 use Rattle.tally.proofs.TallyFinding.{least-no, least-yes}
 use Rattle.sweep.specs.declared.verifying.LastVerified.the-variants.{At}
@@ -22,8 +22,8 @@ use Rattle.sweep.specs.declared.sweeping.Swept.{Swept}
 use Rattle.sweep.specs.declared.sweeping.Swept.the-variants.{Ended, NoFinding, Found}
 use Rattle.sweep.specs.declared.sweeping.WindowsRead.{WindowsRead}
 use Rattle.sweep.specs.Reads.{windowsBy, CanReadWindows}
-use Rattle.sweep.specs.Sweeps.{tallyBy, SweptTo, sweepBy, canSweep, IsSweptBy}
-use Rattle.sweep.specs.VerifyingRules.{lastOf, TalliedBefore}
+use Rattle.sweep.specs.Sweeps.{tallyBy, SweepResult, sweepBy, canSweep, IsSweptBy}
+use Rattle.sweep.specs.VerifyingRules.{lastStart, TalliedBefore}
 use Rattle.sweep.specs.SweepRules.{stateOf, foundOf, hasEnded, IsCandidateRead, IsWindowsRead, CanSweepOn, IsSweptOn}
 use Rattle.sweep.proofs.SweepCases.{can-sweep-iff}
 use Rattle.sweep.proofs.WindowsStopped.{stopped-from-le}
@@ -51,8 +51,8 @@ module _ (ring doubled table line : List ℕ) (k : ℕ) (old : List ℕ) (at : S
       (record { some-edge = can-read .some-edge; most = can-read .most; occurs = can .occurs }) (can-read .start-le)
 
   -- The counts are still the tally of the last verified start.
-  tallied-here : TalliedBefore ring line i old (lastOf (at .last))
-  tallied-here = before-later ring line old (at .start .0) i (lastOf (at .last)) (stopped-from-le ring line k (at .start .0) (reads .stopped-to)) (can .before)
+  tallied-here : TalliedBefore ring line i old (lastStart (at .last))
+  tallied-here = before-later ring line old (at .start .0) i (lastStart (at .last)) (stopped-from-le ring line k (at .start .0) (reads .stopped-to)) (can .before)
 
   -- The case that no window fits in the line any more.
   ended : read .candidate ≡ false → IsSweptOn ring line k at (Ended (record { start = read .start; last = at .last; looks = at .looks + read .looks })) old
@@ -75,10 +75,10 @@ module _ (ring doubled table line : List ℕ) (k : ℕ) (old : List ℕ) (at : S
     read-is : IsCandidateRead ring line k (reads .looks) read
     read-is = reads .candidate-is stopped
 
-    abbrev tally : TallyTo
+    abbrev tally : TallyResult
     tally = tallyBy ring doubled line i (at .last) old
 
-    verified : Verified ring line i (tallyLooks m (lastOf (at .last)) i) (tally .counts) (tally .least) (tally .looks)
+    verified : Verified ring line i (tallyLooks m (lastStart (at .last)) i) (tally .counts) (tally .least) (tally .looks)
     verified =
         tally-by-rules ring doubled line i old (at .last)
         (record { can-tally = record { size = can .size; some-edge = can-read .some-edge; most = can-read .most }; twice = can .twice; in-line = read-is .in-line; most-line = can-read .most-line; before = tallied-here })
@@ -119,7 +119,7 @@ module _ (ring doubled table line : List ℕ) (k : ℕ) (old : List ℕ) (at : S
         (findingWith m (tally .counts) (read .start) (tally .least)) (can-read .most) (record { is = refl }) (fits-is-start ring line i (read-is .in-line)) near))
 
   -- The result s of a sweep is what the rules give.
-  abbrev SweptOn : SweptTo → Type 0
+  abbrev SweptOn : SweepResult → Type 0
   SweptOn s = IsSweptOn ring line k at (s .swept) (s .counts)
 
   sweep-by-rules : SweptOn (sweepBy ring doubled table line k at old)

@@ -12,7 +12,7 @@ use borrow.Author.Tests.{lt-ltb, le-ltb, lt-leb}
 use Rattle.meaning.specs.Looks.{afreshLooks, stepLooks, tallyLooks}
 use Rattle.lists.proofs.Cases.{le-or-lt}
 use Rattle.tally.specs.Windows.{windowAt}
-use Rattle.tally.specs.Counts.{TallyTo, countedTo}
+use Rattle.tally.specs.Counts.{TallyResult, countedTo}
 use Rattle.tally.specs.Tallied.{Verified}
 use Rattle.tally.proofs.AfreshTallied.{counted-verified}
 use Rattle.moves.specs.declared.steps.Reached.{Reached}
@@ -20,7 +20,7 @@ use Rattle.moves.specs.Moves.{CountsAt, movedFrom, IsReached}
 use Rattle.moves.proofs.MovedTallied.{moved-tallied}
 use Rattle.sweep.specs.declared.verifying.LastVerified.{LastVerified}
 use Rattle.sweep.specs.declared.verifying.LastVerified.the-variants.{Nothing, At}
-use Rattle.sweep.specs.VerifyingRules.{lastOf, TalliedBefore, CanVerify}
+use Rattle.sweep.specs.VerifyingRules.{lastStart, TalliedBefore, CanVerify}
 use Rattle.sweep.specs.Sweeps.{movedTo, tallyBy}
 
 -- If the counts are the tally of the last verified start, before i, then they are so before every later i′.
@@ -33,13 +33,13 @@ module _ (ring doubled line : List ℕ) (i : ℕ) (old : List ℕ) where
   m = length ring
 
   -- The result t verifies start i, at these looks.
-  abbrev VerifiedAt : ℕ → TallyTo → Type 0
+  abbrev VerifiedAt : ℕ → TallyResult → Type 0
   VerifiedAt looks t = Verified ring line i looks (t .counts) (t .least) (t .looks)
 
   -- A fresh count verifies start i, at m·m looks.
   afresh-by-rules : (last : Option ℕ) → CanVerify ring doubled line i old last → VerifiedAt (afreshLooks m) (countedTo doubled (windowAt m line i) old)
   afresh-by-rules last can =
-      let t : TallyTo = countedTo doubled (windowAt m line i) old in
+      let t : TallyResult = countedTo doubled (windowAt m line i) old in
       counted-verified ring line i doubled old (t .counts) (windowAt m line i) (record { least = t .least; looks = t .looks })
       (can .can-tally .size) (can .can-tally .some-edge) (can .can-tally .most) (can .twice) (can .in-line) (record { is = refl })
       (record { written = refl; least-is = refl; looks-are = refl })
@@ -59,8 +59,8 @@ module _ (ring doubled line : List ℕ) (i : ℕ) (old : List ℕ) where
       rw there at (reached .verified)
 
   -- Under `CanVerify`, `tallyBy` verifies start i, at the looks of rule 5.
-  pub tally-by-rules : (last : LastVerified) → CanVerify ring doubled line i old (lastOf last)
-      → VerifiedAt (tallyLooks m (lastOf last) i) (tallyBy ring doubled line i last old)
+  pub tally-by-rules : (last : LastVerified) → CanVerify ring doubled line i old (lastStart last)
+      → VerifiedAt (tallyLooks m (lastStart last) i) (tallyBy ring doubled line i last old)
   unfolding tallyBy tallyLooks
   tally-by-rules Nothing can = afresh-by-rules none can
   tally-by-rules (At from) can =

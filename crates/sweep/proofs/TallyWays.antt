@@ -11,7 +11,7 @@ use borrow.Author.Tests.{lt-ltb, le-ltb, le-leb, lt-leb, ltb-false}
 use Rattle.lists.proofs.Cases.{by-test}
 use Rattle.answers.specs.declared.places.LinePlace.{LinePlace}
 use Rattle.tally.specs.Windows.{windowAt, IsWindow}
-use Rattle.tally.specs.Counts.{mostCounts, canCount, TallyTo, countedTo, IsCounted}
+use Rattle.tally.specs.Counts.{mostCounts, canCount, TallyResult, countedTo, IsCounted}
 use Rattle.moves.specs.Moves.{CountsAt, unmoved, canMove, IsMoved}
 use Rattle.tally.specs.declared.counts.Least.{Least}
 use Rattle.tally.proofs.CountCases.{can-count-iff}
@@ -64,7 +64,7 @@ module _ (ring doubled line : List ℕ) (i : ℕ) (old : List ℕ) where
   afresh-looks : (window : List ℕ) → countedTo doubled window old .looks ≤ mostTally
   unfolding countedTo
   afresh-looks window =
-      by-test (λ (t : TallyTo). t .looks ≤ mostTally) (canCount (length window) (length old) (length doubled))
+      by-test (λ (t : TallyResult). t .looks ≤ mostTally) (canCount (length window) (length old) (length doubled))
       (λ e. let most = can-count-iff (length window) (length old) (length doubled) .0 e .has-counts .most in mul-le-mul most most)
       (λ _. omega arith)
 
@@ -80,8 +80,8 @@ module _ (ring doubled line : List ℕ) (i : ℕ) (old : List ℕ) where
   unfolding tallyBy
   tally-looks Nothing most = afresh-looks (windowAt m line i)
   tally-looks (At from) most =
-      by-test (λ (t : TallyTo). t .looks ≤ mostTally) (leb i (from .0))
+      by-test (λ (t : TallyResult). t .looks ≤ mostTally) (leb i (from .0))
       (λ _. afresh-looks (windowAt m line i))
-      (λ _. by-test (λ (t : TallyTo). t .looks ≤ mostTally) (ltb m (2 * (i - from .0)))
+      (λ _. by-test (λ (t : TallyResult). t .looks ≤ mostTally) (ltb m (2 * (i - from .0)))
       (λ _. afresh-looks (windowAt m line i))
       (λ e. moved-looks (from .0) most (ltb-false m (2 * (i - from .0)) e)))

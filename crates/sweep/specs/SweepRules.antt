@@ -30,7 +30,7 @@ use Rattle.sweep.specs.declared.sweeping.Swept.the-variants.{Ended, NoFi
 use Rattle.sweep.specs.declared.sweeping.WindowsRead.{WindowsRead}
 use Rattle.sweep.specs.Sweeps.{CanSweep}
 use Rattle.tally.specs.Counts.{mostCounts, IsDoubled}
-use Rattle.sweep.specs.VerifyingRules.{TalliedBefore, lastOf}
+use Rattle.sweep.specs.VerifyingRules.{TalliedBefore, lastStart}
 
 -- Where the window after the one at i starts. Rule 3: "With j edges read, the next window starts m − j + 1 further on."
 abbrev pub sweptStart : List ℕ → List ℕ → ℕ → ℕ → ℕ
@@ -83,7 +83,7 @@ pub record CanSweepOn (ring doubled table line counts : List ℕ) (at : Sweep) :
   pub size : length counts ≡ mostCounts
   pub occurs : Occurrences ring table
   pub twice : IsDoubled ring doubled
-  pub before : TalliedBefore ring line (at .start .0) counts (lastOf (at .last))
+  pub before : TalliedBefore ring line (at .start .0) counts (lastStart (at .last))
 
 -- Rule 4: "Each candidate is verified, and reported if it is a finding." The window at the start of `at` is a candidate. After it, the next window starts where rule 3
 -- says, the candidate is the last verified start, and the counts are its tally. "Looks are the sum over rules 1 and 5": those of its reads and of its verification are
@@ -92,17 +92,17 @@ pub record IsCandidateSwept (ring line : List ℕ) (k : ℕ) (at : Sweep) (r : S
   pub in-line : FitsInLine ring line (at .start .0)
   pub few : readWindow ring line k (at .start .0) .breaks ≤ k
   pub start-is : stateOf r .start .0 ≡ sweptStart ring line k (at .start .0)
-  pub last-is : lastOf (stateOf r .last) ≡ some (at .start .0)
-  pub looks-are : stateOf r .looks ≡ at .looks + readWindow ring line k (at .start .0) .read + tallyLooks (length ring) (lastOf (at .last)) (at .start .0)
+  pub last-is : lastStart (stateOf r .last) ≡ some (at .start .0)
+  pub looks-are : stateOf r .looks ≡ at .looks + readWindow ring line k (at .start .0) .read + tallyLooks (length ring) (lastStart (at .last)) (at .start .0)
   pub found-are : foundOf r ≡ foundAt ring line k (at .start .0)
-  pub before : TalliedBefore ring line (stateOf r .start .0) counts (lastOf (stateOf r .last))
+  pub before : TalliedBefore ring line (stateOf r .start .0) counts (lastStart (stateOf r .last))
   pub size : length counts ≡ mostCounts
 
 -- No window fits in the line at the start of `at`: the sweep stays there, and the counts are still the tally of the last verified start, if there is one.
 pub record HasEnded (ring line : List ℕ) (at next : Sweep) (counts : List ℕ) : Type 0 where
   pub past : IsPastLine ring line (at .start .0)
   pub next-is : next ≡ at
-  pub before : TalliedBefore ring line (at .start .0) counts (lastOf (at .last))
+  pub before : TalliedBefore ring line (at .start .0) counts (lastStart (at .last))
   pub size : length counts ≡ mostCounts
 
 -- The sweep after a run of windows stopped at break k + 1: only its start, now i, and its looks have changed.

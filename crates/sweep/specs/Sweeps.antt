@@ -3,7 +3,7 @@
 --
 --   movedTo                  the tally moved a number of steps
 --   tallyBy                  a start verified: counted afresh, or the tally moved (rule 5)
---   SweptTo, sweepBy         the result of a sweep; the sweep to the next candidate, which is verified (rule 4)
+--   SweepResult, sweepBy     the result of a sweep; the sweep to the next candidate, which is verified (rule 4)
 --   mostLooks                2^62, more looks than any sweep takes
 --   canSweep, CanSweep       whether the sweep can go on: the test, and the same as facts
 --   IsSweptBy                the contract of `sweep_on`
@@ -16,7 +16,7 @@ use lib.Dec.{ltb, leb}
 use lib.ListN.{length}
 use Rattle.findings.specs.declared.searching.Finding.{Finding as FindingStruct}
 use Rattle.tally.specs.Windows.{windowAt}
-use Rattle.tally.specs.Counts.{mostCounts, findingWith, TallyTo, countedTo}
+use Rattle.tally.specs.Counts.{mostCounts, findingWith, TallyResult, countedTo}
 use Rattle.moves.specs.Moves.{CountsAt, movedFrom, mostPlaces}
 use Rattle.tally.specs.declared.counts.Least.{Least}
 use Rattle.sweep.specs.declared.verifying.LastVerified.{LastVerified}
@@ -28,38 +28,38 @@ use Rattle.sweep.specs.declared.sweeping.WindowsRead.{WindowsRead}
 use Rattle.sweep.specs.Reads.{windowsBy, CanReadWindows}
 
 -- The tally moved s steps from start `from` by `move_counts`. The bound is 0, and no least count is below 0, so no move ends early.
-unfoldable pub movedTo : List ℕ → List ℕ → ℕ → ℕ → List ℕ → TallyTo
+unfoldable pub movedTo : List ℕ → List ℕ → ℕ → ℕ → List ℕ → TallyResult
 movedTo ring line from s old =
     let to : CountsAt = movedFrom ring line from s 0 old in
     record { counts = to .counts; least = to .least; looks = to .looks }
 
 -- Start i verified, after the last verified start if there is one. Rule 5: "With no earlier tally, or if the new start is s beyond the last verified one and
 -- 2·s > m, it is counted afresh: m·m looks. Otherwise it moves s steps". The rules never go back; here a start that is not beyond the last one is counted afresh.
-unfoldable pub tallyBy : List ℕ → List ℕ → List ℕ → ℕ → LastVerified → List ℕ → TallyTo
+unfoldable pub tallyBy : List ℕ → List ℕ → List ℕ → ℕ → LastVerified → List ℕ → TallyResult
 tallyBy ring doubled line i Nothing old = countedTo doubled (windowAt (length ring) line i) old
 tallyBy ring doubled line i (At from) old =
-    let afresh : TallyTo = countedTo doubled (windowAt (length ring) line i) old in
-    let moved : TallyTo = movedTo ring line (from .0) (i - from .0) old in
-    let beyond : TallyTo = cond (ltb (length ring) (2 * (i - from .0))) afresh moved in
+    let afresh : TallyResult = countedTo doubled (windowAt (length ring) line i) old in
+    let moved : TallyResult = movedTo ring line (from .0) (i - from .0) old in
+    let beyond : TallyResult = cond (ltb (length ring) (2 * (i - from .0))) afresh moved in
     cond (leb i (from .0)) afresh beyond
 
 -- The result of a sweep: the returned enum and the final counts.
-pub record SweptTo : Type 0 where
+pub record SweepResult : Type 0 where
   pub swept : Swept
   pub counts : List ℕ
 
 -- The sweep from `at` to the next candidate. Rule 4: "Each candidate is verified, and reported if it is a finding." It is a finding if its least count is at most k.
-unfoldable pub sweepBy : List ℕ → List ℕ → List ℕ → List ℕ → ℕ → Sweep → List ℕ → SweptTo
+unfoldable pub sweepBy : List ℕ → List ℕ → List ℕ → List ℕ → ℕ → Sweep → List ℕ → SweepResult
 sweepBy ring doubled table line k at old =
     let read : WindowsRead = windowsBy ring table line k (at .start .0) in
     let looks : ℕ = at .looks + read .looks in
-    let tally : TallyTo = tallyBy ring doubled line (read .start .0) (at .last) old in
+    let tally : TallyResult = tallyBy ring doubled line (read .start .0) (at .last) old in
     let next : Sweep = record { start = read .next; last = At (read .start); looks = looks + tally .looks } in
     let finding : FindingStruct = findingWith (length ring) (tally .counts) (read .start) (tally .least) in
-    let ended : SweptTo = record { swept = Ended (record { start = read .start; last = at .last; looks = looks }); counts = old } in
-    let none : SweptTo = record { swept = NoFinding next; counts = tally .counts } in
-    let found : SweptTo = record { swept = Found next finding; counts = tally .counts } in
-    let verified : SweptTo = cond (ltb k (tally .least)) none found in
+    let ended : SweepResult = record { swept = Ended (record { start = read .start; last = at .last; looks = looks }); counts = old } in
+    let none : SweepResult = record { swept = NoFinding next; counts = tally .counts } in
+    let found : SweepResult = record { swept = Found next finding; counts = tally .counts } in
+    let verified : SweepResult = cond (ltb k (tally .least)) none found in
     cond (read .candidate) verified ended
 
 -- More looks than any sweep takes: 2^62.

@@ -1,7 +1,7 @@
 -- The conditions under which verifying a start follows rule 5: the ring's own double is lent, and the counts are the tally of the last verified start. The rule's
 -- looks are `tallyLooks` of crates/meaning. `tally-by-rules` in proofs/TallyByRules.antt proves that `tallyBy` of Sweeps then gives the start's tally at these looks.
 --
---   lastOf           the last verified start, if there is one
+--   lastStart        the last verified start, if there is one
 --   TalliedBefore    the counts are its tally, and it is before a given start
 --   CanVerify        a start can be verified by rule 5
 use Prim.Native.Nat.{ℕ, _<_}
@@ -16,9 +16,9 @@ use Rattle.sweep.specs.declared.verifying.LastVerified.{LastVerified}
 use Rattle.sweep.specs.declared.verifying.LastVerified.the-variants.{Nothing, At}
 
 -- The last verified start as a number, if there is one.
-abbrev pub lastOf : LastVerified → Option ℕ
-lastOf Nothing = none
-lastOf (At start) = some (start .0)
+abbrev pub lastStart : LastVerified → Option ℕ
+lastStart Nothing = none
+lastStart (At start) = some (start .0)
 
 -- If there is a last verified start, it is before i and the counts are its tally. If there is none, the counts may hold anything.
 abbrev pub TalliedBefore : List ℕ → List ℕ → ℕ → List ℕ → Option ℕ → Type 0

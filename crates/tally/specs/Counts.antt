@@ -8,7 +8,7 @@
 --   differsThere, afreshCount  the number of places where a window and a rotation differ
 --   afreshCounts               the counts after a fresh count: one for each rotation, the others kept
 --   canCount, CanCount         whether a window can be counted: the test, and the same as facts
---   TallyTo, countedTo         the result of a fresh count: the counts, their least, the looks
+--   TallyResult, countedTo     the result of a fresh count: the counts, their least, the looks
 --   findingWith                the finding at a start with a given least count
 --   IsComparison, IsDoubled, IsCounted, IsFindingAt   the contracts of `differing`, `double`, `count_afresh` and `finding_at`
 --   IsLowestWith, HasCounts, edgeCounted, IsLeast, IsCountedAfresh   preconditions and contracts of private functions
@@ -72,17 +72,17 @@ unfoldable pub canCount : ℕ → ℕ → ℕ → Bool
 canCount m room long = (ltb 0 m && leb m mostCounts) && (leb m room && leb (2 * m) long)
 
 -- The result of computing a tally: the counts, their least, the looks.
-pub record TallyTo : Type 0 where
+pub record TallyResult : Type 0 where
   pub counts : List ℕ
   pub least : ℕ
   pub looks : ℕ
 
 -- The result of a fresh count of a window, at m·m looks. If the window cannot be counted, no count changes, and least and looks are 0.
-unfoldable pub countedTo : List ℕ → List ℕ → List ℕ → TallyTo
+unfoldable pub countedTo : List ℕ → List ℕ → List ℕ → TallyResult
 countedTo doubled window old =
     let new : List ℕ = afreshCounts doubled window old in
-    let counted : TallyTo = record { counts = new; least = leastOf (length window) new; looks = afreshLooks (length window) } in
-    let unchanged : TallyTo = record { counts = old; least = 0; looks = 0 } in
+    let counted : TallyResult = record { counts = new; least = leastOf (length window) new; looks = afreshLooks (length window) } in
+    let unchanged : TallyResult = record { counts = old; least = 0; looks = 0 } in
     cond (canCount (length window) (length old) (length doubled)) counted unchanged
 
 -- The contract of `differing`: it returns 1 if the two edges differ, else 0.
