@@ -1,5 +1,4 @@
-"""Spoilt copies of the tree for tools/looks --try, and the run over spoilt copies, which tools/statements --try uses with its own copies. Each copy is spoilt in
-one way, and must be noticed for that reason; the tree itself must have no fault.
+"""Spoilt copies of the tree for tools/looks --try. Each copy is spoilt in one way, and must be noticed for that reason.
 
 The places to spoil are looked up in the tree itself: the first look, the first count that starts or is added, a public function that has the line, a function
 that reads an edge. No other line of the source is quoted here.
@@ -86,16 +85,3 @@ def copies(tree, check):
     yield "a row for a look that is not there", with_text(page, re.sub(r"(?m)^\| crates/[^|]*`looks \+= 1; // one look.*\n", lambda m: m[0] * 2, tree[page], count=1)), "has not one row for each"
     yield "a function that passes a count on is not named", with_text(page, tree[page].replace(f"`{public.name}`", "it").replace(f"::{public.name}`", "::it`")), "does not name it"
     yield "a function is named that is gone", with_text(page, tree[page] + "`gone_from_here`\n"), "is no function"
-
-
-def main(tree, Check, copies=copies):
-    whole = Check(tree)
-    passed, failed = (0, len(whole.faults)) if whole.faults else (1, 0)
-    for fault in whole.faults:
-        print(f"unspoilt: {fault}")
-    for what, copy, why in copies(tree, whole):
-        seen = [fault for fault in Check(copy).faults if why in fault]
-        print(f"{what}: " + (seen[0] if seen else "NOT NOTICED" if copy != tree else "COULD NOT BE MADE"))
-        passed, failed = (passed + 1, failed) if seen else (passed, failed + 1)
-    print(f"{passed} passed, {failed} failed")
-    return 1 if failed else 0
