@@ -1,11 +1,11 @@
 /* Outlines stored twice: finds a closed ring of edges in a line of edges, starting at any of its edges and with at most k edges that differ.
  * Link with target/native/libexports.a, which tools/native makes. docs/SPEC.md has all of this in full.
  *
- * Terms. A ring has m edges and a line has n, one byte each; every byte value is an edge code like any other. Rotation r of the ring, 0 <= r < m, has
- * the ring's edge (r + q) mod m at its place q. A start is a line place i with i + m <= n, and its window is the m edges from i on. The distance of a
- * start under rotation r is the number of places where its window and rotation r differ. A finding is a start whose least distance over all rotations
- * is at most k, the allowance. It has three numbers: the start, the lowest rotation with that least distance, and the least distance. Places and
- * rotations count from 0.
+ * Terms. A ring has m edges and a line has n, one byte each; all 256 byte values are ordinary edge codes. Turning the ring by r, 0 <= r < m, brings its
+ * edge (r + q) mod m to place q; r is called a rotation. A line place i is a start if i + m <= n; the line's places i to i + m - 1 are its window. The
+ * distance of a start under a rotation counts the places at which the window and the turned ring have different edges. A start is a finding if its
+ * distance is at most k, the allowance, for at least one rotation. A finding has three numbers: the start, the lowest rotation with the least distance,
+ * and that distance. Places and rotations count from 0.
  *
  * One stored copy can be several findings. If an exact copy of the ring stands at start i, a window that begins s edges before or after it has a distance
  * of at most s. So every start from i - k to i + k is a finding: at least 2 k + 1 of them, away from the line's ends. A reviewer who accepts that copy
@@ -43,10 +43,10 @@ enum outlines_refusal {
     OUTLINES_LINE = 3,          /* the line has more than 65,536 edges; place 0 */
     OUTLINES_FINDINGS_ROOM = 4, /* n >= m, and fewer than 3 (n - m + 1) words are lent for the findings; place 0 */
     OUTLINES_BOOK_LENGTH = 5,   /* the book has more than 13,000 bytes; place 0 */
-    OUTLINES_FIELD = 6,         /* a field of the book is not 13 bytes that begin with 21 00 0A hex, or is cut off; place: the field's byte offset */
+    OUTLINES_FIELD = 6,         /* a field of the book does not begin with 21 00 0A hex, or has fewer than 13 bytes; place: the field's byte offset */
     OUTLINES_NOT_ABOVE = 7,     /* a record is not above the one before it; place: its byte offset (report, unpack) or its record number (pack) */
     OUTLINES_WORD_COUNT = 8,    /* the number of words to pack is not a multiple of 3, or is above 3,000; place 0 */
-    OUTLINES_RING_NUMBER = 9,   /* a ring number to pack is above 65,535; place: its record number. Record numbers count from 0 */
+    OUTLINES_RING_NUMBER = 9,   /* a word to pack as a ring number is above 65,535; place: its record number. Record numbers count from 0 */
     OUTLINES_OUTPUT_ROOM = 10,  /* the area lent to pack or unpack is too small for the whole output; place 0 */
     OUTLINES_INPUT = 11         /* the report program's input is not laid out as SPEC, section 8, says; no call declared here gives it */
 };
@@ -65,8 +65,8 @@ struct outlines_answer {
  *   line, line_length     the line, n = line_length: 0 to 65,536 edges; a line shorter than the ring is accepted and has no start
  *   k                     the allowance: 0 to m - 1
  *   words, words_length   lent for the findings: at least 3 (n - m + 1) words if n >= m; none are needed if n < m
- * Returns found and looks; looks are 2 m n - m m if n >= m, else 0. Writes three words for each finding (start, rotation, distance), by rising start.
- * Words after the last one written keep their values. Refusals, in order: 1, 2, 3, 4. */
+ * Returns found and looks; looks are 2 m n - m m if n >= m, else 0. Writes three words for each finding (start, rotation, distance), by rising start,
+ * and no word behind them. Refusals, in order: 1, 2, 3, 4. */
 struct outlines_answer outlines_survey(const uint8_t *ring, size_t ring_length, const uint8_t *line, size_t line_length, size_t k, uint32_t *words,
                                        size_t words_length);
 
@@ -76,14 +76,14 @@ struct outlines_answer outlines_scan(const uint8_t *ring, size_t ring_length, co
                                      size_t words_length);
 
 /* The report: the quick scan, without the findings that the book hides. A finding is hidden exactly if the book has a record of this cell, this ring
- * number and the finding's start. Zero is an ordinary cell, ring number and start; no value stands for all. A record that names no finding hides
- * nothing.
+ * number and the finding's start. Zero is a value like any other in all three, and no value stands for all. A record whose
+ * address has no finding hides nothing.
  *   cell, ring_number     the cell that the line is of, and the number of the ring; C cuts a larger number to 32 and 16 bits before the call, so test
  *                         it first
  *   book, book_length     a silence book, as outlines_pack writes it: 0 to 13,000 bytes; an empty book is valid
  *   the others            as for outlines_scan, with the same room for findings however many are hidden
  * Returns found (hidden ones included), hidden, and the looks of the scan. Writes the words of the shown findings only, found - hidden of them, by
- * rising start and without a gap; words after the last one written keep their values. Refusals, in order: 1, 2, 3, 4, 5, then the first faulty field
+ * rising start and without a gap, and no word behind them. Refusals, in order: 1, 2, 3, 4, 5, then the first faulty field
  * of the book, 6 before 7. The book is read even if the line is shorter than the ring. */
 struct outlines_answer outlines_report(uint32_t cell, uint16_t ring_number, const uint8_t *ring, size_t ring_length, const uint8_t *line,
                                        size_t line_length, size_t k, const uint8_t *book, size_t book_length, uint32_t *words, size_t words_length);
@@ -93,14 +93,14 @@ struct outlines_answer outlines_report(uint32_t cell, uint16_t ring_number, cons
  *                         number, then start; a ring number is at most 65,535
  *   bytes, bytes_length   lent for the book: at least 13 bytes for each silence
  * Returns the number of records in found. Writes 13 bytes for each silence: 21 00 0A hex, cell (4 bytes), ring number (2), start (4), numbers high
- * byte first. Bytes after the last one written keep their values. Refusals, in order: 8, then the first faulty record, 9 before 7, then 10. */
+ * byte first; no byte behind them. Refusals, in order: 8, then the first faulty record, 9 before 7, then 10. */
 struct outlines_answer outlines_pack(const uint32_t *words, size_t words_length, uint8_t *bytes, size_t bytes_length);
 
 /* Unpacks a book into words. Unpacking a packed book gives the words back, and packing unpacked words gives the book back.
  *   book, book_length     a silence book: 0 to 13,000 bytes; an empty book is valid
  *   words, words_length   lent for the silences: at least three words for each record
- * Returns the number of records in found. Writes three words for each record (cell, ring number, start). Words after the last one written keep their
- * values. Refusals, in order: 5, then the first faulty field of the book, 6 before 7, then 10. */
+ * Returns the number of records in found. Writes three words for each record (cell, ring number, start), and no word behind
+ * them. Refusals, in order: 5, then the first faulty field of the book, 6 before 7, then 10. */
 struct outlines_answer outlines_unpack(const uint8_t *book, size_t book_length, uint32_t *words, size_t words_length);
 
 #ifdef __cplusplus
