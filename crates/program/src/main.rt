@@ -1,6 +1,6 @@
 // The report program of document 01: reads standard input, has `reply::answer` make the text, and writes it to standard output.
 // (crates/request reads the request that the input holds, crates/reply writes the text. The built program is target/native/report.)
-// The exit status is always 0, so a caller must test the output: accept it only if its last line is a whole
+// The exit status is 0 whenever the program ends by itself, so test the output: accept it only if its last line is a whole
 // `found F hidden H looks L`, ended by LF (docs/SPEC.md, section 8).
 use reply::MOST_INPUT;
 use reply::MOST_TEXT;
