@@ -48,11 +48,14 @@ module _ (ring line : List ℕ) (k i : ℕ) (counts : List ℕ) (least : ℕ) (p
   pub least-no : k < least → foundAt ring line k i ≡ []
   least-no h = found-no ring line k i (omega (arith, least-is))
 
+  -- What `findingWith` makes of a start's tally and its least count is the finding at that start.
+  pub tallied-finding : length ring ≤ mostCounts → findingOf (findingWith (length ring) counts (record { 0 = i }) least) ≡ findingAt ring line i
+  unfolding findingWith
+  tallied-finding most = λ j. record { start = i; rotation = (lowest-least counts least most l ∙ rotation-is) j; distance = least-is j }
+
   -- If the least count of a start is at most k, the finding at that start is the one that `finding_at` returns.
   pub least-yes : (f : FindingStruct) → length ring ≤ mostCounts → IsFindingAt (length ring) counts (record { 0 = i }) least f → IsStart ring line i → least ≤ k
       → foundAt ring line k i ≡ findingOf f ∷ []
-  unfolding findingWith
   least-yes f most found start h =
-      let carried : findingAt ring line i ≡ findingOf f =
-      (λ j. record { start = i; rotation = sym (lowest-least counts least most l ∙ rotation-is) j; distance = sym least-is j }) ∙ ap findingOf (sym (found .is)) in
-      found-yes ring line k i start (omega (arith, least-is)) ∙ ap (λ (g : Finding). g ∷ []) carried
+      found-yes ring line k i start (omega (arith, least-is))
+      ∙ ap (λ (g : Finding). g ∷ []) (sym (ap findingOf (found .is) ∙ tallied-finding most))
