@@ -3,20 +3,16 @@
 use Prim.Native.Nat.{ℕ, _+_, _*_, _/_, _^_, _<_}
 use mathlib.Core.Path.{_≡_, refl}
 use mathlib.Core.Bool.{true, false}
-use mathlib.Core.List.{List}
+use mathlib.Core.List.{List, [], _∷_, _++_}
 use mathlib.Core.Logic.{_↔_}
 use native.Mathlib.Omega.{arith}
 use lib.Dec.{leb}
 use lib.ListN.{length}
 use Rattle.lists.specs.Bounds.{IsWords}
-use Rattle.lists.proofs.Bounds.{below-none, below-more, all-below-iff}
+use Rattle.lists.proofs.Bounds.{below-last, last-below, all-below-iff}
 use Rattle.meaning.specs.Findings.{Finding, findingWords, wordsEach}
 use Rattle.lists.proofs.SizesTested.{le-iff, and-iff, test-same}
 use Rattle.findings.specs.Putting.{wordsPut, canPut, CanPut, IsFindingPut}
-
--- If the three numbers of a finding are below 2^32, its words are 32-bit words.
-pub finding-words : {f : Finding} → f .start < 2 ^ 32 → f .rotation < 2 ^ 32 → f .distance < 2 ^ 32 → IsWords (findingWords f)
-finding-words start rotation distance = below-more start (below-more rotation (below-more distance (below-none (omega arith))))
 
 -- The test `canPut` passes exactly when the finding can be put.
 pub can-put-iff : (lent before : ℕ) (f : Finding) → (canPut lent before f ≡ true) ↔ CanPut lent before f
@@ -27,12 +23,13 @@ can-put-iff lent before f =
       λ can. all .1 (can .room, can .words),
     )
 
--- If there is room, and start and rotation are 32-bit words, the test `canPut` passes exactly when the distance is a 32-bit word.
-pub can-put-last : (lent before : ℕ) (f : Finding) → before < lent / wordsEach → f .start < 2 ^ 32 → f .rotation < 2 ^ 32 → leb (f .distance) 4294967295 ≡ canPut lent before f
-can-put-last lent before f more start rotation =
-    test-same (le-iff (f .distance) 4294967295) (can-put-iff lent before f) (
-      λ l. record { room = omega arith; words = finding-words start rotation (omega arith) },
-      λ can. omega (arith, can .words .each-lt 2),
+-- If there is room, and all words of the finding but its last are 32-bit words, the test `canPut` passes exactly when the last is one too.
+pub can-put-last : (lent before : ℕ) (f : Finding) (front : List ℕ) (last : ℕ) → before < lent / wordsEach → IsWords front → findingWords f ≡ front ++ last ∷ []
+    → leb last 4294967295 ≡ canPut lent before f
+can-put-last lent before f front last more words are =
+    test-same (le-iff last 4294967295) (can-put-iff lent before f) (
+      λ l. record { room = omega arith; words = rw are (below-last front words (omega arith)) },
+      λ can. omega (arith, last-below front (rw are at (can .words))),
     )
 
 module _ (words : List ℕ) (before : ℕ) (f : Finding) where

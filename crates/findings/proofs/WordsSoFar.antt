@@ -6,20 +6,20 @@ use mathlib.Core.List.{List, [], _∷_, _++_}
 use native.Mathlib.Omega.{arith}
 use lib.ListN.{length, length-append}
 use Rattle.lists.specs.Bounds.{IsWords}
-use Rattle.meaning.specs.Meanings.{IsStart}
-use Rattle.meaning.specs.Findings.{Finding, findingWords, wordsEach, wordsOf}
+use Rattle.meaning.specs.Findings.{Finding, IsFinding, findingWords, wordsEach, wordsOf}
 use Rattle.lists.specs.Areas.{written}
+use Rattle.lists.proofs.Bounds.{below-none, below-more}
 use Rattle.findings.specs.Admitting.{Admitted}
 use Rattle.findings.specs.Putting.{wordsPut, CanPut, IsFindingPut}
 use Rattle.findings.proofs.WordsPut.{put-more, put-none, put-length}
-use Rattle.findings.proofs.PutCases.{finding-words, words-are-put}
+use Rattle.findings.proofs.PutCases.{words-are-put}
 
--- In an accepted call, a finding with a start, a rotation below m and a distance of at most k has 32-bit words.
-pub admitted-words : (ring line : List ℕ) {k room : ℕ} {f : Finding} → Admitted (length ring) k (length line) room → IsStart ring line (f .start)
-    → f .rotation < length ring → f .distance ≤ k → IsWords (findingWords f)
-admitted-words ring line admitted is-start is-rotation near =
-    finding-words (omega (arith, admitted .most-line, is-start .fits-in-line)) (omega (arith, admitted .most-ring))
-    (omega (arith, admitted .allowed, admitted .most-ring))
+-- In an accepted call, the words of a finding are 32-bit words.
+pub admitted-words : (ring line : List ℕ) {k room : ℕ} {f : Finding} → Admitted (length ring) k (length line) room → IsFinding ring line k f → IsWords (findingWords f)
+admitted-words ring line admitted is =
+    below-more (omega (arith, is .is-start .fits-in-line, admitted .most-line))
+    (below-more (omega (arith, is .is-rotation, admitted .most-ring))
+    (below-more (omega (arith, is .at-most-k, admitted .allowed, admitted .most-ring)) (below-none (omega arith))))
 
 -- The findings so far are fs, `count` of them, and `words` is the lent area with their words at its front.
 pub record WordsSoFar (area : List ℕ) (fs : List Finding) (count : ℕ) (words : List ℕ) : Type 0 where

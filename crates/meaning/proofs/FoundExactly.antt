@@ -4,7 +4,7 @@
 use Prim.Native.Nat.{ℕ, zero, suc, _≤_, _<_}
 use mathlib.Core.Path.{_≡_, refl, sym, ap, _∙_, subst}
 use mathlib.Core.Logic.{_↔_, ⊎-elim}
-use mathlib.Core.List.{List, List·Memᴰ, List·Memᴰ·head, List·Memᴰ·not-nil, List·Memᴰ·append-cases, Memᴰ·append-left, Memᴰ·append-right, Memᴰ·cast}
+use mathlib.Core.List.{List, [], _∷_, List·Memᴰ, List·Memᴰ·head, List·Memᴰ·not-nil, List·Memᴰ·append-cases, Memᴰ·append-left, Memᴰ·append-right, Memᴰ·cast}
 use native.Mathlib.Nat.{eq-or-lt-of-le, le-of-suc-le-suc}
 use native.Mathlib.Omega.{arith}
 use lib.ListN.{length}
@@ -44,22 +44,23 @@ module _ (ring line : List ℕ) (k : ℕ) where
       (eq-or-lt-of-le (le-of-suc-le-suc l))
 
   module _ (pos : 0 < length ring) where
+    -- What `findingAt` gives at a start whose least distance is at most k is a finding.
+    at-yes : (i : ℕ) → IsStart ring line i → leastDistance ring line i ≤ k → IsFinding ring line k (findingAt ring line i)
+    at-yes i start near =
+        let low = lowestRotation-is ring line pos i in
+        record { is-start = start; is-rotation = low .below; distance-is = refl; at-most-k = near; least = low .least; lowest = low .first }
+
+    -- What `foundAt` gives at a place is a finding.
+    pub found-is : (i : ℕ) (f : Finding) → foundAt ring line k i ≡ f ∷ [] → IsFinding ring line k f
+    found-is i f e =
+        let r = found-mem ring line k i f (rw e (List·Memᴰ·head refl)) in
+        subst (IsFinding ring line k) (sym (r .0)) (at-yes i (r .1) (r .2))
+
     -- Every member of the list is a finding.
     findings-yes : (f : Finding) → List·Memᴰ f (findings ring line k) → IsFinding ring line k f
     findings-yes f h =
         let r = below-mem (length line) f h in
-        let i : ℕ = f .start in
-        let low = lowestRotation-is ring line pos i in
-        let rotation : f .rotation ≡ lowestRotation ring line i = ap (λ (g : Finding). g .rotation) (r .0) in
-        let far : f .distance ≡ leastDistance ring line i = ap (λ (g : Finding). g .distance) (r .0) in
-        record {
-          is-start = r .1;
-          is-rotation = omega (arith, low .below);
-          distance-is = far ∙ ap (distance ring line i) (sym rotation);
-          at-most-k = omega (arith, r .2);
-          least = λ s l. omega (arith, low .least s l);
-          lowest = λ s l. omega (arith, low .first s (omega arith));
-        }
+        subst (IsFinding ring line k) (sym (r .0)) (at-yes (f .start) (r .1) (r .2))
 
     -- The rotation of a finding is the lowest at which the distance is least.
     rotation-is : (f : Finding) → IsFinding ring line k f → f .rotation ≡ lowestRotation ring line (f .start)

@@ -57,11 +57,6 @@ module _ (ring line : List ℕ) (k i : ℕ) where
       (List·Memᴰ·eq-of-singleton h, start-iff ring line i .0 (both .0), leb-true _ _ (both .1)))
       (λ _ h. absurd (List·Memᴰ·not-nil h))
 
-  -- If `foundAt` gives a finding, it starts at i, its rotation is below m, and its distance is at most k.
-  pub found-small : (f : Finding) → 0 < length ring → foundAt ring line k i ≡ f ∷ []
-      → (f .start ≡ i) × (f .rotation < length ring) × (f .distance ≤ k)
-  found-small f pos e =
-      let mem = found-mem f (rw e (List·Memᴰ·head refl)) in
-      let rotation : f .rotation ≡ lowestRotation ring line i = ap (λ (g : Finding). g .rotation) (mem .0) in
-      let far : f .distance ≡ leastDistance ring line i = ap (λ (g : Finding). g .distance) (mem .0) in
-      (ap (λ (g : Finding). g .start) (mem .0), omega (arith, lowestRotation-is ring line pos i .below), omega (arith, mem .2))
+  -- If `foundAt` gives the finding f, f starts at i.
+  pub found-start : (f : Finding) → foundAt ring line k i ≡ f ∷ [] → f .start ≡ i
+  found-start f e = ap (λ (g : Finding). g .start) (found-mem f (rw e (List·Memᴰ·head refl)) .0)

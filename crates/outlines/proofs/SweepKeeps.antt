@@ -10,9 +10,10 @@ use native.Mathlib.Nat.{mul-le-mul}
 use native.Mathlib.Omega.{arith}
 use lib.ListN.{length}
 use Rattle.meaning.specs.Meanings.{FitsInLine}
-use Rattle.meaning.specs.Findings.{Finding, findingWords}
+use Rattle.meaning.specs.Findings.{Finding, foundAt, findingWords}
 use Rattle.meaning.proofs.LookBound.{quickLooks-most}
-use Rattle.meaning.proofs.Places.{found-small}
+use Rattle.meaning.proofs.Places.{found-start}
+use Rattle.meaning.proofs.FoundExactly.{found-is}
 use Rattle.meaning.proofs.ScanLoop.{ScanLoop, scan-start, scan-so-far-le, scan-verified}
 use Rattle.tally.specs.Counts.{mostCounts}
 use Rattle.lists.specs.Bounds.{IsWords}
@@ -34,7 +35,7 @@ pub record SweepKeeps (ring line : List ℕ) (k : ℕ) (so-far : List Finding) (
   pub size : length counts ≡ mostCounts
   pub start-le : at .start .0 ≤ length line + 1
 
--- f starts at `from` to `to`, and its three numbers are 32-bit words.
+-- f starts at `from` to `to`, and its words are 32-bit words.
 pub record FoundBetween (from to : ℕ) (f : Finding) : Type 0 where
   pub from-le : from ≤ f .start
   pub to-le : f .start ≤ to
@@ -125,11 +126,12 @@ module _ {ring doubled table line : List ℕ} {k : ℕ} {book counts₀ area : L
             later = omega (arith, c .start-is);
             less = λ in-line. omega (arith, c .start-is, c .in-line);
             found = λ f is.
-                let small = found-small ring line k (on .stop) f (can .admitted .some-edge) (sym (c .found-are) ∙ is) in
+                let here : foundAt ring line k (on .stop) ≡ f ∷ [] = sym (c .found-are) ∙ is in
+                let start-is : f .start ≡ on .stop = found-start ring line k (on .stop) f here in
                 record {
-                  from-le = omega (arith, small .0);
-                  to-le = omega (arith, small .0, c .start-is);
-                  are-words = admitted-words ring line (can .admitted) (omega (arith, small .0, c .in-line)) (small .1) (small .2);
+                  from-le = omega arith;
+                  to-le = omega (arith, c .start-is);
+                  are-words = admitted-words ring line (can .admitted) (found-is ring line k (can .admitted .some-edge) (on .stop) f here);
                 };
           }
 

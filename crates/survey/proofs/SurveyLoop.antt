@@ -14,7 +14,8 @@ use Rattle.lists.specs.Areas.{written}
 use Rattle.meaning.specs.Meanings.{FitsInLine, IsPastLine}
 use Rattle.meaning.specs.Looks.{afreshLooks, stepLooks, surveyLooksBelow}
 use Rattle.meaning.proofs.Starts.{fits-is-start}
-use Rattle.meaning.proofs.Places.{found-no, found-small}
+use Rattle.meaning.proofs.Places.{found-no}
+use Rattle.meaning.proofs.FoundExactly.{found-is}
 use Rattle.meaning.proofs.FindingsBelow.{below-same, below-length-le, findings-below}
 use Rattle.meaning.proofs.SurveyLooks.{surveyLooks-below, surveyLooks-end}
 use Rattle.moves.specs.declared.steps.Reached.{Reached}
@@ -150,7 +151,7 @@ module _ {ring doubled line : List ℕ} {k : ℕ} {area : List ℕ} {i found loo
           let is-start = fits-is-start ring line start (verified .in-line) in
           let here : foundAt ring line k start ≡ findingOf f ∷ [] =
           least-yes ring line k start counts′ (reached .least) (admitted .some-edge) (verified .tallied) (verified .least-is) f (admitted .most-ring) carried is-start near in
-          let small = found-small ring line k start (findingOf f) (admitted .some-edge) here in
-          let are-words : IsWords (findingWords (findingOf f)) = admitted-words ring line admitted (rw (small .0) is-start) (small .1) (small .2) in
+          let are-words : IsWords (findingWords (findingOf f)) =
+          admitted-words ring line admitted (found-is ring line k (admitted .some-edge) start (findingOf f) here) in
           let more = so-far-more (keeps .put) room-behind are-words put in
           survey-turn here more (so-far-length more (omega (arith, room-behind)))

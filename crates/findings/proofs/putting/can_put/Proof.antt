@@ -1,5 +1,7 @@
 -- `findings::putting::can_put` meets its contract: it returns false at the first comparison that fails, else the result of the last (`SizesTested` of crates/lists).
+use mathlib.Core.Path.{refl}
 use native.Mathlib.Omega.{arith}
+use Rattle.lists.proofs.Bounds.{below-none, below-more}
 use Rattle.lists.proofs.SizesTested.{test-fails}
 use Rattle.findings.proofs.PutCases.{can-put-iff, can-put-last}
 use Rattle.findings.proofs.putting.can_put.Statement.{statement}
@@ -22,7 +24,8 @@ returns-4 : tie.Need-returns-4
 returns-4 c =
     let rotation = c .before in
     let start = rotation .before .before in
-    can-put-last _ _ _ (omega (arith, start .before .before .if1 .left)) (omega (arith, start .if2 .left)) (omega (arith, rotation .if3 .left))
+    can-put-last _ _ _ _ _ (omega (arith, start .before .before .if1 .left))
+    (below-more (omega (arith, start .if2 .left)) (below-more (omega (arith, rotation .if3 .left)) (below-none (omega arith)))) refl
 
 pub can-put-spec : {M : Type 1} → statement M
 can-put-spec = tie.close (tie.spec returns returns-2 returns-3 returns-4)
