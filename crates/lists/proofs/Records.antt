@@ -2,7 +2,7 @@
 -- that laying out and reading back undo each other. The laws hold for any kind of record and any width; findings, silences and fields cite them.
 use Prim.Native.Nat.{ℕ, zero, suc, _+_, _-_, _*_, _/_, _%_, _≤_, _<_}
 use mathlib.Core.Path.{_≡_, refl, sym, ap, ap₂, _∙_}
-use mathlib.Core.List.{List, [], _∷_, _++_, append-nil, append-assoc}
+use mathlib.Core.List.{List, [], _∷_, _++_, map, append-nil, append-assoc}
 use native.Mathlib.Nat.{mul-zero, mul-suc, div-eq-of-lt, div-eq-sub-div, mod-add-div}
 use native.Mathlib.Numerals.{add-one}
 use native.Mathlib.Omega.{arith}
@@ -77,16 +77,25 @@ module _ {A : Type 0} (width : ℕ) (of : List ℕ → A) (some-number : 0 < wid
       first-length zero numbers = refl
       first-length (suc count) numbers = ap suc (first-length count (drop width numbers))
 
+  -- Records laid out and read again: if each has `width` numbers, what is read is each record's numbers in turn.
+  pub records-of-each : {B : Type 0} (numbers : B → List ℕ) → ((x : B) → length (numbers x) ≡ width) → (xs : List B)
+      → recordsOf width of (numbersOfEach numbers xs) ≡ map (λ x. of (numbers x)) xs
+  unfolding numbersOfEach
+  records-of-each numbers each [] = records-end [] 0 (omega arith)
+  records-of-each numbers each (x ∷ xs) =
+      let rest : List ℕ = numbersOfEach numbers xs in
+      records-cons (numbers x ++ rest) (omega (arith, each x, length-append (numbers x) rest))
+      ∙ ap₂ (λ (y : A) (ys : List A). y ∷ ys) (ap of (take-at (numbers x) rest width (each x)))
+      (ap (recordsOf width of) (drop-at (numbers x) rest width (each x)) ∙ records-of-each numbers each xs)
+
   module _ (numbers : A → List ℕ) where
     -- Records laid out and read back are the same records, if each has `width` numbers and is read back as itself.
     pub records-of-words : ((x : A) → length (numbers x) ≡ width) → ((x : A) → of (numbers x) ≡ x) → (xs : List A) → recordsOf width of (numbersOfEach numbers xs) ≡ xs
-    unfolding numbersOfEach
-    records-of-words each back [] = records-end [] 0 (omega arith)
-    records-of-words each back (x ∷ xs) =
-        let rest : List ℕ = numbersOfEach numbers xs in
-        records-cons (numbers x ++ rest) (omega (arith, each x, length-append (numbers x) rest))
-        ∙ ap₂ (λ (y : A) (ys : List A). y ∷ ys) (ap of (take-at (numbers x) rest width (each x)) ∙ back x)
-        (ap (recordsOf width of) (drop-at (numbers x) rest width (each x)) ∙ records-of-words each back xs)
+    records-of-words each back xs = records-of-each numbers each xs ∙ same xs
+      where
+        same : (ys : List A) → map (λ x. of (numbers x)) ys ≡ ys
+        same [] = refl
+        same (y ∷ ys) = ap₂ (λ (z : A) (zs : List A). z ∷ zs) (back y) (same ys)
 
     -- Numbers read as records and laid out again are the same numbers, if their count is a multiple of `width` and each `width` of them come back as they were.
     pub words-of-records : ((l : List ℕ) → length l ≡ width → numbers (of l) ≡ l) → (l : List ℕ) → length l % width ≡ 0 → numbersOfEach numbers (recordsOf width of l) ≡ l

@@ -20,12 +20,12 @@ use Rattle.outlines.proofs.FirstOfReport.{none-row-iff}
 use Rattle.outlines.proofs.ShownAndHidden.{shown-hidden-length}
 use Rattle.request.specs.Fields.{lineField}
 use Rattle.request.specs.Input.{Request}
-use Rattle.reply.specs.Lines.{firstLine, findingLines, lastLine, refusalLine}
+use Rattle.reply.specs.Lines.{firstLine, lastLine, refusalLine}
 use Rattle.reply.specs.Answering.{reportLines, linesBy, requestText}
-use Rattle.reply.specs.Writing.{findingsOf, countsOf, mostText, mostFindingWords, request}
+use Rattle.reply.specs.Writing.{linesOfWords, countsOf, mostText, mostFindingWords, request}
 use Rattle.lists.proofs.Areas.{written-front, written-le}
 use Rattle.reply.proofs.RoomEnough.{refusal-same}
-use Rattle.reply.proofs.WordsOfFindings.{findingsOf-words}
+use Rattle.reply.proofs.WordsOfFindings.{lines-of-findings}
 use Rattle.reply.proofs.TextRoom.{report-lines-le}
 
 -- What an accepted report gives: the words of the shown findings lie in the lent words, the three pieces are the request's text, and the text fits the array.
@@ -33,7 +33,7 @@ pub record Answered (q : Request) (found hid looks : ℕ) (words : List ℕ) : T
   pub hidden-le : hid ≤ found
   pub words-le : wordsEach * (found - hid) ≤ length words
   pub pieces : firstLine (q .cell) (q .ringNumber) (length (q .ring)) (q .allowance)
-      ++ (findingLines (findingsOf (take (wordsEach * (found - hid)) words)) ++ lastLine (countsOf found hid looks))
+      ++ (linesOfWords (take (wordsEach * (found - hid)) words) ++ lastLine (countsOf found hid looks))
       ≡ requestText q
   pub length-le : length (requestText q) ≤ mostText
 
@@ -77,8 +77,8 @@ module _ {cell ringNumber k : ℕ} {ring line book words out : List ℕ} {r : Re
         hidden-le = omega arith;
         words-le = omega (arith, written-le (wordsOf seen) words (given .words-are));
         pieces =
-            ap₂ (λ (fs : List Finding) (c : ReportCounts). firstLine cell ringNumber (length ring) k ++ (findingLines fs ++ lastLine c))
-            (ap findingsOf front ∙ findingsOf-words seen) counts
+            ap₂ (λ (lines : List ℕ) (c : ReportCounts). firstLine cell ringNumber (length ring) k ++ (lines ++ lastLine c))
+            (ap linesOfWords front ∙ lines-of-findings seen) counts
             ∙ sym text;
         length-le = rw text (report-lines-le q (length words) (given .admitted) line-le (silencesRead book) cell-lt ring-number-lt);
       }

@@ -3,6 +3,7 @@
 --
 --   space, lf                        a space; LF, which ends a line
 --   lineOf                           words with one space between, and LF at the end
+--   numbersLine                      such a line of numbers
 --   firstLine, findingLine,          the document's four kinds of line
 --   lastLine, refusalLine
 --   refusalLineOf                    the line of a number and a place
@@ -10,8 +11,8 @@
 --
 -- The words in the lines are those of the document's sample: cell, ring, edges, allow; found, hidden, looks; refused, place.
 use Prim.Native.Nat.{ℕ}
-use mathlib.Core.List.{List, [], _∷_, _++_}
-use Rattle.meaning.specs.Findings.{Finding}
+use mathlib.Core.List.{List, [], _∷_, _++_, map}
+use Rattle.meaning.specs.Findings.{Finding, findingWords}
 use Rattle.lists.specs.Texts.{ascii}
 use Rattle.answers.specs.declared.refusals.Refusal.{Refusal}
 use Rattle.answers.specs.Refusals.{numberOf, placeOf}
@@ -37,9 +38,13 @@ unfoldable pub firstLine : ℕ → ℕ → ℕ → ℕ → List ℕ
 firstLine cell ringNumber m k =
     lineOf (ascii "cell" ∷ decimal cell ∷ ascii "ring" ∷ decimal ringNumber ∷ ascii "edges" ∷ decimal m ∷ ascii "allow" ∷ decimal k ∷ [])
 
--- `0 0 0`: "one line per shown finding (start, rotation, distance)".
+-- A line of numbers in decimal digits.
+abbrev pub numbersLine : List ℕ → List ℕ
+numbersLine numbers = lineOf (map decimal numbers)
+
+-- `0 0 0`: "one line per shown finding (start, rotation, distance)". These are the finding's words.
 unfoldable pub findingLine : Finding → List ℕ
-findingLine f = lineOf (decimal (f .start) ∷ decimal (f .rotation) ∷ decimal (f .distance) ∷ [])
+findingLine f = numbersLine (findingWords f)
 
 -- The lines of findings, one after the other.
 unfoldable pub findingLines : List Finding → List ℕ

@@ -5,8 +5,7 @@
 --   IsWritten                          the contract of a writer of bytes; it requires no room
 --   IsText                             the contract of a writer of a whole text; that there is room for it is shown once
 --   hole, filled                       a line's form with its numbers
---   findingOfNumbers, findingOfWords   the finding of three numbers; the same of a list of words
---   findingsOf                         the findings of words
+--   linesOfWords                       the lines of the words of findings
 --   countsOf                           the counts of a report of three numbers
 --   mostFirstLine, mostFindingLine,    the most bytes of each line and of a text
 --   mostLastLine, mostText
@@ -19,13 +18,14 @@ use mathlib.Core.Bool.{cond}
 use mathlib.Core.List.{List, [], _∷_, _++_}
 use lib.Dec.{ltb, eqb}
 use lib.ListN.{length, getD, drop, set}
-use Rattle.meaning.specs.Findings.{Finding, wordsEach}
+use Rattle.meaning.specs.Findings.{wordsEach}
 use Rattle.lists.specs.Areas.{written}
-use Rattle.lists.specs.Records.{recordsOf}
+use Rattle.lists.specs.Records.{numbersOfEach, recordsOf}
 use Rattle.outlines.specs.Report.{ReportCounts}
 use Rattle.request.specs.Fields.{lineField}
 use Rattle.request.specs.Input.{Request}
 use Rattle.reply.specs.Decimal.{decimal}
+use Rattle.reply.specs.Lines.{numbersLine}
 
 -- A text being written: the area that holds it, and the byte offset of its next byte.
 pub record Text : Type 0 where
@@ -68,17 +68,9 @@ filled (byte ∷ form) numbers =
     let byte-here : List ℕ = byte ∷ filled form numbers in
     cond (eqb byte hole) number-here byte-here
 
--- The finding of this start, rotation and distance.
-abbrev pub findingOfNumbers : ℕ → ℕ → ℕ → Finding
-findingOfNumbers start rotation distance = record { start = start; rotation = rotation; distance = distance }
-
--- The finding of its words: start, rotation, distance.
-abbrev pub findingOfWords : List ℕ → Finding
-findingOfWords words = findingOfNumbers (getD words 0 0) (getD words 1 0) (getD words 2 0)
-
--- The findings of words, three words each. One or two words left over at the end are no finding.
-unfoldable pub findingsOf : List ℕ → List Finding
-findingsOf words = recordsOf wordsEach findingOfWords words
+-- The lines of words: one line for each `wordsEach` words, which are a finding's. Fewer words left over at the end give no line.
+unfoldable pub linesOfWords : List ℕ → List ℕ
+linesOfWords words = numbersOfEach numbersLine (recordsOf wordsEach (λ record-words. record-words) words)
 
 -- The counts of a report with these three numbers.
 abbrev pub countsOf : ℕ → ℕ → ℕ → ReportCounts

@@ -5,8 +5,7 @@ use findings::WORDS_EACH;
 ghost use Prim.Native.Nat.{_<_};
 ghost use mathlib.Core.Path.{_≡_};
 ghost use lib.ListN.{length, getD};
-ghost use Rattle.reply.specs.Lines.{findingLines};
-ghost use Rattle.reply.specs.Writing.{filled, findingsOf, IsWritten};
+ghost use Rattle.reply.specs.Writing.{filled, linesOfWords, IsWritten};
 
 // The byte of a line's form that stands for a number: `#`.
 const HOLE: u8 = 0x23;
@@ -58,7 +57,7 @@ fn word_at(words: &[u32], at: usize) -> usize
 
 // Puts "one line per shown finding (start, rotation, distance)".
 pub fn put_finding_lines(text: &mut [u8], at: usize, words: &[u32]) -> usize
-    ensures { λ r. ⌜ IsWritten (findingLines (findingsOf (now (words .entry)))) (now (text .entry)) at (now (text .exit)) r ⌝ }
+    ensures { λ r. ⌜ IsWritten (linesOfWords (now (words .entry))) (now (text .entry)) at (now (text .exit)) r ⌝ }
 {
     let mut next = at;
     let mut done: usize = 0;

@@ -1,11 +1,12 @@
 -- `reply::lines::put_finding_lines` meets its contract. Its loop keeps `PuttingLines`; the number of words left falls.
 use Prim.Native.Nat.{_-_}
 use mathlib.Core.Path.{sym}
+use mathlib.Core.List.{[], _∷_}
 use native.Mathlib.Omega.{arith}
 use lib.ListN.{length}
 use borrow.Author.Needs.{needs}
-use Rattle.reply.specs.Lines.{findingLine}
-use Rattle.reply.specs.Writing.{filled, findingOfNumbers}
+use Rattle.lists.specs.ByPlace.{listOf}
+use Rattle.reply.specs.Writing.{filled}
 use Rattle.reply.proofs.LinesLoop.{PuttingLines, lines-start, lines-turn, lines-end}
 use Rattle.reply.proofs.lines.put_finding_lines.Statement.{statement}
 use Rattle.reply.proofs.lines.put_finding_lines.Tie as tie
@@ -53,14 +54,14 @@ loop-less : tie.Need-loop-less Inv-loop μ-loop
 loop-less c = omega arith
 
 loop-again : tie.Need-loop-again Inv-loop μ-loop
-unfolding filled findingLine
+unfolding filled listOf
 loop-again c =
     let at-line = c .before .before in
     let third = at-line .before .before .before .before in
     let second = third .before in
     let first = second .before in
     lines-turn (first .before .before .loop .inv) (omega arith)
-    (λ i. findingOfNumbers (sym (first .word-at .ensures) i) (sym (second .word-at2 .ensures) i) (sym (third .word-at3 .ensures) i))
+    (λ i. sym (first .word-at .ensures) i ∷ sym (second .word-at2 .ensures) i ∷ sym (third .word-at3 .ensures) i ∷ [])
     (at-line .put-line .kept .0) (at-line .put-line .ensures)
 
 same-length : tie.Need-same-length Inv-loop μ-loop
