@@ -7,7 +7,7 @@ try:
 except (ValueError, OSError) as error:
     sys.exit(f"accept.py: {error}\n{__doc__}")
 output = sys.stdin.buffer.read()
-whole = re.fullmatch(re.escape(first) + rb"((?:\d+ \d+ \d+\n)*)found (\d+) hidden (\d+) looks \d+\n", output)
+whole = re.fullmatch(re.escape(first) + rb"((?:\d+ \d+ \d+ \d+\n)*)found (\d+) hidden (\d+) looks \d+\n", output)
 if not whole or whole[1].count(b"\n") != int(whole[2]) - int(whole[3]):
     sys.exit(f"not a whole report of this ring: it ends {output[-60:]!r}")
 print(f"whole: found {int(whole[2])}, hidden {int(whole[3])}")

@@ -13,7 +13,7 @@ static void print(const char *which, struct outlines_answer answer, const uint32
     printf("%s: refusal %u found %u hidden %u looks %u\n", which, (unsigned)answer.refusal, (unsigned)answer.found, (unsigned)answer.hidden,
            (unsigned)answer.looks);
     for (uint64_t i = 0; i < answer.found - answer.hidden; i++, words += OUTLINES_FINDING_WORDS)
-        printf("  start %u rotation %u distance %u\n", (unsigned)words[0], (unsigned)words[1], (unsigned)words[2]);
+        printf("  start %u rotation %u distance %u ties %u\n", (unsigned)words[0], (unsigned)words[1], (unsigned)words[2], (unsigned)words[3]);
 }
 
 int main(void) {

@@ -5,19 +5,19 @@
 #[path = "../compare/src/outlines.rs"]
 mod outlines;
 
-use outlines::Search;
+use outlines::{Search, FINDING_WORDS};
 
 const RING: &[u8] = b"GGGTCTA";
 const LINE: &[u8] = b"GATACGATACCTAGGGTGATAGAATAG";
 
 fn main() {
-    // Three words for each start: start, rotation, distance.
-    let mut words = [0; 3 * (LINE.len() - RING.len() + 1)];
+    // Four words for each start: start, rotation, distance, ties.
+    let mut words = [0; FINDING_WORDS * (LINE.len() - RING.len() + 1)];
     match outlines::scan(Search { ring: RING, line: LINE, allowance: 1 }, &mut words) {
         Ok(counts) => {
             println!("found {} looks {}", counts.found, counts.looks);
-            for finding in words.chunks(3).take(counts.found as usize) {
-                println!("start {} rotation {} distance {}", finding[0], finding[1], finding[2]);
+            for finding in words.chunks(FINDING_WORDS).take(counts.found as usize) {
+                println!("start {} rotation {} distance {} ties {}", finding[0], finding[1], finding[2], finding[3]);
             }
         }
         Err(refused) => println!("refused {} place {}", refused.refusal.number(), refused.place),

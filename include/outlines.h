@@ -4,8 +4,8 @@
  * Terms. A ring has m edges and a line has n, one byte each; all 256 byte values are ordinary edge codes. Turning the ring by r, 0 <= r < m, brings its
  * edge (r + q) mod m to place q; r is called a rotation. A line place i is a start if i + m <= n; the line's places i to i + m - 1 are its window. The
  * distance of a start under a rotation counts the places at which the window and the turned ring have different edges. A start is a finding if its
- * distance is at most k, the allowance, for at least one rotation. A finding has three numbers: the start, the lowest rotation with the least distance,
- * and that distance. Places and rotations count from 0.
+ * distance is at most k, the allowance, for at least one rotation. A finding has four numbers: the start, the lowest rotation with the least distance,
+ * that distance, and the ties: how many rotations have that distance, 1 to m. Places and rotations count from 0.
  *
  * One stored copy can be several findings. If an exact copy of the ring stands at start i, a window that begins s edges before or after it has a distance
  * of at most s. So every start from i - k to i + k is a finding: at least 2 k + 1 of them, away from the line's ends. A reviewer who accepts that copy
@@ -29,7 +29,7 @@ extern "C" {
 /* Limits and sizes. */
 #define OUTLINES_MOST_RING 256      /* most edges of a ring; the least is 1 */
 #define OUTLINES_MOST_LINE 65536    /* most edges of a line; the least is 0 */
-#define OUTLINES_FINDING_WORDS 3    /* words of a finding: start, rotation, distance */
+#define OUTLINES_FINDING_WORDS 4    /* words of a finding: start, rotation, distance, ties */
 #define OUTLINES_SILENCE_WORDS 3    /* words of a silence: cell, ring number, start */
 #define OUTLINES_SILENCE_BYTES 13   /* bytes of a silence in a book */
 #define OUTLINES_MOST_SILENCES 1000 /* most silences of a book */
@@ -41,7 +41,7 @@ enum outlines_refusal {
     OUTLINES_RING = 1,          /* the ring has no edge, or more than 256; place 0 */
     OUTLINES_ALLOWANCE = 2,     /* k is m or more; place 0 */
     OUTLINES_LINE = 3,          /* the line has more than 65,536 edges; place 0 */
-    OUTLINES_FINDINGS_ROOM = 4, /* n >= m, and fewer than 3 (n - m + 1) words are lent for the findings; place 0 */
+    OUTLINES_FINDINGS_ROOM = 4, /* n >= m, and fewer than 4 (n - m + 1) words are lent for the findings; place 0 */
     OUTLINES_BOOK_LENGTH = 5,   /* the book has more than 13,000 bytes; place 0 */
     OUTLINES_FIELD = 6,         /* a field of the book does not begin with 21 00 0A hex, or has fewer than 13 bytes; place: the field's byte offset */
     OUTLINES_NOT_ABOVE = 7,     /* a record is not above the one before it; place: its byte offset (report, unpack) or its record number (pack) */
@@ -64,9 +64,9 @@ struct outlines_answer {
  *   ring, ring_length     the ring, m = ring_length: 1 to 256 edges
  *   line, line_length     the line, n = line_length: 0 to 65,536 edges; a line shorter than the ring is accepted and has no start
  *   k                     the allowance: 0 to m - 1
- *   words, words_length   lent for the findings: at least 3 (n - m + 1) words if n >= m; none are needed if n < m
- * Returns found and looks; looks are 2 m n - m m if n >= m, else 0. Writes three words for each finding (start, rotation, distance), by rising start,
- * and no word behind them. Refusals, in order: 1, 2, 3, 4. */
+ *   words, words_length   lent for the findings: at least 4 (n - m + 1) words if n >= m; none are needed if n < m
+ * Returns found and looks; looks are 2 m n - m m if n >= m, else 0. Writes four words for each finding (start, rotation, distance, ties), by rising
+ * start, and no word behind them. Refusals, in order: 1, 2, 3, 4. */
 struct outlines_answer outlines_survey(const uint8_t *ring, size_t ring_length, const uint8_t *line, size_t line_length, size_t k, uint32_t *words,
                                        size_t words_length);
 

@@ -19,7 +19,7 @@ numberOf Ring = 1
 numberOf Allowance = 2
 -- "n > 65,536"
 numberOf Line = 3
--- "n ≥ m and fewer than 3·(n − m + 1) words are lent for findings"
+-- "n ≥ m and fewer than" 4·(n − m + 1) "words are lent for findings" (document 02, ticket 1)
 numberOf FindingsRoom = 4
 -- "book longer than 13,000 bytes"
 numberOf BookLength = 5

@@ -10,7 +10,7 @@ pub enum Refusal {
     Allowance,
     // 3: n > 65,536
     Line,
-    // 4: n ≥ m and fewer than 3·(n − m + 1) words are lent for findings
+    // 4: n ≥ m and fewer than 4·(n − m + 1) words are lent for findings (document 02, ticket 1)
     FindingsRoom,
     // 5: book longer than 13,000 bytes
     BookLength,

@@ -1,4 +1,4 @@
--- The three demands on the calls, stated for what a C caller gets: the struct of five numbers and the lent area at exit. Read this page beside document 01. Nothing here
+-- The three demands on the calls, stated for what a C caller gets: the struct of five numbers and the lent area at exit. Read this page beside document 01 and ticket 1 of document 02. Nothing here
 -- says how a call works. proofs/SearchDemands.antt (survey and scan), proofs/ReportDemands.antt and proofs/BookDemands.antt prove that each call meets its demands.
 --
 --   Row, rowOf, FirstRow, NoRow              a row of the table of refusals; the first row that is given; no row is given
@@ -57,8 +57,8 @@ searchTable m k n room =
     ∷ rowOf 2 (m ≤ k)
     -- "n > 65,536"
     ∷ rowOf 3 (65536 < n)
-    -- "n ≥ m and fewer than 3·(n − m + 1) words are lent for findings"
-    ∷ rowOf 4 ((m ≤ n) × (room < 3 * (n - m + 1)))
+    -- "n ≥ m and fewer than" 4·(n − m + 1) "words are lent for findings" (document 02, ticket 1)
+    ∷ rowOf 4 ((m ≤ n) × (room < 4 * (n - m + 1)))
     ∷ []
 
 -- Rows 5, 6 and 7 of a book that is read. "Within a book the first faulty field decides, 6 before 7": a fault requires that all fields before it are right.
@@ -126,7 +126,8 @@ pub record Demand2 (Named : ℕ → Type 0) (ring line : List ℕ) (k : ℕ) (wo
   pub start-iff : (i : ℕ)
       → ((f : Finding) × (f .start ≡ i) × List·Memᴰ f shown)
       ↔ ((IsStart ring line i × ((q : ℕ) × (q < length ring) × (distance ring line i q ≤ k))) × (Named i → ⊥))
-  -- A finding is among the shown exactly when the book does not name its start; by `IsFinding` it carries "the least distance, and the lowest r that reaches it".
+  -- A finding is among the shown exactly when the book does not name its start; by `IsFinding` it carries "the least distance, and the lowest r that reaches it",
+  -- and ties, "how many rotations reach the least distance".
   pub shown-iff : (f : Finding) → List·Memᴰ f shown ↔ (IsFinding ring line k f × (Named (f .start) → ⊥))
   -- A finding is among the hidden exactly when the book names its start.
   pub hidden-iff : (f : Finding) → List·Memᴰ f hidden ↔ (IsFinding ring line k f × Named (f .start))

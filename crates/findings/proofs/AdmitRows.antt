@@ -32,7 +32,7 @@ module _ (m k n room : ℕ) where
   pub is-row-3 : IsRow (row (isRow3 n) Line) Line (mostLine < n) (n ≤ mostLine)
   is-row-3 = is-row (lt-iff mostLine n) (λ in-limit h. omega arith) (λ not. omega arith)
 
-  -- Row 4 is given exactly when "n ≥ m and fewer than 3·(n − m + 1) words are lent for findings", and not given exactly when n ≥ m implies enough words.
+  -- Row 4 is given exactly when "n ≥ m and fewer than" 4·(n − m + 1) "words are lent for findings", and not given exactly when n ≥ m implies enough words.
   pub is-row-4 : IsRow (row (isRow4 m n room) FindingsRoom) FindingsRoom ((m ≤ n) × (room < roomRequired m n)) (m ≤ n → roomRequired m n ≤ room)
   is-row-4 =
       is-row (and-iff (le-iff m n) (lt-iff room (roomRequired m n))) (λ enough h. omega (arith, enough (h .0)))
@@ -56,7 +56,7 @@ module _ (m k n room : ℕ) where
   row-3-iff =
       past-row is-row-1 (omega arith) (past-row is-row-2 (omega arith) (at-row is-row-3 (row-has is-row-4 (omega arith) end))) .exactly
 
-  -- Row 4 is the first exactly when "n ≥ m and fewer than 3·(n − m + 1) words are lent for findings" and rows 1 to 3 are not given.
+  -- Row 4 is the first exactly when "n ≥ m and fewer than" 4·(n − m + 1) "words are lent for findings" and rows 1 to 3 are not given.
   pub row-4-iff : (admitRefusal m k n room ≡ some FindingsRoom) ↔ (IsRingLength m × ((k < m) × ((n ≤ mostLine) × ((m ≤ n) × (room < roomRequired m n)))))
   unfolding admitRows
   row-4-iff =

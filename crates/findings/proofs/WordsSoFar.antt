@@ -7,6 +7,7 @@ use native.Mathlib.Omega.{arith}
 use lib.ListN.{length, length-append}
 use Rattle.lists.specs.Bounds.{IsWords}
 use Rattle.meaning.specs.Findings.{Finding, IsFinding, findingWords, wordsEach, wordsOf}
+use Rattle.meaning.proofs.Ties.{ties-most}
 use Rattle.lists.specs.Areas.{written}
 use Rattle.lists.proofs.Bounds.{below-none, below-more}
 use Rattle.findings.specs.Admitting.{Admitted}
@@ -16,10 +17,11 @@ use Rattle.findings.proofs.PutCases.{words-are-put}
 
 -- In an accepted call, the words of a finding are 32-bit words.
 pub admitted-words : (ring line : List ℕ) {k room : ℕ} {f : Finding} → Admitted (length ring) k (length line) room → IsFinding ring line k f → IsWords (findingWords f)
-admitted-words ring line admitted is =
+admitted-words ring line {k} {room} {f} admitted is =
     below-more (omega (arith, is .is-start .fits-in-line, admitted .most-line))
     (below-more (omega (arith, is .is-rotation, admitted .most-ring))
-    (below-more (omega (arith, is .at-most-k, admitted .allowed, admitted .most-ring)) (below-none (omega arith))))
+    (below-more (omega (arith, is .at-most-k, admitted .allowed, admitted .most-ring))
+    (below-more (omega (arith, ties-most ring line k f is, admitted .most-ring)) (below-none (omega arith)))))
 
 -- The findings so far are fs, `count` of them, and `words` is the lent area with their words at its front.
 pub record WordsSoFar (area : List ℕ) (fs : List Finding) (count : ℕ) (words : List ℕ) : Type 0 where

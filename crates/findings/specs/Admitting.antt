@@ -1,4 +1,5 @@
--- Document 01, "What each call returns", rows 1 to 4 of the table: the refusals that lengths, k and room decide.
+-- Document 01, "What each call returns", rows 1 to 4 of the table: the refusals that lengths, k and room decide. The words of row 4 are those of document 02,
+-- ticket 1.
 --
 --   mostRing, mostLine    the document's limits
 --   roomRequired          the words that row 4 requires
@@ -30,7 +31,7 @@ mostRing = 256
 abbrev pub mostLine : ℕ
 mostLine = 65536
 
--- "3·(n − m + 1) words": room for as many findings as there are starts (for n ≥ m).
+-- "4·(n − m + 1) words" (document 02, ticket 1): room for as many findings as there are starts (for n ≥ m).
 abbrev pub roomRequired : ℕ → ℕ → ℕ
 roomRequired m n = wordsEach * (n - m + 1)
 
@@ -46,7 +47,7 @@ isRow2 m k = leb m k
 abbrev pub isRow3 : ℕ → Bool
 isRow3 n = ltb mostLine n
 
--- Row 4: "n ≥ m and fewer than 3·(n − m + 1) words are lent for findings".
+-- Row 4: "n ≥ m and fewer than" 4·(n − m + 1) "words are lent for findings"; document 02, ticket 1: "4 now asks 4·(n − m + 1) words".
 abbrev pub isRow4 : ℕ → ℕ → ℕ → Bool
 isRow4 m n room = leb m n && ltb room (roomRequired m n)
 

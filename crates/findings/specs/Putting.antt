@@ -1,9 +1,9 @@
--- Document 01, "What each call returns": "Findings go as three 32-bit words each (start, rotation, distance) into the lent words". This file states what the
--- lent words hold after one finding is put behind those already there. It covers every finding and every number of lent words.
+-- Document 01, "What each call returns": findings go "into the lent words"; document 02, ticket 1: "a finding becomes four words: start, rotation, distance,
+-- ties". This file states what the lent words hold after one finding is put behind those already there. It covers every finding and every number of lent words.
 --
 --   findingOf       the finding that a struct of src/ stands for
 --   wordsPut        the lent words after a finding is put
---   CanPut          there is room for the finding, and its three numbers are 32-bit words
+--   CanPut          there is room for the finding, and its four numbers are 32-bit words
 --   canPut          the same as a test
 --   IsFindingPut    the contract of `put_finding`
 use Prim.Native.Nat.{ℕ, _+_, _*_, _≤_}
@@ -17,15 +17,15 @@ use Rattle.lists.specs.Bounds.{IsWords, isWords}
 use Rattle.meaning.specs.Findings.{Finding, findingWords, wordsEach}
 use Rattle.findings.specs.declared.searching.Finding.{Finding as FindingStruct}
 
--- The finding that a struct of src/ stands for: its line place and its ring place as plain numbers, and its distance.
+-- The finding that a struct of src/ stands for: its line place and its ring place as plain numbers, its distance and its ties.
 abbrev pub findingOf : FindingStruct → Finding
-findingOf f = record { start = f .start .0; rotation = f .rotation .0; distance = f .distance }
+findingOf f = record { start = f .start .0; rotation = f .rotation .0; distance = f .distance; ties = f .ties }
 
--- The lent words after a finding's words are put behind those of `before` findings, from word 3·before on.
+-- The lent words after a finding's words are put behind those of `before` findings, from word 4·before on.
 abbrev pub wordsPut : ℕ → Finding → List ℕ → List ℕ
 wordsPut before f words = sets words (wordsEach * before) (findingWords f)
 
--- A finding can be put behind `before` others: `lent` words have room for it, and its start, rotation and distance are 32-bit words.
+-- A finding can be put behind `before` others: `lent` words have room for it, and its start, rotation, distance and ties are 32-bit words.
 pub record CanPut (lent before : ℕ) (f : Finding) : Type 0 where
   pub room : wordsEach * before + wordsEach ≤ lent
   pub words : IsWords (findingWords f)

@@ -20,10 +20,10 @@ pub record SearchRows (m k n : ℕ) (words : List ℕ) (p : Paper Counts) (out :
   pub row-2 : (p .number ≡ 2) ↔ (IsRingLength m × (m ≤ k))
   -- "n > 65,536", rows 1 and 2 not given
   pub row-3 : (p .number ≡ 3) ↔ (IsRingLength m × ((k < m) × (65536 < n)))
-  -- "n ≥ m and fewer than 3·(n − m + 1) words are lent for findings", rows 1 to 3 not given
-  pub row-4 : (p .number ≡ 4) ↔ (IsRingLength m × ((k < m) × ((n ≤ 65536) × ((m ≤ n) × (length words < 3 * (n - m + 1))))))
+  -- "n ≥ m and fewer than" 4·(n − m + 1) "words are lent for findings", rows 1 to 3 not given
+  pub row-4 : (p .number ≡ 4) ↔ (IsRingLength m × ((k < m) × ((n ≤ 65536) × ((m ≤ n) × (length words < 4 * (n - m + 1))))))
   -- Accepted exactly when none of these rows is given.
-  pub accepted : (p .number ≡ 0) ↔ (IsRingLength m × ((k < m) × ((n ≤ 65536) × (m ≤ n → 3 * (n - m + 1) ≤ length words))))
+  pub accepted : (p .number ≡ 0) ↔ (IsRingLength m × ((k < m) × ((n ≤ 65536) × (m ≤ n → 4 * (n - m + 1) ≤ length words))))
   -- No other number is given.
   pub number-le : p .number ≤ 4
   -- Each of these rows has place 0, and so has an accepted answer.

@@ -6,8 +6,8 @@ ghost use Rattle.findings.specs.Admitting.{IsVerdict};
 pub const MOST_RING: usize = 256;
 // "Line: n edges, 0 to 65,536."
 const MOST_LINE: usize = 65536;
-// "three 32-bit words each"
-pub const WORDS_EACH: usize = 3;
+// "a finding becomes four words" (document 02, ticket 1)
+pub const WORDS_EACH: usize = 4;
 
 // Whether a call is accepted; if not, the refusal of the first row that is given.
 pub enum Verdict {

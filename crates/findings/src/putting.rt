@@ -1,4 +1,4 @@
-// "Findings go as three 32-bit words each (start, rotation, distance) into the lent words".
+// Findings go into the lent words as four 32-bit words each: "start, rotation, distance, ties".
 use crate::admitting::WORDS_EACH;
 use crate::searching::Finding;
 ghost use mathlib.Core.Path.{_≡_};
@@ -8,8 +8,8 @@ ghost use Rattle.findings.specs.Putting.{findingOf, canPut, wordsPut, Ca
 // The largest number that a 32-bit word holds.
 const LAST_WORD: usize = 4294967295;
 
-// Whether a finding's words can be put behind those of `before` findings: there is room for three more words, and each
-// of its numbers is a 32-bit word. The room is divided by 3; 3 * before could overflow.
+// Whether a finding's words can be put behind those of `before` findings: there is room for four more words, and each
+// of its numbers is a 32-bit word. The room is divided, because a product with `before` could overflow.
 fn can_put(room: usize, before: usize, finding: Finding) -> bool
     ensures { λ r. ⌜ r ≡ canPut room before (findingOf finding) ⌝ }
 {
@@ -24,10 +24,13 @@ fn can_put(room: usize, before: usize, finding: Finding) -> bool
     if LAST_WORD < rotation.0 {
         return false;
     }
-    finding.distance <= LAST_WORD
+    if LAST_WORD < finding.distance {
+        return false;
+    }
+    finding.ties <= LAST_WORD
 }
 
-// Writes a finding's three words behind those of `before` findings.
+// Writes a finding's words behind those of `before` findings.
 fn put_words(words: &mut [u32], before: usize, finding: Finding)
     requires { ⌜ CanPut (length (now words)) before (findingOf finding) ⌝ }
     ensures { λ _. ⌜ now (words .exit) ≡ wordsPut before (findingOf finding) (now (words .entry)) ⌝ }
@@ -38,6 +41,7 @@ fn put_words(words: &mut [u32], before: usize, finding: Finding)
     words[at] = start.0 as u32;
     words[at + 1] = rotation.0 as u32;
     words[at + 2] = finding.distance as u32;
+    words[at + 3] = finding.ties as u32;
 }
 
 // Puts a finding's words behind those of `before` findings. If they cannot be put, nothing is written.

@@ -1,5 +1,5 @@
--- Laws of `count`: a range can be split and shifted, and the count is at most its length. Induction on the length.
-use Prim.Native.Nat.{ℕ, zero, suc, _+_, _≤_, _<_}
+-- Laws of `count`: a range can be split and shifted, and the count is at most its length. Induction on the length. Where one number passes, the count is at least 1.
+use Prim.Native.Nat.{ℕ, zero, suc, _+_, _-_, _≤_, _<_}
 use mathlib.Core.Path.{_≡_, refl, sym, ap, _∙_}
 use mathlib.Core.Bool.{Bool, true, false}
 use native.Mathlib.Nat.{add-zero, zero-add, add-suc, suc-add}
@@ -40,6 +40,15 @@ count-le p a (suc n) = omega (arith, oneIf-le (p a), count-le p (suc a) n)
 -- The count over a part of a range is at most the count over the whole.
 pub count-part-le : (p : ℕ → Bool) (a x v y : ℕ) → count p (a + x) v ≤ count p a (x + v + y)
 count-part-le p a x v y = omega (arith, count-split p a (x + v) y, count-split p a x v)
+
+-- If a number of the range passes the test, the count is at least 1.
+pub count-some : (p : ℕ → Bool) (a n x : ℕ) → a ≤ x → x < a + n → p x ≡ true → 1 ≤ count p a n
+unfolding count
+count-some p a n x lo hi passes =
+    let there : a + (x - a) ≡ x = omega arith in
+    let parts : x - a + 1 + (a + n - x - 1) ≡ n = omega arith in
+    let here : count p (a + (x - a)) 1 ≡ 1 = rw (there, passes) refl in
+    omega (arith, here, count-part-le p a (x - a) 1 (a + n - x - 1), ap (count p a) parts)
 
 -- Two tests that agree on a range have the same count over it.
 pub count-same : (p p′ : ℕ → Bool) (a n : ℕ) → ((x : ℕ) → a ≤ x → x < a + n → p x ≡ p′ x) → count p a n ≡ count p′ a n

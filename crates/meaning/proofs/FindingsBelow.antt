@@ -49,7 +49,7 @@ module _ (ring line : List ℕ) (k : ℕ) where
       sym (ap (findingsBelow ring line k) all)
       ∙ below-same s (length line - s) (λ j lo hi. found-no-start ring line k j (past-no-start ring line j (omega arith)))
 
-  -- For n ≥ m and a ring that is not empty, there are at most n − m + 1 findings. (So 3·(n − m + 1) words are room for all, by `words-length`.)
+  -- For n ≥ m and a ring that is not empty, there are at most n − m + 1 findings. (So `wordsEach`·(n − m + 1) words are room for all, by `words-length`.)
   pub findings-length-le : 0 < length ring → length ring ≤ length line → length (findings ring line k) ≤ length line - length ring + 1
   findings-length-le pos h =
       let s : ℕ = length line - length ring + 1 in

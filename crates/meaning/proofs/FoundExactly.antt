@@ -8,7 +8,7 @@ use mathlib.Core.List.{List, [], _∷_, List·Memᴰ, List·Memᴰ·head, List·
 use native.Mathlib.Nat.{eq-or-lt-of-le, le-of-suc-le-suc}
 use native.Mathlib.Omega.{arith}
 use lib.ListN.{length}
-use Rattle.meaning.specs.Meanings.{IsStart, distance, lowestRotation, leastDistance}
+use Rattle.meaning.specs.Meanings.{IsStart, distance, lowestRotation, leastDistance, rotationsReaching, ties}
 use Rattle.meaning.specs.Findings.{Finding, IsFinding, findingAt, foundAt, findingsBelow, findings}
 use Rattle.meaning.proofs.Lowest.{lowest-unique}
 use Rattle.meaning.proofs.Places.{lowestRotation-is, found-yes, found-mem}
@@ -48,7 +48,7 @@ module _ (ring line : List ℕ) (k : ℕ) where
     at-yes : (i : ℕ) → IsStart ring line i → leastDistance ring line i ≤ k → IsFinding ring line k (findingAt ring line i)
     at-yes i start near =
         let low = lowestRotation-is ring line pos i in
-        record { is-start = start; is-rotation = low .below; distance-is = refl; at-most-k = near; least = low .least; lowest = low .first }
+        record { is-start = start; is-rotation = low .below; distance-is = refl; at-most-k = near; least = low .least; lowest = low .first; ties-are = refl }
 
     -- What `foundAt` gives at a place is a finding.
     pub found-is : (i : ℕ) (f : Finding) → foundAt ring line k i ≡ f ∷ [] → IsFinding ring line k f
@@ -79,12 +79,13 @@ module _ (ring line : List ℕ) (k : ℕ) where
         let i : ℕ = f .start in
         let rotation = rotation-is f h in
         let far : f .distance ≡ leastDistance ring line i = h .distance-is ∙ ap (distance ring line i) rotation in
-        let whole : f ≡ findingAt ring line i = λ j. record { start = i; rotation = rotation j; distance = far j } in
+        let tied : f .ties ≡ ties ring line i = h .ties-are ∙ ap (rotationsReaching ring line i) far in
+        let whole : f ≡ findingAt ring line i = λ j. record { start = i; rotation = rotation j; distance = far j; ties = tied j } in
         Memᴰ·cast whole
         (mem-below (length line) i (omega (arith, h .is-start .fits-in-line)) (h .is-start) (omega (arith, h .at-most-k)))
 
     -- For a ring that is not empty, f is in the list of findings exactly when it is a finding: its start is a start, its distance is the one under its
-    -- rotation and at most k, no rotation has a smaller distance, and no lower rotation has the same.
+    -- rotation and at most k, no rotation has a smaller distance, no lower rotation has the same, and its ties are the number of rotations that have the same.
     pub findings-iff : (f : Finding) → List·Memᴰ f (findings ring line k) ↔ IsFinding ring line k f
     findings-iff f = (findings-yes f, findings-by f)
 

@@ -1,6 +1,7 @@
--- Theorems about the meanings and rules. Other crates cite them as Rattle.meaning.proofs.NAME. Read the statements of these eight modules first:
+-- Theorems about the meanings and rules. Other crates cite them as Rattle.meaning.proofs.NAME. Read the statements of these nine modules first:
 --
 --   FoundExactly    `findings-iff`, `found-iff`            the list `findings` has exactly the findings
+--   Ties            `ties-some`, `ties-most`               a finding has 1 to m ties
 --   Rising          `findings-rising`, `findings-unique`   they are listed by strictly rising start, at most one for each start
 --   FitDecided      `fits-iff`                             the test for a stretch that fits is right
 --   NothingLost     `nothing-lost`                         a jump passes over no finding
@@ -15,11 +16,12 @@
 pub mod Count
 pub mod Lowest
 pub mod Some
--- the meanings: starts, what a place gives, the list of findings, the stretch that fits, and a start under a rotation as an alignment
+-- the meanings: starts, what a place gives, the list of findings, their ties, the stretch that fits, and a start under a rotation as an alignment
 pub mod Starts
 pub mod Places
 pub mod FindingsBelow
 pub mod FoundExactly
+pub mod Ties
 pub mod Rising
 pub mod FitDecided
 pub mod Alignment

@@ -15,6 +15,7 @@
 -- | differ at place q           | `differs ring line i r q`                | Meanings |
 -- | distance                    | `distance ring line i r`                 | Meanings |
 -- | least distance, lowest r    | `leastDistance`, `lowestRotation`        | Meanings |
+-- | ties (document 02)          | `ties`                                   | Meanings |
 -- | finding                     | `IsFinding`; the list `findings`         | Findings |
 -- | by rising start             | `Rising`                                 | Findings |
 -- | words of findings           | `wordsOf`                                | Findings |
@@ -34,7 +35,7 @@
 -- | readings that look right    | each refuted                             | Misread  |
 -- | (helpers)                   | `count`, `lowest`, `someBelow`           | Counting |
 --
--- The table leaves out the parts of these definitions: `oneIf` (Counting); `unequal` (Meanings); `Finding`, `findingAt`, `foundAt`, `findingsBelow`,
+-- The table leaves out the parts of these definitions: `oneIf` (Counting); `unequal`, `reaches`, `rotationsReaching` (Meanings); `Finding`, `findingAt`, `foundAt`, `findingsBelow`,
 -- `wordsEach`, `findingWords` (Findings); `begins` (Stretch); `unread`, `readLeft`, `windowsFrom`, `candidatesOf` (Rules); `verifyLooks`,
 -- `surveyLooksBelow` (Looks); `Sample`, `finding`, `answered` (Samples).
 --

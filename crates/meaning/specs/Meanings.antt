@@ -1,4 +1,5 @@
--- Document 01, "Meanings", up to the distance: rotation, start, window, distance, the least distance and the lowest rotation that reaches it.
+-- Document 01, "Meanings", up to the distance: rotation, start, window, distance, the least distance and the lowest rotation that reaches it. And from
+-- document 02, ticket 1: how many rotations reach it.
 -- The document's limits (m 1 to 256, n at most 65,536, k below m) are refusals of the calls and are stated there. Here every definition gives a value
 -- for all lists. For an empty ring the value means nothing, and laws that depend on it require 0 < m. `getD` gives 0 past a list's end. At a start no
 -- definition reads there: line places stay below n because i + m ≤ n, and ring places are taken mod m.
@@ -60,3 +61,15 @@ lowestRotation ring line i = lowest (distance ring line i) (length ring)
 -- The "least distance over all r": the distance under the lowest rotation that reaches it.
 abbrev pub leastDistance : List ℕ → List ℕ → ℕ → ℕ
 leastDistance ring line i = distance ring line i (lowestRotation ring line i)
+
+-- Whether rotation r reaches distance d: the distance of start i under r is d.
+abbrev pub reaches : List ℕ → List ℕ → ℕ → ℕ → ℕ → Bool
+reaches ring line i d r = eqb (distance ring line i r) d
+
+-- How many of the m rotations reach distance d.
+unfoldable pub rotationsReaching : List ℕ → List ℕ → ℕ → ℕ → ℕ
+rotationsReaching ring line i d = count (reaches ring line i d) 0 (length ring)
+
+-- "how many rotations reach the least distance" (document 02, ticket 1).
+abbrev pub ties : List ℕ → List ℕ → ℕ → ℕ
+ties ring line i = rotationsReaching ring line i (leastDistance ring line i)

@@ -1,6 +1,6 @@
 -- Document 01, "Sample rings": P1 to P12 as one table under one claim, which antt computes. A second table of the same form pins what no row of the
 -- first does: rule 5's choice between a fresh count and steps, the break edge, the last verified start, steps across a stopped window, the plain
--- survey's looks, and the codes 0 and 255. A number that the document leaves out of a row is left out here.
+-- survey's looks, the codes 0 and 255, and ties. A number that the document leaves out of a row is left out here.
 use Prim.Native.Nat.{ℕ}
 use Prim.Native.String.{String}
 use mathlib.Core.Path.{_≡_, refl}
@@ -9,15 +9,15 @@ use mathlib.Core.Option.{Option, none, some}
 use lib.ListN.{length}
 use Rattle.lists.specs.Texts.{ascii}
 use Rattle.meaning.specs.Counting.{count, lowest, someBelow}
-use Rattle.meaning.specs.Meanings.{differs, distance, lowestRotation}
+use Rattle.meaning.specs.Meanings.{differs, distance, lowestRotation, rotationsReaching}
 use Rattle.meaning.specs.Findings.{Finding, foundAt, findingsBelow, findings}
 use Rattle.meaning.specs.Stretch.{begins, fits}
 use Rattle.meaning.specs.Rules.{readEdge, readLeft, readWindow, windowsFrom, candidatesOf, candidates, reported, quickFindings}
 use Rattle.meaning.specs.Looks.{readLooks, tallyLooks, verifyLooks, quickLooks, surveyLooksBelow, surveyLooks}
 
--- "findings as (start, rotation, distance)".
-abbrev pub finding : ℕ → ℕ → ℕ → Finding
-finding i r d = record { start = i; rotation = r; distance = d }
+-- "findings as (start, rotation, distance)", and the ties of document 02, ticket 1: "in P6 ties is 2".
+abbrev pub finding : ℕ → ℕ → ℕ → ℕ → Finding
+finding i r d t = record { start = i; rotation = r; distance = d; ties = t }
 
 -- A row: its name; ring, line and k; the findings (`found`); what the rules report (`quick-found`); and, where the row gives them, the quick looks,
 -- the number of candidates and the plain survey's looks.
@@ -70,42 +70,45 @@ answered s =
 -- The document's table. For P11 it gives "none, one candidate".
 unfoldable pub samples : List Sample
 samples =
-    sampleRow "P1" (ascii "GGGTCTA") (ascii "GATACGATACCTAGGGTGATAGAATAG") 0 (finding 10 4 0 ∷ []) none none none
-    ∷ sampleRow "P2" (ascii "GGGTCTA") (ascii "GATACGATACCTAGGGTGATAGAATAG") 1 (finding 9 3 1 ∷ finding 10 4 0 ∷ finding 11 5 1 ∷ []) none none none
-    ∷ sampleRow "P3" (ascii "ABCDEFGH") (ascii "BCzEzGzA") 3 (finding 0 1 3 ∷ []) none none none
+    sampleRow "P1" (ascii "GGGTCTA") (ascii "GATACGATACCTAGGGTGATAGAATAG") 0 (finding 10 4 0 1 ∷ []) none none none
+    ∷ sampleRow "P2" (ascii "GGGTCTA") (ascii "GATACGATACCTAGGGTGATAGAATAG") 1 (finding 9 3 1 1 ∷ finding 10 4 0 1 ∷ finding 11 5 1 1 ∷ []) none none none
+    ∷ sampleRow "P3" (ascii "ABCDEFGH") (ascii "BCzEzGzA") 3 (finding 0 1 3 1 ∷ []) none none none
     ∷ sampleRow "P4" (ascii "ABCDEFGH") (ascii "BCzEzGzA") 2 [] none none none
-    ∷ sampleRow "P5" (ascii "a") (ascii "ba") 0 (finding 1 0 0 ∷ []) (some 3) none none
-    ∷ sampleRow "P6" (ascii "aa") (ascii "aaa") 0 (finding 0 0 0 ∷ finding 1 0 0 ∷ []) (some 12) none none
+    ∷ sampleRow "P5" (ascii "a") (ascii "ba") 0 (finding 1 0 0 1 ∷ []) (some 3) none none
+    ∷ sampleRow "P6" (ascii "aa") (ascii "aaa") 0 (finding 0 0 0 2 ∷ finding 1 0 0 2 ∷ []) (some 12) none none
     ∷ sampleRow "P7" (ascii "abcd") (ascii "zzzzzzzzzz") 1 [] (some 6) none none
     ∷ sampleRow "P8" (ascii "abc") (ascii "ab") 0 [] (some 0) none none
-    ∷ sampleRow "P9" (ascii "abc") (ascii "cab") 0 (finding 0 2 0 ∷ []) (some 12) none none
-    ∷ sampleRow "P10" (ascii "ab") (ascii "zbz") 1 (finding 0 0 1 ∷ finding 1 1 1 ∷ []) none none none
+    ∷ sampleRow "P9" (ascii "abc") (ascii "cab") 0 (finding 0 2 0 1 ∷ []) (some 12) none none
+    ∷ sampleRow "P10" (ascii "ab") (ascii "zbz") 1 (finding 0 0 1 1 ∷ finding 1 1 1 1 ∷ []) none none none
     ∷ sampleRow "P11" (ascii "abcdef") (ascii "bcdfab") 1 [] (some 42) (some 1) none
-    ∷ sampleRow "P12" (ascii "abcdef") (ascii "bcdfab") 3 (finding 0 1 3 ∷ []) (some 42) none none
+    ∷ sampleRow "P12" (ascii "abcdef") (ascii "bcdfab") 3 (finding 0 1 3 2 ∷ []) (some 42) none none
     ∷ []
 
 -- Computed from the meanings and rules, every row has the answers of the document's table.
 pub samples-right : map answered samples ≡ samples
-unfolding samples ascii count lowest someBelow differs distance lowestRotation foundAt findingsBelow begins fits readEdge readLeft readWindow windowsFrom candidatesOf reported readLooks tallyLooks verifyLooks surveyLooksBelow
+unfolding samples ascii count lowest someBelow differs distance lowestRotation rotationsReaching foundAt findingsBelow begins fits readEdge readLeft readWindow windowsFrom candidatesOf reported readLooks tallyLooks verifyLooks surveyLooksBelow
 samples-right = refl
 
 -- Rows of our own. In the first three the last candidate is s beyond the one before it: m = 3, s = 2, afresh because 2·s > m; m = 3, s = 1, one
 -- step; m = 5, s = 2, two steps although 3·s > m. Then: m = 1, where the scan counts afresh and the survey steps; a break edge that fits by itself
--- and still begins no stretch; a candidate that is not a finding and still is the last verified one; steps across a window that was stopped; and
--- the codes 0 and 255.
+-- and still begins no stretch; a candidate that is not a finding and still is the last verified one; steps across a window that was stopped; the codes 0
+-- and 255; and ties: of a square, of a ring of period 2, and of a start where three rotations are within k but only one reaches the least distance.
 unfoldable pub own-samples : List Sample
 own-samples =
-    sampleRow "afresh where 2·s > m" (ascii "aab") (ascii "baaab") 0 (finding 0 2 0 ∷ finding 2 0 0 ∷ []) (some 27) (some 2) (some 21)
-    ∷ sampleRow "one step" (ascii "aaa") (ascii "aaaa") 0 (finding 0 0 0 ∷ finding 1 0 0 ∷ []) (some 21) (some 2) (some 15)
-    ∷ sampleRow "two steps over a start that is no candidate" (ascii "aaaab") (ascii "baaaaab") 0 (finding 0 4 0 ∷ finding 2 0 0 ∷ []) (some 60) (some 2) (some 45)
-    ∷ sampleRow "one edge" (ascii "a") (ascii "aaa") 0 (finding 0 0 0 ∷ finding 1 0 0 ∷ finding 2 0 0 ∷ []) (some 6) (some 3) (some 5)
-    ∷ sampleRow "the break edge is in no stretch" (ascii "abc") (ascii "aac") 1 (finding 0 0 1 ∷ []) (some 12) (some 1) (some 9)
+    sampleRow "afresh where 2·s > m" (ascii "aab") (ascii "baaab") 0 (finding 0 2 0 1 ∷ finding 2 0 0 1 ∷ []) (some 27) (some 2) (some 21)
+    ∷ sampleRow "one step" (ascii "aaa") (ascii "aaaa") 0 (finding 0 0 0 3 ∷ finding 1 0 0 3 ∷ []) (some 21) (some 2) (some 15)
+    ∷ sampleRow "two steps over a start that is no candidate" (ascii "aaaab") (ascii "baaaaab") 0 (finding 0 4 0 1 ∷ finding 2 0 0 1 ∷ []) (some 60) (some 2) (some 45)
+    ∷ sampleRow "one edge" (ascii "a") (ascii "aaa") 0 (finding 0 0 0 1 ∷ finding 1 0 0 1 ∷ finding 2 0 0 1 ∷ []) (some 6) (some 3) (some 5)
+    ∷ sampleRow "the break edge is in no stretch" (ascii "abc") (ascii "aac") 1 (finding 0 0 1 1 ∷ []) (some 12) (some 1) (some 9)
     ∷ sampleRow "a candidate is the last verified one, finding or not" (ascii "abc") (ascii "aaaa") 1 [] (some 21) (some 2) (some 15)
-    ∷ sampleRow "the tally is kept over a jump" (ascii "aaaaaab") (ascii "aabaaaabaa") 0 (finding 0 4 0 ∷ finding 3 2 0 ∷ []) (some 111) (some 2) (some 91)
-    ∷ sampleRow "codes 0 and 255" (0 ∷ 255 ∷ []) (255 ∷ 0 ∷ 255 ∷ 255 ∷ []) 0 (finding 0 1 0 ∷ finding 1 0 0 ∷ []) (some 14) (some 2) (some 12)
+    ∷ sampleRow "the tally is kept over a jump" (ascii "aaaaaab") (ascii "aabaaaabaa") 0 (finding 0 4 0 1 ∷ finding 3 2 0 1 ∷ []) (some 111) (some 2) (some 91)
+    ∷ sampleRow "codes 0 and 255" (0 ∷ 255 ∷ []) (255 ∷ 0 ∷ 255 ∷ 255 ∷ []) 0 (finding 0 1 0 1 ∷ finding 1 0 0 1 ∷ []) (some 14) (some 2) (some 12)
+    ∷ sampleRow "a square of equal edges" (ascii "aaaa") (ascii "aaaa") 0 (finding 0 0 0 4 ∷ []) (some 20) (some 1) (some 16)
+    ∷ sampleRow "two ties, also at distance 1" (ascii "abab") (ascii "ababz") 1 (finding 0 0 0 2 ∷ finding 1 1 1 2 ∷ []) (some 32) (some 2) (some 24)
+    ∷ sampleRow "three rotations within k, one at the least" (ascii "aab") (ascii "aab") 2 (finding 0 0 0 1 ∷ []) (some 12) (some 1) (some 9)
     ∷ []
 
 -- Computed from the meanings and rules, our own rows are right too.
 pub own-samples-right : map answered own-samples ≡ own-samples
-unfolding own-samples ascii count lowest someBelow differs distance lowestRotation foundAt findingsBelow begins fits readEdge readLeft readWindow windowsFrom candidatesOf reported readLooks tallyLooks verifyLooks surveyLooksBelow
+unfolding own-samples ascii count lowest someBelow differs distance lowestRotation rotationsReaching foundAt findingsBelow begins fits readEdge readLeft readWindow windowsFrom candidatesOf reported readLooks tallyLooks verifyLooks surveyLooksBelow
 own-samples-right = refl

@@ -34,7 +34,7 @@ module _ (cell ringNumber : ℕ) (ring line : List ℕ) (k : ℕ) (book words : 
   found-shown-is : found - hid ≡ length (shown (silencesRead book) cell ringNumber (findings ring line k))
   found-shown-is = omega (arith, given .found-is, given .hidden-is, shown-hidden-length (silencesRead book) cell ringNumber (findings ring line k))
 
-  -- "Words after the last one written keep their values." These are the words from 3·(found - hidden) on.
+  -- "Words after the last one written keep their values." These are the words from `wordsEach`·(found - hidden) on.
   pub report-words-rest : (j : ℕ) → getD out (wordsEach * (found - hid) + j) 0 ≡ getD words (wordsEach * (found - hid) + j) 0
   report-words-rest j =
       let put : List ℕ = wordsOf (shown (silencesRead book) cell ringNumber (findings ring line k)) in

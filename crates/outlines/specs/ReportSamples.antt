@@ -6,7 +6,7 @@ use mathlib.Core.List.{List, [], _∷_}
 use lib.ListN.{length}
 use Rattle.lists.specs.Records.{numbersOfEach}
 use Rattle.meaning.specs.Counting.{count, lowest, someBelow}
-use Rattle.meaning.specs.Meanings.{differs, distance, lowestRotation}
+use Rattle.meaning.specs.Meanings.{differs, distance, lowestRotation, rotationsReaching}
 use Rattle.meaning.specs.Findings.{foundAt, findingsBelow, findings, wordsOf}
 use Rattle.lists.specs.Areas.{written}
 use Rattle.meaning.specs.Stretch.{begins, fits}
@@ -30,23 +30,24 @@ unfoldable silence10 : List Silence
 silence10 = silence 7 2 10 ∷ []
 
 -- "as cell 7, ring 2 it shows starts 9 and 11, hidden 1; as cell 8 all three". As cell 0, and as ring 3 of cell 7, nothing is hidden either.
-sample-hidden : (shown silence10 7 2 (findings ring2 line2 1) ≡ finding 9 3 1 ∷ finding 11 5 1 ∷ [])
+sample-hidden : (shown silence10 7 2 (findings ring2 line2 1) ≡ finding 9 3 1 1 ∷ finding 11 5 1 1 ∷ [])
     × (length (hidden silence10 7 2 (findings ring2 line2 1)) ≡ 1)
-    × (shown silence10 8 2 (findings ring2 line2 1) ≡ finding 9 3 1 ∷ finding 10 4 0 ∷ finding 11 5 1 ∷ [])
+    × (shown silence10 8 2 (findings ring2 line2 1) ≡ finding 9 3 1 1 ∷ finding 10 4 0 1 ∷ finding 11 5 1 1 ∷ [])
     × (length (hidden silence10 8 2 (findings ring2 line2 1)) ≡ 0)
     × (length (hidden silence10 0 2 (findings ring2 line2 1)) ≡ 0)
     × (length (hidden silence10 7 3 (findings ring2 line2 1)) ≡ 0)
-unfolding ring2 line2 silence10 takenBy isSame names ascii count lowest differs distance lowestRotation foundAt findingsBelow
+unfolding ring2 line2 silence10 takenBy isSame names ascii count lowest differs distance lowestRotation rotationsReaching foundAt findingsBelow
 sample-hidden = (refl, refl, refl, refl, refl, refl)
 
 -- A silence for cell 0 hides in cell 0 alone. "Letting cell 0 in a silence stand for all cells" is one of the readings that look right and are wrong.
 sample-cell-0 : (length (hidden (silence 0 2 10 ∷ []) 7 2 (findings ring2 line2 1)) ≡ 0) × (length (hidden (silence 0 2 10 ∷ []) 0 2 (findings ring2 line2 1)) ≡ 1)
-unfolding ring2 line2 takenBy isSame names ascii count lowest differs distance lowestRotation foundAt findingsBelow
+unfolding ring2 line2 takenBy isSame names ascii count lowest differs distance lowestRotation rotationsReaching foundAt findingsBelow
 sample-cell-0 = (refl, refl)
 
--- "found 2 hidden 1 looks 12", and the one line "0 0 0": of the six words lent, three are written and three kept. As cell 8 nothing is hidden.
+-- "found 2 hidden 1 looks 12", and the one line "0 0 0 2": of the eight words lent, four are written and four kept. As cell 8 nothing is hidden.
 sample-example : (reportCounts (ascii "aa") (ascii "aaa") 0 7 2 (silence 7 2 1 ∷ []) ≡ record { found = 2; hidden = 1; looks = 12 })
     × (reportCounts (ascii "aa") (ascii "aaa") 0 8 2 (silence 7 2 1 ∷ []) ≡ record { found = 2; hidden = 0; looks = 12 })
-    × (written (wordsOf (shown (silence 7 2 1 ∷ []) 7 2 (findings (ascii "aa") (ascii "aaa") 0))) (1 ∷ 2 ∷ 3 ∷ 4 ∷ 5 ∷ 6 ∷ []) ≡ 0 ∷ 0 ∷ 0 ∷ 4 ∷ 5 ∷ 6 ∷ [])
-unfolding takenBy numbersOfEach written isSame names ascii count lowest someBelow differs distance lowestRotation foundAt findingsBelow begins fits readEdge readLeft readWindow windowsFrom candidatesOf reported readLooks tallyLooks verifyLooks
+    × (written (wordsOf (shown (silence 7 2 1 ∷ []) 7 2 (findings (ascii "aa") (ascii "aaa") 0))) (1 ∷ 2 ∷ 3 ∷ 4 ∷ 5 ∷ 6 ∷ 7 ∷ 8 ∷ [])
+    ≡ 0 ∷ 0 ∷ 0 ∷ 2 ∷ 5 ∷ 6 ∷ 7 ∷ 8 ∷ [])
+unfolding takenBy numbersOfEach written isSame names ascii count lowest someBelow differs distance lowestRotation rotationsReaching foundAt findingsBelow begins fits readEdge readLeft readWindow windowsFrom candidatesOf reported readLooks tallyLooks verifyLooks
 sample-example = (refl, refl, refl)

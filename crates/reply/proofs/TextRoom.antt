@@ -1,5 +1,5 @@
 -- No text is longer than the program's array (`mostText`), because its numbers have few digits (`decimal-length-le`). A report shows at most one finding for each edge
--- of the line; a start is below the line's length, a rotation and a distance below the ring's, and looks are at most 3·m·n.
+-- of the line; a start is below the line's length, a rotation and a distance below the ring's, ties at most the ring's, and looks are at most 3·m·n.
 use Prim.Native.Nat.{ℕ, _*_, _^_, _≤_, _<_}
 use mathlib.Core.Path.{refl}
 use mathlib.Core.List.{List, [], _∷_, List·Memᴰ, List·Memᴰ·head, List·Memᴰ·tail}
@@ -10,6 +10,7 @@ use Rattle.lists.specs.Texts.{ascii}
 use Rattle.meaning.specs.Findings.{Finding, findings}
 use Rattle.meaning.proofs.FindingsBelow.{below-length-le}
 use Rattle.meaning.proofs.LookBound.{quickLooks-most}
+use Rattle.meaning.proofs.Ties.{ties-most}
 use Rattle.silences.specs.Silences.{Silence}
 use Rattle.findings.specs.Admitting.{mostRing, Admitted}
 use Rattle.outlines.specs.Report.{shown, ReportCounts, reportCounts}
@@ -33,6 +34,7 @@ record Short (f : Finding) : Type 0 where
   pub start-lt : f .start < lineField .most
   pub rotation-lt : f .rotation < mostRing
   pub distance-lt : f .distance < mostRing
+  pub ties-le : f .ties ≤ mostRing
 
 -- each line of such findings has at most `mostFindingLine` bytes
 finding-lines-le : (fs : List Finding) → ((f : Finding) → List·Memᴰ f fs → Short f) → length (findingLines fs) ≤ mostFindingLine * length fs
@@ -46,6 +48,7 @@ finding-lines-le (f ∷ fs) short =
       decimal-length-le 3 (f .start) (omega arith),
       decimal-length-le 2 (f .rotation) (omega arith),
       decimal-length-le 2 (f .distance) (omega arith),
+      decimal-length-le 2 (f .ties) (omega arith),
       finding-lines-le fs (λ g m. short g (List·Memᴰ·tail m)),
     ))
 
@@ -68,6 +71,7 @@ module _ (q : Request) (room : ℕ) (admitted : Admitted (length (q .ring)) (q .
         start-lt = omega (arith, is .is-start .fits-in-line);
         rotation-lt = omega (arith, is .is-rotation, admitted .most-ring);
         distance-lt = omega (arith, is .at-most-k, admitted .allowed, admitted .most-ring);
+        ties-le = omega (arith, ties-most (q .ring) (q .line) (q .allowance) f is, admitted .most-ring);
       }
 
   -- The lines of an accepted report are no longer than the array.

@@ -6,7 +6,7 @@
 --   IsAnswered              the contract of `answer`
 --
 -- The report's refusals and counts are defined in crates/outlines, specs/Report.antt. "Book places count from the book's first byte": a request
--- holds its book apart, so the report's places are the right ones. The definition takes exactly the room that row 4 requires; the code lends 12,288 words,
+-- holds its book apart, so the report's places are the right ones. The definition takes exactly the room that row 4 requires; the code lends 16,384 words,
 -- which gives the same first row (`refusal-same` of proofs/RoomEnough.antt). So row 4 is never given; nor is row 3, because a line has at most 4,096 edges
 -- (`rows-3-4-never` of proofs/RowsNeverGiven.antt).
 use Prim.Native.Nat.{ℕ}

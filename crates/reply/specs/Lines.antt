@@ -42,7 +42,7 @@ firstLine cell ringNumber m k =
 abbrev pub numbersLine : List ℕ → List ℕ
 numbersLine numbers = lineOf (map decimal numbers)
 
--- `0 0 0`: "one line per shown finding (start, rotation, distance)". These are the finding's words.
+-- `0 0 0 2`: "one line per shown finding (start, rotation, distance)", and its ties: these are the finding's words.
 unfoldable pub findingLine : Finding → List ℕ
 findingLine f = numbersLine (findingWords f)
 

@@ -80,9 +80,9 @@ countsOf found hid looks = record { found = found; hidden = hid; looks = looks }
 abbrev pub mostFirstLine : ℕ
 mostFirstLine = 26 + (10 + 5 + 3 + 3)
 
--- The most bytes of a finding's line: a space or LF after each number, and at most 4, 3 and 3 digits.
+-- The most bytes of a finding's line: a space or LF after each number, and at most 4, 3, 3 and 3 digits.
 abbrev pub mostFindingLine : ℕ
-mostFindingLine = wordsEach + (4 + 3 + 3)
+mostFindingLine = wordsEach + (4 + 3 + 3 + 3)
 
 -- The most bytes of the last line, `found F hidden H looks L`: 22 that are not digits, LF among them, and at most 4, 4 and 7 digits.
 abbrev pub mostLastLine : ℕ

@@ -18,8 +18,8 @@ const MOST_FINDING_WORDS: usize = WORDS_EACH * MOST_LINE_BYTES;
 // The most bytes of the first line: 26 that are not digits, and at most 10, 5, 3 and 3 digits.
 const MOST_FIRST_LINE: usize = 26 + (10 + 5 + 3 + 3);
 
-// The most bytes of a finding's line: a space or LF after each number, and at most 4, 3 and 3 digits.
-const MOST_FINDING_LINE: usize = WORDS_EACH + (4 + 3 + 3);
+// The most bytes of a finding's line: a space or LF after each number, and at most 4, 3, 3 and 3 digits.
+const MOST_FINDING_LINE: usize = WORDS_EACH + (4 + 3 + 3 + 3);
 
 // The most bytes of the last line: 22 that are not digits, and at most 4, 4 and 7 digits.
 const MOST_LAST_LINE: usize = 22 + (4 + 4 + 7);

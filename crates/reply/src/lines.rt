@@ -55,7 +55,7 @@ fn word_at(words: &[u32], at: usize) -> usize
     number_of_word(words[at])
 }
 
-// Puts "one line per shown finding (start, rotation, distance)".
+// Puts "one line per shown finding": start, rotation, distance, ties.
 pub fn put_finding_lines(text: &mut [u8], at: usize, words: &[u32]) -> usize
     ensures { λ r. ⌜ IsWritten (linesOfWords (now (words .entry))) (now (text .entry)) at (now (text .exit)) r ⌝ }
 {
@@ -66,8 +66,9 @@ pub fn put_finding_lines(text: &mut [u8], at: usize, words: &[u32]) -> usize
             word_at(words, done),
             word_at(words, done + 1),
             word_at(words, done + 2),
+            word_at(words, done + 3),
         ];
-        next = put_line(text, next, b"# # #\n", &finding);
+        next = put_line(text, next, b"# # # #\n", &finding);
         done += WORDS_EACH;
     }
     next

@@ -26,5 +26,5 @@ pub fn book_row(call: usize, row: &[u8]) {
     let mut words = area::book_room();
     let space: &mut [u32] = &mut words;
     paper::print_book(read_or_unpack(call, book, area::lend(space, room)));
-    printing::end_row(PrintedAs::Words, space, room);
+    printing::end_row(PrintedAs::Silences, space, room);
 }

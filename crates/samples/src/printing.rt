@@ -3,12 +3,16 @@ use crate::area;
 use crate::filling;
 use crate::filling::WordKind;
 use crate::table;
+use findings::WORDS_EACH;
+use silences::RECORD_WORDS;
 ghost use Prim.Native.Nat.{_<_};
 
-// How the bytes or words that a call wrote are shown: bytes in hex, words in threes as document 01 writes a finding.
+// How the bytes or words that a call wrote are shown: bytes in hex, the words of a finding or of a silence with commas
+// between them.
 pub enum PrintedAs {
     Bytes,
-    Words,
+    Findings,
+    Silences,
 }
 
 // The most bytes or words that are shown one by one. Of more only a checksum is shown.
@@ -58,6 +62,16 @@ pub fn print_number(label: usize, value: usize) {
     io::print_decimal(1, value as u64);
 }
 
+// Prints a word of a record: its first word after a space, the others after a comma.
+fn print_word(place: usize, word: u32) {
+    if place == 0 {
+        print_text(b" ");
+    } else {
+        print_text(b",");
+    }
+    io::print_decimal(1, word as u64);
+}
+
 // Prints one byte, which the word has four times over, or one word.
 fn print_value(shown: PrintedAs, at: usize, word: u32) {
     match shown {
@@ -65,10 +79,8 @@ fn print_value(shown: PrintedAs, at: usize, word: u32) {
             print_text(b" ");
             io::print_hex(1, (word % 256) as u64, 2);
         }
-        PrintedAs::Words => {
-            print_text(table::field(b" |,|,", at % 3));
-            io::print_decimal(1, word as u64);
-        }
+        PrintedAs::Findings => print_word(at % WORDS_EACH, word),
+        PrintedAs::Silences => print_word(at % RECORD_WORDS, word),
     }
 }
 

@@ -28,7 +28,7 @@ fn search(call: usize, row: &[u8], ring: &[u8], line: &[u8]) {
     let mut words = area::search_room();
     let space: &mut [u32] = &mut words;
     print_counts(call, row, ring, line, k, area::lend(space, room));
-    printing::end_row(PrintedAs::Words, space, room);
+    printing::end_row(PrintedAs::Findings, space, room);
 }
 
 // Runs one row through one of the three calls.

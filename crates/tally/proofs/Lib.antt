@@ -4,10 +4,11 @@
 --
 -- The edges of a window.
 pub mod WindowEdges
--- Loops over counts: the least count, and the lowest rotation that has it.
+-- Loops over counts: the least count, the lowest rotation that has it, and how many rotations have it.
 pub mod LeastSoFar
 pub mod LeastIsOne
 pub mod LowestLoop
+pub mod TiesLoop
 -- The fresh count: what `double` and `count_edges` compute.
 pub mod DoubledLoop
 pub mod AfreshLoop

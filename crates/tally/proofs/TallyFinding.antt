@@ -1,21 +1,22 @@
--- A start's tally decides whether it is a finding. Its counts are the distances, so the least count is the least distance, and the lowest rotation with that count
--- is the lowest that reaches it. So a start is a finding exactly when its least count is at most k, and it carries that rotation and that count.
+-- A start's tally decides whether it is a finding. Its counts are the distances, so the least count is the least distance, the lowest rotation with that count is the
+-- lowest that reaches it, and as many rotations have that count as reach it (`tallied-finding`). So a start is a finding exactly when its least count is at most k.
 use Prim.Native.Nat.{ℕ, _≤_, _<_}
 use mathlib.Core.Path.{_≡_, sym, ap, _∙_}
 use mathlib.Core.List.{List, [], _∷_}
 use native.Mathlib.Omega.{arith}
 use lib.ListN.{length, getD}
 use Rattle.meaning.specs.Counting.{lowest}
-use Rattle.meaning.specs.Meanings.{IsStart, distance, lowestRotation, leastDistance}
+use Rattle.meaning.specs.Meanings.{IsStart, distance, lowestRotation, leastDistance, rotationsReaching, ties}
 use Rattle.meaning.specs.Findings.{Finding, findingAt, foundAt}
 use Rattle.meaning.proofs.Lowest.{lowest-is, lowest-unique}
-use Rattle.meaning.proofs.Places.{lowestRotation-is, found-yes, found-no}
+use Rattle.meaning.proofs.Places.{distance-le, lowestRotation-is, found-yes, found-no}
 use Rattle.findings.specs.declared.searching.Finding.{Finding as FindingStruct}
 use Rattle.findings.specs.Putting.{findingOf}
-use Rattle.tally.specs.Counts.{mostCounts, leastOf, findingWith, IsLeast, IsFindingAt}
+use Rattle.tally.specs.Counts.{mostCounts, lastCount, leastOf, tiesWith, findingWith, IsLeast, IsFindingAt}
 use Rattle.tally.specs.Tallied.{Tallied}
 use Rattle.tally.proofs.LeastIsOne.{leastOf-only}
 use Rattle.tally.proofs.LowestLoop.{lowest-least}
+use Rattle.tally.proofs.TiesLoop.{tallied-ties}
 
 module _ (ring line : List ℕ) (k i : ℕ) (counts : List ℕ) (least : ℕ) (pos : 0 < length ring)
     (t : Tallied ring line i counts) (l : IsLeast (length ring) counts least) where
@@ -51,7 +52,11 @@ module _ (ring line : List ℕ) (k i : ℕ) (counts : List ℕ) (least : ℕ) (p
   -- What `findingWith` makes of a start's tally and its least count is the finding at that start.
   pub tallied-finding : length ring ≤ mostCounts → findingOf (findingWith (length ring) counts (record { 0 = i }) least) ≡ findingAt ring line i
   unfolding findingWith
-  tallied-finding most = λ j. record { start = i; rotation = (lowest-least counts least most l ∙ rotation-is) j; distance = least-is j }
+  tallied-finding most =
+      let near : leastDistance ring line i ≤ length ring = distance-le ring line i (lowestRotation ring line i) in
+      let small : least ≤ lastCount = omega (arith, least-is, near) in
+      let tied : tiesWith (length ring) counts least ≡ ties ring line i = tallied-ties least small most t ∙ ap (rotationsReaching ring line i) least-is in
+      λ j. record { start = i; rotation = (lowest-least counts least most l ∙ rotation-is) j; distance = least-is j; ties = tied j }
 
   -- If the least count of a start is at most k, the finding at that start is the one that `finding_at` returns.
   pub least-yes : (f : FindingStruct) → length ring ≤ mostCounts → IsFindingAt (length ring) counts (record { 0 = i }) least f → IsStart ring line i → least ≤ k

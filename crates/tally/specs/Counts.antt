@@ -1,9 +1,10 @@
 -- Counts of differing edges, one for each rotation. A window is counted afresh by comparing its edges with those of every rotation. The rotations are read off
--- the doubled ring, so no comparison takes a place mod m. Then the least count is found, and the lowest rotation that has it.
+-- the doubled ring, so no comparison takes a place mod m. Then the least count is found, the lowest rotation that has it, and how many have it.
 --
---   mostCounts                 256: one count for each rotation of the longest ring
+--   mostCounts, lastCount      256: one count for each rotation of the longest ring; 65,535: the largest number that a count can hold
 --   leastOf                    the least of the first m counts
 --   lowestFrom, lowestWith     the lowest rotation that has a given count
+--   hasCount, tiesWith         whether a rotation has a given count; how many rotations have it
 --   doubledEdge, doubledRing   the ring twice, end to end: rotation r is its m edges from place r on
 --   differsThere, afreshCount  the number of places where a window and a rotation differ
 --   afreshCounts               the counts after a fresh count: one for each rotation, the others kept
@@ -11,7 +12,7 @@
 --   TallyResult, countedTo     the result of a fresh count: the counts, their least, the looks
 --   findingWith                the finding at a start with a given least count
 --   IsComparison, IsDoubled, IsCounted, IsFindingAt   the contracts of `differing`, `double`, `count_afresh` and `finding_at`
---   IsLowestWith, HasCounts, edgeCounted, IsLeast, IsCountedAfresh   preconditions and contracts of private functions
+--   IsLowestWith, IsTies, HasCounts, edgeCounted, IsLeast, IsCountedAfresh   preconditions and contracts of private functions
 use Prim.Native.Nat.{ℕ, zero, suc, _+_, _*_, _%_, _≤_, _<_, min}
 use mathlib.Core.Path.{_≡_}
 use mathlib.Core.Bool.{Bool, cond, _&&_}
@@ -31,6 +32,10 @@ use Rattle.tally.specs.declared.counts.Least.{Least}
 abbrev pub mostCounts : ℕ
 mostCounts = mostRing
 
+-- The largest number that a count can hold: it has sixteen bits.
+abbrev pub lastCount : ℕ
+lastCount = 65535
+
 -- The least of the first m counts. (With m = 0 it is the first count.)
 unfoldable pub leastOf : ℕ → List ℕ → ℕ
 leastOf m counts = getD counts (lowest (λ r. getD counts r 0) m) 0
@@ -45,6 +50,17 @@ lowestFrom counts least (suc n) r =
 -- The lowest of the first m rotations whose count is `least`; m if none has it. There are 256 counts, so a larger m is taken as 256.
 abbrev pub lowestWith : ℕ → List ℕ → ℕ → ℕ
 lowestWith m counts least = lowestFrom counts least (min m mostCounts) 0
+
+-- Whether the count of rotation r is `least`.
+abbrev pub hasCount : List ℕ → ℕ → ℕ → Bool
+hasCount counts least r = eqb (getD counts r 0) least
+
+-- How many of the first m rotations have the count `least`. There are 256 counts, so a larger m is taken as 256. No count is above 65,535, so there no rotation
+-- has it.
+unfoldable pub tiesWith : ℕ → List ℕ → ℕ → ℕ
+tiesWith m counts least =
+    let ties : ℕ = count (hasCount counts least) 0 (min m mostCounts) in
+    cond (ltb lastCount least) 0 ties
 
 -- The edge at place p of the ring twice, end to end; 0 past the second ring. For a ring of more than 256 edges it is 0 everywhere.
 unfoldable pub doubledEdge : List ℕ → ℕ → ℕ
@@ -99,9 +115,11 @@ pub record IsCounted (doubled window old new : List ℕ) (z : Least) : Type 0 wh
   pub least-is : z .least ≡ countedTo doubled window old .least
   pub looks-are : z .looks ≡ countedTo doubled window old .looks
 
--- "It carries start, rotation, distance: the least distance, and the lowest r that reaches it": the finding at a start, given its counts and the least of them.
+-- "It carries start, rotation, distance: the least distance, and the lowest r that reaches it", and how many reach it: the finding at a start, given its counts
+-- and the least of them.
 unfoldable pub findingWith : ℕ → List ℕ → LinePlace → ℕ → FindingStruct
-findingWith m counts start least = record { start = start; rotation = record { 0 = lowestWith m counts least }; distance = least }
+findingWith m counts start least =
+    record { start = start; rotation = record { 0 = lowestWith m counts least }; distance = least; ties = tiesWith m counts least }
 
 -- The contract of `finding_at`, which returns f.
 pub record IsFindingAt (m : ℕ) (counts : List ℕ) (start : LinePlace) (least : ℕ) (f : FindingStruct) : Type 0 where
@@ -112,6 +130,10 @@ pub record IsFindingAt (m : ℕ) (counts : List ℕ) (start : LinePlace) (least 
 -- The contract of `lowest_rotation`; r is the number of the ring place that it returns.
 pub record IsLowestWith (m : ℕ) (counts : List ℕ) (least r : ℕ) : Type 0 where
   pub is : r ≡ lowestWith m counts least
+
+-- The contract of `count_ties`, which returns r.
+pub record IsTies (m : ℕ) (counts : List ℕ) (least r : ℕ) : Type 0 where
+  pub is : r ≡ tiesWith m counts least
 
 -- A ring of m edges, 1 to 256, has a count for each of its rotations among `counts` counts.
 pub record HasCounts (m counts : ℕ) : Type 0 where

@@ -6,12 +6,17 @@ use findings::Finding;
 use findings::MOST_RING;
 ghost use mathlib.Core.Path.{_≡_};
 ghost use Prim.Native.Nat.{min};
+ghost use lib.Dec.{eqb};
 ghost use lib.ListN.{length};
+ghost use Rattle.meaning.specs.Counting.{oneIf};
 ghost use Rattle.lists.specs.ByPlace.{StoredFirst};
-ghost use Rattle.tally.specs.Counts.{mostCounts, IsComparison, IsFindingAt, HasCounts, IsLeast, IsLowestWith};
+ghost use Rattle.tally.specs.Counts.{mostCounts, IsComparison, IsFindingAt, HasCounts, IsLeast, IsLowestWith, IsTies};
 
 // One count for each rotation of the longest ring.
 pub const MOST_COUNTS: usize = MOST_RING;
+
+// The largest number that a count can hold.
+const LAST_COUNT: usize = 65535;
 
 // The least of a start's counts, and the looks taken to compute them.
 pub struct Least {
@@ -85,16 +90,45 @@ fn lowest_rotation(counts: &[u16; MOST_COUNTS], m: usize, least: usize) -> RingP
     RingPlace(rotation)
 }
 
-// "It carries start, rotation, distance: the least distance, and the lowest r that reaches it": the finding at a start
-// whose least count is `least`. Callers call it only for a start that is a finding, so the rotation is searched only
-// then.
+// 1 if the two counts are equal, else 0.
+fn same(a: u16, b: u16) -> u16
+    ensures { λ r. ⌜ r ≡ oneIf (eqb a b) ⌝ }
+{
+    if a == b { 1 } else { 0 }
+}
+
+// "how many rotations reach the least distance": how many of m rotations have the count `least`. An m above 256 is taken
+// as 256. Counts are compared in their own sixteen bits, because the compiler then compares eight of them at once; no
+// count is above 65,535.
+fn count_ties(counts: &[u16; MOST_COUNTS], m: usize, least: usize) -> usize
+    ensures { λ r. ⌜ IsTies m (now (counts .entry)) least r ⌝ }
+{
+    if LAST_COUNT < least {
+        return 0;
+    }
+    let wanted = least as u16;
+    let all = rotations(m);
+    let mut ties: u16 = 0;
+    let mut at = 0;
+    while at < all {
+        ties += same(counts[at], wanted);
+        at += 1;
+    }
+    count_value(ties)
+}
+
+// "It carries start, rotation, distance: the least distance, and the lowest r that reaches it", and how many reach it:
+// the finding at a start whose least count is `least`. Callers call it only for a start that is a finding, so rotation
+// and ties are sought only then. Both are read off the counts, so no line edge is read.
 pub fn finding_at(counts: &[u16; MOST_COUNTS], m: usize, start: LinePlace, least: usize) -> Finding
     ensures { λ f. ⌜ IsFindingAt m (now (counts .entry)) start least f ⌝ }
 {
     let rotation = lowest_rotation(counts, m, least);
+    let ties = count_ties(counts, m, least);
     Finding {
         start,
         rotation,
         distance: least,
+        ties,
     }
 }

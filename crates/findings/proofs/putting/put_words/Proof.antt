@@ -1,4 +1,4 @@
--- `findings::putting::put_words` meets its contract: its three stores, one after the other, are `sets` of the finding's words.
+-- `findings::putting::put_words` meets its contract: its stores, one after the other, are `sets` of the finding's words.
 use native.Mathlib.Numerals.{towards-suc}
 use native.Mathlib.Omega.{arith}
 use borrow.Author.Needs.{needs}
@@ -42,6 +42,18 @@ mul-words-3 c = search needs
 slice-write-words-3 : tie.Need-slice-write-words-3
 slice-write-words-3 c = simp length-set (omega arith)
 
+cast-words-4 : tie.Need-cast-words-4
+cast-words-4 c = let below = c .before .before .before .before .before .before .pre .words .each-lt in omega (arith, below 0, below 1, below 2, below 3)
+
+add-words-3 : tie.Need-add-words-3
+add-words-3 c = search needs
+
+mul-words-4 : tie.Need-mul-words-4
+mul-words-4 c = search needs
+
+slice-write-words-4 : tie.Need-slice-write-words-4
+slice-write-words-4 c = simp length-set (omega arith)
+
 same-length : tie.Need-same-length
 same-length c = search needs
 
@@ -64,5 +76,9 @@ put-words-spec =
     add-words-2
     mul-words-3
     slice-write-words-3
+    cast-words-4
+    add-words-3
+    mul-words-4
+    slice-write-words-4
     same-length
     returns)

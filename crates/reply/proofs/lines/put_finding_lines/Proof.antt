@@ -38,6 +38,12 @@ add-word-at-2 c = omega arith
 word-at-requires-3 : tie.Need-word-at-requires-3 Inv-loop μ-loop
 word-at-requires-3 c κs = omega arith
 
+add-word-at-3 : tie.Need-add-word-at-3 Inv-loop μ-loop
+add-word-at-3 c = omega arith
+
+word-at-requires-4 : tie.Need-word-at-requires-4 Inv-loop μ-loop
+word-at-requires-4 c κs = omega arith
+
 slice-aggregate-put-line : tie.Need-slice-aggregate-put-line Inv-loop μ-loop
 slice-aggregate-put-line c = search needs
 
@@ -57,11 +63,12 @@ loop-again : tie.Need-loop-again Inv-loop μ-loop
 unfolding filled listOf
 loop-again c =
     let at-line = c .before .before in
-    let third = at-line .before .before .before .before in
+    let fourth = at-line .before .before .before .before in
+    let third = fourth .before in
     let second = third .before in
     let first = second .before in
     lines-turn (first .before .before .loop .inv) (omega arith)
-    (λ i. sym (first .word-at .ensures) i ∷ sym (second .word-at2 .ensures) i ∷ sym (third .word-at3 .ensures) i ∷ [])
+    (λ i. sym (first .word-at .ensures) i ∷ sym (second .word-at2 .ensures) i ∷ sym (third .word-at3 .ensures) i ∷ sym (fourth .word-at4 .ensures) i ∷ [])
     (at-line .put-line .kept .0) (at-line .put-line .ensures)
 
 same-length : tie.Need-same-length Inv-loop μ-loop
@@ -83,6 +90,8 @@ put-finding-lines-spec =
     word-at-requires-2
     add-word-at-2
     word-at-requires-3
+    add-word-at-3
+    word-at-requires-4
     slice-aggregate-put-line
     slice-aggregate-put-line-2
     put-line-requires
