@@ -1,7 +1,7 @@
 //! What a row gives to its call: edges, words and books.
 
 use super::table::{number, Row};
-use crate::second::book::Silence;
+use crate::second::book::{Silence, SILENCE_WORDS};
 
 /// The records for which `*` stands.
 const ALL_RECORDS: u32 = 1_001;
@@ -36,7 +36,7 @@ pub fn silence(words: &[u32]) -> Silence {
 /// fault. A book that is left out is empty.
 pub fn book(row: &Row) -> Vec<u8> {
     let length = row.number("bytes of their layout").unwrap_or(0);
-    let mut book: Vec<u8> = words(row).chunks(3).flat_map(|record| silence(record).field()).collect();
+    let mut book: Vec<u8> = words(row).chunks(SILENCE_WORDS).flat_map(|record| silence(record).field()).collect();
     assert!(length <= book.len(), "a book of {length} bytes has more than its layout");
     book.truncate(length);
     if let (Some(offset), Some(byte)) = (row.number("offset of a fault"), row.number("its byte")) {

@@ -2,8 +2,9 @@
 
 use super::given::{book, edges, silence, words};
 use super::table::Row;
-use crate::second::book::{read, Silence, FIELD};
+use crate::second::book::{read, Silence, FIELD, SILENCE_WORDS};
 use crate::second::calls::{pack, unpack, Answered, Outcome, Search};
+use crate::second::meaning::FINDING_WORDS;
 use crate::second::program::output;
 
 /// The most bytes or words that are shown one by one; for more a checksum is shown.
@@ -14,32 +15,37 @@ fn room(row: &Row) -> usize {
     row.number("room").unwrap_or(usize::MAX)
 }
 
-/// The bytes or the words that a call wrote.
+/// A byte or a word that a call wrote.
 trait Written {
     fn shown(&self) -> String;
     /// What the checksum is taken of: a byte counts as the word of four such bytes.
-    fn as_words(&self) -> Vec<u32>;
+    fn as_word(&self) -> u32;
 }
 
-impl Written for Vec<u8> {
+impl Written for u8 {
     fn shown(&self) -> String {
-        self.iter().map(|byte| format!(" {byte:02x}")).collect()
+        format!("{self:02x}")
     }
 
-    fn as_words(&self) -> Vec<u32> {
-        self.iter().map(|&byte| u32::from_ne_bytes([byte; 4])).collect()
+    fn as_word(&self) -> u32 {
+        u32::from_ne_bytes([*self; 4])
     }
 }
 
-impl Written for Vec<u32> {
+impl Written for u32 {
     fn shown(&self) -> String {
-        let three = |words: &[u32]| format!(" {},{},{}", words[0], words[1], words[2]);
-        self.chunks(3).map(three).collect()
+        self.to_string()
     }
 
-    fn as_words(&self) -> Vec<u32> {
-        self.clone()
+    fn as_word(&self) -> u32 {
+        *self
     }
+}
+
+/// Those that belong together, with commas between them.
+fn group<T: Written>(together: &[T]) -> String {
+    let shown: Vec<String> = together.iter().map(T::shown).collect();
+    format!(" {}", shown.join(","))
 }
 
 /// Word by word: 31 times the checksum so far, plus the word, mod 1,000,003.
@@ -47,21 +53,22 @@ fn checksum(words: &[u32]) -> u64 {
     words.iter().fold(0, |sum, &word| (31 * sum + u64::from(word)) % 1_000_003)
 }
 
-/// What was written; the second program writes nothing behind it.
-fn end(written: &impl Written) -> String {
-    let words = written.as_words();
-    let shown = if words.len() <= MOST_SHOWN { written.shown() } else { format!(" checksum {}", checksum(&words)) };
-    format!(" written {}{shown} behind kept", words.len())
+/// What was written, in groups of `each`; the second program writes nothing behind it.
+fn end<T: Written>(written: &[T], each: usize) -> String {
+    let shown = if written.len() <= MOST_SHOWN {
+        written.chunks(each).map(group).collect()
+    } else {
+        let words: Vec<u32> = written.iter().map(T::as_word).collect();
+        format!(" checksum {}", checksum(&words))
+    };
+    format!(" written {}{shown} behind kept", written.len())
 }
 
-/// The number, the place, the counts that this call returns, and what it wrote.
-fn line<T: Clone + Default>(outcome: Outcome<T>, counts: fn(&Answered<T>) -> String) -> String
-where
-    Vec<T>: Written,
-{
+/// The number, the place, the counts that this call returns, and what it wrote, in groups of `each`.
+fn line<T: Written + Default>(outcome: Outcome<T>, each: usize, counts: fn(&Answered<T>) -> String) -> String {
     let (number, place) = outcome.as_ref().err().map_or((0, 0), |refused| (refused.number, refused.place));
     let answered = outcome.unwrap_or_default();
-    format!(" number {number} place {place}{}{}", counts(&answered), end(&answered.written))
+    format!(" number {number} place {place}{}{}", counts(&answered), end(&answered.written, each))
 }
 
 fn records<T>(answered: &Answered<T>) -> String {
@@ -79,13 +86,13 @@ fn found_hidden_looks<T>(answered: &Answered<T>) -> String {
 fn packed(row: &Row) -> String {
     let words = words(row);
     let count = row.number("how many of them").unwrap_or(words.len());
-    line(pack(&words[..count], room(row)), records)
+    line(pack(&words[..count], room(row)), 1, records)
 }
 
 /// Reading is lent no room, so nothing is written.
 fn has_read(row: &Row) -> String {
     let records_of = |records: Vec<Silence>| Answered::<u32> { found: records.len(), ..Answered::default() };
-    line(read(&book(row)).map(records_of), records)
+    line(read(&book(row)).map(records_of), SILENCE_WORDS, records)
 }
 
 /// The first field at or behind the offset that is not below the address, and the offset behind it. Document 01 has no such
@@ -115,12 +122,12 @@ fn searched(call: &str, row: &Row) -> String {
     let (ring, line_edges) = (edges(row.text("ring")), edges(row.text("line")));
     let search = Search::new(&ring, &line_edges, row.number("k").expect("a search has an allowance"), room(row));
     match call {
-        "scan" => line(search.scan(), found_and_looks),
-        "survey" => line(search.survey(), found_and_looks),
+        "scan" => line(search.scan(), FINDING_WORDS, found_and_looks),
+        "survey" => line(search.survey(), FINDING_WORDS, found_and_looks),
         _ => {
             let cell = row.number("cell").unwrap_or(0) as u32;
             let ring_number = row.number("ring number").unwrap_or(0) as u16;
-            line(search.report(cell, ring_number, &book(row)), found_hidden_looks)
+            line(search.report(cell, ring_number, &book(row)), FINDING_WORDS, found_hidden_looks)
         }
     }
 }
@@ -138,7 +145,7 @@ pub fn answer(call: &str, row: &Row) -> String {
     match call {
         "pack" => packed(row),
         "read" => has_read(row),
-        "unpack" => line(unpack(&book(row), room(row)), records),
+        "unpack" => line(unpack(&book(row), room(row)), SILENCE_WORDS, records),
         "seek" => seek(row),
         "scan" | "survey" | "report" => searched(call, row),
         "answer" => answered(row),

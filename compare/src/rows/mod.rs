@@ -1,5 +1,5 @@
 //! The rows of crates/samples, answered by the second program: it makes what crates/samples/stdout must be from the table
-//! crates/samples/stdin and document 01 alone.
+//! crates/samples/stdin and documents 01 and 02 alone.
 
 mod given;
 mod lines;

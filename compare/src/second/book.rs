@@ -3,6 +3,8 @@
 use super::refusals::{refuse_if, Refused, LONGEST_BOOK, MOST_WORDS_TO_PACK};
 
 pub const FIELD: usize = 13;
+/// Words of a silence to pack or unpacked: cell, ring number, start.
+pub const SILENCE_WORDS: usize = 3;
 const BEGINNING: [u8; 3] = [0x21, 0x00, 0x0A];
 
 /// The order of the fields here is the order in which records ascend.
@@ -22,7 +24,7 @@ impl Silence {
         field
     }
 
-    pub fn words(&self) -> [u32; 3] {
+    pub fn words(&self) -> [u32; SILENCE_WORDS] {
         [self.cell, u32::from(self.ring_number), self.start]
     }
 
@@ -55,9 +57,9 @@ pub fn read(book: &[u8]) -> Result<Vec<Silence>, Refused> {
 
 /// Refusals 8, 9 and 7; the room for the output is the caller's matter.
 pub fn to_pack(words: &[u32]) -> Result<Vec<Silence>, Refused> {
-    refuse_if(words.len() % 3 != 0 || words.len() > MOST_WORDS_TO_PACK, 8, 0)?;
+    refuse_if(words.len() % SILENCE_WORDS != 0 || words.len() > MOST_WORDS_TO_PACK, 8, 0)?;
     let mut records: Vec<Silence> = Vec::new();
-    for (index, record) in words.chunks(3).enumerate() {
+    for (index, record) in words.chunks(SILENCE_WORDS).enumerate() {
         refuse_if(record[1] > 65_535, 9, index)?;
         let record = Silence { cell: record[0], ring_number: record[1] as u16, start: record[2] };
         refuse_if(records.last().is_some_and(|before| record <= *before), 7, index)?;

@@ -1,6 +1,6 @@
 //! What each call returns and what it writes into the lent area.
 
-use super::book::{self, Silence, FIELD};
+use super::book::{self, Silence, FIELD, SILENCE_WORDS};
 use super::meaning::{findings, Finding};
 use super::refusals::{self, refuse_if, Refused};
 use super::rules::{plain_survey, quick_scan, Searched};
@@ -27,7 +27,7 @@ pub struct Search<'a> {
 }
 
 fn words(findings: &[Finding]) -> Vec<u32> {
-    findings.iter().flat_map(|f| [f.start as u32, f.rotation as u32, f.distance as u32]).collect()
+    findings.iter().flat_map(Finding::words).collect()
 }
 
 fn all_shown(searched: &Searched) -> Answered<u32> {
@@ -85,7 +85,7 @@ pub fn pack(words: &[u32], room: usize) -> Outcome<u8> {
 
 pub fn unpack(book: &[u8], room: usize) -> Outcome<u32> {
     let records = book::read(book)?;
-    refuse_if(room < 3 * records.len(), 10, 0)?;
+    refuse_if(room < SILENCE_WORDS * records.len(), 10, 0)?;
     let written = records.iter().flat_map(Silence::words).collect();
     Ok(Answered { found: records.len(), hidden: 0, looks: 0, written })
 }

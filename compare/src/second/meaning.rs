@@ -1,10 +1,21 @@
 //! Rotations, distances and findings, by their meanings.
 
+/// "A finding becomes four words: start, rotation, distance, ties" (ticket 1).
+pub const FINDING_WORDS: usize = 4;
+
 #[derive(Clone, Copy, Debug, PartialEq, Eq)]
 pub struct Finding {
     pub start: usize,
     pub rotation: usize,
     pub distance: usize,
+    /// How many rotations reach the distance.
+    pub ties: usize,
+}
+
+impl Finding {
+    pub fn words(&self) -> [u32; FINDING_WORDS] {
+        [self.start, self.rotation, self.distance, self.ties].map(|number| number as u32)
+    }
 }
 
 /// Rotation r has at its place q the ring's edge (r + q) mod m.
@@ -21,11 +32,16 @@ pub fn distance(window: &[u8], rotation: &[u8]) -> usize {
     window.chunks(PART).zip(rotation.chunks(PART)).map(|parts| usize::from(differing(parts))).sum()
 }
 
-/// The least distance and the lowest rotation that reaches it, if that makes the start a finding.
+/// The least distance, the lowest rotation that reaches it and how many reach it, if that makes the start a finding.
+/// `distances` has the distance under each rotation.
 pub fn judge(start: usize, distances: &[usize], allowance: usize) -> Option<Finding> {
     let least = *distances.iter().min()?;
+    if least > allowance {
+        return None;
+    }
     let rotation = distances.iter().position(|&distance| distance == least)?;
-    (least <= allowance).then_some(Finding { start, rotation, distance: least })
+    let ties = distances.iter().filter(|&&distance| distance == least).count();
+    Some(Finding { start, rotation, distance: least, ties })
 }
 
 /// The least distance of a window over all rotations.

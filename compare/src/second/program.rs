@@ -2,6 +2,7 @@
 
 use super::book::number;
 use super::calls::Search;
+use super::meaning::FINDING_WORDS;
 use super::refusals::{refuse_if, Refused};
 
 pub const LONGEST_INPUT: usize = 32_768;
@@ -35,11 +36,12 @@ fn reported(input: &[u8]) -> Result<String, Refused> {
     let (cell, ring_number, allowance) = (number(values[0]), number(values[1]), number(values[2]));
     let (ring, line) = (values[3], values[4]);
     // The program lends enough words for every line it accepts, so refusal 4 never arises.
-    let search = Search::new(ring, line, allowance, 3 * (line.len() + 1));
+    let search = Search::new(ring, line, allowance, FINDING_WORDS * (line.len() + 1));
     let answered = search.report(cell as u32, ring_number as u16, book)?;
     let mut text = format!("cell {cell} ring {ring_number} edges {} allow {allowance}\n", ring.len());
-    for shown in answered.written.chunks(3) {
-        text += &format!("{} {} {}\n", shown[0], shown[1], shown[2]);
+    for shown in answered.written.chunks(FINDING_WORDS) {
+        let numbers: Vec<String> = shown.iter().map(u32::to_string).collect();
+        text += &format!("{}\n", numbers.join(" "));
     }
     text += &format!("found {} hidden {} looks {}\n", answered.found, answered.hidden, answered.looks);
     Ok(text)

@@ -1,5 +1,7 @@
 //! The table of refusals. Each check stands alone; the calls put them in their order.
 
+use super::meaning::FINDING_WORDS;
+
 #[derive(Clone, Copy, Debug, PartialEq, Eq)]
 pub struct Refused {
     pub number: u32,
@@ -19,11 +21,12 @@ pub fn refuse_if(given: bool, number: u32, place: usize) -> Result<(), Refused> 
     }
 }
 
-/// Refusals 1 to 4, which survey, scan and report share.
+/// Refusals 1 to 4, which survey, scan and report share. "4 now asks 4·(n − m + 1) words" (ticket 1): a finding for each
+/// start.
 pub fn search(ring: &[u8], line: &[u8], allowance: usize, room: usize) -> Result<(), Refused> {
     let (m, n) = (ring.len(), line.len());
     refuse_if(m == 0 || m > LONGEST_RING, 1, 0)?;
     refuse_if(allowance >= m, 2, 0)?;
     refuse_if(n > LONGEST_LINE, 3, 0)?;
-    refuse_if(n >= m && room < 3 * (n - m + 1), 4, 0)
+    refuse_if(n >= m && room < FINDING_WORDS * (n - m + 1), 4, 0)
 }

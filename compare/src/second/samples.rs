@@ -1,16 +1,21 @@
-//! Document 01's own samples, with the answers as it prints them.
+//! Document 01's own samples, with the answers as it prints them. Ticket 1 of document 02 adds the ties as a fourth number
+//! of each finding: it prints 2 for P6, and the other ties were counted from the meaning, apart from this program.
 
 use super::book::Silence;
 use super::calls::Search;
+use super::meaning::FINDING_WORDS;
 use super::program;
 use super::rules::quick_scan;
+
+/// Start, rotation, distance, ties.
+type Printed = [u32; FINDING_WORDS];
 
 pub struct Sample {
     pub name: &'static str,
     pub ring: &'static str,
     pub line: &'static str,
     pub allowance: usize,
-    pub findings: &'static [u32],
+    pub findings: &'static [Printed],
     pub looks: Option<u64>,
     pub candidates: Option<usize>,
 }
@@ -20,31 +25,32 @@ const LINE_OF_P1: &str = "GATACGATACCTAGGGTGATAGAATAG";
 const fn sample(
     name: &'static str,
     (ring, line, allowance): (&'static str, &'static str, usize),
-    findings: &'static [u32],
+    findings: &'static [Printed],
     looks: Option<u64>,
 ) -> Sample {
     Sample { name, ring, line, allowance, findings, looks, candidates: None }
 }
 
 pub const SAMPLES: [Sample; 12] = [
-    sample("P1", ("GGGTCTA", LINE_OF_P1, 0), &[10, 4, 0], None),
-    sample("P2", ("GGGTCTA", LINE_OF_P1, 1), &[9, 3, 1, 10, 4, 0, 11, 5, 1], None),
-    sample("P3", ("ABCDEFGH", "BCzEzGzA", 3), &[0, 1, 3], None),
+    sample("P1", ("GGGTCTA", LINE_OF_P1, 0), &[[10, 4, 0, 1]], None),
+    sample("P2", ("GGGTCTA", LINE_OF_P1, 1), &[[9, 3, 1, 1], [10, 4, 0, 1], [11, 5, 1, 1]], None),
+    sample("P3", ("ABCDEFGH", "BCzEzGzA", 3), &[[0, 1, 3, 1]], None),
     sample("P4", ("ABCDEFGH", "BCzEzGzA", 2), &[], None),
-    sample("P5", ("a", "ba", 0), &[1, 0, 0], Some(3)),
-    sample("P6", ("aa", "aaa", 0), &[0, 0, 0, 1, 0, 0], Some(12)),
+    sample("P5", ("a", "ba", 0), &[[1, 0, 0, 1]], Some(3)),
+    sample("P6", ("aa", "aaa", 0), &[[0, 0, 0, 2], [1, 0, 0, 2]], Some(12)),
     sample("P7", ("abcd", "zzzzzzzzzz", 1), &[], Some(6)),
     sample("P8", ("abc", "ab", 0), &[], Some(0)),
-    sample("P9", ("abc", "cab", 0), &[0, 2, 0], Some(12)),
-    sample("P10", ("ab", "zbz", 1), &[0, 0, 1, 1, 1, 1], None),
+    sample("P9", ("abc", "cab", 0), &[[0, 2, 0, 1]], Some(12)),
+    sample("P10", ("ab", "zbz", 1), &[[0, 0, 1, 1], [1, 1, 1, 1]], None),
     Sample { candidates: Some(1), ..sample("P11", ("abcdef", "bcdfab", 1), &[], Some(42)) },
-    sample("P12", ("abcdef", "bcdfab", 3), &[0, 1, 3], Some(42)),
+    sample("P12", ("abcdef", "bcdfab", 3), &[[0, 1, 3, 2]], Some(42)),
 ];
 
 pub const THE_SILENCE: Silence = Silence { cell: 7, ring_number: 2, start: 10 };
 
-/// P2 with that one silence, as ring 2: the report's cell, the shown words, hidden.
-pub const SILENCED: [(u32, &[u32], usize); 2] = [(7, &[9, 3, 1, 11, 5, 1], 1), (8, &[9, 3, 1, 10, 4, 0, 11, 5, 1], 0)];
+/// P2 with that one silence, as ring 2: the report's cell, the shown findings, hidden.
+pub const SILENCED: [(u32, &[Printed], usize); 2] =
+    [(7, &[[9, 3, 1, 1], [11, 5, 1, 1]], 1), (8, &[[9, 3, 1, 1], [10, 4, 0, 1], [11, 5, 1, 1]], 0)];
 
 pub const EXAMPLE_INPUT: [u8; 40] = [
     0x34, 0x00, 0x04, 0x00, 0x00, 0x00, 0x07, 0x35, 0x00, 0x02, 0x00, 0x02, 0x33, 0x00, 0x01, 0x00, 0x31, 0x00, 0x02,
@@ -52,7 +58,7 @@ pub const EXAMPLE_INPUT: [u8; 40] = [
     0x00, 0x01,
 ];
 
-pub const EXAMPLE_OUTPUT: &str = "cell 7 ring 2 edges 2 allow 0\n0 0 0\nfound 2 hidden 1 looks 12\n";
+pub const EXAMPLE_OUTPUT: &str = "cell 7 ring 2 edges 2 allow 0\n0 0 0 2\nfound 2 hidden 1 looks 12\n";
 
 pub fn bound(m: u64, n: u64) -> u64 {
     3 * m * n - 2 * m * m + m
@@ -61,7 +67,7 @@ pub fn bound(m: u64, n: u64) -> u64 {
 impl Sample {
     pub fn search(&self) -> Search<'_> {
         let (ring, line) = (self.ring.as_bytes(), self.line.as_bytes());
-        Search::new(ring, line, self.allowance, 3 * (line.len() + 1))
+        Search::new(ring, line, self.allowance, FINDING_WORDS * (line.len() + 1))
     }
 
     fn holds(&self) -> bool {
@@ -70,8 +76,8 @@ impl Sample {
         let candidates = quick_scan(self.ring.as_bytes(), self.line.as_bytes(), self.allowance).candidates;
         let reaches = ["P6", "P9", "P11"].contains(&self.name);
         let (m, n) = (self.ring.len() as u64, self.line.len() as u64);
-        scan.written == self.findings
-            && survey.written == self.findings
+        scan.written == self.findings.concat()
+            && survey.written == self.findings.concat()
             && self.looks.is_none_or(|looks| looks == scan.looks)
             && self.candidates.is_none_or(|count| count == candidates)
             && (!reaches || scan.looks == bound(m, n))
@@ -81,13 +87,13 @@ impl Sample {
 pub fn silenced(index: usize) -> bool {
     let (cell, shown, hidden) = SILENCED[index];
     let answered = SAMPLES[1].search().report(cell, 2, &THE_SILENCE.field()).expect("a sample is accepted");
-    answered.written == shown && answered.hidden == hidden && answered.found == 3
+    answered.written == shown.concat() && answered.hidden == hidden && answered.found == 3
 }
 
 /// P1 to P12, the two silenced ones, the program's example.
 pub const COUNT: usize = SAMPLES.len() + SILENCED.len() + 1;
 
-/// Whether the second program gives what document 01 prints.
+/// Whether the second program gives what the documents print.
 pub fn holds(index: usize) -> bool {
     let behind = index.checked_sub(SAMPLES.len());
     match behind {
