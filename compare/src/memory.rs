@@ -15,6 +15,8 @@ const PRIVATE_AND_ANONYMOUS: c_int = 0x22;
 /// A multiple of every page size in use, so that the true one need not be asked for.
 const PAGE: usize = 65_536;
 const CANARY: usize = 64;
+/// Bytes of a word.
+pub const WORD: usize = size_of::<u32>();
 
 #[derive(Clone, Copy, Debug, PartialEq, Eq)]
 pub enum Placement {
@@ -113,8 +115,8 @@ impl Area {
     }
 
     fn word_count(&self) -> usize {
-        assert!(self.at % 4 == 0 && self.length % 4 == 0, "words lie on word bounds");
-        self.length / 4
+        assert!(self.at % WORD == 0 && self.length % WORD == 0, "words lie on word bounds");
+        self.length / WORD
     }
 
     pub fn words(&self) -> &[u32] {

@@ -2,6 +2,13 @@
 
 use std::ptr;
 
+/// Words of a finding, in this order: start, rotation, distance, ties. The rotation is the lowest that reaches the least
+/// distance, and ties is how many rotations reach it.
+pub const FINDING_WORDS: usize = 4;
+
+/// Words of a silence, packed and unpacked, in this order: cell, ring number, start.
+pub const SILENCE_WORDS: usize = 3;
+
 /// The struct that each call of the interface returns.
 #[repr(C)]
 #[derive(Clone, Copy, Debug, Default, PartialEq, Eq)]
@@ -182,14 +189,18 @@ pub fn ask(request: Request, empty: Empty) -> Answer {
     }
 }
 
+/// Writes `FINDING_WORDS` words for each finding, by rising start. The words lent must hold a finding for each start.
 pub fn survey(search: Search, words: &mut [u32]) -> Result<Counts, Refused> {
     ask(Request::Survey(search, words), Empty::AsLent).result()
 }
 
+/// Writes the words of `survey`.
 pub fn scan(search: Search, words: &mut [u32]) -> Result<Counts, Refused> {
     ask(Request::Scan(search, words), Empty::AsLent).result()
 }
 
+/// Writes the words of `survey` for the findings that the book does not hide. The words lent must hold a finding for each
+/// start all the same.
 pub fn report(
     (cell, ring_number): (u32, u16),
     search: Search,
@@ -199,10 +210,12 @@ pub fn report(
     ask(Request::Report(cell, ring_number, search, book, words), Empty::AsLent).result()
 }
 
+/// Packs silences of `SILENCE_WORDS` words each.
 pub fn pack(words: &[u32], bytes: &mut [u8]) -> Result<Counts, Refused> {
     ask(Request::Pack(words, bytes), Empty::AsLent).result()
 }
 
+/// Writes `SILENCE_WORDS` words for each silence of the book.
 pub fn unpack(book: &[u8], words: &mut [u32]) -> Result<Counts, Refused> {
     ask(Request::Unpack(book, words), Empty::AsLent).result()
 }

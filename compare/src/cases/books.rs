@@ -3,7 +3,7 @@
 use super::call::{book_of, cell_and_ring, silences, Call, Search};
 use super::draw::Draw;
 use super::searches::ring_and_line;
-use crate::second::book::{Silence, FIELD};
+use crate::second::book::{Silence, FIELD, SILENCE_WORDS};
 use crate::second::meaning::findings;
 
 const SMALL_BOOK: usize = 4;
@@ -31,7 +31,7 @@ fn small_book(number: u64) -> Vec<u8> {
 /// A report in which every start from 0 to 4 is a finding, or the unpacking of the same book.
 fn read_both_ways(index: u64, book: Vec<u8>) -> Call {
     if index % 2 == 0 {
-        return Call::Unpack { room: 3 * SMALL_BOOK, book };
+        return Call::Unpack { room: SILENCE_WORDS * SMALL_BOOK, book };
     }
     Call::Report { cell: 7, ring_number: 2, search: Search::new(vec![1; 2], vec![1; 6], 1), book }
 }
@@ -74,7 +74,7 @@ pub fn whole(index: u64, draw: &mut Draw) -> Call {
         let search = Search::new(vec![3; 1], vec![3; n], 0);
         return Call::Report { cell: 7, ring_number: 2, search, book };
     }
-    let needed = 3 * count;
+    let needed = SILENCE_WORDS * count;
     let room = draw.one(&[needed, needed, needed + 1, needed + 40, needed.saturating_sub(1), 0]);
     Call::Unpack { book, room }
 }

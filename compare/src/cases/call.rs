@@ -2,6 +2,7 @@
 
 use super::draw::Draw;
 use crate::second::book::Silence;
+use crate::second::meaning::FINDING_WORDS;
 
 #[derive(Clone, Debug)]
 pub struct Search {
@@ -21,6 +22,16 @@ pub enum Call {
     Unpack { book: Vec<u8>, room: usize },
 }
 
+impl Call {
+    /// What survey, scan and report have in common; the packer and the unpacker have none.
+    pub fn search(&self) -> Option<&Search> {
+        match self {
+            Call::Survey(search) | Call::Scan(search) | Call::Report { search, .. } => Some(search),
+            Call::Pack { .. } | Call::Unpack { .. } => None,
+        }
+    }
+}
+
 impl Search {
     /// A search with exactly the room that refusal 4 requires.
     pub fn new(ring: Vec<u8>, line: Vec<u8>, allowance: usize) -> Search {
@@ -29,9 +40,10 @@ impl Search {
     }
 }
 
+/// A finding for each start.
 pub fn room(m: usize, n: usize) -> usize {
     if n >= m {
-        3 * (n - m + 1)
+        FINDING_WORDS * (n - m + 1)
     } else {
         0
     }

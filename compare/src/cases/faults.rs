@@ -3,7 +3,8 @@
 use super::call::{book_of, cell_and_ring, rising_words, room, silences, Call, Search};
 use super::draw::Draw;
 use super::searches::ring_and_line;
-use crate::second::book::FIELD;
+use crate::second::book::{FIELD, SILENCE_WORDS};
+use crate::second::meaning::FINDING_WORDS;
 
 const OF_SEARCH: [u32; 4] = [1, 2, 3, 4];
 const OF_REPORT: [u32; 7] = [1, 2, 3, 4, 5, 6, 7];
@@ -30,7 +31,9 @@ fn faulty_search(draw: &mut Draw, faults: [u32; 2]) -> Search {
     }
     if faults.contains(&4) {
         let needed = room(m, n);
-        search.room = draw.one(&[needed - 1, needed - 2, needed - 3, needed / 2, 0]);
+        let (few, starts) = (draw.between(2, FINDING_WORDS), needed / FINDING_WORDS);
+        // A word less for each start is the room for every finding without its ties.
+        search.room = draw.one(&[needed - 1, needed - few, needed - starts, needed / 2, 0]);
     }
     search
 }
@@ -104,8 +107,9 @@ pub fn of_report_without_start(index: u64, draw: &mut Draw) -> Call {
 pub fn of_unpack(index: u64, draw: &mut Draw) -> Call {
     let faults = pair(&OF_UNPACK, index);
     let book = faulty_book(draw, faults, 7, 2);
-    let needed = 3 * book.len().div_ceil(FIELD);
-    let room = if faults.contains(&10) { draw.one(&[needed - 1, needed - 3, 2, 0]) } else { needed };
+    let needed = SILENCE_WORDS * book.len().div_ceil(FIELD);
+    let one_short = needed - SILENCE_WORDS;
+    let room = if faults.contains(&10) { draw.one(&[needed - 1, one_short, 2, 0]) } else { needed };
     Call::Unpack { book, room }
 }
 
@@ -113,20 +117,21 @@ pub fn of_pack(index: u64, draw: &mut Draw) -> Call {
     let faults = pair(&OF_PACK, index);
     let count = draw.between(5, 12);
     let mut words = rising_words(silences(draw, 7, 2, 100_000, count));
-    let later = 3 * draw.below(words.len() / 3);
+    let records = words.len() / SILENCE_WORDS;
+    let later = SILENCE_WORDS * draw.below(records);
     if faults.contains(&7) && later > 0 {
-        words.copy_within(later - 3..later, later);
+        words.copy_within(later - SILENCE_WORDS..later, later);
         words[later + 2] -= draw.below(2).min(words[later + 2] as usize) as u32;
     }
     if faults.contains(&9) {
-        let record = 3 * draw.below(words.len() / 3);
+        let record = SILENCE_WORDS * draw.below(records);
         words[record + 1] = draw.one(&[65_536, 65_537, 65_538, 131_072 + 2, u32::MAX]);
     }
-    let needed = 13 * words.len() / 3;
+    let needed = FIELD * records;
     if faults.contains(&8) {
         let length = draw.one(&[words.len() - 1, words.len() - 2, 3_001, 3_003, 4_000]);
         words.resize(length, 5);
     }
-    let room = if faults.contains(&10) { draw.one(&[needed - 1, needed - 13, 12, 0]) } else { 13 * words.len() };
+    let room = if faults.contains(&10) { draw.one(&[needed - 1, needed - FIELD, 12, 0]) } else { FIELD * words.len() };
     Call::Pack { words, room }
 }

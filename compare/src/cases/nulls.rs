@@ -2,7 +2,7 @@
 
 use super::call::{room, Call, Search};
 use super::draw::Draw;
-use crate::second::book::Silence;
+use crate::second::book::{Silence, FIELD, SILENCE_WORDS};
 
 /// Slices of survey, scan, report, pack and unpack.
 const SLICES: [u64; 5] = [3, 3, 4, 2, 2];
@@ -27,7 +27,7 @@ pub fn each_choice(index: u64, draw: &mut Draw) -> Call {
         0 => Call::Survey(search),
         1 => Call::Scan(search),
         2 => Call::Report { cell: 7, ring_number: 2, search, book: book[..full(3, book.len())].to_vec() },
-        3 => Call::Pack { words: vec![7; full(0, 3)], room: full(1, 13) },
-        _ => Call::Unpack { book: book[..full(0, book.len())].to_vec(), room: full(1, 3) },
+        3 => Call::Pack { words: vec![7; full(0, SILENCE_WORDS)], room: full(1, FIELD) },
+        _ => Call::Unpack { book: book[..full(0, book.len())].to_vec(), room: full(1, SILENCE_WORDS) },
     }
 }

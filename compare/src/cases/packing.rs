@@ -2,11 +2,12 @@
 
 use super::call::{rising_words, silences, Call};
 use super::draw::Draw;
+use crate::second::book::{FIELD, SILENCE_WORDS};
 
-/// Small numbers, so that equal and falling neighbours come up in each of the three words.
+/// Small numbers, so that equal and falling neighbours come up in each word of a record.
 fn any_order(draw: &mut Draw, count: usize) -> Vec<u32> {
-    let mut words: Vec<u32> = (0..3 * count).map(|_| draw.below(3) as u32).collect();
-    let mut records: Vec<&[u32]> = words.chunks(3).collect();
+    let mut words: Vec<u32> = (0..SILENCE_WORDS * count).map(|_| draw.below(3) as u32).collect();
+    let mut records: Vec<&[u32]> = words.chunks(SILENCE_WORDS).collect();
     if draw.chance(2) {
         records.sort();
         words = records.concat();
@@ -21,7 +22,7 @@ pub fn packing(index: u64, draw: &mut Draw) -> Call {
         2 => any_order(draw, few % 8),
         _ => {
             let count = draw.one(&[998, 999, 1_000, 1_001]);
-            (0..3 * count).map(|at| if at % 3 == 2 { at } else { 9 }).collect()
+            (0..count).flat_map(|start| [9, 9, start]).collect()
         }
     };
     if draw.chance(6) {
@@ -31,7 +32,7 @@ pub fn packing(index: u64, draw: &mut Draw) -> Call {
         let place = draw.below(words.len());
         words[place] = draw.one(&[0, 65_535, 65_536, u32::MAX]);
     }
-    let needed = 13 * (words.len() / 3);
+    let needed = FIELD * (words.len() / SILENCE_WORDS);
     let room = draw.one(&[needed, needed, needed + 1, needed + 30, needed.saturating_sub(1), needed / 2, 0]);
     Call::Pack { words, room }
 }
@@ -39,7 +40,7 @@ pub fn packing(index: u64, draw: &mut Draw) -> Call {
 /// Rising words over the whole range of each number.
 pub fn round_trip(_: u64, draw: &mut Draw) -> Vec<u32> {
     let count = draw.one(&[0, 1, 2, 10, 100]);
-    let mut records: Vec<[u32; 3]> = (0..count)
+    let mut records: Vec<[u32; SILENCE_WORDS]> = (0..count)
         .map(|_| [draw.number() as u32 >> draw.below(32), draw.below(65_536) as u32, draw.number() as u32])
         .collect();
     records.sort();

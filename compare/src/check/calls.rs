@@ -1,10 +1,22 @@
 //! One call of the library compared with the second program.
 
+use super::compared::{Compared, Left};
 use crate::cases::call::{Call, Search};
-use crate::memory::{bytes_of, Area, Placement};
+use crate::memory::{bytes_of, Area, Placement, WORD};
 use crate::outlines::{self, ask, Answer, Empty, Request};
+use crate::second::book::SILENCE_WORDS;
 use crate::second::calls::{self, Outcome};
-use crate::second::samples::bound;
+use crate::second::meaning::FINDING_WORDS;
+
+// The words that outlines.rs names to its users are those that the second program writes.
+const _: () = assert!(outlines::FINDING_WORDS == FINDING_WORDS && outlines::SILENCE_WORDS == SILENCE_WORDS);
+
+/// More than any ring, line and book of a case has, refused ones included.
+const MOST_RING: usize = 4_096;
+const MOST_LINE: usize = 75_000;
+const MOST_BOOK: usize = 60_000;
+/// A finding for each edge of a line.
+const MOST_LENT: usize = WORD * FINDING_WORDS * MOST_LINE;
 
 /// Memory for one worker's calls.
 pub struct Areas {
@@ -16,7 +28,7 @@ pub struct Areas {
 
 impl Areas {
     pub fn new() -> Areas {
-        let [ring, line, book, lent] = [4_096, 75_000, 60_000, 900_000].map(Area::new);
+        let [ring, line, book, lent] = [MOST_RING, MOST_LINE, MOST_BOOK, MOST_LENT].map(Area::new);
         Areas { ring, line, book, lent }
     }
 
@@ -46,36 +58,18 @@ impl Default for Areas {
     }
 }
 
-/// All that a call leaves behind: its answer, the lent area with the canaries about it, and whether the inputs with
-/// their canaries are as they were.
-#[derive(Clone, Debug, PartialEq, Eq)]
-pub struct Left {
-    pub answer: Answer,
-    pub lent: Vec<u8>,
-    pub inputs_kept: bool,
-}
-
-#[derive(Clone)]
-pub struct Compared {
-    pub expected: Left,
-    pub given: Left,
-    /// The lent area with its canaries before the call, and where the area begins in it.
-    pub before: Vec<u8>,
-    pub front: usize,
-}
-
 fn parts(call: &Call) -> (&[u8], &[u8], Vec<u8>, usize) {
     match call {
-        Call::Survey(search) | Call::Scan(search) => (&search.ring, &search.line, Vec::new(), 4 * search.room),
-        Call::Report { search, book, .. } => (&search.ring, &search.line, book.clone(), 4 * search.room),
+        Call::Survey(search) | Call::Scan(search) => (&search.ring, &search.line, Vec::new(), WORD * search.room),
+        Call::Report { search, book, .. } => (&search.ring, &search.line, book.clone(), WORD * search.room),
         Call::Pack { words, room } => (&[], &[], bytes_of(words), *room),
-        Call::Unpack { book, room } => (&[], &[], book.clone(), 4 * room),
+        Call::Unpack { book, room } => (&[], &[], book.clone(), WORD * room),
     }
 }
 
 /// What the lent area holds beforehand: each word unlike its neighbours and unlike any word of a finding.
 fn unlike(length: usize) -> Vec<u8> {
-    let words = (0..length.div_ceil(4)).map(|at| 0xB000_0000 | (at as u32).wrapping_mul(0x9E_3779));
+    let words = (0..length.div_ceil(WORD)).map(|at| 0xB000_0000 | (at as u32).wrapping_mul(0x9E_3779));
     words.flat_map(u32::to_ne_bytes).take(length).collect()
 }
 
@@ -126,7 +120,7 @@ fn of_words(outcome: Outcome<u32>) -> (Answer, Vec<u8>) {
 }
 
 fn search(call: &Call) -> Option<calls::Search<'_>> {
-    let (Call::Survey(given) | Call::Scan(given) | Call::Report { search: given, .. }) = call else { return None };
+    let given = call.search()?;
     Some(calls::Search::new(&given.ring, &given.line, given.allowance, given.room))
 }
 
@@ -164,33 +158,4 @@ pub fn compare(call: &Call, placement: Placement, areas: &mut Areas) -> Compared
 pub fn compare_three(calls: &[Call; 3], placement: Placement, areas: &mut Areas) -> [Compared; 3] {
     let search = search(&calls[0]);
     calls.each_ref().map(|call| compare_with(search.as_ref(), call, placement, areas))
-}
-
-/// The library's looks compared with document 01's own formulas.
-fn looks_out_of_bounds(call: &Call, answer: &Answer) -> Option<String> {
-    let (Call::Survey(search) | Call::Scan(search) | Call::Report { search, .. }) = call else { return None };
-    let (m, n) = (search.ring.len() as u64, search.line.len() as u64);
-    if answer.refusal != 0 || n < m {
-        return (answer.looks != 0).then(|| format!("{} looks where there must be none", answer.looks));
-    }
-    let surveyed = matches!(call, Call::Survey(_)) && answer.looks != 2 * m * n - m * m;
-    let beyond = answer.looks > bound(m, n);
-    (surveyed || beyond).then(|| format!("{} looks, against the formula of document 01", answer.looks))
-}
-
-impl Compared {
-    pub fn difference(&self, call: &Call) -> Option<String> {
-        let (expected, given) = (&self.expected, &self.given);
-        if expected.answer != given.answer {
-            return Some(format!("answer {:?}, expected {:?}", given.answer, expected.answer));
-        }
-        if let Some(at) = (0..given.lent.len()).find(|&at| given.lent[at] != expected.lent[at]) {
-            let (place, value, due) = (at as isize - self.front as isize, given.lent[at], expected.lent[at]);
-            return Some(format!("byte {place} of the lent area is {value:02x}, expected {due:02x}"));
-        }
-        if !given.inputs_kept {
-            return Some("an input was written to".to_string());
-        }
-        looks_out_of_bounds(call, &given.answer)
-    }
 }

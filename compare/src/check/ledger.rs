@@ -1,5 +1,6 @@
 //! What was compared: counts for each kind, and the first differences in words.
 
+use super::compared::Compared;
 use crate::cases::call::Call;
 use crate::cases::{Case, Kind};
 use crate::memory::Placement;
@@ -14,7 +15,8 @@ const TOLD: usize = 20;
 /// How often each refusal came back, 0 for accepted.
 type Answers = BTreeMap<u32, u64>;
 
-/// Sums over the library's answers; they show that the cases have something to compare.
+/// Sums over the library's answers, and over the ties that the second program expects; they show that the cases have
+/// something to compare.
 #[derive(Clone, Copy)]
 enum Sum {
     Behind,
@@ -22,11 +24,13 @@ enum Sum {
     Null,
     Found,
     Hidden,
+    Tied,
+    TiedApart,
     AtBound,
     Longest,
 }
 
-const SUMS: usize = 7;
+const SUMS: usize = 9;
 
 /// What was compared of a kind: cases, the library's calls and the program's runs in them, and the cases that differ.
 #[derive(Clone, Copy, Default)]
@@ -71,8 +75,7 @@ fn at_bound(call: &Call, answer: &Answer) -> bool {
 
 /// The longest ring in the longest line.
 fn longest(call: &Call) -> bool {
-    let (Call::Survey(search) | Call::Scan(search) | Call::Report { search, .. }) = call else { return false };
-    search.ring.len() == LONGEST_RING && search.line.len() == LONGEST_LINE
+    call.search().is_some_and(|search| search.ring.len() == LONGEST_RING && search.line.len() == LONGEST_LINE)
 }
 
 impl Ledger {
@@ -80,16 +83,20 @@ impl Ledger {
         self.sums[sum as usize] += more;
     }
 
-    pub fn add_call(&mut self, call: &Call, placement: Placement, answer: &Answer) {
+    pub fn add_call(&mut self, call: &Call, placement: Placement, compared: &Compared) {
+        let answer = &compared.given.answer;
         *self.answers.entry(answer.refusal).or_default() += 1;
         self.add(Sum::Behind, u64::from(placement == Placement::Behind));
         self.add(Sum::Before, u64::from(placement == Placement::Before));
         self.add(Sum::Null, u64::from(placement == Placement::Null));
         self.add(Sum::AtBound, u64::from(at_bound(call, answer)));
         self.add(Sum::Longest, u64::from(longest(call) && answer.refusal == 0));
-        if !matches!(call, Call::Pack { .. } | Call::Unpack { .. }) {
+        if call.search().is_some() {
             self.add(Sum::Found, answer.found);
             self.add(Sum::Hidden, answer.hidden);
+            let [tied, apart] = compared.tied(call);
+            self.add(Sum::Tied, tied);
+            self.add(Sum::TiedApart, apart);
         }
     }
 
@@ -139,10 +146,11 @@ impl Ledger {
             self.kinds.get(&place).copied().unwrap_or_default().print(kind.name);
         }
         self.total().print("in all");
-        let [behind, before, null, found, hidden, at_bound, longest] = self.sums;
+        let [behind, before, null, found, hidden, tied, apart, at_bound, longest] = self.sums;
         println!("calls flush against an inaccessible page, inputs read-only: {behind} behind, {before} before");
         println!("calls with null pointers for empty slices: {null}; all other open sides have canaries");
         println!("findings: {found}, of them hidden: {hidden}; scans that reach the look bound: {at_bound}");
+        println!("shown findings that several rotations reach: {tied}, of them at a distance above 0: {apart}");
         println!("accepted calls with 256 edges in a line of 65,536: {longest}");
         for (whose, answers) in [("library", &self.answers), ("program", &self.outputs)] {
             let listed: Vec<String> = answers.iter().map(|(number, count)| format!("{number}: {count}")).collect();

@@ -6,6 +6,7 @@ use super::ledger::Ledger;
 use super::program::{self, Program, Slot};
 use crate::cases::{kinds, locate, Case, Choice, Kind};
 use crate::outlines::{self, Counts};
+use crate::second::book::{FIELD, SILENCE_WORDS};
 use std::panic::{catch_unwind, AssertUnwindSafe};
 use std::sync::atomic::{AtomicU64, Ordering::Relaxed};
 use std::thread;
@@ -58,8 +59,9 @@ pub struct Worker<'a> {
 }
 
 fn round_trip(words: &[u32]) -> Option<String> {
-    let due = Ok(Counts { found: words.len() as u64 / 3, hidden: 0, looks: 0 });
-    let (mut book, mut back) = (vec![0; 13 * words.len() / 3], vec![0; words.len()]);
+    let records = words.len() / SILENCE_WORDS;
+    let due = Ok(Counts { found: records as u64, hidden: 0, looks: 0 });
+    let (mut book, mut back) = (vec![0; FIELD * records], vec![0; words.len()]);
     let packed = outlines::pack(words, &mut book);
     let unpacked = outlines::unpack(&book, &mut back);
     let whole = packed == due && unpacked == due && back == words;
@@ -75,13 +77,13 @@ impl<'a> Worker<'a> {
         match case {
             Case::Call(call, placement) => {
                 let compared = compare(call, *placement, &mut self.areas);
-                self.ledger.add_call(call, *placement, &compared.given.answer);
+                self.ledger.add_call(call, *placement, &compared);
                 compared.difference(call)
             }
             Case::Three(calls, placement) => {
                 let compared = compare_three(calls, *placement, &mut self.areas);
                 for (call, compared) in calls.iter().zip(&compared) {
-                    self.ledger.add_call(call, *placement, &compared.given.answer);
+                    self.ledger.add_call(call, *placement, compared);
                 }
                 calls.iter().zip(compared).find_map(|(call, compared)| compared.difference(call))
             }

@@ -1,8 +1,10 @@
 //! Ways to spoil a copy of what the library returned and wrote. The comparison must notice each.
 
-use super::calls::Compared;
+use super::compared::{Compared, DISTANCE, ROTATION, TIES};
 use crate::cases::call::Call;
-use crate::second::book::FIELD;
+use crate::memory::WORD;
+use crate::second::book::{FIELD, SILENCE_WORDS};
+use crate::second::meaning::FINDING_WORDS;
 
 /// A way returns whether there was anything to spoil.
 pub struct Way {
@@ -19,6 +21,9 @@ pub static OF_SEARCHES: &[Way] = &[
     way("a finding dropped", finding_dropped),
     way("a rotation one too high", rotation_too_high),
     way("a distance one too low", distance_too_low),
+    way("ties one too few", ties_too_few),
+    way("ties of every rotation", ties_of_every_rotation),
+    way("ties not written", ties_not_written),
     way("looks one too few", looks_too_few),
     way("found one too many", found_too_many),
     way("hidden counted from records", hidden_from_records),
@@ -40,52 +45,66 @@ pub static OF_REFUSALS_AND_BOOKS: &[Way] = &[
     way("a word of an unpacked book changed", unpacked_word),
 ];
 
-/// Shown findings of an accepted search.
-fn shown(call: &Call, spoilt: &Compared) -> usize {
-    let answer = &spoilt.given.answer;
-    let searched = matches!(call, Call::Survey(_) | Call::Scan(_) | Call::Report { .. });
-    if searched && answer.refusal == 0 {
-        (answer.found - answer.hidden) as usize
-    } else {
-        0
-    }
-}
-
-fn word(spoilt: &Compared, place: usize) -> u32 {
-    let at = spoilt.front + 4 * place;
-    u32::from_ne_bytes(spoilt.given.lent[at..at + 4].try_into().expect("four bytes"))
+/// The words of the shown findings.
+fn shown_words(call: &Call, spoilt: &Compared) -> usize {
+    FINDING_WORDS * spoilt.given.shown(call)
 }
 
 fn set_word(spoilt: &mut Compared, place: usize, value: u32) -> bool {
-    let at = spoilt.front + 4 * place;
-    let fits = at + 4 <= spoilt.given.lent.len();
+    let at = spoilt.front + WORD * place;
+    let fits = at + WORD <= spoilt.given.lent.len();
     if fits {
-        spoilt.given.lent[at..at + 4].copy_from_slice(&value.to_ne_bytes());
+        spoilt.given.lent[at..at + WORD].copy_from_slice(&value.to_ne_bytes());
     }
     fits
 }
 
 fn finding_dropped(call: &Call, spoilt: &mut Compared) -> bool {
-    let words = 3 * shown(call, spoilt);
+    const FINDING: usize = WORD * FINDING_WORDS;
+    let words = shown_words(call, spoilt);
     if words == 0 {
         return false;
     }
-    let (from, to) = (spoilt.front, spoilt.front + 4 * words);
-    spoilt.given.lent.copy_within(from + 12..to, from);
-    let before = spoilt.before[to - 12..to].to_vec();
-    spoilt.given.lent[to - 12..to].copy_from_slice(&before);
+    let (from, to) = (spoilt.front, spoilt.front + WORD * words);
+    spoilt.given.lent.copy_within(from + FINDING..to, from);
+    let before = spoilt.before[to - FINDING..to].to_vec();
+    spoilt.given.lent[to - FINDING..to].copy_from_slice(&before);
     spoilt.given.answer.found -= 1;
     true
 }
 
+/// The place of one of the last shown finding's words.
+fn of_last(call: &Call, spoilt: &Compared, which: usize) -> Option<usize> {
+    let before = shown_words(call, spoilt).checked_sub(FINDING_WORDS);
+    before.map(|before| before + which)
+}
+
+/// Changes a word of the last shown finding to what `other` makes of it, if it makes anything of it.
+fn change_last(call: &Call, spoilt: &mut Compared, which: usize, other: impl Fn(u32) -> Option<u32>) -> bool {
+    let Some(place) = of_last(call, spoilt, which) else { return false };
+    other(spoilt.word(place)).is_some_and(|value| set_word(spoilt, place, value))
+}
+
 fn rotation_too_high(call: &Call, spoilt: &mut Compared) -> bool {
-    let last = 3 * shown(call, spoilt);
-    last > 0 && set_word(spoilt, last - 2, word(spoilt, last - 2) + 1)
+    change_last(call, spoilt, ROTATION, |rotation| Some(rotation + 1))
 }
 
 fn distance_too_low(call: &Call, spoilt: &mut Compared) -> bool {
-    let last = 3 * shown(call, spoilt);
-    last > 0 && word(spoilt, last - 1) > 0 && set_word(spoilt, last - 1, word(spoilt, last - 1) - 1)
+    change_last(call, spoilt, DISTANCE, |distance| distance.checked_sub(1))
+}
+
+fn ties_too_few(call: &Call, spoilt: &mut Compared) -> bool {
+    change_last(call, spoilt, TIES, |ties| ties.checked_sub(1))
+}
+
+fn ties_of_every_rotation(call: &Call, spoilt: &mut Compared) -> bool {
+    let rotations = call.search().map(|search| search.ring.len() as u32);
+    change_last(call, spoilt, TIES, |ties| rotations.filter(|&all| all != ties))
+}
+
+fn ties_not_written(call: &Call, spoilt: &mut Compared) -> bool {
+    let Some(place) = of_last(call, spoilt, TIES) else { return false };
+    set_word(spoilt, place, spoilt.word_before(place))
 }
 
 fn looks_too_few(_: &Call, spoilt: &mut Compared) -> bool {
@@ -110,12 +129,12 @@ fn hidden_from_records(call: &Call, spoilt: &mut Compared) -> bool {
 }
 
 fn residue(call: &Call, spoilt: &mut Compared) -> bool {
-    let (hidden, behind) = (spoilt.given.answer.hidden, 3 * shown(call, spoilt));
+    let (hidden, behind) = (spoilt.given.answer.hidden, shown_words(call, spoilt));
     hidden > 0 && set_word(spoilt, behind, 1)
 }
 
 fn word_behind(call: &Call, spoilt: &mut Compared) -> bool {
-    let behind = 3 * shown(call, spoilt);
+    let behind = shown_words(call, spoilt);
     !matches!(call, Call::Pack { .. })
         && spoilt.given.answer.refusal == 0
         && set_word(spoilt, behind, 0)
@@ -124,9 +143,9 @@ fn word_behind(call: &Call, spoilt: &mut Compared) -> bool {
 
 fn byte_behind_area(call: &Call, spoilt: &mut Compared) -> bool {
     let length = match call {
-        Call::Survey(search) | Call::Scan(search) | Call::Report { search, .. } => 4 * search.room,
+        Call::Survey(search) | Call::Scan(search) | Call::Report { search, .. } => WORD * search.room,
         Call::Pack { room, .. } => *room,
-        Call::Unpack { room, .. } => 4 * room,
+        Call::Unpack { room, .. } => WORD * room,
     };
     let behind = spoilt.front + length;
     spoilt.given.lent.get_mut(behind).map(|byte| *byte ^= 1).is_some()
@@ -178,7 +197,7 @@ fn packed_byte(call: &Call, spoilt: &mut Compared) -> bool {
 
 fn unpacked_word(call: &Call, spoilt: &mut Compared) -> bool {
     let records = spoilt.given.answer.found as usize;
-    matches!(call, Call::Unpack { .. }) && records > 0 && set_word(spoilt, 3 * records - 2, 70_000)
+    matches!(call, Call::Unpack { .. }) && records > 0 && set_word(spoilt, SILENCE_WORDS * records - 2, 70_000)
 }
 
 fn input_written(_: &Call, spoilt: &mut Compared) -> bool {

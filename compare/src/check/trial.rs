@@ -1,6 +1,7 @@
 //! The comparison put to the test: it must notice each way of spoiling an answer.
 
-use super::calls::{compare, compare_three, Areas, Compared};
+use super::calls::{compare, compare_three, Areas};
+use super::compared::Compared;
 use super::crash;
 use super::program::{self, Slot};
 use super::run::Plan;
@@ -63,25 +64,34 @@ impl Trial {
 
 /// Lines too long to be copied for every way.
 fn long(call: &Call) -> bool {
-    match call {
-        Call::Survey(search) | Call::Scan(search) | Call::Report { search, .. } => search.line.len() > 5_000,
-        Call::Pack { .. } | Call::Unpack { .. } => false,
-    }
+    call.search().is_some_and(|search| search.line.len() > 5_000)
 }
 
 type TextWay = (&'static str, fn(&mut Vec<u8>) -> bool);
 
+/// Drops the last number of the line behind the heading, if it is a finding's: only those begin with a digit.
+fn without_ties(text: &mut Vec<u8>) -> bool {
+    let mut lines = text.split_inclusive(|&byte| byte == b'\n');
+    let (Some(heading), Some(line)) = (lines.next(), lines.next()) else { return false };
+    let ties = line.iter().rposition(|&byte| byte == b' ');
+    let (Some(ties), true) = (ties, line[0].is_ascii_digit()) else { return false };
+    let (from, to) = (heading.len() + ties, heading.len() + line.len() - 1);
+    text.drain(from..to);
+    true
+}
+
 /// The same for the program's text.
-const TEXT_WAYS: [TextWay; 4] = [
+const TEXT_WAYS: [TextWay; 5] = [
     ("output: the last line's end missing", |text| text.pop().is_some()),
     ("output: the last number one too high", |text| {
         let digit = text.iter().rposition(u8::is_ascii_digit);
         digit.map(|place| text[place] = b'0' + (text[place] - b'0' + 1) % 10).is_some()
     }),
     ("output: a line more", |text| {
-        text.extend(b"0 0 0\n");
+        text.extend(b"0 0 0 1\n");
         true
     }),
+    ("output: a finding without its ties", without_ties),
     ("output: line ends CR LF", |text| {
         let lines = text.iter().position(|&byte| byte == b'\n');
         lines.map(|place| text.insert(place, b'\r')).is_some()
