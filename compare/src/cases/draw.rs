@@ -47,6 +47,17 @@ impl Draw {
         (0..length).map(|_| self.one(alphabet)).collect()
     }
 
+    /// `count` places below a bound, in any order, none twice.
+    pub fn places(&mut self, bound: usize, count: usize) -> Vec<usize> {
+        let mut places: Vec<usize> = (0..bound).collect();
+        for at in 0..count {
+            let other = self.between(at, bound - 1);
+            places.swap(at, other);
+        }
+        places.truncate(count);
+        places
+    }
+
     /// An allowance below m; small ones are the usual case, m − 1 the far end.
     pub fn allowance(&mut self, m: usize) -> usize {
         let any = self.below(m);

@@ -2,7 +2,7 @@
 
 use super::call::{in_turn, Call, Search};
 use super::draw::Draw;
-use super::{books, bounds, faults, input_faults, inputs, long, nulls, packing, searches, Kind, Make};
+use super::{books, bounds, faults, input_faults, inputs, long, nulls, packing, searches, ties, Kind, Make};
 use crate::second::samples::{self, Sample, SAMPLES, SILENCED, THE_SILENCE};
 
 pub static CALLS: &[Kind] = &[
@@ -13,6 +13,8 @@ pub static CALLS: &[Kind] = &[
     kind("every ring and line over two letters, every k", searches::EVERY_SMALL, Make::Call(searches::every_small)),
     kind("random rings over 1 to 256 letters", 15_000, Make::Call(searches::random)),
     kind("periodic rings", 9_000, Make::Call(searches::periodic)),
+    kind("rings of a part over and over, up to 256 edges", 1_500, Make::Call(ties::parts)),
+    kind("windows that several rotations share", 1_500, Make::Call(ties::shared_windows)),
     kind("ring lengths about machine words", 1_170, Make::Call(searches::about_words)),
     kind("planted rotated copies", 15_000, Make::Call(searches::planted)),
     kind("lines against the look bound", 5_400, Make::Call(bounds::against_bound)),

@@ -50,7 +50,7 @@ fn ring_of(draw: &mut Draw, codes: &[u8], m: usize) -> Vec<u8> {
     if codes.len() < m || draw.chance(2) {
         return draw.edges(codes, m);
     }
-    places(draw, codes.len(), m).into_iter().map(|place| codes[place]).collect()
+    draw.places(codes.len(), m).into_iter().map(|place| codes[place]).collect()
 }
 
 /// Edges of the ring's codes; or the ring over and over, where every start is a finding but for a few edits.
@@ -84,17 +84,6 @@ fn allowance(draw: &mut Draw, ring: &[u8], line: &[u8]) -> usize {
     k.min(m - 1)
 }
 
-/// `count` places below a bound, in any order, none twice.
-fn places(draw: &mut Draw, bound: usize, count: usize) -> Vec<usize> {
-    let mut places: Vec<usize> = (0..bound).collect();
-    for at in 0..count {
-        let other = draw.between(at, bound - 1);
-        places.swap(at, other);
-    }
-    places.truncate(count);
-    places
-}
-
 struct Copies<'a> {
     ring: &'a [u8],
     allowance: usize,
@@ -113,7 +102,7 @@ impl Copies<'_> {
         let any = draw.below(k + 2);
         let edits = draw.one(&[0, k, k, k + 1, any]).min(m);
         let all_foreign = draw.chance(2);
-        for place in places(draw, m, edits) {
+        for place in draw.places(m, edits) {
             let other = copy[place].wrapping_add(draw.between(1, 255) as u8);
             line[start + place] = if all_foreign { self.foreign } else { other };
         }

@@ -14,6 +14,7 @@ mod long;
 mod nulls;
 mod packing;
 mod searches;
+mod ties;
 
 use crate::memory::Placement;
 pub use call::Call;
