@@ -5,7 +5,7 @@
 #include "reading.h"
 #include "tally.h"
 
-enum { MOST_LINE = 65536, WORDS_EACH = 3 };
+enum { MOST_LINE = 65536, WORDS_EACH = 4 };
 
 // A call's ring and line, and what is made of the ring once for a call.
 struct search {
@@ -23,6 +23,7 @@ struct finding {
     size_t start;
     size_t rotation;
     size_t distance;
+    size_t ties;
 };
 
 // Refusals 1 to 4, or 0.
@@ -59,7 +60,8 @@ static __attribute__((noinline)) struct reached verify(struct search *search, si
 
 static struct finding finding_at(const struct search *search, struct reached reached)
 {
-    return (struct finding){reached.start, lowest_rotation(&search->tally, search->m, reached.least), reached.least};
+    size_t rotation = lowest_rotation(&search->tally, search->m, reached.least);
+    return (struct finding){reached.start, rotation, reached.least, ties_of(&search->tally, search->m, reached.least)};
 }
 
 // Reads one window and verifies it if it is a candidate. True if it is a finding.
@@ -87,6 +89,7 @@ static void put_finding(uint32_t *words, size_t before, struct finding finding)
     words[WORDS_EACH * before] = (uint32_t)finding.start;
     words[WORDS_EACH * before + 1] = (uint32_t)finding.rotation;
     words[WORDS_EACH * before + 2] = (uint32_t)finding.distance;
+    words[WORDS_EACH * before + 3] = (uint32_t)finding.ties;
 }
 
 static void prepare(struct search *search, const uint8_t *ring, size_t m, const uint8_t *line, size_t n, size_t k)

@@ -14,7 +14,8 @@ struct rules_answer {
     size_t looks;
 };
 
-// Rules 1 to 5: ring of m edges, line of n edges, allowance k, `room` words lent for the findings.
+// Rules 1 to 5: ring of m edges, line of n edges, allowance k, `room` words lent for the findings, which are four
+// words each: start, rotation, distance, ties.
 struct rules_answer rules_scan(const uint8_t *ring, size_t m, const uint8_t *line, size_t n, size_t k,
                                uint32_t *words, size_t room);
 

@@ -37,6 +37,16 @@ static size_t lowest_rotation(const struct tally *tally, size_t m, size_t least)
     return rotation;
 }
 
+// How many rotations have the least count. Summed in the width of a count, so that the compiler can use vectors.
+static size_t ties_of(const struct tally *tally, size_t m, size_t least)
+{
+    uint16_t sought = (uint16_t)least;
+    uint16_t ties = 0;
+    for (size_t r = 0; r < m; r++)
+        ties += tally->counts[r] == sought;
+    return ties;
+}
+
 // The ring twice, end to end, so that every rotation is a part of it.
 static void double_ring(uint8_t *doubled, const uint8_t *ring, size_t m)
 {

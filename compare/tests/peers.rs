@@ -3,35 +3,35 @@
 //! refusals.
 mod common;
 
-use common::{by_definition, field, looks_by_rules, Numbers};
-use compare::peers::{c_rules, rules, Answer, Question, Rules, PEERS};
+use common::{by_definition, field, looks_by_rules, Finding, Numbers};
+use compare::peers::{c_rules, rules, Answer, Question, Rules, FINDING_WORDS, PEERS};
 
 const VERSIONS: [&Rules; 2] = [&c_rules::RULES, &rules::RULES];
 /// A word that no finding here has.
 const UNWRITTEN: u32 = 77_777;
 
 /// The wanted words come first, and the words behind them keep their values.
-fn check_words(words: &[u32], wanted: &[[u32; 3]], who: &str) {
-    let (put, kept) = words.split_at(3 * wanted.len());
+fn check_words(words: &[u32], wanted: &[Finding], who: &str) {
+    let (put, kept) = words.split_at(FINDING_WORDS * wanted.len());
     assert_eq!(put, wanted.concat(), "{who}");
     assert!(kept.iter().all(|&word| word == UNWRITTEN), "{who} wrote past its findings");
 }
 
-fn check_peers(ring: &[u8], line: &[u8], k: usize, wanted: &[[u32; 3]]) {
+fn check_peers(ring: &[u8], line: &[u8], k: usize, wanted: &[Finding]) {
     for peer in &PEERS {
-        let mut words = vec![UNWRITTEN; 3 * (line.len() + 1).saturating_sub(ring.len())];
+        let mut words = vec![UNWRITTEN; FINDING_WORDS * (line.len() + 1).saturating_sub(ring.len())];
         let found = (peer.search)(ring, line, k, &mut words);
         assert_eq!(found, wanted.len(), "{} on {ring:?} in {line:?} with {k}", peer.name);
         check_words(&words, wanted, peer.name);
     }
 }
 
-fn check_rules(ring: &[u8], line: &[u8], k: usize, wanted: &[[u32; 3]], quick_looks: usize) {
+fn check_rules(ring: &[u8], line: &[u8], k: usize, wanted: &[Finding], quick_looks: usize) {
     let (m, n) = (ring.len(), line.len());
     let survey_looks = if n < m { 0 } else { 2 * m * n - m * m };
     for version in VERSIONS {
         for (call, looks) in [(version.scan, quick_looks), (version.survey, survey_looks)] {
-            let mut words = vec![UNWRITTEN; 3 * n + 5];
+            let mut words = vec![UNWRITTEN; FINDING_WORDS * n + 5];
             let answer = call(ring, line, k, &mut words);
             let right = Answer { found: wanted.len(), looks, ..Answer::default() };
             assert_eq!(answer, right, "{ring:?} in {line:?} with {k}");
@@ -41,7 +41,7 @@ fn check_rules(ring: &[u8], line: &[u8], k: usize, wanted: &[[u32; 3]], quick_lo
 }
 
 /// A report with every second finding silenced, beside silences of other cells and rings.
-fn check_reports(ring: &[u8], line: &[u8], k: usize, wanted: &[[u32; 3]], looks: usize) {
+fn check_reports(ring: &[u8], line: &[u8], k: usize, wanted: &[Finding], looks: usize) {
     let mut book = [field(0, 2, 0), field(7, 1, 0)].concat();
     let silenced = wanted.iter().step_by(2).take(990);
     silenced.for_each(|finding| book.extend(field(7, 2, finding[0])));
@@ -50,7 +50,7 @@ fn check_reports(ring: &[u8], line: &[u8], k: usize, wanted: &[[u32; 3]], looks:
     let is_shown = |at: usize| at % 2 == 1 || at >= 2 * 990;
     let shown: Vec<_> = (0..wanted.len()).filter(|&at| is_shown(at)).map(|at| wanted[at]).collect();
     for version in VERSIONS {
-        let mut words = vec![UNWRITTEN; 3 * line.len() + 5];
+        let mut words = vec![UNWRITTEN; FINDING_WORDS * line.len() + 5];
         let question = Question { cell: 7, ring_number: 2, ring, line, k, book: &book };
         let answer = (version.report)(&question, &mut words);
         let right = Answer { found: wanted.len(), hidden, looks, ..Answer::default() };
@@ -104,6 +104,39 @@ fn every_width() {
     }
 }
 
+/// Rings of a part over and over: several rotations are alike.
+#[test]
+fn periodic_rings() {
+    let mut numbers = Numbers(0x7e1d);
+    for m in [1, 2, 4, 6, 12, 30, 63, 64, 128, 192, 255, 256] {
+        for period in (1..=m).filter(|period| m % period == 0) {
+            let ring = numbers.ring(period, 3).repeat(m / period);
+            let n = m + numbers.below(80);
+            let line = numbers.line(&ring, n, 3);
+            check(&ring, &line, numbers.below(m.min(6)));
+        }
+    }
+}
+
+/// Ring, line, allowance, and the ties of each finding.
+#[test]
+fn ties_by_hand() {
+    let rows: [(&str, &str, usize, &[u32]); 7] = [
+        ("aaaa", "aaaaa", 0, &[4, 4]),
+        ("abab", "babab", 0, &[2, 2]),
+        ("a", "aba", 0, &[1, 1]),
+        ("aaaa", "azaa", 1, &[4]),
+        ("abab", "abzb", 1, &[2]),
+        ("abcdef", "bcdfab", 3, &[2]),
+        ("abc", "abb", 2, &[1]),
+    ];
+    for (ring, line, k, ties) in rows {
+        let found = by_definition(ring.as_bytes(), line.as_bytes(), k);
+        assert_eq!(found.iter().map(|finding| finding[3]).collect::<Vec<_>>(), ties, "{ring} in {line}");
+        check(ring.as_bytes(), line.as_bytes(), k);
+    }
+}
+
 /// Ring, line, allowance, words lent, book; and the refusal that they get, with its place.
 type RefusedRow<'a> = (&'a [u8], &'a [u8], usize, usize, &'a [u8], usize, usize);
 
@@ -128,7 +161,7 @@ fn refusals_are_the_same() {
         (&long[..257], &[1], 0, 9, &[], 1, 0),
         (&[1], &[1], 1, 9, &[], 2, 0),
         (&[1], &long, 0, 9, &[], 3, 0),
-        (&[1], &[1, 1], 0, 5, &[], 4, 0),
+        (&[1], &[1, 1], 0, 2 * FINDING_WORDS - 1, &[], 4, 0),
         (&[1], &[1], 0, 9, &long[..13_001], 5, 0),
         (&[1], &[1], 0, 9, &book[..14], 6, 13),
         (&[1, 2], &[1], 0, 9, &book, 7, 13),

@@ -1,7 +1,7 @@
 //! Every answer is compared before anything is timed.
 use super::contenders::{Call, Contender, Version};
 use super::inputs::Input;
-use crate::peers::Answer;
+use crate::peers::{Answer, FINDING_WORDS};
 
 /// A word that no finding has: it shows where a contender wrote.
 const UNWRITTEN: u32 = u32::MAX;
@@ -9,7 +9,7 @@ const UNWRITTEN: u32 = u32::MAX;
 /// The findings that the book of an input does not hide, computed without a report.
 fn shown(findings: &[u32], book: &[u8]) -> Vec<u32> {
     let starts: Vec<u32> = book.chunks(13).map(|f| u32::from_be_bytes([f[9], f[10], f[11], f[12]])).collect();
-    let kept = findings.chunks(3).filter(|finding| starts.binary_search(&finding[0]).is_err());
+    let kept = findings.chunks(FINDING_WORDS).filter(|finding| starts.binary_search(&finding[0]).is_err());
     kept.flatten().copied().collect()
 }
 
@@ -40,14 +40,15 @@ fn compare(
 /// scans and reports with its looks, looks of surveys with document 01's formula. Returns the answer of the scan in C.
 pub fn agree(contenders: &[Contender], input: &mut Input, words: &mut [u32]) -> Result<Answer, String> {
     let scan = Contender::Rules(Version::C, Call::Scan).run(input, words);
-    let findings = words[..3 * scan.found].to_vec();
+    let findings = words[..FINDING_WORDS * scan.found].to_vec();
     input.silence(&findings);
     let left = shown(&findings, &input.book);
+    let hidden = scan.found - left.len() / FINDING_WORDS;
     let (m, n) = (input.ring.len(), input.line.len());
     for contender in contenders {
         let (wanted, answer) = match contender {
             Contender::Rules(_, Call::Survey) => (&findings, Answer { looks: 2 * m * n - m * m, ..scan }),
-            Contender::Rules(_, Call::Hiding) => (&left, Answer { hidden: scan.found - left.len() / 3, ..scan }),
+            Contender::Rules(_, Call::Hiding) => (&left, Answer { hidden, ..scan }),
             _ => (&findings, scan),
         };
         compare(contender, input, words, wanted, answer)?;

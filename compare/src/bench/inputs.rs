@@ -1,11 +1,11 @@
 //! The inputs that are timed. All are made from seeds.
 use super::boundaries::{boundaries, boundary};
 use super::numbers::Numbers;
-use crate::peers::Question;
+use crate::peers::{Question, FINDING_WORDS};
 
 pub const CELL: u32 = 7;
 pub const RING_NUMBER: u16 = 2;
-const MOST_LINE: usize = 65_536;
+pub const MOST_LINE: usize = 65_536;
 const COPIES: usize = 10;
 /// As many silences as a book holds.
 const SILENCES: usize = 1000;
@@ -40,7 +40,7 @@ impl Input {
     /// Fills the book: every second finding, thinned to at most 1,000 of them; then places 65 or 66 apart, from 0 on,
     /// until there are 1,000 silences.
     pub fn silence(&mut self, findings: &[u32]) {
-        let mut starts: Vec<u32> = findings.chunks(3).step_by(2).map(|finding| finding[0]).collect();
+        let mut starts: Vec<u32> = findings.chunks(FINDING_WORDS).step_by(2).map(|finding| finding[0]).collect();
         let step = (starts.len() / SILENCES).max(1);
         starts = starts.into_iter().step_by(step).take(SILENCES).collect();
         let spread = (0..).map(|at| (at * MOST_LINE / SILENCES) as u32);

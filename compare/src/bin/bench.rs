@@ -1,18 +1,19 @@
 //! Compares every answer, then times every contender, and writes the page and the picture to the two paths given.
 use compare::bench::agree::agree;
 use compare::bench::contenders::Contender;
-use compare::bench::inputs::{self, Input};
+use compare::bench::inputs::{self, Input, MOST_LINE};
 use compare::bench::machine::load;
 use compare::bench::page::page;
 use compare::bench::picture::picture;
 use compare::bench::results::{geometric_mean, Results, Row, Second, BAR};
 use compare::bench::timing::time;
-use compare::peers::Answer;
+use compare::peers::{Answer, FINDING_WORDS};
 use std::path::Path;
 use std::process::ExitCode;
 use std::{env, fs};
 
-const WORDS: usize = 3 * 65_536;
+/// A finding for each edge of the longest line.
+const WORDS: usize = FINDING_WORDS * MOST_LINE;
 
 fn agree_on_all(contenders: &[Contender], inputs: &mut [Input], words: &mut [u32]) -> Result<Vec<Answer>, String> {
     inputs.iter_mut().map(|input| agree(contenders, input, words)).collect()

@@ -4,28 +4,55 @@
 //!
 //! Whole fragments of length floor(m / (k + 2)), the rest dropped, instead of 2k + 4 near-equal ones: with those 000's
 //! Lemma 3 fails (document 01). Every rotation then holds k + 1 whole fragments, so each pair of start and rotation within
-//! distance k has a hit, and the least distance over the hits of a start is exact: nothing is left to verify.
+//! distance k has a hit. So the least distance over the hits of a start is exact, and so are the rotations that reach it:
+//! nothing is left to verify.
 use super::automaton::Automaton;
-use super::findings::Findings;
+use super::findings::{Finding, Findings};
 use super::naive;
+use super::vectors::{MOST_WORDS, WORD_BITS};
 
 /// More starts than are open at once: those of the windows around a hit.
 const OPEN: usize = 512;
 
-/// The best of each start that a later hit may still better. A distance and a rotation in one number, distance first, so
-/// that the least number is the least distance at its lowest rotation.
+/// The least distance over the hits of a start so far, and a bit for each rotation that reaches it. Several hits offer the
+/// same rotation, and it is to be counted once.
+#[derive(Clone, Copy)]
+struct Best {
+    distance: usize,
+    reached: [u64; MOST_WORDS],
+}
+
+const NONE: Best = Best { distance: usize::MAX, reached: [0; MOST_WORDS] };
+
+impl Best {
+    fn offer(&mut self, rotation: usize, distance: usize) {
+        if distance < self.distance {
+            *self = Best { distance, ..NONE };
+        }
+        if distance == self.distance {
+            self.reached[rotation / WORD_BITS] |= 1 << (rotation % WORD_BITS);
+        }
+    }
+
+    /// The finding at a start that was offered something.
+    fn finding(&self, start: usize) -> Option<Finding> {
+        let word = self.reached.iter().position(|&word| word != 0)?;
+        let rotation = word * WORD_BITS + self.reached[word].trailing_zeros() as usize;
+        let ties = self.reached.iter().map(|word| word.count_ones() as usize).sum();
+        Some(Finding { start, rotation, distance: self.distance, ties })
+    }
+}
+
+/// The best of each start that a later hit may still better.
 struct Pending {
-    best: [u32; OPEN],
+    best: [Best; OPEN],
     low: usize,
     high: usize,
 }
 
-const NONE: u32 = u32::MAX;
-
 impl Pending {
     fn offer(&mut self, start: usize, rotation: usize, distance: usize) {
-        let best = &mut self.best[start % OPEN];
-        *best = (*best).min((distance << 16 | rotation) as u32);
+        self.best[start % OPEN].offer(rotation, distance);
         self.high = self.high.max(start + 1);
     }
 
@@ -33,8 +60,8 @@ impl Pending {
     fn settle(&mut self, below: usize, findings: &mut Findings) {
         for start in self.low..below.min(self.high) {
             let best = &mut self.best[start % OPEN];
-            if *best != NONE {
-                findings.put(start, (*best & 0xffff) as usize, (*best >> 16) as usize);
+            if let Some(finding) = best.finding(start) {
+                findings.put(finding);
                 *best = NONE;
             }
         }

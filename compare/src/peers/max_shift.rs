@@ -6,7 +6,7 @@
 //! is meant.
 use super::doubled;
 use super::filter::by_width;
-use super::findings::Findings;
+use super::findings::{Finding, Findings};
 use super::vectors::{first_bits, WORD_BITS};
 
 type Cell<const W: usize> = [u64; W];
@@ -34,6 +34,14 @@ fn distance<const W: usize>(cell: &Cell<W>) -> u32 {
     cell.iter().map(|word| word.count_ones()).sum()
 }
 
+/// The finding at a start, by the cells of its rotations, unless its least distance is above k.
+fn finding<const W: usize>(cells: &[Cell<W>], start: usize, k: usize) -> Option<Finding> {
+    let least = cells.iter().map(distance).min().filter(|&least| least as usize <= k)?;
+    let rotation = cells.iter().position(|cell| distance(cell) == least)?;
+    let ties = cells.iter().filter(|cell| distance(cell) == least).count();
+    Some(Finding { start, rotation, distance: least as usize, ties })
+}
+
 fn search_in<const W: usize>(ring: &[u8], line: &[u8], k: usize, words: &mut [u32]) -> usize {
     let m = ring.len();
     let doubled = doubled(ring);
@@ -46,11 +54,8 @@ fn search_in<const W: usize>(ring: &[u8], line: &[u8], k: usize, words: &mut [u3
         if place + 1 < m {
             continue;
         }
-        let whole = &column[m..];
-        let least = whole.iter().map(distance).min().unwrap_or(u32::MAX);
-        if least as usize <= k {
-            let rotation = whole.iter().position(|cell| distance(cell) == least).unwrap_or(m);
-            findings.put(place + 1 - m, rotation, least as usize);
+        if let Some(finding) = finding(&column[m..], place + 1 - m, k) {
+            findings.put(finding);
         }
     }
     findings.found

@@ -1,5 +1,6 @@
 //! Peers: what a user might pick instead of the library, and the library's own rules written again in C and in Rust.
-//! All give the same findings: start, the lowest rotation that reaches the least distance, that distance.
+//! All give the same findings: start, the lowest rotation that reaches the least distance, that distance, and how many
+//! rotations reach it.
 pub mod acb;
 pub mod acbq;
 pub mod acsmf;
@@ -13,6 +14,8 @@ mod nearest;
 pub mod rules;
 pub mod sliding;
 mod vectors;
+
+pub use findings::FINDING_WORDS;
 
 /// A refusal's number and place, or 0 and 0 with the counts of an accepted call. The layout is that of the C header.
 #[repr(C)]

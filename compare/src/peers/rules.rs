@@ -5,7 +5,7 @@ mod book;
 mod sweep;
 mod tally;
 
-use super::findings::Findings;
+use super::findings::{Findings, FINDING_WORDS};
 use super::{doubled, Answer, Question, Rules};
 use book::{is_for, read, seek, seek_on, Address};
 use sweep::Sweep;
@@ -24,7 +24,7 @@ fn admit(m: usize, k: usize, n: usize, room: usize) -> usize {
         2
     } else if n > MOST_LINE {
         3
-    } else if n >= m && room < 3 * (n - m + 1) {
+    } else if n >= m && room < FINDING_WORDS * (n - m + 1) {
         4
     } else {
         0
@@ -39,7 +39,7 @@ fn scan(ring: &[u8], line: &[u8], k: usize, words: &mut [u32]) -> Answer {
     let mut sweep = Sweep::new(ring, line, k);
     let mut findings = Findings::new(words);
     for finding in &mut sweep {
-        findings.put(finding.start, finding.rotation, finding.distance);
+        findings.put(finding);
     }
     Answer { found: findings.found, looks: sweep.looks, ..Answer::default() }
 }
@@ -63,7 +63,7 @@ fn survey(ring: &[u8], line: &[u8], k: usize, words: &mut [u32]) -> Answer {
         };
         looks += reached.looks;
         if reached.least as usize <= k {
-            findings.put(reached.start, tally.lowest_rotation(m, reached.least), reached.least as usize);
+            findings.put(tally.finding_at(m, &reached));
         }
         start = reached.start + 1;
     }
@@ -89,7 +89,7 @@ fn report(q: &Question, words: &mut [u32]) -> Answer {
         if is_for(held, here) {
             hidden += 1;
         } else {
-            shown.put(finding.start, finding.rotation, finding.distance);
+            shown.put(finding);
         }
     }
     Answer { found: shown.found + hidden, hidden, looks: sweep.looks, ..Answer::default() }

@@ -4,7 +4,7 @@
 //!
 //! Those come through `#[target_feature]`, not through `-C target-cpu=native`, which would also rebuild every other peer. On
 //! x86-64 that is AVX2 where the processor has it; on AArch64 NEON is in every target and needs no attribute.
-use super::findings::Findings;
+use super::findings::{Finding, Findings};
 
 const MOST_RING: usize = 256;
 
@@ -58,6 +58,20 @@ fn afresh<C: Count>(counts: &mut [C], around: &[u8], window: &[u8]) -> C {
     counts.iter().copied().fold(C::MOST, C::min)
 }
 
+/// How many rotations have the least count. A count holds that number, because it holds m.
+#[inline(always)]
+fn ties<C: Count>(counts: &[C], least: C) -> usize {
+    counts.iter().fold(C::default(), |ties, &count| ties.moved(false, count == least)).distance()
+}
+
+/// The finding at a start whose least count is within the allowance.
+#[inline(always)]
+fn finding<C: Count>(counts: &[C], start: usize, turn: usize, least: C) -> Finding {
+    let m = counts.len();
+    let rotation = (0..m).find(|r| counts[(r + m - turn) % m] == least).unwrap_or(m);
+    Finding { start, rotation, distance: least.distance(), ties: ties(counts, least) }
+}
+
 #[inline(always)]
 fn survey<C: Count>(ring: &[u8], line: &[u8], k: usize, words: &mut [u32]) -> usize {
     let m = ring.len();
@@ -73,8 +87,7 @@ fn survey<C: Count>(ring: &[u8], line: &[u8], k: usize, words: &mut [u32]) -> us
     let mut turn = 0; // start modulo m
     for start in 0.. {
         if least.distance() <= k {
-            let rotation = (0..m).find(|r| counts[(r + m - turn) % m] == least);
-            findings.put(start, rotation.unwrap_or(m), least.distance());
+            findings.put(finding(&counts[..m], start, turn, least));
         }
         if start + m == line.len() {
             break;

@@ -1,6 +1,8 @@
 //! Vectors of one bit for each rotation, held by value in W words.
 
 pub const WORD_BITS: usize = u64::BITS as usize;
+/// Words of a vector for the longest ring, which has 256 edges.
+pub const MOST_WORDS: usize = 256 / WORD_BITS;
 
 /// The first m bits set: an empty stretch is the beginning of every rotation.
 pub fn first_bits<const W: usize>(m: usize) -> [u64; W] {

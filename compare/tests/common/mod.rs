@@ -1,4 +1,6 @@
-//! What the tests of the peers share: document 01's meanings and rules word by word, and lines to try them on.
+//! What the tests of the peers share: the meanings and rules of documents 01 and 02 word by word, and lines to try them on.
+
+use compare::peers::FINDING_WORDS;
 
 /// A small generator of numbers (xorshift), seeded.
 pub struct Numbers(pub u64);
@@ -30,8 +32,10 @@ impl Numbers {
     }
 }
 
-/// The findings by document 01's meanings: start, rotation, distance.
-pub fn by_definition(ring: &[u8], line: &[u8], k: usize) -> Vec<[u32; 3]> {
+pub type Finding = [u32; FINDING_WORDS];
+
+/// The findings by their meanings: start, rotation, distance, ties.
+pub fn by_definition(ring: &[u8], line: &[u8], k: usize) -> Vec<Finding> {
     let m = ring.len();
     let differs = |i: usize, r: usize, q: usize| line[i + q] != ring[(r + q) % m];
     let distance = |i: usize, r: usize| (0..m).filter(|&q| differs(i, r, q)).count();
@@ -39,7 +43,8 @@ pub fn by_definition(ring: &[u8], line: &[u8], k: usize) -> Vec<[u32; 3]> {
     for i in 0..(line.len() + 1).saturating_sub(m) {
         let (least, lowest) = (0..m).map(|r| (distance(i, r), r)).min().unwrap();
         if least <= k {
-            found.push([i as u32, lowest as u32, least as u32]);
+            let ties = (0..m).filter(|&r| distance(i, r) == least).count();
+            found.push([i, lowest, least, ties].map(|number| number as u32));
         }
     }
     found

@@ -1,6 +1,7 @@
 //! Rules 1 to 5, one window at a time.
 use super::tally::{Reached, Tally};
 use crate::peers::doubled;
+use crate::peers::findings::Finding;
 use crate::peers::vectors::{first_bits, grown, no_bit, occurrences, WORD_BITS};
 
 /// A call's ring and line, and what is made of the ring once for a call.
@@ -15,13 +16,6 @@ pub struct Sweep<'a> {
     start: usize,
     last: Option<usize>,
     pub looks: usize,
-}
-
-#[derive(Clone, Copy)]
-pub struct Finding {
-    pub start: usize,
-    pub rotation: usize,
-    pub distance: usize,
 }
 
 /// How far a window was read: the edges left unread, the breaks, the looks.
@@ -97,8 +91,7 @@ impl<'a> Sweep<'a> {
             self.last = Some(start);
             self.looks += reached.looks;
             if reached.least as usize <= self.k {
-                let rotation = self.tally.lowest_rotation(m, reached.least);
-                finding = Some(Finding { start, rotation, distance: reached.least as usize });
+                finding = Some(self.tally.finding_at(m, &reached));
             }
         }
         self.start = start + read.left + 1;

@@ -1,4 +1,5 @@
 //! Rule 5: the tally of one count for each rotation, counted afresh or moved along the line. It is changed in place.
+use crate::peers::findings::Finding;
 
 /// "Ring: m edges, 1 to 256." A count is at most that, which eight bits do not hold.
 pub const MOST_RING: usize = 256;
@@ -84,7 +85,19 @@ impl Tally {
     }
 
     /// The lowest rotation whose count is the least.
-    pub fn lowest_rotation(&self, m: usize, least: u16) -> usize {
+    fn lowest_rotation(&self, m: usize, least: u16) -> usize {
         self.counts[..m].iter().position(|&count| count == least).unwrap_or(m)
+    }
+
+    /// How many rotations have the least count. Summed in the width of a count, so that the compiler can use vectors.
+    fn ties(&self, m: usize, least: u16) -> usize {
+        self.counts[..m].iter().map(|&count| (count == least) as u16).sum::<u16>() as usize
+    }
+
+    /// The finding at the start that the tally has reached.
+    pub fn finding_at(&self, m: usize, reached: &Reached) -> Finding {
+        let Reached { start, least, .. } = *reached;
+        let rotation = self.lowest_rotation(m, least);
+        Finding { start, rotation, distance: least as usize, ties: self.ties(m, least) }
     }
 }
