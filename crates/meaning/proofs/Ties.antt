@@ -19,7 +19,7 @@ module _ (ring line : List ℕ) (k : ℕ) (f : Finding) (is : IsFinding ring lin
         arith,
         is .ties-are,
         count-some (reaches ring line (f .start) (f .distance)) 0 (length ring) (f .rotation) (omega arith) (omega (arith, is .is-rotation))
-        (eq-eqb (distance ring line (f .start) (f .rotation)) (f .distance) (sym (is .distance-is))),
+            (eq-eqb (distance ring line (f .start) (f .rotation)) (f .distance) (sym (is .distance-is))),
       )
 
   -- A finding has at most m ties.
