@@ -1,5 +1,6 @@
--- The three demands on the calls, stated for what a C caller gets: the struct of five numbers and the lent area at exit. Read this page beside document 01 and ticket 1 of document 02. Nothing here
--- says how a call works. proofs/SearchDemands.antt (survey and scan), proofs/ReportDemands.antt and proofs/BookDemands.antt prove that each call meets its demands.
+-- The three demands on the calls, stated for what a C caller gets: the struct of five numbers and the lent area at exit. Read this page beside document 01 and ticket 1
+-- of document 02. Nothing here says how a call works. proofs/SearchDemands.antt (survey and scan), proofs/ReportDemands.antt and proofs/BookDemands.antt prove that each
+-- call meets its demands.
 --
 --   Row, rowOf, FirstRow, NoRow              a row of the table of refusals; the first row that is given; no row is given
 --   searchTable, bookTable, reportTable,     the rows of each call in its order, "Given exactly when"

@@ -1,6 +1,6 @@
 -- The part of a search loop's invariant that concerns the lent words: the number of findings so far, and the area with their words at its front. `put_finding`
 -- puts one more behind them, if there is room and its words are 32-bit words. Which findings these are is up to the loop.
-use Prim.Native.Nat.{ℕ, _+_, _*_, _≤_, _<_}
+use Prim.Native.Nat.{ℕ, _+_, _*_, _≤_}
 use mathlib.Core.Path.{_≡_, refl, ap, _∙_}
 use mathlib.Core.List.{List, [], _∷_, _++_}
 use native.Mathlib.Omega.{arith}

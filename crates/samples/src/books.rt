@@ -7,14 +7,20 @@ use crate::filling;
 use crate::filling::ByteKind;
 use crate::filling::WordKind;
 use crate::table;
+use silences::FIELD_LENGTH;
+use silences::MOST_SILENCES;
+use silences::RECORD_WORDS;
 ghost use Prim.Native.Nat.{_<_};
 
-// The most words that a row gives: those of 1,001 records.
-pub const MOST_ROW_WORDS: usize = 3003;
+// The most records that a row gives: 1,001, one more than a book may have.
+const ROW_RECORDS: usize = MOST_SILENCES + 1;
 
-// The bytes of the book of 1,001 records. If a row gives no fault, this is its offset: no book has a byte there, so
+// The most words that a row gives.
+pub const MOST_ROW_WORDS: usize = RECORD_WORDS * ROW_RECORDS;
+
+// The bytes of the book of these records. If a row gives no fault, this is its offset: no book has a byte there, so
 // nothing is written.
-const MOST_ROW_BOOK: usize = 13013;
+const MOST_ROW_BOOK: usize = FIELD_LENGTH * ROW_RECORDS;
 
 // The number mod 2^32.
 pub fn cut_to_word(number: usize) -> u32 {
@@ -30,10 +36,10 @@ pub fn cut_to_ring_number(number: usize) -> u16 {
 // ring number 2 and the starts 0, 1, 2 and so on.
 pub fn word_of(field: &[u8], at: usize) -> u32 {
     if table::begins(field, b'*') {
-        match at % 3 {
+        match at % RECORD_WORDS {
             0 => 7,
             1 => 2,
-            _ => cut_to_word(at / 3),
+            _ => cut_to_word(at / RECORD_WORDS),
         }
     } else {
         cut_to_word(table::nth_number(field, at))
@@ -69,8 +75,8 @@ fn byte_of(number: u32, above: usize) -> u8 {
 // The byte at an offset of the layout of the silences that a field gives: "tag 21 hex, length 10, cell (4 bytes), ring
 // number (2), start (4)", "numbers high byte first".
 pub fn layout_byte(field: &[u8], at: usize) -> u8 {
-    let first = at / 13 * 3;
-    let place = at % 13;
+    let first = at / FIELD_LENGTH * RECORD_WORDS;
+    let place = at % FIELD_LENGTH;
     match place {
         0 => 0x21,
         1 => 0,

@@ -62,13 +62,9 @@ pub fn print_number(label: usize, value: usize) {
     io::print_decimal(1, value as u64);
 }
 
-// Prints a word of a record: its first word after a space, the others after a comma.
+// Prints a word of a record, which has at most four: its first word after a space, the others after a comma.
 fn print_word(place: usize, word: u32) {
-    if place == 0 {
-        print_text(b" ");
-    } else {
-        print_text(b",");
-    }
+    print_text(table::field(b" |,|,|,", place));
     io::print_decimal(1, word as u64);
 }
 
