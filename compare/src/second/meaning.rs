@@ -1,6 +1,6 @@
 //! Rotations, distances and findings, by their meanings.
 
-/// "A finding becomes four words: start, rotation, distance, ties" (ticket 1).
+/// "a finding becomes four words: start, rotation, distance, ties" (ticket 1).
 pub const FINDING_WORDS: usize = 4;
 
 #[derive(Clone, Copy, Debug, PartialEq, Eq)]

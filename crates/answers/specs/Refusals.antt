@@ -19,7 +19,7 @@ numberOf Ring = 1
 numberOf Allowance = 2
 -- "n > 65,536"
 numberOf Line = 3
--- "n ≥ m and fewer than" 4·(n − m + 1) "words are lent for findings" (document 02, ticket 1)
+-- "n ≥ m and fewer than" 4·(n − m + 1) "words are lent for findings"; document 01 has 3·(n − m + 1), and document 02, ticket 1, makes it 4
 numberOf FindingsRoom = 4
 -- "book longer than 13,000 bytes"
 numberOf BookLength = 5

@@ -58,7 +58,7 @@ searchTable m k n room =
     ∷ rowOf 2 (m ≤ k)
     -- "n > 65,536"
     ∷ rowOf 3 (65536 < n)
-    -- "n ≥ m and fewer than" 4·(n − m + 1) "words are lent for findings" (document 02, ticket 1)
+    -- "n ≥ m and fewer than" 4·(n − m + 1) "words are lent for findings"; document 01 has 3·(n − m + 1), and document 02, ticket 1, makes it 4
     ∷ rowOf 4 ((m ≤ n) × (room < 4 * (n - m + 1)))
     ∷ []
 
@@ -128,7 +128,7 @@ pub record Demand2 (Named : ℕ → Type 0) (ring line : List ℕ) (k : ℕ) (wo
       → ((f : Finding) × (f .start ≡ i) × List·Memᴰ f shown)
       ↔ ((IsStart ring line i × ((q : ℕ) × (q < length ring) × (distance ring line i q ≤ k))) × (Named i → ⊥))
   -- A finding is among the shown exactly when the book does not name its start; by `IsFinding` it carries "the least distance, and the lowest r that reaches it",
-  -- and ties, "how many rotations reach the least distance".
+  -- and ties, "how many rotations reach the least distance" (document 02, ticket 1).
   pub shown-iff : (f : Finding) → List·Memᴰ f shown ↔ (IsFinding ring line k f × (Named (f .start) → ⊥))
   -- A finding is among the hidden exactly when the book names its start.
   pub hidden-iff : (f : Finding) → List·Memᴰ f hidden ↔ (IsFinding ring line k f × Named (f .start))

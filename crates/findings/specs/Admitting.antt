@@ -1,5 +1,5 @@
--- Document 01, "What each call returns", rows 1 to 4 of the table: the refusals that lengths, k and room decide. The words of row 4 are those of document 02,
--- ticket 1.
+-- Document 01, "What each call returns", rows 1 to 4 of the table: the refusals that lengths, k and room decide. Row 4 asks for four words for each
+-- start, as document 02, ticket 1, says.
 --
 --   mostRing, mostLine    the document's limits
 --   roomRequired          the words that row 4 requires

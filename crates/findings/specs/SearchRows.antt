@@ -20,7 +20,7 @@ pub record SearchRows (m k n : ℕ) (words : List ℕ) (p : Paper Counts) (out :
   pub row-2 : (p .number ≡ 2) ↔ (IsRingLength m × (m ≤ k))
   -- "n > 65,536", rows 1 and 2 not given
   pub row-3 : (p .number ≡ 3) ↔ (IsRingLength m × ((k < m) × (65536 < n)))
-  -- "n ≥ m and fewer than" 4·(n − m + 1) "words are lent for findings", rows 1 to 3 not given
+  -- "n ≥ m and fewer than" 4·(n − m + 1) "words are lent for findings", rows 1 to 3 not given. (Document 01 has 3; document 02, ticket 1, makes it 4.)
   pub row-4 : (p .number ≡ 4) ↔ (IsRingLength m × ((k < m) × ((n ≤ 65536) × ((m ≤ n) × (length words < 4 * (n - m + 1))))))
   -- Accepted exactly when none of these rows is given.
   pub accepted : (p .number ≡ 0) ↔ (IsRingLength m × ((k < m) × ((n ≤ 65536) × (m ≤ n → 4 * (n - m + 1) ≤ length words))))

@@ -1,4 +1,4 @@
-// Findings go into the lent words as four 32-bit words each: "start, rotation, distance, ties".
+// Findings go into the lent words as four 32-bit words each: "start, rotation, distance, ties" (document 02, ticket 1).
 use crate::admitting::WORDS_EACH;
 use crate::searching::Finding;
 ghost use mathlib.Core.Path.{_≡_};

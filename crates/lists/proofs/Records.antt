@@ -77,7 +77,7 @@ module _ {A : Type 0} (width : ℕ) (of : List ℕ → A) (some-number : 0 < wid
       first-length zero numbers = refl
       first-length (suc count) numbers = ap suc (first-length count (drop width numbers))
 
-  -- Records laid out and read again: if each has `width` numbers, what is read is each record's numbers in turn.
+  -- Records laid out and read again: if each has `width` numbers, reading gives `of` of each one's numbers, in their order.
   pub records-of-each : {B : Type 0} (numbers : B → List ℕ) → ((x : B) → length (numbers x) ≡ width) → (xs : List B)
       → recordsOf width of (numbersOfEach numbers xs) ≡ map (λ x. of (numbers x)) xs
   unfolding numbersOfEach

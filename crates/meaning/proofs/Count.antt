@@ -1,4 +1,4 @@
--- Laws of `count`: a range can be split and shifted, and the count is at most its length. Induction on the length. Where one number passes, the count is at least 1.
+-- Laws of `count`: a range can be split and shifted, and the count is at most its length. Induction on the length. The count is at least 1 exactly where some number passes.
 use Prim.Native.Nat.{ℕ, zero, suc, _+_, _-_, _≤_, _<_}
 use mathlib.Core.Path.{_≡_, refl, sym, ap, _∙_}
 use mathlib.Core.Bool.{Bool, true, false}
@@ -49,6 +49,27 @@ count-some p a n x lo hi passes =
     let parts : x - a + 1 + (a + n - x - 1) ≡ n = omega arith in
     let here : count p (a + (x - a)) 1 ≡ 1 = rw (there, passes) refl in
     omega (arith, here, count-part-le p a (x - a) 1 (a + n - x - 1), ap (count p a) parts)
+
+-- If no number of the range passes the test, the count is 0.
+pub count-none : (p : ℕ → Bool) (a n : ℕ) → ((x : ℕ) → a ≤ x → x < a + n → p x ≡ false) → count p a n ≡ 0
+unfolding count
+count-none p a zero h = refl
+count-none p a (suc n) h =
+    let here : oneIf (p a) ≡ 0 = ap oneIf (h a (omega arith) (omega arith)) in
+    omega (arith, here, count-none p (suc a) n (λ x lo hi. h x (omega arith) (omega arith)))
+
+-- If the count is at least 1, some number of the range passes the test.
+pub count-has : (p : ℕ → Bool) (a n : ℕ) → 1 ≤ count p a n → (x : ℕ) × (a ≤ x) × (x < a + n) × (p x ≡ true)
+unfolding count
+count-has p a zero h = absurd (omega arith)
+count-has p a (suc n) h = go (p a) refl (count-has p (suc a) n)
+  where
+    go : (t : Bool) → p a ≡ t → (1 ≤ count p (suc a) n → (x : ℕ) × (suc a ≤ x) × (x < suc a + n) × (p x ≡ true))
+        → (x : ℕ) × (a ≤ x) × (x < a + suc n) × (p x ≡ true)
+    go true e later = (a, omega arith, omega arith, e)
+    go false e later =
+        let found = later (omega (arith, h, ap oneIf e)) in
+        (found .0, omega (arith, found .1), omega (arith, found .2), found .3)
 
 -- Two tests that agree on a range have the same count over it.
 pub count-same : (p p′ : ℕ → Bool) (a n : ℕ) → ((x : ℕ) → a ≤ x → x < a + n → p x ≡ p′ x) → count p a n ≡ count p′ a n

@@ -85,7 +85,7 @@ module _ (ring line : List ℕ) (k : ℕ) where
         (mem-below (length line) i (omega (arith, h .is-start .fits-in-line)) (h .is-start) (omega (arith, h .at-most-k)))
 
     -- For a ring that is not empty, f is in the list of findings exactly when it is a finding: its start is a start, its distance is the one under its
-    -- rotation and at most k, no rotation has a smaller distance, no lower rotation has the same, and its ties are the number of rotations that have the same.
+    -- rotation and at most k, no rotation has a smaller distance, no lower rotation has the same, and its ties are the number of rotations that have that distance.
     pub findings-iff : (f : Finding) → List·Memᴰ f (findings ring line k) ↔ IsFinding ring line k f
     findings-iff f = (findings-yes f, findings-by f)
 

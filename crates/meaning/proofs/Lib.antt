@@ -1,7 +1,7 @@
 -- Theorems about the meanings and rules. Other crates cite them as Rattle.meaning.proofs.NAME. Read the statements of these nine modules first:
 --
 --   FoundExactly    `findings-iff`, `found-iff`            the list `findings` has exactly the findings
---   Ties            `ties-some`, `ties-most`               a finding has 1 to m ties
+--   Ties            `ties-most`, `another-iff`             a finding has 1 to m ties, above 1 exactly when another rotation is as near
 --   Rising          `findings-rising`, `findings-unique`   they are listed by strictly rising start, at most one for each start
 --   FitDecided      `fits-iff`                             the test for a stretch that fits is right
 --   NothingLost     `nothing-lost`                         a jump passes over no finding

@@ -18,7 +18,7 @@ pub record Finding : Type 0 where
   pub ties : ℕ
 
 -- "A finding is a start whose least distance over all r is at most k. It carries start, rotation, distance: the least distance, and the
--- lowest r that reaches it." And "how many rotations reach the least distance".
+-- lowest r that reaches it." It also carries ties, "how many rotations reach the least distance" (document 02, ticket 1).
 pub record IsFinding (ring line : List ℕ) (k : ℕ) (f : Finding) : Type 0 where
   pub is-start : IsStart ring line (f .start)
   pub is-rotation : f .rotation < length ring
@@ -58,7 +58,7 @@ Rising lo hi (f ∷ fs) = (lo ≤ f .start) × Rising (suc (f .start)) hi fs
 abbrev pub wordsEach : ℕ
 wordsEach = 4
 
--- The words of one finding: "start, rotation, distance, ties".
+-- The words of one finding: "start, rotation, distance, ties" (document 02, ticket 1).
 abbrev pub findingWords : Finding → List ℕ
 findingWords f = f .start ∷ f .rotation ∷ f .distance ∷ f .ties ∷ []
 

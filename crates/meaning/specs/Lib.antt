@@ -1,4 +1,5 @@
--- The meanings and rules of document 01, in its order and its words. Read the modules in the order of the list at the end.
+-- The meanings and rules of document 01, in its order and its words, and the ties of document 02, ticket 1. Read the modules in the order of the list at
+-- the end.
 -- Nothing here is code. A ring, a line and a stretch are lists of edge codes; places, starts, rotations, distances and looks are numbers.
 -- "Here every byte value 0 to 255 is an edge code like any other": the definitions only ask whether two edge codes are equal.
 -- Elsewhere: the refusals, and ring places and line places as two types ("never added or compared directly"), in crates/answers; the silence book
@@ -35,8 +36,8 @@
 -- | readings that look right    | each refuted                             | Misread  |
 -- | (helpers)                   | `count`, `lowest`, `someBelow`           | Counting |
 --
--- The table leaves out the parts of these definitions: `oneIf` (Counting); `unequal`, `reaches`, `rotationsReaching` (Meanings); `Finding`, `findingAt`, `foundAt`, `findingsBelow`,
--- `wordsEach`, `findingWords` (Findings); `begins` (Stretch); `unread`, `readLeft`, `windowsFrom`, `candidatesOf` (Rules); `verifyLooks`,
+-- The table leaves out the parts of these definitions: `oneIf` (Counting); `unequal`, `reaches`, `rotationsReaching` (Meanings); `Finding`, `findingAt`,
+-- `foundAt`, `findingsBelow`, `wordsEach`, `findingWords` (Findings); `begins` (Stretch); `unread`, `readLeft`, `windowsFrom`, `candidatesOf` (Rules); `verifyLooks`,
 -- `surveyLooksBelow` (Looks); `Sample`, `finding`, `answered` (Samples).
 --
 -- Where a word has two forms, the lower-case one computes, and the upper-case one states the same as a fact: window in the line, start, finding, fit.

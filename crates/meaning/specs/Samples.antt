@@ -1,6 +1,7 @@
 -- Document 01, "Sample rings": P1 to P12 as one table under one claim, which antt computes. A second table of the same form pins what no row of the
 -- first does: rule 5's choice between a fresh count and steps, the break edge, the last verified start, steps across a stopped window, the plain
--- survey's looks, the codes 0 and 255, and ties. A number that the document leaves out of a row is left out here.
+-- survey's looks, the codes 0 and 255, and ties. Looks and numbers of candidates that the document leaves out of a row are left out here. Every finding
+-- has its ties: document 02 gives those of P6, the others follow from the meaning.
 use Prim.Native.Nat.{ℕ}
 use Prim.Native.String.{String}
 use mathlib.Core.Path.{_≡_, refl}
@@ -67,7 +68,7 @@ answered s =
       survey-looks = given (s .survey-looks) (surveyLooks (s .ring) (s .line));
     }
 
--- The document's table. For P11 it gives "none, one candidate".
+-- The document's table, each finding with its ties. For P11 it gives "none, one candidate".
 unfoldable pub samples : List Sample
 samples =
     sampleRow "P1" (ascii "GGGTCTA") (ascii "GATACGATACCTAGGGTGATAGAATAG") 0 (finding 10 4 0 1 ∷ []) none none none
@@ -84,7 +85,7 @@ samples =
     ∷ sampleRow "P12" (ascii "abcdef") (ascii "bcdfab") 3 (finding 0 1 3 2 ∷ []) (some 42) none none
     ∷ []
 
--- Computed from the meanings and rules, every row has the answers of the document's table.
+-- Computed from the meanings and rules, every row has the answers of the document's table, and these ties.
 pub samples-right : map answered samples ≡ samples
 unfolding samples ascii count lowest someBelow differs distance lowestRotation rotationsReaching foundAt findingsBelow begins fits readEdge readLeft readWindow windowsFrom candidatesOf reported readLooks tallyLooks verifyLooks surveyLooksBelow
 samples-right = refl

@@ -25,6 +25,7 @@ pub record ReportRows (m k n : ℕ) (book words : List ℕ) (p : Paper ReportCou
   -- "n > 65,536", rows 1 and 2 not given
   pub row-3 : (p .number ≡ 3) ↔ (IsRingLength m × ((k < m) × (65536 < n)))
   -- "n ≥ m and fewer than" 4·(n − m + 1) "words are lent for findings", rows 1 to 3 not given. The room is for all findings, hidden ones too.
+  -- (Document 01 has 3; document 02, ticket 1, makes it 4.)
   pub row-4 : (p .number ≡ 4) ↔ (IsRingLength m × ((k < m) × ((n ≤ 65536) × ((m ≤ n) × (length words < 4 * (n - m + 1))))))
   -- "book longer than 13,000 bytes", rows 1 to 4 not given
   pub row-5 : (p .number ≡ 5) ↔ (Admitted m k n (length words) × (13000 < length book))

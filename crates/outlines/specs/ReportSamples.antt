@@ -44,7 +44,8 @@ sample-cell-0 : (length (hidden (silence 0 2 10 ∷ []) 7 2 (findings ring2 line
 unfolding ring2 line2 takenBy isSame names ascii count lowest differs distance lowestRotation rotationsReaching foundAt findingsBelow
 sample-cell-0 = (refl, refl)
 
--- "found 2 hidden 1 looks 12", and the one line "0 0 0 2": of the eight words lent, four are written and four kept. As cell 8 nothing is hidden.
+-- "found 2 hidden 1 looks 12", and one shown finding, whose line is `0 0 0 2` with its ties: of the eight words lent, four are written and four kept. As cell 8
+-- nothing is hidden.
 sample-example : (reportCounts (ascii "aa") (ascii "aaa") 0 7 2 (silence 7 2 1 ∷ []) ≡ record { found = 2; hidden = 1; looks = 12 })
     × (reportCounts (ascii "aa") (ascii "aaa") 0 8 2 (silence 7 2 1 ∷ []) ≡ record { found = 2; hidden = 0; looks = 12 })
     × (written (wordsOf (shown (silence 7 2 1 ∷ []) 7 2 (findings (ascii "aa") (ascii "aaa") 0))) (1 ∷ 2 ∷ 3 ∷ 4 ∷ 5 ∷ 6 ∷ 7 ∷ 8 ∷ [])

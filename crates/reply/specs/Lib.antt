@@ -1,5 +1,5 @@
--- Writing the report program's text. Decimal, Lines and Answering state document 01; Answering also has the contract of `answer`, Writing those of the private
--- functions. The checker computes the claims of Samples.
+-- Writing the report program's text. Decimal, Lines and Answering state document 01, Lines with ticket 1 of document 02. Answering also has the contract of `answer`,
+-- Writing those of the private functions. The checker computes the claims of Samples.
 pub mod Decimal
 pub mod Lines
 pub mod Answering

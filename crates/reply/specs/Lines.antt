@@ -1,5 +1,6 @@
 -- Document 01, "The report program": the lines of its output. "The first line gives cell, ring number, m and k; then one line per shown finding (start,
--- rotation, distance); the last gives the three counts. A refusal prints a single line, such as `refused 2 place 0`."
+-- rotation, distance); the last gives the three counts. A refusal prints a single line, such as `refused 2 place 0`." Document 02, ticket 1, adds the ties to a
+-- finding's line.
 --
 --   space, lf                        a space; LF, which ends a line
 --   lineOf                           words with one space between, and LF at the end

@@ -19,7 +19,8 @@ const CANARY_WORD: u32 = 0xA5A5A5A5;
 // The room for a call on a book: bytes for the packer, words for the unpacker. It is more than the bytes of any book.
 pub const BOOK_ROOM: usize = FIELD_LENGTH * MOST_SILENCES + 40;
 
-// The words of room for a search: a finding's words for each of these edges, which is more than any search requires.
+// The words of room for a search: a finding's words for each edge of the longest line that a row gives, which is more than
+// any search requires.
 pub const SEARCH_ROOM: usize = WORDS_EACH * AREA_BYTES;
 
 // Bytes to fill in. They come from a function because the check knows the length of a returned array at once, while it

@@ -62,7 +62,8 @@ pub fn print_number(label: usize, value: usize) {
     io::print_decimal(1, value as u64);
 }
 
-// Prints a word of a record, which has at most four: its first word after a space, the others after a comma.
+// Prints one word of a finding or a silence: the first after a space, the others after a comma. Neither has more than
+// four words.
 fn print_word(place: usize, word: u32) {
     print_text(table::field(b" |,|,|,", place));
     io::print_decimal(1, word as u64);

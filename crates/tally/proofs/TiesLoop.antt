@@ -46,12 +46,12 @@ module _ {counts : List ℕ} {least : ℕ} where
     unfolding tiesWith
     ties-end small all-is last = record { is = rw (le-ltb lastCount least small) (so-far .ties-are ∙ ap (count (hasCount counts least) 0) (last ∙ all-is)) }
 
-  -- No count is above 65,535: then there are no ties.
+  -- If the given count is above 65,535, no rotation has it, so there are no ties.
   pub ties-none : {m : ℕ} → lastCount < least → IsTies m counts least 0
   unfolding tiesWith
   ties-none large = record { is = rw (lt-ltb lastCount least large) refl }
 
--- In the tally of start i the rotations with a count of at most 65,535 are those that reach that distance.
+-- If `least` is at most 65,535, as many counts of start i's tally are `least` as rotations reach the distance `least`.
 pub tallied-ties : {ring line : List ℕ} {i : ℕ} {counts : List ℕ} (least : ℕ) → least ≤ lastCount → length ring ≤ mostCounts → Tallied ring line i counts
     → tiesWith (length ring) counts least ≡ rotationsReaching ring line i least
 unfolding tiesWith rotationsReaching

@@ -55,8 +55,8 @@ lowestWith m counts least = lowestFrom counts least (min m mostCounts) 0
 abbrev pub hasCount : List ℕ → ℕ → ℕ → Bool
 hasCount counts least r = eqb (getD counts r 0) least
 
--- How many of the first m rotations have the count `least`. There are 256 counts, so a larger m is taken as 256. No count is above 65,535, so there no rotation
--- has it.
+-- How many of the first m rotations have the count `least`. There are 256 counts, so a larger m is taken as 256. A `least` above 65,535 gives 0: no count is that
+-- large.
 unfoldable pub tiesWith : ℕ → List ℕ → ℕ → ℕ
 tiesWith m counts least =
     let ties : ℕ = count (hasCount counts least) 0 (min m mostCounts) in
@@ -131,9 +131,9 @@ pub record IsFindingAt (m : ℕ) (counts : List ℕ) (start : LinePlace) (least 
 pub record IsLowestWith (m : ℕ) (counts : List ℕ) (least r : ℕ) : Type 0 where
   pub is : r ≡ lowestWith m counts least
 
--- The contract of `count_ties`, which returns r.
-pub record IsTies (m : ℕ) (counts : List ℕ) (least r : ℕ) : Type 0 where
-  pub is : r ≡ tiesWith m counts least
+-- The contract of `count_ties`, which returns `ties`.
+pub record IsTies (m : ℕ) (counts : List ℕ) (least ties : ℕ) : Type 0 where
+  pub is : ties ≡ tiesWith m counts least
 
 -- A ring of m edges, 1 to 256, has a count for each of its rotations among `counts` counts.
 pub record HasCounts (m counts : ℕ) : Type 0 where

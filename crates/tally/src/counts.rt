@@ -31,7 +31,8 @@ pub fn differing(a: u8, b: u8) -> u16
     if a == b { 0 } else { 1 }
 }
 
-// A count as a usize: it is compared with the allowance and becomes the distance of a finding.
+// A sixteen-bit number as a usize: a count, which is compared with the allowance and becomes the distance of a finding,
+// or the number of ties.
 pub fn count_value(count: u16) -> usize
     ensures { λ r. ⌜ r ≡ count ⌝ }
 {
@@ -97,9 +98,9 @@ fn same(a: u16, b: u16) -> u16
     if a == b { 1 } else { 0 }
 }
 
-// "how many rotations reach the least distance": how many of m rotations have the count `least`. An m above 256 is taken
-// as 256. Counts are compared in their own sixteen bits, because the compiler then compares eight of them at once; no
-// count is above 65,535.
+// "how many rotations reach the least distance" (document 02, ticket 1): how many of m rotations have the count `least`.
+// An m above 256 is taken as 256. Counts are compared in their own sixteen bits, because the compiler then compares eight
+// of them at once. A `least` above 65,535 has no ties: no count is that large.
 fn count_ties(counts: &[u16; MOST_COUNTS], m: usize, least: usize) -> usize
     ensures { λ r. ⌜ IsTies m (now (counts .entry)) least r ⌝ }
 {
