@@ -5,11 +5,12 @@
  * edge (r + q) mod m to place q; r is called a rotation. A line place i is a start if i + m <= n; the line's places i to i + m - 1 are its window. The
  * distance of a start under a rotation counts the places at which the window and the turned ring have different edges. A start is a finding if its
  * distance is at most k, the allowance, for at least one rotation. A finding has four numbers: the start, the lowest rotation with the least distance,
- * that distance, and the ties: how many rotations have that distance, 1 to m. Places and rotations count from 0.
+ * that distance, and the ties: how many rotations have that distance, itself included, 1 to m (equal turns of a periodic ring each count). Places and
+ * rotations count from 0.
  *
  * One stored copy can be several findings. If an exact copy of the ring stands at start i, a window that begins s edges before or after it has a distance
- * of at most s. So every start from i - k to i + k is a finding: at least 2 k + 1 of them, away from the line's ends. A reviewer who accepts that copy
- * needs as many silences: 5 at k = 2, so that a book of 1,000 silences is full after some 200 separate copies.
+ * of at most s. So every start from i - k to i + k is a finding, and the copy gives at least 2 k + 1 findings, fewer only at the line's ends. A reviewer
+ * who accepts that copy needs as many silences: 5 at k = 2, so that a book of 1,000 silences is full after some 200 separate copies.
  *
  * Calls. Every call takes every input. It is accepted or refused, and returns a struct outlines_answer by value. A refused call has written nothing
  * and returns zero in every count. A length counts elements: bytes of a ring, a line or a book, 32-bit words of an area of words. A pointer may be
@@ -35,7 +36,8 @@ extern "C" {
 #define OUTLINES_MOST_SILENCES 1000 /* most silences of a book */
 #define OUTLINES_MOST_BOOK 13000    /* most bytes of a book */
 
-/* Refusals: the condition of each, and its place. If several conditions hold, the call gives the first in the order stated at the call. */
+/* Refusals: the condition of each, and its place. If several conditions hold, the call gives the first in the order stated at the call. Record numbers
+ * count from 0. */
 enum outlines_refusal {
     OUTLINES_ACCEPTED = 0,
     OUTLINES_RING = 1,          /* the ring has no edge, or more than 256; place 0 */
@@ -46,12 +48,13 @@ enum outlines_refusal {
     OUTLINES_FIELD = 6,         /* a field of the book does not begin with 21 00 0A hex, or has fewer than 13 bytes; place: the field's byte offset */
     OUTLINES_NOT_ABOVE = 7,     /* a record is not above the one before it; place: its byte offset (report, unpack) or its record number (pack) */
     OUTLINES_WORD_COUNT = 8,    /* the number of words to pack is not a multiple of 3, or is above 3,000; place 0 */
-    OUTLINES_RING_NUMBER = 9,   /* a word to pack as a ring number is above 65,535; place: its record number. Record numbers count from 0 */
+    OUTLINES_RING_NUMBER = 9,   /* a word to pack as a ring number is above 65,535; place: its record number */
     OUTLINES_OUTPUT_ROOM = 10,  /* the area lent to pack or unpack is too small for the whole output; place 0 */
     OUTLINES_INPUT = 11         /* the report program's input is not laid out as SPEC, section 8, says; no call declared here gives it */
 };
 
-/* What every call returns. A look is one line edge read by the quick scan, or one comparison of a line edge with a ring edge. */
+/* What every call returns. A look is one line edge read by the quick scan, or one comparison of a line edge with a ring edge in computing distances; to
+ * test whether edges read so far fit the ring costs none (SPEC, section 3). */
 struct outlines_answer {
     uint32_t refusal; /* 0 if the call is accepted, else a number of enum outlines_refusal */
     uint32_t place;   /* the place of the refusal; 0 if the call is accepted */
@@ -71,7 +74,7 @@ struct outlines_answer outlines_survey(const uint8_t *ring, size_t ring_length, 
                                        size_t words_length);
 
 /* The quick scan: the arguments, findings, words and refusals of outlines_survey, usually in much less time (README.md says when not). Its looks are
- * the steps of the scan's rules: at most 3 m n - 2 m m + m if n >= m, else 0. */
+ * those that SPEC, section 3, counts: at most 3 m n - 2 m m + m if n >= m, else 0. */
 struct outlines_answer outlines_scan(const uint8_t *ring, size_t ring_length, const uint8_t *line, size_t line_length, size_t k, uint32_t *words,
                                      size_t words_length);
 
