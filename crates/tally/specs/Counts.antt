@@ -4,7 +4,7 @@
 --   mostCounts, lastCount      256: one count for each rotation of the longest ring; 65,535: the largest number that a count can hold
 --   leastOf                    the least of the first m counts
 --   lowestFrom, lowestWith     the lowest rotation that has a given count
---   hasCount, tiesWith         whether a rotation has a given count; how many rotations have it
+--   countIs, tiesWith          whether a rotation has a given count; how many rotations have it
 --   doubledEdge, doubledRing   the ring twice, end to end: rotation r is its m edges from place r on
 --   differsThere, afreshCount  the number of places where a window and a rotation differ
 --   afreshCounts               the counts after a fresh count: one for each rotation, the others kept
@@ -52,14 +52,14 @@ abbrev pub lowestWith : ℕ → List ℕ → ℕ → ℕ
 lowestWith m counts least = lowestFrom counts least (min m mostCounts) 0
 
 -- Whether the count of rotation r is `least`.
-abbrev pub hasCount : List ℕ → ℕ → ℕ → Bool
-hasCount counts least r = eqb (getD counts r 0) least
+abbrev pub countIs : List ℕ → ℕ → ℕ → Bool
+countIs counts least r = eqb (getD counts r 0) least
 
 -- How many of the first m rotations have the count `least`. There are 256 counts, so a larger m is taken as 256. A `least` above 65,535 gives 0: no count is that
 -- large.
 unfoldable pub tiesWith : ℕ → List ℕ → ℕ → ℕ
 tiesWith m counts least =
-    let ties : ℕ = count (hasCount counts least) 0 (min m mostCounts) in
+    let ties : ℕ = count (countIs counts least) 0 (min m mostCounts) in
     cond (ltb lastCount least) 0 ties
 
 -- The edge at place p of the ring twice, end to end; 0 past the second ring. For a ring of more than 256 edges it is 0 everywhere.
