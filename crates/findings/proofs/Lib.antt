@@ -1,6 +1,8 @@
 -- The laws of this crate, one module for each idea, in the order in which they build on each other. The proofs that the functions meet their contracts cite
--- them; each stands in a folder with the function's name: admitting/admit, putting/can_put, putting/put_words, putting/put_finding.
+-- them; each stands in a folder with the function's name: marks/is_mark, marks/holds_mark, admitting/admit, putting/can_put, putting/put_words, putting/put_finding.
 --
+-- The loop that seeks a mark.
+pub mod MarkLoop
 -- Rows 1 to 4: when each is the first that is given.
 pub mod AdmitRows
 -- A finding's words in the lent words.

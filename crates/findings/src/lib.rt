@@ -4,6 +4,7 @@
 // `put_finding` writes a finding's words behind those of the findings before it; its contract is in specs/Putting.antt.
 // No public function has a `requires`: each takes every input.
 mod admitting;
+mod marks;
 mod putting;
 mod searching;
 
@@ -11,6 +12,7 @@ pub use admitting::MOST_RING;
 pub use admitting::Verdict;
 pub use admitting::WORDS_EACH;
 pub use admitting::admit;
+pub use marks::is_mark;
 pub use putting::put_finding;
 pub use searching::Finding;
 pub use searching::SearchCounts;

@@ -16,7 +16,8 @@
 pub mod Count
 pub mod Lowest
 pub mod Some
--- the meanings: starts, what a place gives, the list of findings, their ties, the stretch that fits, and a start under a rotation as an alignment
+-- the meanings: marks, starts, what a place gives, the list of findings, their ties, the stretch that fits, and a start under a rotation as an alignment
+pub mod Marks
 pub mod Starts
 pub mod Places
 pub mod FindingsBelow

@@ -4,11 +4,12 @@
 -- for all lists. For an empty ring the value means nothing, and laws that depend on it require 0 < m. `getD` gives 0 past a list's end. At a start no
 -- definition reads there: line places stay below n because i + m ≤ n, and ring places are taken mod m.
 use Prim.Native.Nat.{ℕ, _+_, _%_, _≤_, _<_}
+use mathlib.Core.Path.{_≡_}
 use mathlib.Core.Bool.{Bool, not}
 use mathlib.Core.List.{List}
 use lib.Dec.{leb, eqb}
 use lib.ListN.{length, getD, take, drop}
-use Rattle.meaning.specs.Counting.{count, lowest}
+use Rattle.meaning.specs.Counting.{count, lowest, someBelow}
 
 -- "Rotation r of the ring, 0 ≤ r < m, has at its place q the ring's edge (r + q) mod m (source document 000)."
 abbrev pub rotationEdge : List ℕ → ℕ → ℕ → ℕ
@@ -26,6 +27,28 @@ pub record IsPastLine (ring line : List ℕ) (i : ℕ) : Type 0 where
 abbrev pub fitsInLine : List ℕ → List ℕ → ℕ → Bool
 fitsInLine ring line i = leb (i + length ring) (length line)
 
+-- The window of start i: "Its window is the m edges from i."
+unfoldable pub window : ℕ → List ℕ → ℕ → List ℕ
+window m line i = take m (drop i line)
+
+-- "Byte 255 is from now on a boundary mark" (document 02, ticket 2).
+abbrev pub mark : ℕ
+mark = 255
+
+-- Whether an edge is a boundary mark.
+abbrev pub isMark : ℕ → Bool
+isMark x = eqb x mark
+
+-- "holding one": some place of a ring or of a window has a mark.
+pub record HoldsMark (edges : List ℕ) : Type 0 where
+  pub place : ℕ
+  pub in-edges : place < length edges
+  pub is-mark : getD edges place 0 ≡ mark
+
+-- `HoldsMark` as a test.
+unfoldable pub holdsMark : List ℕ → Bool
+holdsMark edges = someBelow (λ q. isMark (getD edges q 0)) (length edges)
+
 -- "A start i is a line place with i + m ≤ n."
 pub record IsStart (ring line : List ℕ) (i : ℕ) : Type 0 where
   pub fits-in-line : FitsInLine ring line i
@@ -33,10 +56,6 @@ pub record IsStart (ring line : List ℕ) (i : ℕ) : Type 0 where
 -- Whether place i is a start. `foundAt` uses this test.
 abbrev pub isStart : List ℕ → List ℕ → ℕ → Bool
 isStart ring line i = fitsInLine ring line i
-
--- The window of start i: "Its window is the m edges from i."
-unfoldable pub window : ℕ → List ℕ → ℕ → List ℕ
-window m line i = take m (drop i line)
 
 -- The edge at place q of the window at i: the line's edge at i + q.
 abbrev pub windowEdge : List ℕ → ℕ → ℕ → ℕ
