@@ -3,16 +3,17 @@
 -- within the edges read. The windows of all those starts contain the edges read, so each start has a distance above k under every rotation.
 use Prim.Native.Nat.{ℕ, zero, suc, pred, _+_, _-_, _*_, _≤_, _<_}
 use mathlib.Core.Path.{_≡_, refl, ap, subst}
+use mathlib.Core.Bool.{true}
 use mathlib.Core.List.{List, [], _∷_}
 use native.Mathlib.Nat.{add-zero, add-suc}
 use native.Mathlib.Omega.{arith}
-use lib.Dec.{ltb}
 use lib.ListN.{length}
+use borrow.Author.Tests.{ltb-true}
 use Rattle.meaning.specs.Counting.{count}
 use Rattle.meaning.specs.Meanings.{windowEdge, distance, lowestRotation}
 use Rattle.meaning.specs.Findings.{Finding, IsFinding, foundAt}
 use Rattle.meaning.specs.Stretch.{fits}
-use Rattle.meaning.specs.Rules.{Reading, unread, readEdge, readLeft, readWindow, nextStart}
+use Rattle.meaning.specs.Rules.{Reading, unread, readEdge, isStopped, readLeft, readWindow, nextStart}
 use Rattle.lists.proofs.Cases.{by-test}
 use Rattle.meaning.proofs.Count.{count-split, count-part-le}
 use Rattle.meaning.proofs.FitDecided.{fits-no}
@@ -96,7 +97,7 @@ module _ (ring line : List ℕ) (pos : 0 < length ring) (k i : ℕ) where
   unfolding readLeft
   left-costs zero w h = counting-end zero w h
   left-costs (suc left) w h =
-      by-test Costs (ltb k (w .breaks))
+      by-test Costs (isStopped k w)
       (λ _. counting-end (suc left) w h)
       (λ _. left-costs left (readEdge ring (windowEdge line i left) w) (counting-turn left w h))
 
@@ -125,12 +126,12 @@ module _ (ring line : List ℕ) (pos : 0 < length ring) (k i : ℕ) where
         count-part-le (unlike ring line c) i′ before (w .read) after,
       )
 
-  -- If the window at i is stopped at break k + 1, no finding is at i, nor at any place jumped over.
-  pub nothing-lost : k < readWindow ring line k i .breaks
+  -- If the window at i is stopped, no finding is at i, nor at any place jumped over.
+  pub nothing-lost : isStopped k (readWindow ring line k i) ≡ true
       → (i′ : ℕ) → i ≤ i′ → i′ < nextStart ring (readWindow ring line k i) → foundAt ring line k i′ ≡ []
-  nothing-lost h i′ lo hi = found-no ring line k i′ (omega (arith, breaks-le i′ (lowestRotation ring line i′) lo hi))
+  nothing-lost stop i′ lo hi = found-no ring line k i′ (omega (arith, ltb-true k (readWindow ring line k i .breaks) stop, breaks-le i′ (lowestRotation ring line i′) lo hi))
 
-  -- In the words of the meaning: if the window at i is stopped at break k + 1, no finding starts at i or at a place jumped over.
-  pub no-finding-jumped : k < readWindow ring line k i .breaks
+  -- In the words of the meaning: if the window at i is stopped, no finding starts at i or at a place jumped over.
+  pub no-finding-jumped : isStopped k (readWindow ring line k i) ≡ true
       → (f : Finding) → i ≤ f .start → f .start < nextStart ring (readWindow ring line k i) → IsFinding ring line k f → ⊥
-  no-finding-jumped h f lo hi is = omega (arith, breaks-le (f .start) (f .rotation) lo hi, is .distance-is, is .at-most-k)
+  no-finding-jumped stop f lo hi is = omega (arith, ltb-true k (readWindow ring line k i .breaks) stop, breaks-le (f .start) (f .rotation) lo hi, is .distance-is, is .at-most-k)

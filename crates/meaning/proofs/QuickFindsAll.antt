@@ -1,6 +1,6 @@
 -- Rules 1 to 4 report exactly the findings. (Rule 5 decides no finding; that a tally moved by it holds the distances is proved in crates/moves, from
 -- `distance-step` of TallyStep.) Induction over the windows from place i on: the findings below i, followed by what these windows report, are all findings. A
--- candidate reports its own place; a window stopped at break k + 1 jumps over places without a finding (`nothing-lost`); past the last window no place is a
+-- candidate reports its own place; a window that was stopped jumps over places without a finding (`nothing-lost`); past the last window no place is a
 -- start (`findings-below`).
 use Prim.Native.Nat.{ℕ, suc, _+_, _-_, _≤_, _<_, min}
 use mathlib.Core.Path.{_≡_, sym, _∙_}
@@ -39,13 +39,13 @@ module _ (ring line : List ℕ) (k : ℕ) where
         (λ all.
         let there : min (nextStart ring w) (length line) ≡ suc i = omega (arith, was .start-is, all .0) in
         rw (candidate-yes ring k w (all .0) (all .1), was .start-is, here, ← append-assoc) (rw there at h))
-        (λ many.
+        (λ stop.
         let d : ℕ = min (nextStart ring w) (length line) - i in
         let there : min (nextStart ring w) (length line) ≡ i + d = omega (arith, was .start-is) in
         let jumped : findingsBelow ring line k (i + d) ≡ findingsBelow ring line k i =
-        below-same ring line k i d (λ j lo hi. nothing-lost ring line pos k i many j lo (omega arith))
+        below-same ring line k i d (λ j lo hi. nothing-lost ring line pos k i stop j lo (omega arith))
         in
-        rw (candidate-no ring k w many, here) (rw (there, jumped) at h))
+        rw (candidate-no ring k w stop, here) (rw (there, jumped) at h))
         (was .ended)
 
     -- For a ring that is not empty, the rules of the quick scan report exactly the findings.

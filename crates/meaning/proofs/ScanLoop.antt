@@ -2,6 +2,7 @@
 -- report, is the list of findings; the looks so far, plus what these windows still cost, are all looks.
 use Prim.Native.Nat.{ℕ, _+_, _-_, _≤_, _<_}
 use mathlib.Core.Path.{_≡_, sym, ap, _∙_}
+use mathlib.Core.Bool.{true, false, true≢false}
 use mathlib.Core.Logic.{⊎-elim}
 use mathlib.Core.List.{List, [], _++_, append-nil, append-assoc}
 use mathlib.Core.Option.{Option, none, some}
@@ -9,7 +10,7 @@ use native.Mathlib.Omega.{arith}
 use lib.ListN.{length, length-append}
 use Rattle.meaning.specs.Meanings.{FitsInLine, IsPastLine}
 use Rattle.meaning.specs.Findings.{Finding, foundAt, findings}
-use Rattle.meaning.specs.Rules.{Reading, readWindow, candidatesOf, reported}
+use Rattle.meaning.specs.Rules.{Reading, isStopped, readWindow, candidatesOf, reported}
 use Rattle.meaning.specs.Looks.{readLooks, tallyLooks, verifyLooks, quickLooks}
 use Rattle.meaning.proofs.WindowRead.{window-read, candidate-yes, candidate-no}
 use Rattle.meaning.proofs.WindowSteps.{windowsAt, windows-start, windows-step, windows-end}
@@ -56,23 +57,23 @@ module _ (ring line : List ℕ) (k : ℕ) where
       nextPlace = i + (m - w .read + 1)
 
       -- A candidate is verified: its finding, if it is one, is added at the end, and its start is now the last verified one.
-      pub scan-verified : w .breaks ≤ k → ScanLoop nextPlace (some i) (found ++ foundAt ring line k i) (looks + w .read + tallyLooks m last i)
+      pub scan-verified : isStopped k w ≡ false → ScanLoop nextPlace (some i) (found ++ foundAt ring line k i) (looks + w .read + tallyLooks m last i)
       unfolding candidatesOf reported readLooks verifyLooks
-      scan-verified few =
+      scan-verified goes-on =
           let was = window-read ring line k i in
-          let all : w .read ≡ m = ⊎-elim (λ e. e .0) (λ many. absurd (omega arith)) (was .ended) in
-          let yes = candidate-yes ring k w all few in
+          let all : w .read ≡ m = ⊎-elim (λ e. e .0) (λ stop. absurd (true≢false (sym stop ∙ goes-on))) (was .ended) in
+          let yes = candidate-yes ring k w all goes-on in
           record {
             found-are = rw append-assoc (rw (windows-step ring line k i in-line, yes, was .start-is) at (h .found-are));
             looks-are = omega (arith, rw (windows-step ring line k i in-line, yes, was .start-is) at (h .looks-are));
           }
 
-      -- A window stopped at break k + 1 adds no finding; only its edges read are added to the looks.
-      pub scan-stopped : k < w .breaks → ScanLoop nextPlace last found (looks + w .read)
+      -- A window that was stopped adds no finding; only its edges read are added to the looks.
+      pub scan-stopped : isStopped k w ≡ true → ScanLoop nextPlace last found (looks + w .read)
       unfolding candidatesOf reported readLooks
-      scan-stopped many =
+      scan-stopped stop =
           let was = window-read ring line k i in
-          let no = candidate-no ring k w many in
+          let no = candidate-no ring k w stop in
           record {
             found-are = rw (windows-step ring line k i in-line, no, was .start-is) at (h .found-are);
             looks-are = omega (arith, rw (windows-step ring line k i in-line, no, was .start-is) at (h .looks-are));

@@ -1,18 +1,18 @@
--- What holds for every window that was read: its start is the place where it was read, at most m edges were read, and reading ended with all of them read and
--- at most k breaks, or at break k + 1. Induction on the edges left.
+-- What holds for every window that was read: its start is the place where it was read, at most m edges were read, and either all of them were read and the window
+-- was not stopped, or it was stopped. Induction on the edges left.
 use Prim.Native.Nat.{ℕ, zero, suc, _+_, _≤_, _<_}
 use mathlib.Core.Path.{_≡_, refl, _∙_}
-use mathlib.Core.Bool.{true, false, and-false}
-use mathlib.Core.Logic.{_⊎_, inl, inr, ⊎-elim}
+use mathlib.Core.Bool.{Bool, true, false, and-false}
+use mathlib.Core.Logic.{_⊎_, inl, inr}
 use mathlib.Core.List.{List, _∷_}
 use native.Mathlib.Omega.{arith}
-use lib.Dec.{ltb, eqb}
+use lib.Dec.{eqb}
 use lib.ListN.{length}
-use borrow.Author.Tests.{ltb-true, le-leb, lt-leb, eq-eqb}
+use borrow.Author.Tests.{eq-eqb}
 use Rattle.meaning.specs.Meanings.{windowEdge}
 use Rattle.meaning.specs.Stretch.{fits}
-use Rattle.meaning.specs.Rules.{Reading, unread, readEdge, readLeft, readWindow, isCandidate}
-use Rattle.lists.proofs.Cases.{by-test, le-or-lt}
+use Rattle.meaning.specs.Rules.{Reading, unread, readEdge, isStopped, readLeft, readWindow, isCandidate}
+use Rattle.lists.proofs.Cases.{by-test}
 
 -- Reading an edge keeps the window's start.
 edge-start : (ring : List ℕ) (x : ℕ) (w : Reading) → readEdge ring x w .start ≡ w .start
@@ -24,9 +24,9 @@ pub edge-read : (ring : List ℕ) (x : ℕ) (w : Reading) → readEdge ring x w 
 unfolding readEdge
 edge-read ring x w = by-test (λ (v : Reading). v .read ≡ suc (w .read)) (fits ring (x ∷ w .held)) (λ _. refl) (λ _. refl)
 
--- All m edges are read with at most k breaks, or break k + 1 is reached.
+-- All m edges are read and the window was not stopped, or it was stopped.
 abbrev pub Ended : List ℕ → ℕ → Reading → Type 0
-Ended ring k w = ((w .read ≡ length ring) × (w .breaks ≤ k)) ⊎ (k < w .breaks)
+Ended ring k w = ((w .read ≡ length ring) × (isStopped k w ≡ false)) ⊎ (isStopped k w ≡ true)
 
 -- What holds for the window at i once it is read: its start, how many edges were read at most, and how reading ended.
 pub record WasRead (ring : List ℕ) (k i : ℕ) (w : Reading) : Type 0 where
@@ -35,9 +35,13 @@ pub record WasRead (ring : List ℕ) (k i : ℕ) (w : Reading) : Type 0 where
   pub ended : Ended ring k w
 
 module _ (ring line : List ℕ) (k i : ℕ) where
-  -- Once all edges are read, the number of breaks decides which of the two it is.
+  -- Once all edges are read, the test decides which of the two it is.
   all-read : (w : Reading) → w .read ≡ length ring → Ended ring k w
-  all-read w e = ⊎-elim (λ l. inl (e, l)) (λ l. inr l) (le-or-lt (w .breaks) k)
+  all-read w e = go (isStopped k w) refl
+    where
+      go : (t : Bool) → isStopped k w ≡ t → Ended ring k w
+      go true stop = inr stop
+      go false goes-on = inl (e, goes-on)
 
   -- The same for a window with `left` edges unread.
   left-read : (left : ℕ) (w : Reading) → w .start ≡ i → w .read + left ≡ length ring → WasRead ring k i (readLeft ring line k i left w)
@@ -45,8 +49,8 @@ module _ (ring line : List ℕ) (k i : ℕ) where
   left-read zero w s e = record { start-is = s; read-le = omega arith; ended = all-read w (omega arith) }
   left-read (suc left) w s e =
       let x : ℕ = windowEdge line i left in
-      by-test (WasRead ring k i) (ltb k (w .breaks))
-      (λ stop. record { start-is = s; read-le = omega arith; ended = inr (ltb-true k (w .breaks) stop) })
+      by-test (WasRead ring k i) (isStopped k w)
+      (λ stop. record { start-is = s; read-le = omega arith; ended = inr stop })
       (λ _. left-read left (readEdge ring x w) (edge-start ring x w ∙ s) (omega (arith, edge-read ring x w)))
 
   -- `WasRead` holds for the window at every place i.
@@ -54,10 +58,10 @@ module _ (ring line : List ℕ) (k i : ℕ) where
   unfolding readWindow
   window-read = left-read (length ring) (unread i) refl (omega arith)
 
--- A window with all m edges read and at most k breaks is a candidate.
-pub candidate-yes : (ring : List ℕ) (k : ℕ) (w : Reading) → w .read ≡ length ring → w .breaks ≤ k → isCandidate ring k w ≡ true
-candidate-yes ring k w e h = rw (eq-eqb (w .read) (length ring) e, le-leb (w .breaks) k h)
+-- A window with all m edges read that was not stopped is a candidate.
+pub candidate-yes : (ring : List ℕ) (k : ℕ) (w : Reading) → w .read ≡ length ring → isStopped k w ≡ false → isCandidate ring k w ≡ true
+candidate-yes ring k w e goes-on = rw (eq-eqb (w .read) (length ring) e, goes-on)
 
--- A window that was stopped at break k + 1 is not a candidate.
-pub candidate-no : (ring : List ℕ) (k : ℕ) (w : Reading) → k < w .breaks → isCandidate ring k w ≡ false
-candidate-no ring k w h = rw (lt-leb (w .breaks) k h) (and-false (eqb (w .read) (length ring)))
+-- A window that was stopped is not a candidate.
+pub candidate-no : (ring : List ℕ) (k : ℕ) (w : Reading) → isStopped k w ≡ true → isCandidate ring k w ≡ false
+candidate-no ring k w stop = rw stop (and-false (eqb (w .read) (length ring)))

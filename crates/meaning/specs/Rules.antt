@@ -4,9 +4,9 @@
 -- `windowsAt i`, the windows from place i on: `windows-step` (a window that fits in the line is read, then come the windows from the next start on)
 -- and `windows-end` (where no window fits, none is read).
 use Prim.Native.Nat.{ℕ, zero, suc, _+_, _-_}
-use mathlib.Core.Bool.{Bool, cond, _&&_}
+use mathlib.Core.Bool.{Bool, not, cond, _&&_}
 use mathlib.Core.List.{List, [], _∷_, _++_}
-use lib.Dec.{ltb, leb, eqb}
+use lib.Dec.{ltb, eqb}
 use lib.ListN.{length}
 use Rattle.meaning.specs.Meanings.{fitsInLine, windowEdge}
 use Rattle.meaning.specs.Findings.{Finding, foundAt}
@@ -32,13 +32,17 @@ readEdge ring x w =
     let broken : Reading = record { start = w .start; read = suc (w .read); breaks = suc (w .breaks); held = [] } in
     cond (fits ring grown) kept broken
 
+-- Rule 3. "Stop at break k+1": whether the window is stopped.
+abbrev pub isStopped : ℕ → Reading → Bool
+isStopped k w = ltb k (w .breaks)
+
 -- Rules 1 and 3. "read its edges from the last towards the first"; "Stop at break k+1, or when all m edges are read." The number before w is how
 -- many edges of the window at i are still unread.
 unfoldable pub readLeft : List ℕ → List ℕ → ℕ → ℕ → ℕ → Reading → Reading
 readLeft ring line k i zero w = w
 readLeft ring line k i (suc left) w =
     let further : Reading = readLeft ring line k i left (readEdge ring (windowEdge line i left) w) in
-    cond (ltb k (w .breaks)) w further
+    cond (isStopped k w) w further
 
 -- The window at i, read until break k + 1 or until all m edges are read.
 unfoldable pub readWindow : List ℕ → List ℕ → ℕ → ℕ → Reading
@@ -61,9 +65,9 @@ windowsFrom ring line k (suc more) i =
 abbrev pub windows : List ℕ → List ℕ → ℕ → List Reading
 windows ring line k = windowsFrom ring line k (length line + 1) 0
 
--- Rule 4. "A window with all m edges read and at most k breaks is a candidate."
+-- Rule 4. "A window with all m edges read and at most k breaks is a candidate": it was not stopped.
 abbrev pub isCandidate : List ℕ → ℕ → Reading → Bool
-isCandidate ring k w = eqb (w .read) (length ring) && leb (w .breaks) k
+isCandidate ring k w = eqb (w .read) (length ring) && not (isStopped k w)
 
 -- The starts of the windows that are candidates.
 unfoldable pub candidatesOf : List ℕ → ℕ → List Reading → List ℕ

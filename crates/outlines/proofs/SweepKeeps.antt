@@ -1,5 +1,5 @@
 -- The sweep's part of the loop's invariant. Before each turn the findings and the looks so far are right (`ScanLoop` of crates/meaning), and the counts are the
--- tally of the last verified start. A turn is one call of `sweep_on`: windows stopped at break k + 1 add no finding (`stopped-scanned` of crates/sweep), and a
+-- tally of the last verified start. A turn is one call of `sweep_on`: stopped windows add no finding (`stopped-scanned` of crates/sweep), and a
 -- candidate is verified (`scan-verified`). A turn ends past the start where it began, so the measure falls.
 use Prim.Native.Nat.{ℕ, _+_, _-_, _≤_, _<_}
 use mathlib.Core.Path.{_≡_, refl, sym, ap, _∙_}
@@ -118,7 +118,7 @@ module _ {ring doubled table line : List ℕ} {k : ℕ} {book counts₀ area : L
             keeps = record {
               scanning =
                   rw (c .start-is, c .last-is, c .looks-are, c .found-are)
-                  (scan-verified ring line k (on .stop) (lastStart (at .last)) so-far _ left (c .in-line) (c .few));
+                  (scan-verified ring line k (on .stop) (lastStart (at .last)) so-far _ left (c .in-line) (c .not-stopped));
               before = c .before;
               size = c .size;
               start-le = omega (arith, c .start-is, c .in-line);

@@ -1,5 +1,5 @@
 -- With the ring's own vectors and double, and the tally of the last verified start, the answer of `sweep_on` is what rules 1 to 5 give. The windows before the
--- candidate are stopped at break k + 1 (`windows-by-rules`), and the candidate is verified by rule 5 (`tally-by-rules`). Its tally decides whether it is a
+-- candidate are stopped (`windows-by-rules`), and the candidate is verified by rule 5 (`tally-by-rules`). Its tally decides whether it is a
 -- finding, and which one (`TallyFinding` of crates/tally).
 use Prim.Native.Nat.{ℕ, _+_, _≤_, _<_}
 use mathlib.Core.Path.{_≡_, refl, sym, ap, subst, _∙_}
@@ -95,7 +95,7 @@ module _ (ring doubled table line : List ℕ) (k : ℕ) (old : List ℕ) (at : S
       ended = λ t. absurd (true≢false (sym t ∙ goes-on));
       candidate = λ _. record {
         in-line = read-is .in-line;
-        few = read-is .few;
+        not-stopped = read-is .not-stopped;
         start-is = rw state (read-is .next-is);
         last-is = rw state refl;
         looks-are = rw state (omega (arith, read-is .looks-are, verified .looks-are));

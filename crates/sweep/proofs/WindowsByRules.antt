@@ -1,6 +1,6 @@
 -- Windows read with the ring's own vectors, up to the next candidate, are read by the rules. By induction on how many windows may still come: every window so
--- far was stopped at break k + 1 (`StoppedTo`). The window at i is read as a line of its own (`read-by-rules`, `alone-reading` of crates/meaning). Either it is
--- stopped at break k + 1, and the next one starts later; or it is the candidate; or it does not fit in the line.
+-- far was stopped (`StoppedTo`). The window at i is read as a line of its own (`read-by-rules`, `alone-reading` of crates/meaning). Either it is
+-- stopped, and the next one starts later; or it is the candidate; or it does not fit in the line.
 use Prim.Native.Nat.{ℕ, zero, suc, _+_, _-_, _≤_, _<_}
 use mathlib.Core.Path.{_≡_, refl, sym, ap, _∙_}
 use mathlib.Core.Bool.{true, true≢false}
@@ -8,7 +8,7 @@ use mathlib.Core.List.{List}
 use native.Mathlib.Omega.{arith}
 use lib.Dec.{leb}
 use lib.ListN.{length}
-use borrow.Author.Tests.{leb-true, leb-false}
+use borrow.Author.Tests.{leb-true, leb-false, lt-ltb, le-ltb}
 use Rattle.lists.proofs.Cases.{by-test}
 use Rattle.meaning.specs.Meanings.{FitsInLine, IsPastLine, window, fitsInLine}
 use Rattle.meaning.proofs.Starts.{fits-line-iff, past-line-iff}
@@ -55,9 +55,9 @@ module _ (ring table line : List ℕ) (k from : ℕ) (own : OwnVectors ring tabl
       next-is : i + read i .left + 1 ≡ sweptStart ring line k i
       next-is = omega (arith, reads-are, by-rules .left-is)
 
-      -- The case that the window is stopped at break k + 1.
+      -- The case that the window is stopped.
       stopped-here : k < read i .breaks → StoppedTo ring line k from (i + read i .left + 1) (looks + read i .looks)
-      stopped-here many = rw (next-is, reads-are) (one-stopped h in-line (omega (arith, breaks-are)))
+      stopped-here many = rw (next-is, reads-are) (one-stopped h in-line (lt-ltb k _ (omega (arith, breaks-are))))
 
       -- The case that it is the candidate.
       stops-here : read i .breaks ≤ k
@@ -65,11 +65,11 @@ module _ (ring table line : List ℕ) (k from : ℕ) (own : OwnVectors ring tabl
       stops-here few = record {
         looks = looks;
         stopped-to = h;
-        candidate-is = λ _. record { in-line = in-line; few = omega (arith, breaks-are); next-is = next-is; looks-are = omega (arith, reads-are) };
+        candidate-is = λ _. record { in-line = in-line; not-stopped = le-ltb k _ (omega (arith, breaks-are)); next-is = next-is; looks-are = omega (arith, reads-are) };
         ended = λ e. absurd (true≢false e);
       }
 
-  -- Reading windows from a start i before which every window was stopped at break k + 1 follows the rules.
+  -- Reading windows from a start i before which every window was stopped follows the rules.
   windows-on : (left i looks : ℕ) → n + 1 ≤ i + left → StoppedTo ring line k from i looks
       → IsWindowsRead ring line k from (windowsOn ring table line k left i looks)
   unfolding windowsOn

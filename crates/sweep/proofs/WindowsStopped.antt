@@ -1,4 +1,4 @@
--- Laws of a run of windows that are stopped at break k + 1 (`StoppedTo`), by induction on the run. Their starts rise and are at most n + 1. No start from
+-- Laws of a run of windows that are stopped (`StoppedTo`), by induction on the run. Their starts rise and are at most n + 1. No start from
 -- the first of them up to the next window is a finding, so the invariant of the loop over windows (`ScanLoop` of crates/meaning) holds after them too.
 use Prim.Native.Nat.{ℕ, _+_, _≤_}
 use mathlib.Core.List.{List}

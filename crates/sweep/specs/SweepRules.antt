@@ -20,7 +20,7 @@ use mathlib.Core.Option.{some}
 use lib.ListN.{length}
 use Rattle.meaning.specs.Meanings.{FitsInLine, IsPastLine}
 use Rattle.meaning.specs.Findings.{Finding, foundAt}
-use Rattle.meaning.specs.Rules.{readWindow}
+use Rattle.meaning.specs.Rules.{isStopped, readWindow}
 use Rattle.meaning.specs.Looks.{tallyLooks}
 use Rattle.vectors.specs.ByValue.{Occurrences}
 use Rattle.findings.specs.Putting.{findingOf}
@@ -54,22 +54,22 @@ hasEnded (Ended next) = true
 hasEnded (NoFinding next) = false
 hasEnded (Found next f) = false
 
--- A run of windows, each stopped at break k + 1: the first starts at `from`, the next window after the run starts at i. Each window of the run fits in the line, the
+-- A run of windows, each of them stopped: the first starts at `from`, the next window after the run starts at i. Each window of the run fits in the line, the
 -- next one starts where rule 3 says, and the looks are the edges read.
 pub data StoppedTo (ring line : List ℕ) (k from : ℕ) : ℕ → ℕ → Type 0 where
   none-stopped : StoppedTo ring line k from from 0
-  one-stopped : {i looks : ℕ} → StoppedTo ring line k from i looks → FitsInLine ring line i → k < readWindow ring line k i .breaks
+  one-stopped : {i looks : ℕ} → StoppedTo ring line k from i looks → FitsInLine ring line i → isStopped k (readWindow ring line k i) ≡ true
       → StoppedTo ring line k from (sweptStart ring line k i) (looks + readWindow ring line k i .read)
 
--- Rule 4: "A window with all m edges read and at most k breaks is a candidate." The window at r's start is one; r has the next start and the looks. A window with at
--- most k breaks was not stopped, so all its edges are read. `looks` are those of the windows before it.
+-- Rule 4: "A window with all m edges read and at most k breaks is a candidate." The window at r's start is one; r has the next start and the looks. All edges of a
+-- window that was not stopped are read. `looks` are those of the windows before it.
 pub record IsCandidateRead (ring line : List ℕ) (k looks : ℕ) (r : WindowsRead) : Type 0 where
   pub in-line : FitsInLine ring line (r .start .0)
-  pub few : readWindow ring line k (r .start .0) .breaks ≤ k
+  pub not-stopped : isStopped k (readWindow ring line k (r .start .0)) ≡ false
   pub next-is : r .next .0 ≡ sweptStart ring line k (r .start .0)
   pub looks-are : r .looks ≡ looks + readWindow ring line k (r .start .0) .read
 
--- From start `from` on every window is stopped at break k + 1, up to r's start. There the window is a candidate, or no window fits in the line any more.
+-- From start `from` on every window is stopped, up to r's start. There the window is a candidate, or no window fits in the line any more.
 pub record IsWindowsRead (ring line : List ℕ) (k from : ℕ) (r : WindowsRead) : Type 0 where
   pub looks : ℕ
   pub stopped-to : StoppedTo ring line k from (r .start .0) looks
@@ -90,7 +90,7 @@ pub record CanSweepOn (ring doubled table line counts : List ℕ) (at : Sweep) :
 -- added.
 pub record IsCandidateSwept (ring line : List ℕ) (k : ℕ) (at : Sweep) (r : Swept) (counts : List ℕ) : Type 0 where
   pub in-line : FitsInLine ring line (at .start .0)
-  pub few : readWindow ring line k (at .start .0) .breaks ≤ k
+  pub not-stopped : isStopped k (readWindow ring line k (at .start .0)) ≡ false
   pub start-is : stateOf r .start .0 ≡ sweptStart ring line k (at .start .0)
   pub last-is : lastStart (stateOf r .last) ≡ some (at .start .0)
   pub looks-are : stateOf r .looks ≡ at .looks + readWindow ring line k (at .start .0) .read + tallyLooks (length ring) (lastStart (at .last)) (at .start .0)
@@ -105,11 +105,11 @@ pub record HasEnded (ring line : List ℕ) (at next : Sweep) (counts : List ℕ)
   pub before : TalliedBefore ring line (at .start .0) counts (lastStart (at .last))
   pub size : length counts ≡ mostCounts
 
--- The sweep after a run of windows stopped at break k + 1: only its start, now i, and its looks have changed.
+-- The sweep after a run of stopped windows: only its start, now i, and its looks have changed.
 abbrev pub stoppedState : Sweep → ℕ → ℕ → Sweep
 stoppedState at i looks = record { start = record { 0 = i }; last = at .last; looks = at .looks + looks }
 
--- From the start of `at` on every window is stopped at break k + 1, up to `stop`. There the window is a candidate and is verified, or no window fits in the
+-- From the start of `at` on every window is stopped, up to `stop`. There the window is a candidate and is verified, or no window fits in the
 -- line any more.
 pub record IsSweptOn (ring line : List ℕ) (k : ℕ) (at : Sweep) (r : Swept) (counts : List ℕ) : Type 0 where
   pub stop : ℕ

@@ -1,4 +1,4 @@
--- `sweep::sweeping::read_windows` meets its contract: the loop keeps `StillWindows`. A turn passes a window that is stopped at break k + 1, or ends at the
+-- `sweep::sweeping::read_windows` meets its contract: the loop keeps `StillWindows`. A turn passes a window that is stopped, or ends at the
 -- candidate. The measure is n + 1 - i.
 use Prim.Native.Nat.{_+_, _-_}
 use native.Mathlib.Omega.{arith}
@@ -70,7 +70,7 @@ returns c =
 loop-less : tie.Need-loop-less Inv-loop μ-loop
 loop-less c = omega (arith, at-turn (c .before .before .before .before) .loop-test .taken)
 
--- A window that is stopped at break k + 1.
+-- A window that is stopped.
 loop-again : tie.Need-loop-again Inv-loop μ-loop
 loop-again c =
     let read = c .before .before .before .before in
