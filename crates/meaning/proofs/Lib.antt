@@ -16,8 +16,9 @@
 pub mod Count
 pub mod Lowest
 pub mod Some
--- the meanings: marks, starts, what a place gives, the list of findings, their ties, the stretch that fits, and a start under a rotation as an alignment
+-- the meanings: marks, windows, starts, what a place gives, the list of findings, their ties, the stretch that fits, and a start under a rotation as an alignment
 pub mod Marks
+pub mod Windows
 pub mod Starts
 pub mod Places
 pub mod FindingsBelow
@@ -29,6 +30,7 @@ pub mod Alignment
 -- the rules: one window, the windows one after the other, that a jump loses nothing, and that all findings are reported
 pub mod WindowRead
 pub mod WindowSteps
+pub mod CandidateStart
 pub mod NothingLost
 pub mod QuickFindsAll
 -- looks

@@ -1,25 +1,26 @@
--- Nothing is lost at a jump: if a window is stopped at break k + 1, no start from its own to the last one jumped over is a finding. Each break comes from a
+-- Nothing is lost at a jump: if a window is stopped, no place from its own to the last one jumped over is a finding. If it is left at a mark, each of these
+-- places has the mark in its window, and is no start. If it is stopped at break k + 1, each has a distance above k. Each break comes from a
 -- stretch that is the beginning of no rotation, so in every alignment one of its edges is unlike (`unlike-in-stretch`). These stretches do not overlap and lie
 -- within the edges read. The windows of all those starts contain the edges read, so each start has a distance above k under every rotation.
 use Prim.Native.Nat.{ℕ, zero, suc, pred, _+_, _-_, _*_, _≤_, _<_}
-use mathlib.Core.Path.{_≡_, refl, ap, subst}
+use mathlib.Core.Path.{_≡_, refl, ap, subst, _∙_}
 use mathlib.Core.Bool.{true}
+use mathlib.Core.Logic.{⊎-elim}
 use mathlib.Core.List.{List, [], _∷_}
 use native.Mathlib.Nat.{add-zero, add-suc}
 use native.Mathlib.Omega.{arith}
-use lib.ListN.{length}
-use borrow.Author.Tests.{ltb-true}
+use lib.ListN.{length, getD}
 use Rattle.meaning.specs.Counting.{count}
-use Rattle.meaning.specs.Meanings.{windowEdge, distance, lowestRotation}
+use Rattle.meaning.specs.Meanings.{windowEdge, IsStart, distance, lowestRotation}
 use Rattle.meaning.specs.Findings.{Finding, IsFinding, foundAt}
-use Rattle.meaning.specs.Stretch.{fits}
 use Rattle.meaning.specs.Rules.{Reading, unread, readEdge, isStopped, readLeft, readWindow, nextStart}
 use Rattle.lists.proofs.Cases.{by-test}
 use Rattle.meaning.proofs.Count.{count-split, count-part-le}
 use Rattle.meaning.proofs.FitDecided.{fits-no}
 use Rattle.meaning.proofs.Alignment.{unlike, distance-aligned, FromLine, unlike-in-stretch}
-use Rattle.meaning.proofs.WindowRead.{window-read}
-use Rattle.meaning.proofs.Places.{found-no}
+use Rattle.meaning.proofs.WindowRead.{by-edge, stopped-iff, window-read}
+use Rattle.meaning.proofs.Starts.{marked-no-start, no-start}
+use Rattle.meaning.proofs.Places.{found-no-start, found-no}
 
 module _ (ring line : List ℕ) (pos : 0 < length ring) (k i : ℕ) where
   -- In every alignment the edges read have at least as many unlike places as there are breaks.
@@ -65,19 +66,26 @@ module _ (ring line : List ℕ) (pos : 0 < length ring) (k i : ℕ) where
         let at : i + suc left + length (w .held) ≡ i + left + length grown = omega arith in
         subst (λ (n : ℕ). w .breaks ≤ count (unlike ring line c) n (h .past)) at (h .cost c)
 
-    -- If the grown stretch fits, it is held. If not, its edges join those past, which then have one unlike place more, for the new break.
+    -- If the edge is a mark, the grown stretch's edges join those past, without a new break. If the grown stretch fits, it is held. If not, its edges join those
+    -- past, which then have one unlike place more, for the new break.
     counting-turn : BreaksCost left (readEdge ring (windowEdge line i left) w)
-    unfolding readEdge
     counting-turn =
-        by-test (BreaksCost left) (fits ring grown)
+        by-edge ring (windowEdge line i left) w (BreaksCost left)
         (λ _. record {
+          past = length grown + h .past;
+          all = omega (arith, h .all);
+          parts = omega (arith, h .parts);
+          from-line = tt;
+          cost = λ c. rw add-zero (omega (arith, grown-cost c, count-split (unlike ring line c) (i + left) (length grown) (h .past)));
+        })
+        (λ _ _. record {
           past = h .past;
           all = omega (arith, h .all);
           parts = omega (arith, h .parts);
           from-line = grown-from-line;
           cost = grown-cost;
         })
-        (λ e. record {
+        (λ _ e. record {
           past = length grown + h .past;
           all = omega (arith, h .all);
           parts = omega (arith, h .parts);
@@ -126,12 +134,29 @@ module _ (ring line : List ℕ) (pos : 0 < length ring) (k i : ℕ) where
         count-part-le (unlike ring line c) i′ before (w .read) after,
       )
 
-  -- If the window at i is stopped, no finding is at i, nor at any place jumped over.
-  pub nothing-lost : isStopped k (readWindow ring line k i) ≡ true
-      → (i′ : ℕ) → i ≤ i′ → i′ < nextStart ring (readWindow ring line k i) → foundAt ring line k i′ ≡ []
-  nothing-lost stop i′ lo hi = found-no ring line k i′ (omega (arith, ltb-true k (readWindow ring line k i .breaks) stop, breaks-le i′ (lowestRotation ring line i′) lo hi))
+  module _ (i′ : ℕ) (lo : i ≤ i′) (hi : i′ < nextStart ring (readWindow ring line k i)) where
+    -- If the window at i is left at a mark, no place from i to the mark is a start: the window of each contains the mark.
+    pub no-start-to-mark : readWindow ring line k i .at-mark ≡ true → IsStart ring line i′ → ⊥
+    no-start-to-mark left =
+        let was = window-read ring line k i in
+        let at : ℕ = i + (length ring - readWindow ring line k i .read) in
+        let is = was .mark-is left in
+        let there : i′ + (at - i′) ≡ at = omega (arith, was .start-is) in
+        marked-no-start ring line i′ (at - i′) (omega (arith, is .0, was .read-le)) (ap (λ (p : ℕ). getD line p 0) there ∙ is .1)
+
+    -- If the window at i is stopped, no finding is at i, nor at any place jumped over.
+    pub nothing-lost : isStopped k (readWindow ring line k i) ≡ true → foundAt ring line k i′ ≡ []
+    nothing-lost stop =
+        ⊎-elim
+        (λ many. found-no ring line k i′ (omega (arith, breaks-le i′ (lowestRotation ring line i′) lo hi)))
+        (λ left. found-no-start ring line k i′ (no-start ring line i′ (no-start-to-mark left)))
+        (stopped-iff k (readWindow ring line k i) .0 stop)
 
   -- In the words of the meaning: if the window at i is stopped, no finding starts at i or at a place jumped over.
   pub no-finding-jumped : isStopped k (readWindow ring line k i) ≡ true
       → (f : Finding) → i ≤ f .start → f .start < nextStart ring (readWindow ring line k i) → IsFinding ring line k f → ⊥
-  no-finding-jumped stop f lo hi is = omega (arith, ltb-true k (readWindow ring line k i .breaks) stop, breaks-le (f .start) (f .rotation) lo hi, is .distance-is, is .at-most-k)
+  no-finding-jumped stop f lo hi is =
+      ⊎-elim
+      (λ many. omega (arith, breaks-le (f .start) (f .rotation) lo hi, is .distance-is, is .at-most-k))
+      (λ left. no-start-to-mark (f .start) lo hi left (is .is-start))
+      (stopped-iff k (readWindow ring line k i) .0 stop)

@@ -1,23 +1,17 @@
--- What the meanings give at one place: the edges of its window, its distances, its lowest rotation, and `foundAt` in each case.
+-- What the meanings give at one place: its distances, its lowest rotation, and `foundAt` in each case.
 use Prim.Native.Nat.{ℕ, _≤_, _<_}
 use mathlib.Core.Path.{_≡_, refl, ap}
 use mathlib.Core.Bool.{Bool, true, false, cond, _&&_}
 use mathlib.Core.List.{List, [], _∷_, List·Memᴰ, List·Memᴰ·head, List·Memᴰ·not-nil, List·Memᴰ·eq-of-singleton}
 use lib.Dec.{leb}
-use lib.ListN.{length, getD}
+use lib.ListN.{length}
 use borrow.Author.Tests.{leb-true, le-leb, lt-leb}
-use Rattle.meaning.specs.Meanings.{IsStart, isStart, window, windowEdge, differs, distance, lowestRotation, leastDistance}
+use Rattle.meaning.specs.Meanings.{IsStart, isStart, differs, distance, lowestRotation, leastDistance}
 use Rattle.meaning.specs.Findings.{Finding, findingAt, foundAt}
 use Rattle.lists.proofs.Cases.{by-test, and-true}
-use Rattle.lists.proofs.Records.{part-at}
 use Rattle.meaning.proofs.Count.{count-le}
 use Rattle.meaning.proofs.Lowest.{IsLowest, lowest-is}
 use Rattle.meaning.proofs.Starts.{start-iff}
-
--- The window as a list has at place q the line's edge at i + q.
-pub window-edge-is : (m : ℕ) (line : List ℕ) (i q : ℕ) → q < m → getD (window m line i) q 0 ≡ windowEdge line i q
-unfolding window
-window-edge-is m line i q = part-at m line i q
 
 -- A distance is at most m.
 pub distance-le : (ring line : List ℕ) (i r : ℕ) → distance ring line i r ≤ length ring

@@ -43,7 +43,7 @@ module _ (ring line : List ℕ) (k : ℕ) where
         let d : ℕ = min (nextStart ring w) (length line) - i in
         let there : min (nextStart ring w) (length line) ≡ i + d = omega (arith, was .start-is) in
         let jumped : findingsBelow ring line k (i + d) ≡ findingsBelow ring line k i =
-        below-same ring line k i d (λ j lo hi. nothing-lost ring line pos k i stop j lo (omega arith))
+        below-same ring line k i d (λ j lo hi. nothing-lost ring line pos k i j lo (omega arith) stop)
         in
         rw (candidate-no ring k w stop, here) (rw (there, jumped) at h))
         (was .ended)

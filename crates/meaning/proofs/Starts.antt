@@ -1,14 +1,17 @@
--- The test `fitsInLine` decides whether a window fits in the line, and `isStart` whether a place is a start. Only `fits-is-start` states that every window in
--- the line is at a start; if start gets a second condition, this law is what changes.
-use Prim.Native.Nat.{ℕ, _+_, _≤_}
-use mathlib.Core.Path.{_≡_}
+-- The test `fitsInLine` decides whether a window fits in the line, and `isStart` whether a place is a start: a window in the line is at a start exactly when it
+-- holds no mark.
+use Prim.Native.Nat.{ℕ, _+_, _<_}
+use mathlib.Core.Path.{_≡_, sym}
 use mathlib.Core.Bool.{true, false}
-use mathlib.Core.Logic.{_↔_, _⊎_, inl, inr, ⊎-elim}
+use mathlib.Core.Logic.{_↔_, _⊎_, inl, inr, ⊎-elim, Iff·trans}
 use mathlib.Core.List.{List}
 use lib.ListN.{length}
 use borrow.Author.Tests.{leb-true, leb-false, le-leb, lt-leb}
 use Rattle.lists.proofs.Cases.{le-or-lt}
-use Rattle.meaning.specs.Meanings.{FitsInLine, IsPastLine, fitsInLine, IsStart, isStart}
+use Rattle.lists.proofs.SizesTested.{and-iff, not-iff, test-fails}
+use Rattle.meaning.specs.Meanings.{FitsInLine, IsPastLine, fitsInLine, window, windowEdge, mark, isMark, IsStart, isStart}
+use Rattle.meaning.proofs.Marks.{holds-iff}
+use Rattle.meaning.proofs.Windows.{window-marked, window-unmarked}
 
 module _ (ring line : List ℕ) (i : ℕ) where
   -- The test `fitsInLine` passes exactly when a window fits in the line at i.
@@ -31,12 +34,24 @@ module _ (ring line : List ℕ) (i : ℕ) where
 
   -- The test `isStart` passes exactly when i is a start.
   pub start-iff : (isStart ring line i ≡ true) ↔ IsStart ring line i
-  start-iff = (λ e. record { fits-in-line = fits-line-iff .0 e }, λ h. fits-line-iff .1 (h .fits-in-line))
+  start-iff =
+      Iff·trans (and-iff fits-line-iff (not-iff (holds-iff (window (length ring) line i)))) (
+        λ h. record { fits-in-line = h .0; no-mark = h .1 },
+        λ s. (s .fits-in-line, s .no-mark),
+      )
 
-  -- If a window fits in the line at i, i is a start.
-  pub fits-is-start : FitsInLine ring line i → IsStart ring line i
-  fits-is-start h = record { fits-in-line = h }
+  -- If a window fits in the line at i and none of its edges is a mark, i is a start.
+  pub unmarked-is-start : FitsInLine ring line i → ((q : ℕ) → q < length ring → isMark (windowEdge line i q) ≡ false) → IsStart ring line i
+  unmarked-is-start in-line none = record { fits-in-line = in-line; no-mark = window-unmarked ring line i in-line none }
+
+  -- If one of the m edges from i on is a mark, i is not a start.
+  pub marked-no-start : (q : ℕ) → q < length ring → windowEdge line i q ≡ mark → IsStart ring line i → ⊥
+  marked-no-start q l is start = start .no-mark (window-marked ring line i (start .fits-in-line) q l is)
+
+  -- If i cannot be a start, the test fails.
+  pub no-start : (IsStart ring line i → ⊥) → isStart ring line i ≡ false
+  no-start can-not = sym (test-fails start-iff can-not)
 
   -- If a window at i would reach past the line's end, i is not a start.
   pub past-no-start : IsPastLine ring line i → isStart ring line i ≡ false
-  past-no-start = past-line-iff .1
+  past-no-start past = rw (past-line-iff .1 past)

@@ -1,24 +1,25 @@
 -- A window taken out of the line as a list of its own. At start 0 it has the same distances and the same reading as at its start in the line, because both
 -- depend on its m edges only.
 use Prim.Native.Nat.{ℕ, zero, suc, _≤_, _<_}
-use mathlib.Core.Path.{_≡_, refl, ap}
-use mathlib.Core.Bool.{Bool, true, false, not, cond, true≢false, false≢true}
+use mathlib.Core.Path.{_≡_, refl, ap, ap₂}
+use mathlib.Core.Bool.{Bool, true, false, not, cond, _||_, true≢false, false≢true}
 use mathlib.Core.List.{List, _∷_}
 use native.Mathlib.Nat.{zero-add}
 use native.Mathlib.Omega.{arith}
 use lib.Dec.{ltb, eqb}
 use lib.ListN.{length}
-use Rattle.meaning.specs.Meanings.{window, windowEdge, rotationEdge, differs, distance}
+use Rattle.meaning.specs.Meanings.{window, windowEdge, rotationEdge, isMark, differs, distance}
 use Rattle.meaning.specs.Stretch.{fits}
-use Rattle.meaning.specs.Rules.{Reading, unread, readEdge, readLeft, readWindow}
+use Rattle.meaning.specs.Rules.{Reading, unread, markRead, grownRead, brokenRead, readEdge, readLeft, readWindow}
 use Rattle.meaning.proofs.Count.{count-same}
-use Rattle.meaning.proofs.Places.{window-edge-is}
+use Rattle.meaning.proofs.Windows.{window-edge-is}
 
 -- Two readings that agree in all but their starts.
 pub record SameReading (v w : Reading) : Type 0 where
   pub read-is : v .read ≡ w .read
   pub breaks-is : v .breaks ≡ w .breaks
   pub held-is : v .held ≡ w .held
+  pub mark-is : v .at-mark ≡ w .at-mark
 
 -- Equal tests pick readings that agree.
 same-cond : (t t′ : Bool) → t ≡ t′ → {v w v′ w′ : Reading} → SameReading v w → SameReading v′ w′ → SameReading (cond t v v′) (cond t′ w w′)
@@ -46,20 +47,22 @@ module _ (ring line : List ℕ) (i : ℕ) where
   same-edge : (x : ℕ) (v w : Reading) → SameReading v w → SameReading (readEdge ring x v) (readEdge ring x w)
   unfolding readEdge
   same-edge x v w s =
-      same-cond _ _ (ap (λ (held : List ℕ). fits ring (x ∷ held)) (s .held-is))
-      (record { read-is = ap suc (s .read-is); breaks-is = s .breaks-is; held-is = ap (λ (held : List ℕ). x ∷ held) (s .held-is) })
-      (record { read-is = ap suc (s .read-is); breaks-is = ap suc (s .breaks-is); held-is = refl })
+      same-cond (isMark x) (isMark x) refl {v = markRead v} {w = markRead w}
+      (record { read-is = ap suc (s .read-is); breaks-is = s .breaks-is; held-is = refl; mark-is = refl })
+      (same-cond _ _ (ap (λ (held : List ℕ). fits ring (x ∷ held)) (s .held-is)) {v = grownRead x v} {w = grownRead x w} {v′ = brokenRead v} {w′ = brokenRead w}
+      (record { read-is = ap suc (s .read-is); breaks-is = s .breaks-is; held-is = ap (λ (held : List ℕ). x ∷ held) (s .held-is); mark-is = refl })
+      (record { read-is = ap suc (s .read-is); breaks-is = ap suc (s .breaks-is); held-is = refl; mark-is = refl }))
 
-  -- They still agree after all edges left: the breaks are equal, so both stop or neither does.
+  -- They still agree after all edges left: breaks and mark are the same, so both stop or neither does.
   same-left : (k left : ℕ) (v w : Reading) → left ≤ m → SameReading v w
       → SameReading (readLeft ring (window m line i) k 0 left v) (readLeft ring line k i left w)
   unfolding readLeft
   same-left k zero v w l s = s
   same-left k (suc left) v w l s =
-      same-cond _ _ (ap (ltb k) (s .breaks-is)) s
+      same-cond _ _ (ap₂ (λ (b : ℕ) (t : Bool). ltb k b || t) (s .breaks-is) (s .mark-is)) s
       (rw (alone-edge left (omega arith)) (same-left k left _ _ (omega arith) (same-edge (windowEdge line i left) v w s)))
 
   -- The window taken out is read as the line's window at i.
   pub alone-reading : (k : ℕ) → SameReading (readWindow ring (window m line i) k 0) (readWindow ring line k i)
   unfolding readWindow
-  alone-reading k = same-left k m (unread 0) (unread i) (omega arith) (record { read-is = refl; breaks-is = refl; held-is = refl })
+  alone-reading k = same-left k m (unread 0) (unread i) (omega arith) (record { read-is = refl; breaks-is = refl; held-is = refl; mark-is = refl })

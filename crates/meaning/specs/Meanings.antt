@@ -1,11 +1,11 @@
 -- Document 01, "Meanings", up to the distance: rotation, start, window, distance, the least distance and the lowest rotation that reaches it. And from
--- document 02, ticket 1: how many rotations reach it.
+-- document 02: how many rotations reach it (ticket 1), and the boundary mark (ticket 2), which makes a window no start.
 -- The document's limits (m 1 to 256, n at most 65,536, k below m) are refusals of the calls and are stated there. Here every definition gives a value
 -- for all lists. For an empty ring the value means nothing, and laws that depend on it require 0 < m. `getD` gives 0 past a list's end. At a start no
 -- definition reads there: line places stay below n because i + m ≤ n, and ring places are taken mod m.
 use Prim.Native.Nat.{ℕ, _+_, _%_, _≤_, _<_}
 use mathlib.Core.Path.{_≡_}
-use mathlib.Core.Bool.{Bool, not}
+use mathlib.Core.Bool.{Bool, not, _&&_}
 use mathlib.Core.List.{List}
 use lib.Dec.{leb, eqb}
 use lib.ListN.{length, getD, take, drop}
@@ -49,13 +49,14 @@ pub record HoldsMark (edges : List ℕ) : Type 0 where
 unfoldable pub holdsMark : List ℕ → Bool
 holdsMark edges = someBelow (λ q. isMark (getD edges q 0)) (length edges)
 
--- "A start i is a line place with i + m ≤ n."
+-- "A start i is a line place with i + m ≤ n", and "a window holding" a mark "isn't a start" (document 02, ticket 2).
 pub record IsStart (ring line : List ℕ) (i : ℕ) : Type 0 where
   pub fits-in-line : FitsInLine ring line i
+  pub no-mark : HoldsMark (window (length ring) line i) → ⊥
 
 -- Whether place i is a start. `foundAt` uses this test.
 abbrev pub isStart : List ℕ → List ℕ → ℕ → Bool
-isStart ring line i = fitsInLine ring line i
+isStart ring line i = fitsInLine ring line i && not (holdsMark (window (length ring) line i))
 
 -- The edge at place q of the window at i: the line's edge at i + q.
 abbrev pub windowEdge : List ℕ → ℕ → ℕ → ℕ

@@ -8,7 +8,7 @@ use mathlib.Core.List.{List, [], _∷_, _++_, map}
 use lib.Dec.{leb, eqb}
 use lib.ListN.{length, getD, take}
 use Rattle.meaning.specs.Counting.{count, lowest, someBelow}
-use Rattle.meaning.specs.Meanings.{fitsInLine, differs, distance, lowestRotation, leastDistance, rotationsReaching}
+use Rattle.meaning.specs.Meanings.{fitsInLine, window, holdsMark, differs, distance, lowestRotation, leastDistance, rotationsReaching}
 use Rattle.meaning.specs.Findings.{Finding, foundAt, findingsBelow, findings}
 use Rattle.meaning.specs.Stretch.{begins, fits}
 use Rattle.meaning.specs.Rules.{Reading, readEdge, readLeft, readWindow, windowsFrom, windows, candidatesOf, candidates, reported}
@@ -68,7 +68,7 @@ fragments-lose-P3 :
     (wholeIn 8 1 (fragmentsOf (ascii "ABCDEFGH") 3) ≡ 3)
     × (someExtends (ascii "ABCDEFGH") (ascii "BCzEzGzA") (fragmentsOf (ascii "ABCDEFGH") 3) ≡ false)
     × (findings (ascii "ABCDEFGH") (ascii "BCzEzGzA") 3 ≡ finding 0 1 3 1 ∷ [])
-unfolding ascii cut wholeIn hits someExtends someBelow count lowest differs distance lowestRotation rotationsReaching foundAt findingsBelow
+unfolding ascii cut wholeIn hits someExtends someBelow window holdsMark count lowest differs distance lowestRotation rotationsReaching foundAt findingsBelow
 fragments-lose-P3 = (refl, refl, refl)
 
 -- ---- "Taking Example 3 of 000 as a full answer."
@@ -80,7 +80,7 @@ example3 = 10 ∷ 11 ∷ []
 -- "It follows one fragment and gives starts 10 and 11; start 9 is found too."
 example-3-lacks-9 :
     map (λ (f : Finding). f .start) (findings (ascii "GGGTCTA") (ascii "GATACGATACCTAGGGTGATAGAATAG") 1) ≡ 9 ∷ example3
-unfolding ascii count lowest differs distance lowestRotation rotationsReaching foundAt findingsBelow
+unfolding ascii window holdsMark count lowest someBelow differs distance lowestRotation rotationsReaching foundAt findingsBelow
 example-3-lacks-9 = refl
 
 -- ---- "Stopping at k breaks, or moving onto the break edge instead of past it."
@@ -90,7 +90,7 @@ stopping-at-k-loses-P2 :
     reported (ascii "GGGTCTA") (ascii "GATACGATACCTAGGGTGATAGAATAG") 1
     (candidatesOf (ascii "GGGTCTA") 1 (windows (ascii "GGGTCTA") (ascii "GATACGATACCTAGGGTGATAGAATAG") 0))
     ≡ finding 10 4 0 1 ∷ []
-unfolding ascii count lowest someBelow differs distance lowestRotation rotationsReaching foundAt begins fits readEdge readLeft readWindow windowsFrom candidatesOf reported
+unfolding ascii window holdsMark count lowest someBelow differs distance lowestRotation rotationsReaching foundAt begins fits readEdge readLeft readWindow windowsFrom candidatesOf reported
 stopping-at-k-loses-P2 = refl
 
 -- The windows if each next one starts at the break edge, m − j further on. The number before i is how many windows may still come.
@@ -115,7 +115,7 @@ candidate-P11-is-no-finding :
     (candidates (ascii "abcdef") (ascii "bcdfab") 1 ≡ 0 ∷ [])
     × (findings (ascii "abcdef") (ascii "bcdfab") 1 ≡ [])
     × (leastDistance (ascii "abcdef") (ascii "bcdfab") 0 ≡ 3)
-unfolding ascii count lowest someBelow differs distance lowestRotation rotationsReaching foundAt findingsBelow begins fits readEdge readLeft readWindow windowsFrom candidatesOf
+unfolding ascii window holdsMark count lowest someBelow differs distance lowestRotation rotationsReaching foundAt findingsBelow begins fits readEdge readLeft readWindow windowsFrom candidatesOf
 candidate-P11-is-no-finding = (refl, refl, refl)
 
 -- ---- "Using a linear stretch test, which cuts a good match at the ring's seam."

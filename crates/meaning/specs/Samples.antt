@@ -1,16 +1,18 @@
 -- Document 01, "Sample rings": P1 to P12 as one table under one claim, which antt computes. A second table of the same form pins what no row of the
 -- first does: rule 5's choice between a fresh count and steps, the break edge, the last verified start, steps across a stopped window, the plain
--- survey's looks, the codes 0 and 255, and ties. Looks and numbers of candidates that the document leaves out of a row are left out here. Every finding
+-- survey's looks, the codes 0 and 254, and ties. A third has boundary marks. Looks and numbers of candidates that the document leaves out of a row are left out here. Every finding
 -- has its ties: document 02 gives those of P6, the others follow from the meaning.
 use Prim.Native.Nat.{ℕ}
 use Prim.Native.String.{String}
 use mathlib.Core.Path.{_≡_, refl}
+use mathlib.Core.Bool.{cond}
 use mathlib.Core.List.{List, [], _∷_, map}
 use mathlib.Core.Option.{Option, none, some}
+use lib.Dec.{eqb}
 use lib.ListN.{length}
 use Rattle.lists.specs.Texts.{ascii}
 use Rattle.meaning.specs.Counting.{count, lowest, someBelow}
-use Rattle.meaning.specs.Meanings.{differs, distance, lowestRotation, rotationsReaching}
+use Rattle.meaning.specs.Meanings.{window, mark, holdsMark, differs, distance, lowestRotation, rotationsReaching}
 use Rattle.meaning.specs.Findings.{Finding, foundAt, findingsBelow, findings}
 use Rattle.meaning.specs.Stretch.{begins, fits}
 use Rattle.meaning.specs.Rules.{readEdge, readLeft, readWindow, windowsFrom, candidatesOf, candidates, reported, quickFindings}
@@ -87,13 +89,13 @@ samples =
 
 -- Computed from the meanings and rules, every row has the answers of the document's table, and these ties.
 pub samples-right : map answered samples ≡ samples
-unfolding samples ascii count lowest someBelow differs distance lowestRotation rotationsReaching foundAt findingsBelow begins fits readEdge readLeft readWindow windowsFrom candidatesOf reported readLooks tallyLooks verifyLooks surveyLooksBelow
+unfolding samples ascii window holdsMark count lowest someBelow differs distance lowestRotation rotationsReaching foundAt findingsBelow begins fits readEdge readLeft readWindow windowsFrom candidatesOf reported readLooks tallyLooks verifyLooks surveyLooksBelow
 samples-right = refl
 
 -- Rows of our own. In the first three the last candidate is s beyond the one before it: m = 3, s = 2, afresh because 2·s > m; m = 3, s = 1, one
 -- step; m = 5, s = 2, two steps although 3·s > m. Then: m = 1, where the scan counts afresh and the survey steps; a break edge that fits by itself
 -- and still begins no stretch; a candidate that is not a finding and still is the last verified one; steps across a window that was stopped; the codes 0
--- and 255; and ties: of a square, of a ring of period 2, and of a start where three rotations are within k but only one reaches the least distance.
+-- and 254; and ties: of a square, of a ring of period 2, and of a start where three rotations are within k but only one reaches the least distance.
 unfoldable pub own-samples : List Sample
 own-samples =
     sampleRow "afresh where 2·s > m" (ascii "aab") (ascii "baaab") 0 (finding 0 2 0 1 ∷ finding 2 0 0 1 ∷ []) (some 27) (some 2) (some 21)
@@ -103,7 +105,7 @@ own-samples =
     ∷ sampleRow "the break edge is in no stretch" (ascii "abc") (ascii "aac") 1 (finding 0 0 1 1 ∷ []) (some 12) (some 1) (some 9)
     ∷ sampleRow "a candidate is the last verified one, finding or not" (ascii "abc") (ascii "aaaa") 1 [] (some 21) (some 2) (some 15)
     ∷ sampleRow "the tally is kept over a jump" (ascii "aaaaaab") (ascii "aabaaaabaa") 0 (finding 0 4 0 1 ∷ finding 3 2 0 1 ∷ []) (some 111) (some 2) (some 91)
-    ∷ sampleRow "codes 0 and 255" (0 ∷ 255 ∷ []) (255 ∷ 0 ∷ 255 ∷ 255 ∷ []) 0 (finding 0 1 0 1 ∷ finding 1 0 0 1 ∷ []) (some 14) (some 2) (some 12)
+    ∷ sampleRow "codes 0 and 254" (0 ∷ 254 ∷ []) (254 ∷ 0 ∷ 254 ∷ 254 ∷ []) 0 (finding 0 1 0 1 ∷ finding 1 0 0 1 ∷ []) (some 14) (some 2) (some 12)
     ∷ sampleRow "a square of equal edges" (ascii "aaaa") (ascii "aaaa") 0 (finding 0 0 0 4 ∷ []) (some 20) (some 1) (some 16)
     ∷ sampleRow "two ties, also at distance 1" (ascii "abab") (ascii "ababz") 1 (finding 0 0 0 2 ∷ finding 1 1 1 2 ∷ []) (some 32) (some 2) (some 24)
     ∷ sampleRow "three rotations within k, one at the least" (ascii "aab") (ascii "aab") 2 (finding 0 0 0 1 ∷ []) (some 12) (some 1) (some 9)
@@ -111,5 +113,39 @@ own-samples =
 
 -- Computed from the meanings and rules, our own rows are right too.
 pub own-samples-right : map answered own-samples ≡ own-samples
-unfolding own-samples ascii count lowest someBelow differs distance lowestRotation rotationsReaching foundAt findingsBelow begins fits readEdge readLeft readWindow windowsFrom candidatesOf reported readLooks tallyLooks verifyLooks surveyLooksBelow
+unfolding own-samples ascii window holdsMark count lowest someBelow differs distance lowestRotation rotationsReaching foundAt findingsBelow begins fits readEdge readLeft readWindow windowsFrom candidatesOf reported readLooks tallyLooks verifyLooks surveyLooksBelow
 own-samples-right = refl
+
+-- A line with boundary marks: the bytes of a text, each | in it (byte 124) as a mark.
+unfoldable pub marked : String → List ℕ
+marked text = map (λ x. cond (eqb x 124) mark x) (ascii text)
+
+-- Document 02, ticket 2: "a window holding one isn't a start". An exact copy has 2·k + 1 findings around it; between two marks it has one, whatever k is. Then
+-- marks first, last, side by side, m before the end, and at each place of the only window; a ring of one edge; a mark reached after k breaks, and as the last
+-- edge read; and a line of marks, where each window takes one look. The survey's looks are those of a line without marks.
+unfoldable pub mark-samples : List Sample
+mark-samples =
+    sampleRow "a copy without marks, k = 1" (ascii "abc") (ascii "zzzzabczzzz") 1 (finding 3 2 1 1 ∷ finding 4 0 0 1 ∷ finding 5 1 1 1 ∷ []) (some 39) (some 3) (some 57)
+    ∷ sampleRow "a copy without marks, k = 2" (ascii "abc") (ascii "zzzzabczzzz") 2 (finding 2 1 2 1 ∷ finding 3 2 1 1 ∷ finding 4 0 0 1 ∷ finding 5 1 1 1 ∷ finding 6 2 2 1 ∷ []) (some 60) (some 5) (some 57)
+    ∷ sampleRow "a copy between marks, k = 0" (ascii "abc") (marked "zzz|abc|zzz") 0 (finding 4 0 0 1 ∷ []) (some 18) (some 1) (some 57)
+    ∷ sampleRow "a copy between marks, k = 1" (ascii "abc") (marked "zzz|abc|zzz") 1 (finding 4 0 0 1 ∷ []) (some 19) (some 1) (some 57)
+    ∷ sampleRow "a copy between marks, k = 2" (ascii "abc") (marked "zzz|abc|zzz") 2 (finding 4 0 0 1 ∷ []) (some 20) (some 1) (some 57)
+    ∷ sampleRow "two outlines, one mark" (ascii "ab") (marked "ab|ab") 0 (finding 0 0 0 1 ∷ finding 3 0 0 1 ∷ []) (some 13) (some 2) (some 16)
+    ∷ sampleRow "two outlines, one mark, k = 1" (ascii "ab") (marked "ab|ab") 1 (finding 0 0 0 1 ∷ finding 3 0 0 1 ∷ []) (some 13) (some 2) (some 16)
+    ∷ sampleRow "a mark first" (ascii "ab") (marked "|ab") 0 (finding 1 0 0 1 ∷ []) (some 8) (some 1) (some 8)
+    ∷ sampleRow "a mark last" (ascii "ab") (marked "ab|") 0 (finding 0 0 0 1 ∷ []) (some 7) (some 1) (some 8)
+    ∷ sampleRow "a mark twice in a row" (ascii "ab") (marked "ab||ab") 0 (finding 0 0 0 1 ∷ finding 4 0 0 1 ∷ []) (some 15) (some 2) (some 20)
+    ∷ sampleRow "a mark m before the end" (ascii "ab") (marked "ab|b") 1 (finding 0 0 0 1 ∷ []) (some 7) (some 1) (some 12)
+    ∷ sampleRow "n = m, a mark at place 0" (ascii "abc") (marked "|bc") 2 [] (some 3) (some 0) (some 9)
+    ∷ sampleRow "n = m, a mark at place 1" (ascii "abc") (marked "a|c") 2 [] (some 2) (some 0) (some 9)
+    ∷ sampleRow "n = m, a mark at place 2" (ascii "abc") (marked "ab|") 2 [] (some 1) (some 0) (some 9)
+    ∷ sampleRow "one edge and a mark" (ascii "a") (marked "a|a") 0 (finding 0 0 0 1 ∷ finding 2 0 0 1 ∷ []) (some 5) (some 2) (some 5)
+    ∷ sampleRow "a mark after k breaks is no break" (ascii "abc") (marked "a|zabc") 1 (finding 2 2 1 1 ∷ finding 3 0 0 1 ∷ []) (some 23) (some 2) (some 27)
+    ∷ sampleRow "a mark as the last edge read" (ascii "abc") (marked "|bcabc") 1 (finding 1 1 0 1 ∷ finding 2 2 0 1 ∷ finding 3 0 0 1 ∷ []) (some 33) (some 3) (some 27)
+    ∷ sampleRow "marks only" (ascii "ab") (marked "|||||||") 1 [] (some 3) (some 0) (some 24)
+    ∷ []
+
+-- Computed from the meanings and rules, the rows with marks are right too.
+pub mark-samples-right : map answered mark-samples ≡ mark-samples
+unfolding mark-samples marked ascii window holdsMark count lowest someBelow differs distance lowestRotation rotationsReaching foundAt findingsBelow begins fits readEdge readLeft readWindow windowsFrom candidatesOf reported readLooks tallyLooks verifyLooks surveyLooksBelow
+mark-samples-right = refl
