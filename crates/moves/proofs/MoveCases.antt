@@ -38,6 +38,6 @@ module _ (ring line : List ℕ) (from steps below : ℕ) (old : List ℕ) where
   pub moved-yes : (new : List ℕ) (r : Reached) → test ≡ true → IsMovedOn ring line from steps below old new r → IsMoved ring line from steps below old new r
   moved-yes new r passed moved = record { is = rw passed (moved .is) }
 
-  -- If the test `canMove` fails, leaving the counts as they were and returning `from`, 0 and 0 meets the contract of `move_counts`.
-  pub moved-no : test ≡ false → IsMoved ring line from steps below old old (record { start = record { 0 = from }; least = 0; looks = 0 })
+  -- If the test `canMove` fails, leaving the counts as they were and returning `from` and zeros meets the contract of `move_counts`.
+  pub moved-no : test ≡ false → IsMoved ring line from steps below old old (record { start = record { 0 = from }; least = 0; looks = 0; past = 0 })
   moved-no failed = record { is = rw failed refl }

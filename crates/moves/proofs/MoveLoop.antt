@@ -3,17 +3,19 @@
 -- A step takes at most 512 looks, so a machine word holds the sum.
 use Prim.Native.Nat.{ℕ, zero, suc, _+_, _-_, _*_, _≤_, _<_}
 use mathlib.Core.Path.{_≡_, refl, sym, ap, _∙_}
+use mathlib.Core.Bool.{cond}
 use mathlib.Core.List.{List}
 use native.Mathlib.Nat.{add-mul}
 use native.Mathlib.Omega.{arith}
 use lib.Dec.{ltb}
 use lib.ListN.{length, getD}
 use borrow.Author.Tests.{lt-ltb, le-ltb}
-use Rattle.meaning.specs.Meanings.{windowEdge}
+use Rattle.meaning.specs.Meanings.{windowEdge, isMark}
 use Rattle.lists.proofs.Cases.{by-test}
 use Rattle.meaning.specs.Looks.{stepLooks}
 use Rattle.tally.specs.declared.counts.Least.{Least}
 use Rattle.tally.specs.Windows.{IsWindow}
+use Rattle.tally.specs.Marks.{IsPastMark}
 use Rattle.tally.specs.Counts.{mostCounts, leastOf, HasCounts}
 use Rattle.moves.specs.Moves.{steppedCounts, CountsAt, unmoved, stepOn, moveOn, CanMove, IsStepped, IsMovedOn}
 use Rattle.lists.proofs.StoreLoop.{storedFirst-length}
@@ -37,12 +39,12 @@ module _ (ring line : List ℕ) (below : ℕ) where
   move-goes-on left at far = rw (le-ltb (stepOn ring line at .least) below far) refl
 
 -- The invariant before the turn at start i. `still` says that the remaining steps from here give the same result as the whole move.
-pub record Moving (ring line : List ℕ) (from steps below : ℕ) (old counts : List ℕ) (least looks i : ℕ) : Type 0 where
+pub record Moving (ring line : List ℕ) (from steps below : ℕ) (old counts : List ℕ) (least looks past i : ℕ) : Type 0 where
   pub from-le : from ≤ i
   pub start-le : i ≤ from + steps
   pub size : length counts ≡ length old
   pub looks-le : looks ≤ (i - from) * stepLooks mostCounts
-  pub still : moveOn ring line below (from + steps - i) (record { start = i; counts = counts; least = least; looks = looks })
+  pub still : moveOn ring line below (from + steps - i) (record { start = i; counts = counts; least = least; looks = looks; past = past })
       ≡ moveOn ring line below steps (unmoved from old)
 
 module _ (ring line : List ℕ) (from steps below : ℕ) (old : List ℕ) (can : CanMove (length ring) (length old) (length line) from steps) where
@@ -50,21 +52,21 @@ module _ (ring line : List ℕ) (from steps below : ℕ) (old : List ℕ) (can :
   m = length ring
 
   -- The invariant holds before the first turn, where all steps are left.
-  pub moving-start : Moving ring line from steps below old old 0 0 from
+  pub moving-start : Moving ring line from steps below old old 0 0 0 from
   moving-start =
       let all : from + steps - from ≡ steps = omega arith in
       record { from-le = omega arith; start-le = omega arith; size = refl; looks-le = omega arith; still = rw all refl }
 
-  module _ (counts : List ℕ) (least looks i : ℕ) (before : Moving ring line from steps below old counts least looks i) where
+  module _ (counts : List ℕ) (least looks past i : ℕ) (before : Moving ring line from steps below old counts least looks past i) where
     -- In every turn there is a count for each rotation.
     pub moving-has-counts : HasCounts m (length counts)
     moving-has-counts = record { some-edge = can .has-counts .some-edge; most = can .has-counts .most; room = omega (arith, before .size, can .has-counts .room) }
 
     abbrev here-at : CountsAt
-    here-at = record { start = i; counts = counts; least = least; looks = looks }
+    here-at = record { start = i; counts = counts; least = least; looks = looks; past = past }
 
     module _ (goes-on : i < from + steps) (here next new : List ℕ) (z : Least) (here-is : IsWindow line i m here) (next-is : IsWindow line (i + 1) m next)
-        (stepped : IsStepped ring (getD here 0 0) (getD next (m - 1) 0) counts new z) where
+        (stepped : IsStepped ring (getD here 0 0) (getD next (m - 1) 0) counts new z) {past′ : ℕ} (asked : IsPastMark (getD next (m - 1) 0) past (i + 1 + m) past′) where
       leaves : getD here 0 0 ≡ windowEdge line i 0
       leaves = fitting-edge {ring = ring} here-is (omega (arith, can .in-line)) 0 (can .has-counts .some-edge)
 
@@ -77,7 +79,7 @@ module _ (ring line : List ℕ) (from steps below : ℕ) (old : List ℕ) (can :
           ∙ ap (λ (e : ℕ). steppedCounts ring (windowEdge line i 0) e counts) enters
 
       abbrev there : CountsAt
-      there = record { start = i + 1; counts = new; least = z .least; looks = looks + z .looks }
+      there = record { start = i + 1; counts = new; least = z .least; looks = looks + z .looks; past = past′ }
 
       -- The turn is one step.
       step-is : stepOn ring line here-at ≡ there
@@ -87,6 +89,7 @@ module _ (ring line : List ℕ) (from steps below : ℕ) (old : List ℕ) (can :
         counts = sym new-is j;
         least = (ap (leastOf m) (sym new-is) ∙ sym (stepped .least-is)) j;
         looks = ap (λ (n : ℕ). looks + n) (sym (stepped .looks-are)) j;
+        past = sym (asked .is ∙ ap (λ (x : ℕ). cond (isMark x) (i + 1 + m) past) enters) j;
       }
 
       one-less : from + steps - i ≡ suc (from + steps - (i + 1))
@@ -96,14 +99,14 @@ module _ (ring line : List ℕ) (from steps below : ℕ) (old : List ℕ) (can :
       least-of-step = ap (λ (p : CountsAt). p .least) step-is
 
       -- If the least count after a turn is below the bound, returning there meets the contract.
-      pub moving-stops : z .least < below → IsMovedOn ring line from steps below old new (record { start = record { 0 = i + 1 }; least = z .least; looks = looks + z .looks })
+      pub moving-stops : z .least < below → IsMovedOn ring line from steps below old new (record { start = record { 0 = i + 1 }; least = z .least; looks = looks + z .looks; past = past′ })
       moving-stops near = record {
         is = sym step-is ∙ sym (move-stops ring line below (from + steps - (i + 1)) here-at (omega (arith, least-of-step)))
             ∙ ap (λ (n : ℕ). moveOn ring line below n here-at) (sym one-less) ∙ before .still;
       }
 
       -- If the least count after a turn is not below the bound, the invariant holds before the next turn.
-      pub moving-turn : below ≤ z .least → Moving ring line from steps below old new (z .least) (looks + z .looks) (i + 1)
+      pub moving-turn : below ≤ z .least → Moving ring line from steps below old new (z .least) (looks + z .looks) past′ (i + 1)
       moving-turn far = record {
         from-le = omega (arith, before .from-le);
         start-le = omega arith;
@@ -115,7 +118,7 @@ module _ (ring line : List ℕ) (from steps below : ℕ) (old : List ℕ) (can :
       }
 
     -- If no step is left, returning there meets the contract.
-    pub moving-end : from + steps ≤ i → IsMovedOn ring line from steps below old counts (record { start = record { 0 = i }; least = least; looks = looks })
+    pub moving-end : from + steps ≤ i → IsMovedOn ring line from steps below old counts (record { start = record { 0 = i }; least = least; looks = looks; past = past })
     moving-end done =
         let none : from + steps - i ≡ 0 = omega arith in
         record {

@@ -1,7 +1,8 @@
 -- The tally of a start, moved along the line, is the tally of the start reached. By induction on the steps left: after each step the counts are the tally of the
--- start there (`tallied-step`), and its least count is its least distance. The move goes on only from starts whose least count is not below the bound.
+-- start there (`tallied-step`), and its least count is its least distance. The move goes on only from starts whose least count is not below the bound. Each edge
+-- that enters is asked whether it is a mark (`past-next` of crates/tally).
 use Prim.Native.Nat.{ℕ, zero, suc, _+_, _-_, _*_, _≤_, _<_}
-use mathlib.Core.Path.{_≡_, refl, _∙_}
+use mathlib.Core.Path.{_≡_, refl, sym, _∙_}
 use mathlib.Core.Bool.{true}
 use mathlib.Core.List.{List}
 use mathlib.Core.Logic.{dite}
@@ -12,9 +13,11 @@ use lib.ListN.{length}
 use Rattle.meaning.specs.Meanings.{FitsInLine, leastDistance}
 use Rattle.meaning.specs.Looks.{stepLooks}
 use Rattle.moves.specs.declared.steps.Reached.{Reached}
+use Rattle.tally.specs.Marks.{pastMark}
 use Rattle.tally.specs.Counts.{mostCounts, IsLeast}
 use Rattle.moves.specs.Moves.{CountsAt, unmoved, reachedWith, stepOn, moveOn, canMove, mostPlaces, IsMoved, IsReached}
 use Rattle.tally.specs.Tallied.{Tallied}
+use Rattle.tally.proofs.PastMark.{past-none, past-next}
 use Rattle.tally.proofs.LeastIsOne.{leastOf-is}
 use Rattle.moves.proofs.MoveLoop.{move-none, move-stops, move-goes-on}
 use Rattle.moves.proofs.MoveCases.{can-move-iff}
@@ -25,6 +28,10 @@ module _ (ring line : List ℕ) (below : ℕ) (some : 0 < length ring) (most : l
   abbrev m : ℕ
   m = length ring
 
+  -- On a move from start `from` to point p, the edges from place from + m on entered, one for each step: p has the place just past their last mark.
+  abbrev Noted : ℕ → CountsAt → Type 0
+  Noted from p = p .past ≡ pastMark line (from + m) (p .start - from)
+
   -- The tally at point `at` is moved to point `to`, by at least one step and at most `left`.
   record CameTo (at : CountsAt) (left : ℕ) (to : CountsAt) : Type 0 where
     pub after : at .start < to .start
@@ -34,6 +41,7 @@ module _ (ring line : List ℕ) (below : ℕ) (some : 0 < length ring) (most : l
     pub looks-are : to .looks ≡ at .looks + (to .start - at .start) * stepLooks m
     pub passed : (j : ℕ) → at .start < j → j < to .start → below ≤ leastDistance ring line j
     pub stopped : to .start < at .start + left → to .least < below
+    pub noted : (from : ℕ) → from ≤ at .start → Noted from at → Noted from to
 
   module _ (at : CountsAt) (tallied : Tallied ring line (at .start) (at .counts)) where
     abbrev next : CountsAt
@@ -55,6 +63,14 @@ module _ (ring line : List ℕ) (below : ℕ) (some : 0 < length ring) (most : l
     unfolding stepOn
     next-least = leastOf-is m (next .counts) some
 
+    next-noted : (from : ℕ) → from ≤ at .start → Noted from at → Noted from next
+    unfolding stepOn
+    next-noted from le so-far =
+        let place : at .start + 1 + (m - 1) ≡ at .start + m = omega arith in
+        let end : at .start + 1 + m ≡ at .start + m + 1 = omega arith in
+        let steps : at .start + 1 - from ≡ suc (at .start - from) = omega arith in
+        rw (place, end, so-far, steps) (past-next line (from + m) (at .start - from) (at .start + m) (omega arith))
+
     -- One step that is the last, or whose least count is below the bound.
     came-one : (left : ℕ) → (0 < left → next .least < below) → CameTo at (suc left) next
     came-one left near =
@@ -67,6 +83,7 @@ module _ (ring line : List ℕ) (below : ℕ) (some : 0 < length ring) (most : l
           looks-are = rw one (omega (arith, next-looks));
           passed = λ j l h. absurd (omega (arith, next-start));
           stopped = λ l. near (omega (arith, next-start));
+          noted = next-noted;
         }
 
     -- One step whose least count is not below the bound, and the move on from there.
@@ -83,6 +100,7 @@ module _ (ring line : List ℕ) (below : ℕ) (some : 0 < length ring) (most : l
               (λ here. rw here (omega (arith, far, least-is ring line 0 (next .start) (next .counts) (next .least) some next-tallied next-least)))
               (λ past. on .passed j (omega (arith, past, next-start)) h);
           stopped = λ l. on .stopped (omega (arith, next-start));
+          noted = λ from le so-far. on .noted from (omega (arith, next-start)) (next-noted from le so-far);
         }
 
   -- A move of at least one and at most `left` + 1 steps.
@@ -120,4 +138,5 @@ module _ (ring line : List ℕ) (below : ℕ) (some : 0 < length ring) (most : l
           verified = record { tallied = to .tallied; least-is = to .least-is; looks-are = to .looks-are ∙ omega arith };
           passed = to .passed;
           stopped = to .stopped;
+          past-is = let none : from - from ≡ 0 = omega arith in to .noted from (omega arith) (rw none (sym (past-none line (from + m))));
         }

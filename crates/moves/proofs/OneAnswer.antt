@@ -10,6 +10,11 @@ pub one-move : (ring line : List ℕ) (from steps below : ℕ) (old new new′ :
     → IsMoved ring line from steps below old new′ r′ → (r ≡ r′) × (new ≡ new′)
 one-move ring line from steps below old new new′ r r′ a b =
     let same : reachedWith r new ≡ reachedWith r′ new′ = a .is ∙ sym (b .is) in (
-      λ i. record { start = record { 0 = ap (λ (p : CountsAt). p .start) same i }; least = ap (λ (p : CountsAt). p .least) same i; looks = ap (λ (p : CountsAt). p .looks) same i },
+      λ i. record {
+        start = record { 0 = ap (λ (p : CountsAt). p .start) same i };
+        least = ap (λ (p : CountsAt). p .least) same i;
+        looks = ap (λ (p : CountsAt). p .looks) same i;
+        past = ap (λ (p : CountsAt). p .past) same i;
+      },
       ap (λ (p : CountsAt). p .counts) same,
     )

@@ -5,7 +5,7 @@
 --   changedCount, changedAt   count − (leaving edge differs) + (entering edge differs), mod 2^16
 --   earlier                   the rotation before a rotation
 --   steppedCounts             the counts after a step
---   CountsAt, unmoved         one point of a move: start, counts, their least, looks; the point before the first step
+--   CountsAt, unmoved         one point of a move: start, counts, their least, looks, last mark; the point before the first step
 --   stepOn, moveOn            one step; at most a given number of steps
 --   mostPlaces                2^32, the most places of a line
 --   canMove, CanMove          whether counts can be moved: the test, and the same as facts
@@ -22,9 +22,10 @@ use lib.Dec.{ltb, leb, eqb}
 use lib.ListN.{length, getD}
 use Rattle.lists.specs.ByPlace.{storedFirst}
 use Rattle.meaning.specs.Counting.{oneIf}
-use Rattle.meaning.specs.Meanings.{unequal, windowEdge, leastDistance}
+use Rattle.meaning.specs.Meanings.{unequal, windowEdge, isMark, leastDistance}
 use Rattle.meaning.specs.Looks.{stepLooks}
 use Rattle.tally.specs.declared.counts.Least.{Least}
+use Rattle.tally.specs.Marks.{pastMark}
 use Rattle.tally.specs.Counts.{mostCounts, leastOf, HasCounts}
 use Rattle.tally.specs.Tallied.{Verified}
 use Rattle.moves.specs.declared.steps.Reached.{Reached}
@@ -50,22 +51,26 @@ earlier m r = cond (eqb r 0) (m - 1) (r - 1)
 abbrev pub steppedCounts : List ℕ → ℕ → ℕ → List ℕ → List ℕ
 steppedCounts ring leaving entering old = storedFirst (length ring) (λ r. changedAt ring leaving entering old (earlier (length ring) r)) old
 
--- One point of a move: the start, the counts there, their least (0 before the first step), and the looks so far.
+-- One point of a move: the start, the counts there, their least (0 before the first step), the looks so far, and the place just past the last mark that entered so
+-- far (0 if none did).
 pub record CountsAt : Type 0 where
   pub start : ℕ
   pub counts : List ℕ
   pub least : ℕ
   pub looks : ℕ
+  pub past : ℕ
 
 -- The point before the first step: the start to move from, and the counts as they are.
 abbrev pub unmoved : ℕ → List ℕ → CountsAt
-unmoved from counts = record { start = from; counts = counts; least = 0; looks = 0 }
+unmoved from counts = record { start = from; counts = counts; least = 0; looks = 0; past = 0 }
 
--- One step: the first edge of the window leaves, the last edge of the next window enters.
+-- One step: the first edge of the window leaves, the last edge of the next window enters. If that edge is a mark, the place just past it is the next window's end.
 unfoldable pub stepOn : List ℕ → List ℕ → CountsAt → CountsAt
 stepOn ring line at =
-    let new : List ℕ = steppedCounts ring (windowEdge line (at .start) 0) (windowEdge line (at .start + 1) (length ring - 1)) (at .counts) in
-    record { start = at .start + 1; counts = new; least = leastOf (length ring) new; looks = at .looks + stepLooks (length ring) }
+    let entering : ℕ = windowEdge line (at .start + 1) (length ring - 1) in
+    let new : List ℕ = steppedCounts ring (windowEdge line (at .start) 0) entering (at .counts) in
+    let past : ℕ = cond (isMark entering) (at .start + 1 + length ring) (at .past) in
+    record { start = at .start + 1; counts = new; least = leastOf (length ring) new; looks = at .looks + stepLooks (length ring); past = past }
 
 -- At most the given number of steps: the move ends at the first start reached whose least count is below `below`, else after the last step.
 unfoldable pub moveOn : List ℕ → List ℕ → ℕ → ℕ → CountsAt → CountsAt
@@ -84,27 +89,29 @@ mostPlaces = 2 ^ 32
 unfoldable pub canMove : ℕ → ℕ → ℕ → ℕ → ℕ → Bool
 canMove m room n from steps = (ltb 0 m && (leb m mostCounts && leb m room)) && (leb n mostPlaces && leb (from + steps + m) n)
 
--- The counts moved from start `from` by at most `steps` steps. If they cannot be moved, no count changes, and least and looks are 0.
+-- The counts moved from start `from` by at most `steps` steps. If they cannot be moved, no count changes, and the other numbers are 0.
 abbrev pub movedFrom : List ℕ → List ℕ → ℕ → ℕ → ℕ → List ℕ → CountsAt
 movedFrom ring line from steps below old =
     cond (canMove (length ring) (length old) (length line) from steps) (moveOn ring line below steps (unmoved from old)) (unmoved from old)
 
 -- The returned struct and the final counts, as one record.
 abbrev pub reachedWith : Reached → List ℕ → CountsAt
-reachedWith r counts = record { start = r .start .0; counts = counts; least = r .least; looks = r .looks }
+reachedWith r counts = record { start = r .start .0; counts = counts; least = r .least; looks = r .looks; past = r .past }
 
 -- The contract of `move_counts`. `from` is the number of the line place to move from, `old` are the counts at entry, `new` those at exit, r is the returned struct.
 pub record IsMoved (ring line : List ℕ) (from steps below : ℕ) (old new : List ℕ) (r : Reached) : Type 0 where
   pub is : reachedWith r new ≡ movedFrom ring line from steps below old
 
 -- The result of moving the tally of start `from`. The start reached is 1 to `steps` steps on. The counts are its tally, r has their least, and each step took 2·m
--- looks. No start that was passed has a least distance below `below`. If the move ended early, the start reached has a least count below `below`.
+-- looks. No start that was passed has a least distance below `below`. If the move ended early, the start reached has a least count below `below`. The edges that
+-- entered are those from place from + m on, one for each step.
 pub record IsReached (ring line : List ℕ) (from steps below : ℕ) (counts : List ℕ) (r : Reached) : Type 0 where
   pub after : from < r .start .0
   pub start-le : r .start .0 ≤ from + steps
   pub verified : Verified ring line (r .start .0) ((r .start .0 - from) * stepLooks (length ring)) counts (r .least) (r .looks)
   pub passed : (j : ℕ) → from < j → j < r .start .0 → below ≤ leastDistance ring line j
   pub stopped : r .start .0 < from + steps → r .least < below
+  pub past-is : r .past ≡ pastMark line (from + length ring) (r .start .0 - from)
 
 -- From here on: preconditions and contracts of private functions.
 

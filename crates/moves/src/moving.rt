@@ -86,7 +86,7 @@ fn can_move(m: usize, room: usize, n: usize, from: LinePlace, steps: usize) -> b
 }
 
 // Moves the counts of a search along the line by at most `steps` steps; stops at the first start reached whose least
-// count is below `below`. If they cannot be moved, they stay as they are, and `from`, least 0 and looks 0 are returned.
+// count is below `below`. If they cannot be moved, they stay as they are, and `from` and zeros are returned.
 // They are copied into a tally and back once, 512 bytes each way, whatever the number of steps.
 pub fn move_counts(
     counts: &mut [u16; MOST_COUNTS],
@@ -104,6 +104,7 @@ pub fn move_counts(
             start: from,
             least: 0,
             looks: 0,
+            past: 0,
         };
     }
     let tally = Tally { counts: *counts };

@@ -4,6 +4,7 @@ use answers::LinePlace;
 use tally::Least;
 use tally::MOST_COUNTS;
 use tally::differing;
+use tally::past_mark;
 use tally::window;
 ghost use mathlib.Core.Path.{_≡_};
 ghost use lib.ListN.{length, getD};
@@ -80,15 +81,18 @@ fn step(counts: &mut [u16; MOST_COUNTS], ring: &[u8], leaving: u8, entering: u8)
     least
 }
 
-// The result of a move: the start reached, the least of its counts, and the looks of all steps.
+// The result of a move: the start reached, the least of its counts, the looks of all steps, and the place just past the
+// last mark among the edges that entered; 0 if none of them is a mark.
 pub struct Reached {
     pub start: LinePlace,
     pub least: usize,
     pub looks: usize,
+    pub past: usize,
 }
 
 // Moves the counts along the line: `steps` steps, or fewer if a start reached on the way has a least count below
-// `below`. The leaving edge is the first of the window at i, the entering edge the last of the window at i + 1.
+// `below`. The leaving edge is the first of the window at i, the entering edge the last of the window at i + 1. Whether
+// it is a mark is asked as it enters; the place just past it is where the window at i + 1 ends.
 pub fn move_along(
     counts: &mut [u16; MOST_COUNTS],
     ring: &[u8],
@@ -103,20 +107,24 @@ pub fn move_along(
     let m = ring.len();
     let mut least: usize = 0;
     let mut looks: usize = 0;
+    let mut past: usize = 0;
     let end = from.0 + steps;
     let mut i = from.0;
     while i < end {
         let here = window(line, LinePlace(i), m);
         let next = window(line, LinePlace(i + 1), m);
-        let stepped = step(counts, ring, here[0], next[m - 1]);
+        let entering = next[m - 1];
+        let stepped = step(counts, ring, here[0], entering);
         least = stepped.least;
         looks += stepped.looks;
         i += 1;
+        past = past_mark(entering, past, i + m);
         if least < below {
             return Reached {
                 start: LinePlace(i),
                 least,
                 looks,
+                past,
             };
         }
     }
@@ -124,5 +132,6 @@ pub fn move_along(
         start: LinePlace(i),
         least,
         looks,
+        past,
     }
 }

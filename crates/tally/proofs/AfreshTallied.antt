@@ -13,11 +13,13 @@ use Rattle.meaning.specs.Meanings.{FitsInLine, unequal, differs, distance}
 use Rattle.meaning.specs.Looks.{afreshLooks}
 use Rattle.meaning.proofs.Count.{count-same}
 use Rattle.meaning.proofs.WindowAlone.{alone-distance}
-use Rattle.tally.specs.declared.counts.Least.{Least}
+use Rattle.tally.specs.declared.afresh.Fresh.{Fresh}
 use Rattle.tally.specs.Windows.{IsWindow}
-use Rattle.tally.specs.Counts.{mostCounts, differsThere, afreshCount, afreshCounts, canCount, countedTo, IsDoubled, IsCounted}
+use Rattle.tally.specs.Marks.{pastMark}
+use Rattle.tally.specs.Counts.{mostCounts, differsThere, afreshCount, afreshCounts, canCount, countedTo, countedPast, IsDoubled, IsCounted}
 use Rattle.tally.specs.Tallied.{Verified}
-use Rattle.tally.proofs.WindowEdges.{fitting-window, fitting-length}
+use Rattle.tally.proofs.WindowEdges.{fitting-window, fitting-length, fitting-edge}
+use Rattle.tally.proofs.PastMark.{past-same}
 use Rattle.lists.proofs.StoreLoop.{storedFirst-length, storedFirst-at}
 use Rattle.tally.proofs.LeastIsOne.{leastOf-is}
 use Rattle.tally.proofs.DoubledLoop.{doubled-edge, doubled-length}
@@ -48,7 +50,7 @@ module _ (ring doubled window : List ℕ) (some : 0 < length ring) (most : lengt
       (record { has-counts = record { some-edge = omega (arith, long); most = omega (arith, long); room = omega (arith, long) }; twice = omega (arith, long, doubled-length ring doubled twice) })
 
   -- The window, as a line of its own, is verified at start 0.
-  afresh-verified : (old new : List ℕ) (z : Least) → length old ≡ mostCounts → IsCounted doubled window old new z
+  afresh-verified : (old new : List ℕ) (z : Fresh) → length old ≡ mostCounts → IsCounted doubled window old new z
       → Verified ring window 0 (afreshLooks m) new (z .least) (z .looks)
   unfolding countedTo
   afresh-verified old new z size counted =
@@ -66,7 +68,7 @@ module _ (ring doubled window : List ℕ) (some : 0 < length ring) (most : lengt
       }
 
 -- If the window of start i is counted afresh over the ring's double, start i is verified: the counts are its tally, `least` is their least, and m·m looks are taken.
-pub counted-verified : (ring line : List ℕ) (i : ℕ) (doubled old new edges : List ℕ) (z : Least) → length old ≡ mostCounts → 0 < length ring
+pub counted-verified : (ring line : List ℕ) (i : ℕ) (doubled old new edges : List ℕ) (z : Fresh) → length old ≡ mostCounts → 0 < length ring
     → length ring ≤ mostCounts → IsDoubled ring doubled → FitsInLine ring line i → IsWindow line i (length ring) edges
     → IsCounted doubled edges old new z → Verified ring line i (afreshLooks (length ring)) new (z .least) (z .looks)
 counted-verified ring line i doubled old new edges z size some most twice in-line handed counted =
@@ -80,3 +82,13 @@ counted-verified ring line i doubled old new edges z size some most twice in-lin
       least-is = alone .least-is;
       looks-are = alone .looks-are;
     }
+
+-- If the window at place 0 of the line is counted afresh, the place just past its last mark is that of the line's first m edges.
+pub counted-past : (ring line doubled old new edges : List ℕ) (z : Fresh) → length old ≡ mostCounts → 0 < length ring → length ring ≤ mostCounts
+    → IsDoubled ring doubled → FitsInLine ring line 0 → IsWindow line 0 (length ring) edges → IsCounted doubled edges old new z → z .past ≡ pastMark line 0 (length ring)
+unfolding countedPast
+counted-past ring line doubled old new edges z size some most twice in-line handed counted =
+    let long = fitting-length handed in-line in
+    rw (can-be ring doubled edges some most twice long old size) at (counted .past-is)
+    ∙ ap (pastMark edges 0) long
+    ∙ past-same edges line (length ring) (λ p l. fitting-edge handed in-line p l ∙ ap (λ (q : ℕ). getD line q 0) (zero-add p))

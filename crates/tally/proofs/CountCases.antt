@@ -7,8 +7,8 @@ use mathlib.Core.List.{List}
 use mathlib.Core.Logic.{_↔_}
 use lib.Dec.{leb}
 use lib.ListN.{length}
-use Rattle.tally.specs.declared.counts.Least.{Least}
-use Rattle.tally.specs.Counts.{mostCounts, canCount, countedTo, HasCounts, CanCount, IsCountedAfresh, IsCounted}
+use Rattle.tally.specs.declared.afresh.Fresh.{Fresh}
+use Rattle.tally.specs.Counts.{mostCounts, canCount, countedTo, countedPast, HasCounts, CanCount, IsCountedAfresh, IsCounted}
 use Rattle.lists.proofs.SizesTested.{lt-iff, le-iff, and-iff, test-same}
 
 -- The test `canCount` passes exactly when the window can be counted.
@@ -30,11 +30,16 @@ module _ (doubled window old : List ℕ) where
   test = canCount (length window) (length old) (length doubled)
 
   -- If the test `canCount` passes and the window is counted afresh, the contract of `count_afresh` is met.
-  pub counted-yes : (new : List ℕ) (z : Least) → test ≡ true → IsCountedAfresh doubled window old new z → IsCounted doubled window old new z
-  unfolding countedTo
-  counted-yes new z passed counted = record { written = rw passed (counted .written); least-is = rw passed (counted .least-is); looks-are = rw passed (counted .looks-are) }
+  pub counted-yes : (new : List ℕ) (z : Fresh) → test ≡ true → IsCountedAfresh doubled window old new z → IsCounted doubled window old new z
+  unfolding countedTo countedPast
+  counted-yes new z passed counted = record {
+    written = rw passed (counted .written);
+    least-is = rw passed (counted .least-is);
+    looks-are = rw passed (counted .looks-are);
+    past-is = rw passed (counted .past-is);
+  }
 
-  -- If the test `canCount` fails, leaving the counts as they were and returning 0 and 0 meets the contract of `count_afresh`.
-  pub counted-no : test ≡ false → IsCounted doubled window old old (record { least = 0; looks = 0 })
-  unfolding countedTo
-  counted-no failed = record { written = rw failed refl; least-is = rw failed refl; looks-are = rw failed refl }
+  -- If the test `canCount` fails, leaving the counts as they were and returning zeros meets the contract of `count_afresh`.
+  pub counted-no : test ≡ false → IsCounted doubled window old old (record { least = 0; looks = 0; past = 0 })
+  unfolding countedTo countedPast
+  counted-no failed = record { written = rw failed refl; least-is = rw failed refl; looks-are = rw failed refl; past-is = rw failed refl }

@@ -4,6 +4,8 @@
 --
 -- The edges of a window.
 pub mod WindowEdges
+-- The place just past the last mark.
+pub mod PastMark
 -- Loops over counts: the least count, the lowest rotation that has it, and how many rotations have it.
 pub mod LeastSoFar
 pub mod LeastIsOne

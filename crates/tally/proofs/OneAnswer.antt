@@ -4,13 +4,18 @@ use mathlib.Core.Path.{_≡_, sym, _∙_}
 use mathlib.Core.List.{List}
 use Rattle.answers.specs.declared.places.LinePlace.{LinePlace}
 use Rattle.findings.specs.declared.searching.Finding.{Finding as FindingStruct}
-use Rattle.tally.specs.declared.counts.Least.{Least}
+use Rattle.tally.specs.declared.afresh.Fresh.{Fresh}
 use Rattle.tally.specs.Windows.{IsWindow}
+use Rattle.tally.specs.Marks.{IsPastMark}
 use Rattle.tally.specs.Counts.{IsComparison, IsDoubled, IsCounted, IsFindingAt}
 
 -- Any two numbers that meet the contract of `differing` are equal.
 pub one-comparison : (a b r r′ : ℕ) → IsComparison a b r → IsComparison a b r′ → r ≡ r′
 one-comparison a b r r′ x y = x .is ∙ sym (y .is)
+
+-- Any two places that meet the contract of `past_mark` are equal.
+pub one-past : (edge past next r r′ : ℕ) → IsPastMark edge past next r → IsPastMark edge past next r′ → r ≡ r′
+one-past edge past next r r′ x y = x .is ∙ sym (y .is)
 
 -- Any two windows that meet the contract of `window` are equal.
 pub one-window : (line : List ℕ) (i m : ℕ) (edges edges′ : List ℕ) → IsWindow line i m edges → IsWindow line i m edges′ → edges ≡ edges′
@@ -21,10 +26,10 @@ pub one-doubled : (ring doubled doubled′ : List ℕ) → IsDoubled ring double
 one-doubled ring doubled doubled′ a b = a .is ∙ sym (b .is)
 
 -- Any two answers that meet the contract of `count_afresh` are equal, and so are the counts at exit.
-pub one-count : (doubled window old new new′ : List ℕ) (z z′ : Least) → IsCounted doubled window old new z → IsCounted doubled window old new′ z′
+pub one-count : (doubled window old new new′ : List ℕ) (z z′ : Fresh) → IsCounted doubled window old new z → IsCounted doubled window old new′ z′
     → (z ≡ z′) × (new ≡ new′)
 one-count doubled window old new new′ z z′ a b = (
-  λ i. record { least = (a .least-is ∙ sym (b .least-is)) i; looks = (a .looks-are ∙ sym (b .looks-are)) i },
+  λ i. record { least = (a .least-is ∙ sym (b .least-is)) i; looks = (a .looks-are ∙ sym (b .looks-are)) i; past = (a .past-is ∙ sym (b .past-is)) i },
   a .written ∙ sym (b .written),
 )
 

@@ -3,12 +3,11 @@ use Prim.Native.Nat.{ℕ, _+_, _-_, _≤_, _<_}
 use mathlib.Core.Path.{_≡_, refl, sym, ap, _∙_}
 use mathlib.Core.List.{List, []}
 use native.Mathlib.Omega.{arith}
-use lib.ListN.{length, getD, take, drop, length-drop}
-use lib.Seq.{length-take-le}
+use lib.ListN.{length, getD, take, drop}
 use borrow.Author.Tests.{le-leb, lt-leb}
 use Rattle.meaning.specs.Meanings.{FitsInLine, window, windowEdge}
 use Rattle.meaning.proofs.Starts.{fits-line-iff}
-use Rattle.meaning.proofs.Places.{window-edge-is}
+use Rattle.meaning.proofs.Windows.{window-edge-is, window-length}
 use Rattle.tally.specs.Windows.{IsWindow}
 
 module _ (line : List ℕ) (i m : ℕ) where
@@ -30,8 +29,7 @@ module _ {ring line : List ℕ} {i : ℕ} {edges : List ℕ} (answer : IsWindow 
 
   -- If a window fits in the line at i, the window that `window` returns has m edges.
   pub fitting-length : length edges ≡ length ring
-  unfolding window
-  fitting-length = ap length fitting-window ∙ length-take-le (length ring) (drop i line) (omega (arith, length-drop i line))
+  fitting-length = ap length fitting-window ∙ window-length ring line i in-line
 
   -- If a window fits in the line at i, the edge at place q of what `window` returns is the line's edge at i + q.
   pub fitting-edge : (q : ℕ) → q < length ring → getD edges q 0 ≡ windowEdge line i q

@@ -10,6 +10,7 @@
 --   afreshCounts               the counts after a fresh count: one for each rotation, the others kept
 --   canCount, CanCount         whether a window can be counted: the test, and the same as facts
 --   TallyResult, countedTo     the result of a fresh count: the counts, their least, the looks
+--   countedPast                the place just past the last mark of a counted window
 --   findingWith                the finding at a start with a given least count
 --   IsComparison, IsDoubled, IsCounted, IsFindingAt   the contracts of `differing`, `double`, `count_afresh` and `finding_at`
 --   IsLowestWith, IsTies, HasCounts, edgeCounted, IsLeast, IsCountedAfresh   preconditions and contracts of private functions
@@ -26,7 +27,8 @@ use Rattle.meaning.specs.Counting.{oneIf, count, lowest}
 use Rattle.meaning.specs.Meanings.{unequal}
 use Rattle.meaning.specs.Looks.{afreshLooks}
 use Rattle.findings.specs.Admitting.{mostRing}
-use Rattle.tally.specs.declared.counts.Least.{Least}
+use Rattle.tally.specs.declared.afresh.Fresh.{Fresh}
+use Rattle.tally.specs.Marks.{pastMark}
 
 -- The number of counts: one for each rotation of the longest ring.
 abbrev pub mostCounts : ℕ
@@ -109,11 +111,16 @@ pub record IsComparison (a b r : ℕ) : Type 0 where
 pub record IsDoubled (ring doubled : List ℕ) : Type 0 where
   pub is : doubled ≡ doubledRing ring
 
+-- The place just past the last mark of a window that is counted; 0 if the window cannot be counted.
+unfoldable pub countedPast : List ℕ → List ℕ → List ℕ → ℕ
+countedPast doubled window old = cond (canCount (length window) (length old) (length doubled)) (pastMark window 0 (length window)) 0
+
 -- The contract of `count_afresh`: `old` are the counts at entry, `new` those at exit, `z` is the returned struct.
-pub record IsCounted (doubled window old new : List ℕ) (z : Least) : Type 0 where
+pub record IsCounted (doubled window old new : List ℕ) (z : Fresh) : Type 0 where
   pub written : new ≡ countedTo doubled window old .counts
   pub least-is : z .least ≡ countedTo doubled window old .least
   pub looks-are : z .looks ≡ countedTo doubled window old .looks
+  pub past-is : z .past ≡ countedPast doubled window old
 
 -- "It carries start, rotation, distance: the least distance, and the lowest r that reaches it", and how many reach it: the finding at a start, given its counts
 -- and the least of them.
@@ -159,7 +166,8 @@ pub record IsLeast (m : ℕ) (counts : List ℕ) (least : ℕ) : Type 0 where
   pub is : getD counts place 0 ≡ least
 
 -- The contract of `count_edges`: a window that can be counted is counted afresh, at m·m looks. `old` and `new` are the counts at entry and exit, z is returned.
-pub record IsCountedAfresh (doubled window old new : List ℕ) (z : Least) : Type 0 where
+pub record IsCountedAfresh (doubled window old new : List ℕ) (z : Fresh) : Type 0 where
   pub written : new ≡ afreshCounts doubled window old
   pub least-is : z .least ≡ leastOf (length window) (afreshCounts doubled window old)
   pub looks-are : z .looks ≡ afreshLooks (length window)
+  pub past-is : z .past ≡ pastMark window 0 (length window)

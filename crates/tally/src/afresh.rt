@@ -1,10 +1,10 @@
 // Rule 5: the tally counted afresh, m·m looks.
-use crate::counts::Least;
 use crate::counts::MOST_COUNTS;
 use crate::counts::clear;
 use crate::counts::count_value;
 use crate::counts::differing;
 use crate::counts::least_of;
+use crate::marks::past_mark;
 use answers::LinePlace;
 use answers::RingPlace;
 use answers::to_ring;
@@ -60,24 +60,35 @@ fn count_edge(
     looks
 }
 
+// The result of a fresh count: the least of the counts, the looks, and the place just past the last mark of the window,
+// counted from its own place 0; 0 if it holds none.
+pub struct Fresh {
+    pub least: usize,
+    pub looks: usize,
+    pub past: usize,
+}
+
 // Counts every rotation afresh: m edges, each against m ring edges. The window is read as a line of its own, from place
 // 0 on. `to_ring` gives the ring place that rotation 0 has over an edge. It is called once for each edge, outside the
-// loop over the rotations.
-fn count_edges(counts: &mut [u16; MOST_COUNTS], doubled: &[u8], window: &[u8]) -> Least
+// loop over the rotations. Whether an edge is a mark is asked as it is counted.
+fn count_edges(counts: &mut [u16; MOST_COUNTS], doubled: &[u8], window: &[u8]) -> Fresh
     requires { ⌜ CanCount (length (now window)) (length (now counts)) (length (now doubled)) ⌝ }
     ensures { λ z. ⌜ IsCountedAfresh (now (doubled .entry)) (now (window .entry)) (now (counts .entry)) (now (counts .exit)) z ⌝ }
 {
     let m = window.len();
     clear(counts, m);
     let mut looks: usize = 0;
+    let mut past: usize = 0;
     let mut q = 0;
     while q < m {
         let place = to_ring(LinePlace(q), LinePlace(0), RingPlace(0), m);
-        looks += count_edge(counts, doubled, m, place, window[q]);
+        let edge = window[q];
+        looks += count_edge(counts, doubled, m, place, edge);
+        past = past_mark(edge, past, q + 1);
         q += 1;
     }
     let least = count_value(least_of(counts, m));
-    Least { least, looks }
+    Fresh { least, looks, past }
 }
 
 // Whether a window of m edges can be counted: m is 1 to 256, `room` counts are enough for m rotations, and `long` edges
@@ -100,12 +111,16 @@ fn can_count(m: usize, room: usize, long: usize) -> bool
 
 // Counts the tally of a window: its edges are compared with those of every rotation. If the window cannot be counted,
 // no count changes and no look is taken.
-pub fn count_afresh(counts: &mut [u16; MOST_COUNTS], doubled: &[u8], window: &[u8]) -> Least
+pub fn count_afresh(counts: &mut [u16; MOST_COUNTS], doubled: &[u8], window: &[u8]) -> Fresh
     ensures { λ z. ⌜ IsCounted (now (doubled .entry)) (now (window .entry)) (now (counts .entry)) (now (counts .exit)) z ⌝ }
 {
     let all = &counts[..];
     if !can_count(window.len(), all.len(), doubled.len()) {
-        return Least { least: 0, looks: 0 };
+        return Fresh {
+            least: 0,
+            looks: 0,
+            past: 0,
+        };
     }
     count_edges(counts, doubled, window)
 }

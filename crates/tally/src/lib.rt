@@ -1,16 +1,19 @@
 // The tally of one count per rotation: `count_afresh` counts it for a window, `finding_at` makes a start's finding of
 // it. crates/moves moves it along the line.
 //
-// The contracts are in specs/Windows.antt and specs/Counts.antt; specs/Tallied.antt says when counts are the tally of a
+// The contracts are in specs/Windows.antt, specs/Marks.antt and specs/Counts.antt; specs/Tallied.antt says when counts are the tally of a
 // start. No public function has a `requires`: each takes every input, whatever the counts hold.
 mod afresh;
 mod counts;
+mod marks;
 mod windows;
 
+pub use afresh::Fresh;
 pub use afresh::count_afresh;
 pub use afresh::double;
 pub use counts::Least;
 pub use counts::MOST_COUNTS;
 pub use counts::differing;
 pub use counts::finding_at;
+pub use marks::past_mark;
 pub use windows::window;

@@ -8,10 +8,10 @@ use Rattle.moves.proofs.steps.move_along.Statement.{statement}
 use Rattle.moves.proofs.steps.move_along.Tie as tie
 
 abbrev Inv-loop : tie.InvT-loop
-Inv-loop counts₀ ring line steps below m least₀ looks₀ end i₀ counts least looks i = Moving ring line i₀ steps below counts₀ counts least looks i
+Inv-loop counts₀ ring line steps below m least₀ looks₀ past₀ end i₀ counts least looks past i = Moving ring line i₀ steps below counts₀ counts least looks past i
 
 abbrev μ-loop : tie.MeasureT-loop
-μ-loop counts₀ ring line steps below m least₀ looks₀ end i₀ counts least looks i = end - i
+μ-loop counts₀ ring line steps below m least₀ looks₀ past₀ end i₀ counts least looks past i = end - i
 
 add-end : tie.Need-add-end Inv-loop μ-loop
 add-end c = search needs
@@ -22,29 +22,29 @@ loop-holds c = moving-start _ _ _ _ _ _ (c .before .before .before .pre)
 window-requires : tie.Need-window-requires Inv-loop μ-loop
 window-requires c κs = search needs
 
-add-step : tie.Need-add-step Inv-loop μ-loop
-add-step c = search needs
+add-entering : tie.Need-add-entering Inv-loop μ-loop
+add-entering c = search needs
 
 window-requires-2 : tie.Need-window-requires-2 Inv-loop μ-loop
 window-requires-2 c κs = search needs
 
+sub-entering : tie.Need-sub-entering Inv-loop μ-loop
+sub-entering c = search needs
+
+shared-slice-read-entering : tie.Need-shared-slice-read-entering Inv-loop μ-loop
+shared-slice-read-entering c =
+    let next = c .before in
+    omega (arith, fitting-length {ring = next .before .before .before .before .before .before .before .args .ring .now} (next .window2 .ensures) (omega arith))
+
 shared-slice-read-step : tie.Need-shared-slice-read-step Inv-loop μ-loop
 shared-slice-read-step c =
-    let here = c .before .before .before in
+    let here = c .before .before .before .before in
     omega (arith, fitting-length {ring = here .before .before .before .before .before .before .args .ring .now} (here .window .ensures) (omega arith))
-
-sub-step : tie.Need-sub-step Inv-loop μ-loop
-sub-step c = search needs
-
-shared-slice-read-step-2 : tie.Need-shared-slice-read-step-2 Inv-loop μ-loop
-shared-slice-read-step-2 c =
-    let next = c .before .before .before in
-    omega (arith, fitting-length {ring = next .before .before .before .before .before .before .before .args .ring .now} (next .window2 .ensures) (omega arith))
 
 step-requires : tie.Need-step-requires Inv-loop μ-loop
 step-requires c κs =
     let at-loop = c .before .before .before .before .before .before in
-    moving-has-counts _ _ _ _ _ _ (at-loop .before .before .before .before .pre) _ _ _ _ (at-loop .loop .inv)
+    moving-has-counts _ _ _ _ _ _ (at-loop .before .before .before .before .pre) _ _ _ _ _ (at-loop .loop .inv)
 
 add-looks : tie.Need-add-looks Inv-loop μ-loop
 add-looks c =
@@ -54,31 +54,37 @@ add-looks c =
 add-i : tie.Need-add-i Inv-loop μ-loop
 add-i c = search needs
 
+add-past-mark : tie.Need-add-past-mark Inv-loop μ-loop
+add-past-mark c = search needs
+
+past-mark-requires : tie.Need-past-mark-requires Inv-loop μ-loop
+past-mark-requires c κs = search needs
+
 -- The least count is below the bound: the move ends here.
 returns : tie.Need-returns Inv-loop μ-loop
 returns c =
-    let stepped = c .before .before in
+    let stepped = c .before .before .before in
     let next = stepped .before .before .before .before in
     let here = next .before in
     let at-loop = here .before .before in
-    moving-stops _ _ _ _ _ _ (at-loop .before .before .before .before .pre) _ _ _ _ (at-loop .loop .inv) (here .before .loop-test .taken)
-    _ _ _ _ (here .window .ensures) (next .window2 .ensures) (stepped .step .ensures) (c .if1 .taken)
+    moving-stops _ _ _ _ _ _ (at-loop .before .before .before .before .pre) _ _ _ _ _ (at-loop .loop .inv) (here .before .loop-test .taken)
+    _ _ _ _ (here .window .ensures) (next .window2 .ensures) (stepped .step .ensures) (c .before .past-mark .ensures) (c .if1 .taken)
 
 loop-less : tie.Need-loop-less Inv-loop μ-loop
 loop-less c = search needs
 
 loop-again : tie.Need-loop-again Inv-loop μ-loop
 loop-again c =
-    let stepped = c .before .before in
+    let stepped = c .before .before .before in
     let next = stepped .before .before .before .before in
     let here = next .before in
     let at-loop = here .before .before in
-    moving-turn _ _ _ _ _ _ (at-loop .before .before .before .before .pre) _ _ _ _ (at-loop .loop .inv) (here .before .loop-test .taken)
-    _ _ _ _ (here .window .ensures) (next .window2 .ensures) (stepped .step .ensures) (c .if1 .left)
+    moving-turn _ _ _ _ _ _ (at-loop .before .before .before .before .pre) _ _ _ _ _ (at-loop .loop .inv) (here .before .loop-test .taken)
+    _ _ _ _ (here .window .ensures) (next .window2 .ensures) (stepped .step .ensures) (c .before .past-mark .ensures) (c .if1 .left)
 
 -- All steps are taken.
 returns-2 : tie.Need-returns-2 Inv-loop μ-loop
-returns-2 c = moving-end _ _ _ _ _ _ (c .before .before .before .before .before .pre) _ _ _ _ (c .before .loop .inv) (c .loop-test .left)
+returns-2 c = moving-end _ _ _ _ _ _ (c .before .before .before .before .before .pre) _ _ _ _ _ (c .before .loop .inv) (c .loop-test .left)
 
 pub move-along-spec : {M : Type 1} → statement M
 move-along-spec =
@@ -89,14 +95,16 @@ move-along-spec =
     add-end
     loop-holds
     window-requires
-    add-step
+    add-entering
     window-requires-2
+    sub-entering
+    shared-slice-read-entering
     shared-slice-read-step
-    sub-step
-    shared-slice-read-step-2
     step-requires
     add-looks
     add-i
+    add-past-mark
+    past-mark-requires
     returns
     loop-less
     loop-again

@@ -9,10 +9,10 @@ use Rattle.tally.proofs.afresh.count_edges.Statement.{statement}
 use Rattle.tally.proofs.afresh.count_edges.Tie as tie
 
 abbrev Inv-loop : tie.InvT-loop
-Inv-loop counts₀ doubled window m looks₀ q₀ counts looks q = CountingAfresh doubled window counts₀ counts looks q
+Inv-loop counts₀ doubled window m looks₀ past₀ q₀ counts looks past q = CountingAfresh doubled window counts₀ counts looks past q
 
 abbrev μ-loop : tie.MeasureT-loop
-μ-loop counts₀ doubled window m looks₀ q₀ counts looks q = m - q
+μ-loop counts₀ doubled window m looks₀ past₀ q₀ counts looks past q = m - q
 
 clear-requires : tie.Need-clear-requires Inv-loop μ-loop
 clear-requires c κs = c .before .before .before .pre .has-counts
@@ -23,8 +23,8 @@ loop-holds c = counting-afresh-start _ _ _ _ (c .before .before .before .before 
 to-ring-requires : tie.Need-to-ring-requires Inv-loop μ-loop
 to-ring-requires c κs = search needs
 
-shared-slice-read-count-edge : tie.Need-shared-slice-read-count-edge Inv-loop μ-loop
-shared-slice-read-count-edge c = search needs
+shared-slice-read-edge : tie.Need-shared-slice-read-edge Inv-loop μ-loop
+shared-slice-read-edge c = search needs
 
 count-edge-requires : tie.Need-count-edge-requires Inv-loop μ-loop
 count-edge-requires c κs =
@@ -43,6 +43,12 @@ add-looks c =
     let pre = turn .before .before .before .before .before .before .pre in
     omega (arith, turn .before .loop .inv .looks-le, turn .before .loop .inv .turn-le, pre .has-counts .most, c .count-edge .ensures .1)
 
+add-past-mark : tie.Need-add-past-mark Inv-loop μ-loop
+add-past-mark c = search needs
+
+past-mark-requires : tie.Need-past-mark-requires Inv-loop μ-loop
+past-mark-requires c κs = search needs
+
 add-q : tie.Need-add-q Inv-loop μ-loop
 add-q c = search needs
 
@@ -51,11 +57,12 @@ loop-less c = search needs
 
 loop-again : tie.Need-loop-again Inv-loop μ-loop
 loop-again c =
-    let turn = c .before .before .before .before in
+    let counted = c .before in
+    let turn = counted .before .before .before .before in
     let cleared = turn .before .before in
     let pre = cleared .before .before .before .before .pre in
-    let place-is = place-under-is _ _ _ _ _ (sym (zero-add _)) (turn .loop-test .taken) (c .before .before .before .to-ring .ensures) in
-    counting-afresh-turn _ _ _ _ pre (cleared .clear .ensures) (turn .before .loop .inv) (turn .loop-test .taken) place-is (c .count-edge .ensures)
+    let place-is = place-under-is _ _ _ _ _ (sym (zero-add _)) (turn .loop-test .taken) (counted .before .before .before .to-ring .ensures) in
+    counting-afresh-turn _ _ _ _ pre (cleared .clear .ensures) (turn .before .loop .inv) (turn .loop-test .taken) place-is (counted .count-edge .ensures) (c .past-mark .ensures)
 
 least-of-requires : tie.Need-least-of-requires Inv-loop μ-loop
 least-of-requires c κs =
@@ -83,9 +90,11 @@ count-edges-spec =
     clear-requires
     loop-holds
     to-ring-requires
-    shared-slice-read-count-edge
+    shared-slice-read-edge
     count-edge-requires
     add-looks
+    add-past-mark
+    past-mark-requires
     add-q
     loop-less
     loop-again
