@@ -1,9 +1,9 @@
 -- A window read with the ring's own vectors is read by rules 1 to 3. By induction on the edges left: the bits of the held vector stand for the held stretch
 -- (`WindowLoop` of crates/meaning), and the vector grown by an edge stands for the grown stretch (`grown-by-edge` of crates/vectors). So no bit is set exactly at a
--- break. This proof uses the vectors by their bits only; the words are a matter of crates/vectors.
+-- break or at a mark, which the ring does not hold. This proof uses the vectors by their bits only; the words are a matter of crates/vectors.
 use Prim.Native.Nat.{ℕ, zero, suc, _+_, _*_, _≤_, _<_}
 use mathlib.Core.Path.{_≡_, refl, sym, subst, _∙_}
-use mathlib.Core.Bool.{true, false, true≢false}
+use mathlib.Core.Bool.{Bool, true, false, true≢false}
 use mathlib.Core.List.{List}
 use native.Mathlib.Nat.{zero-add}
 use native.Mathlib.Numerals.{add-one}
@@ -12,10 +12,10 @@ use lib.Dec.{ltb}
 use lib.ListN.{length, getD}
 use borrow.Author.Tests.{ltb-true, ltb-false}
 use Rattle.meaning.specs.Counting.{someBelow}
-use Rattle.meaning.specs.Meanings.{windowEdge}
+use Rattle.meaning.specs.Meanings.{windowEdge, isMark}
 use Rattle.lists.proofs.Cases.{by-test, not-passed}
 use Rattle.meaning.proofs.Some.{some-yes, some-by}
-use Rattle.meaning.proofs.WindowLoop.{AllSet, GrownBy, WindowLoop, window-start, window-end, window-stopped, window-grows, window-breaks}
+use Rattle.meaning.proofs.WindowLoop.{AllSet, GrownBy, WindowLoop, ReadTo, window-start, window-end, window-stopped, window-grows, window-marked, window-breaks}
 use Rattle.vectors.specs.Bits.{wordCount, isSet, firstBits, noBit}
 use Rattle.vectors.specs.Holding.{vectorAt}
 use Rattle.vectors.specs.ByValue.{vectorWords, vectorBits, HeldVector}
@@ -51,6 +51,12 @@ module _ (ring window table : List ℕ) (k : ℕ) (own : OwnVectors ring table) 
   unfolding AllSet
   full-set r l = first-set m most r (omega arith)
 
+  -- Where reading ends by the rules, these numbers are its result.
+  read-to : (left breaks looks : ℕ) (marked : Bool) → looks + left ≡ length ring → ReadTo ring window k 0 left breaks marked
+      → IsWindowRead ring window k (record { left = left; breaks = breaks; looks = looks; marked = marked })
+  read-to left breaks looks marked all to =
+      record { read-is = omega (arith, to .left-is); left-is = all; breaks-is = sym (to .breaks-is); mark-is = sym (to .mark-is) }
+
   module _ (left : ℕ) (held : List ℕ) (breaks looks : ℕ) (h : StandsFor ring window k held (suc left) breaks looks) where
     -- The held vector grown by the window's edge at `left`.
     abbrev new : List ℕ
@@ -76,7 +82,7 @@ module _ (ring window table : List ℕ) (k : ℕ) (own : OwnVectors ring table) 
           looks-are = omega (arith, h .looks-are);
           vector = grew .vector;
           reading =
-              window-grows ring window k 0 left breaks (isSet held) (isSet new) (h .few) grown-by (h .reading)
+              window-grows ring window k 0 left breaks (isSet held) (isSet new) (own .no-mark) (h .few) grown-by (h .reading)
               (some-by (isSet new) (length ring) (one .0) (omega (arith, one .1)) (one .2));
         }
 
@@ -88,33 +94,43 @@ module _ (ring window table : List ℕ) (k : ℕ) (own : OwnVectors ring table) 
         let one = some-yes (isSet new) (length ring) q in
         true≢false (sym (one .2) ∙ no-bit-iff m words new refl (grew .vector) .0 e (one .0) (omega (arith, one .1)))))
 
-    -- If no bit is set, the edge is a break.
-    broken : noBit new words ≡ true → WindowLoop ring window k 0 left (breaks + 1) (isSet full)
-    broken e =
-        rw add-one (window-breaks ring window k 0 left breaks (isSet held) (isSet new) (h .few) grown-by (h .reading) (none-set e) (isSet full) full-set)
+    -- The window's edge as the rules name it.
+    edge-is : {t : Bool} → isMark edge ≡ t → isMark (windowEdge window 0 left) ≡ t
+    edge-is e = rw (zero-add left) e
 
-    -- If it is at most break k, every bit is set again, for the empty stretch.
-    empties : noBit new words ≡ true → breaks + 1 ≤ k → StandsFor ring window k full left (breaks + 1) (looks + 1)
-    empties e few = record { few = few; looks-are = omega (arith, h .looks-are); vector = first-held m most; reading = broken e }
+    -- If the edge is a mark, reading stops, without a break.
+    leaves : isMark edge ≡ true → IsWindowRead ring window k (record { left = left; breaks = breaks; looks = looks + 1; marked = true })
+    leaves is =
+        read-to left breaks (looks + 1) true (omega (arith, h .looks-are))
+        (window-marked ring window k 0 left breaks (isSet held) (isSet new) (own .no-mark) (h .few) grown-by (h .reading) (edge-is is))
 
-    -- If it is break k + 1, reading stops, as rule 3 says.
-    stops : noBit new words ≡ true → k < breaks + 1 → IsWindowRead ring window k (record { left = left; breaks = breaks + 1; looks = looks + 1 })
-    stops e many =
-        let to = window-stopped ring window k 0 left (breaks + 1) (isSet full) many (broken e) in
-        record { read-is = omega (arith, to .0, h .looks-are); left-is = omega (arith, h .looks-are); breaks-is = sym (to .1) }
+    module _ (unmarked : isMark edge ≡ false) (e : noBit new words ≡ true) where
+      -- If no bit is set and the edge is no mark, it is a break.
+      broken : WindowLoop ring window k 0 left (breaks + 1) (isSet full)
+      broken =
+          rw add-one (window-breaks ring window k 0 left breaks (isSet held) (isSet new) (own .no-mark) (h .few) grown-by (h .reading) (edge-is unmarked) (none-set e) (isSet full) full-set)
+
+      -- If it is at most break k, every bit is set again, for the empty stretch.
+      empties : breaks + 1 ≤ k → StandsFor ring window k full left (breaks + 1) (looks + 1)
+      empties few = record { few = few; looks-are = omega (arith, h .looks-are); vector = first-held m most; reading = broken }
+
+      -- If it is break k + 1, reading stops, as rule 3 says.
+      stops : k < breaks + 1 → IsWindowRead ring window k (record { left = left; breaks = breaks + 1; looks = looks + 1; marked = false })
+      stops many =
+          read-to left (breaks + 1) (looks + 1) false (omega (arith, h .looks-are)) (window-stopped ring window k 0 left (breaks + 1) (isSet full) many broken)
 
   -- Reading the edges before place `left`, with a vector that stands for the stretch, follows the rules.
   read-on : (left : ℕ) (held : List ℕ) (breaks looks : ℕ) → StandsFor ring window k held left breaks looks
       → IsWindowRead ring window k (readOn table window k words left held breaks looks)
   unfolding readOn
-  read-on zero held breaks looks h =
-      let to = window-end ring window k 0 breaks (isSet held) (h .reading) in
-      record { read-is = omega (arith, to .0, h .looks-are); left-is = h .looks-are; breaks-is = sym (to .1) }
+  read-on zero held breaks looks h = read-to 0 breaks looks false (h .looks-are) (window-end ring window k 0 breaks (isSet held) (h .reading))
   read-on (suc left) held breaks looks h =
       by-test (IsWindowRead ring window k) (noBit (new left held breaks looks h) words)
-      (λ none. by-test (IsWindowRead ring window k) (ltb k (breaks + 1))
-      (λ many. stops left held breaks looks h none (ltb-true k (breaks + 1) many))
-      (λ few. read-on left full (breaks + 1) (looks + 1) (empties left held breaks looks h none (ltb-false k (breaks + 1) few))))
+      (λ none. by-test (IsWindowRead ring window k) (isMark (getD window left 0))
+      (λ is. leaves left held breaks looks h is)
+      (λ unmarked. by-test (IsWindowRead ring window k) (ltb k (breaks + 1))
+      (λ many. stops left held breaks looks h unmarked none (ltb-true k (breaks + 1) many))
+      (λ few. read-on left full (breaks + 1) (looks + 1) (empties left held breaks looks h unmarked none (ltb-false k (breaks + 1) few)))))
       (λ some. read-on left (new left held breaks looks h) breaks (looks + 1) (grows left held breaks looks h some))
 
   -- A window of m edges, read with the ring's own vectors, is read by rules 1 to 3. (Before the first edge every bit is set, because the empty stretch is the

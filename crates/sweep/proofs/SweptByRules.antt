@@ -12,7 +12,7 @@ use borrow.Author.Tests.{ltb-true, ltb-false}
 use Rattle.meaning.specs.Findings.{foundAt}
 use Rattle.meaning.specs.Looks.{tallyLooks}
 use Rattle.lists.proofs.Cases.{by-test}
-use Rattle.meaning.proofs.Starts.{fits-is-start}
+use Rattle.meaning.proofs.CandidateStart.{candidate-is-start}
 use Rattle.tally.specs.Counts.{findingWith, TallyResult}
 use Rattle.tally.specs.Tallied.{Verified}
 use Rattle.tally.proofs.TallyFinding.{least-no, least-yes}
@@ -48,7 +48,7 @@ module _ (ring doubled table line : List ℕ) (k : ℕ) (old : List ℕ) (at : S
   reads : IsWindowsRead ring line k (at .start .0) read
   reads =
       windows-by-rules ring table line k (at .start .0)
-      (record { some-edge = can-read .some-edge; most = can-read .most; occurs = can .occurs }) (can-read .start-le)
+      (record { some-edge = can-read .some-edge; most = can-read .most; no-mark = can .no-mark; occurs = can .occurs }) (can-read .start-le)
 
   -- The counts are still the tally of the last verified start.
   tallied-here : TalliedBefore ring line i old (lastStart (at .last))
@@ -116,7 +116,7 @@ module _ (ring doubled table line : List ℕ) (k : ℕ) (old : List ℕ) (at : S
     found near =
         after _ refl refl
         (sym (least-yes ring line k i (tally .counts) (tally .least) (can-read .some-edge) (verified .tallied) (verified .least-is)
-        (findingWith m (tally .counts) (read .start) (tally .least)) (can-read .most) (record { is = refl }) (fits-is-start ring line i (read-is .in-line)) near))
+        (findingWith m (tally .counts) (read .start) (tally .least)) (can-read .most) (record { is = refl }) (candidate-is-start ring line k i (read-is .in-line) (read-is .not-stopped)) near))
 
   -- The result s of a sweep is what the rules give.
   abbrev SweptOn : SweepResult → Type 0

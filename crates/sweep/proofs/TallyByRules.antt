@@ -12,7 +12,7 @@ use borrow.Author.Tests.{lt-ltb, le-ltb, lt-leb}
 use Rattle.meaning.specs.Looks.{afreshLooks, stepLooks, tallyLooks}
 use Rattle.lists.proofs.Cases.{le-or-lt}
 use Rattle.tally.specs.Windows.{windowAt}
-use Rattle.tally.specs.Counts.{TallyResult, countedTo}
+use Rattle.tally.specs.Counts.{TallyResult, countedTo, countedPast}
 use Rattle.tally.specs.Tallied.{Verified}
 use Rattle.tally.proofs.AfreshTallied.{counted-verified}
 use Rattle.moves.specs.declared.steps.Reached.{Reached}
@@ -40,9 +40,9 @@ module _ (ring doubled line : List ℕ) (i : ℕ) (old : List ℕ) where
   afresh-by-rules : (last : Option ℕ) → CanVerify ring doubled line i old last → VerifiedAt (afreshLooks m) (countedTo doubled (windowAt m line i) old)
   afresh-by-rules last can =
       let t : TallyResult = countedTo doubled (windowAt m line i) old in
-      counted-verified ring line i doubled old (t .counts) (windowAt m line i) (record { least = t .least; looks = t .looks })
+      counted-verified ring line i doubled old (t .counts) (windowAt m line i) (record { least = t .least; looks = t .looks; past = countedPast doubled (windowAt m line i) old })
       (can .can-tally .size) (can .can-tally .some-edge) (can .can-tally .most) (can .twice) (can .in-line) (record { is = refl })
-      (record { written = refl; least-is = refl; looks-are = refl })
+      (record { written = refl; least-is = refl; looks-are = refl; past-is = refl })
 
   -- The tally moved from the last verified start verifies start i, at 2·m looks for each step.
   moved-by-rules : (from : ℕ) → CanVerify ring doubled line i old (some from) → VerifiedAt ((i - from) * stepLooks m) (movedTo ring line from (i - from) old)
@@ -50,7 +50,7 @@ module _ (ring doubled line : List ℕ) (i : ℕ) (old : List ℕ) where
   moved-by-rules from can =
       let before : from < i = can .before .0 in
       let to : CountsAt = movedFrom ring line from (i - from) 0 old in
-      let r : Reached = record { start = record { 0 = to .start }; least = to .least; looks = to .looks } in
+      let r : Reached = record { start = record { 0 = to .start }; least = to .least; looks = to .looks; past = to .past } in
       let reached : IsReached ring line from (i - from) 0 (to .counts) r =
       moved-tallied ring line 0 (can .can-tally .some-edge) (can .can-tally .most) from (i - from) old (can .before .1) (omega arith)
       (omega (arith, can .in-line)) (omega (arith, can .most-line)) (to .counts) r (record { is = refl }) in

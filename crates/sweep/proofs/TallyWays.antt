@@ -14,39 +14,43 @@ use Rattle.tally.specs.Windows.{windowAt, IsWindow}
 use Rattle.tally.specs.Counts.{mostCounts, canCount, TallyResult, countedTo, IsCounted}
 use Rattle.moves.specs.Moves.{CountsAt, unmoved, canMove, IsMoved}
 use Rattle.tally.specs.declared.counts.Least.{Least}
+use Rattle.tally.specs.declared.afresh.Fresh.{Fresh}
 use Rattle.tally.proofs.CountCases.{can-count-iff}
 use Rattle.moves.specs.declared.steps.Reached.{Reached}
 use Rattle.moves.proofs.MoveLoop.{move-looks-le}
 use Rattle.sweep.specs.declared.verifying.LastVerified.{LastVerified}
 use Rattle.sweep.specs.declared.verifying.LastVerified.the-variants.{Nothing, At}
-use Rattle.sweep.specs.Sweeps.{movedTo, tallyBy, IsTalliedBy}
+use Rattle.sweep.specs.Sweeps.{movedTo, tallyBy, IsCountedTo, IsTalliedBy}
 
 -- The looks of a fresh count for the longest ring.
 abbrev pub mostTally : ℕ
 mostTally = mostCounts * mostCounts
 
-module _ (ring : List ℕ) {doubled line : List ℕ} {i : ℕ} {old : List ℕ} where
-  -- The window that `window` returned for start i is counted afresh by `count_afresh`.
-  module _ {edges new : List ℕ} {z : Least} (handed : IsWindow line i (length ring) edges) (counted : IsCounted doubled edges old new z) where
-    afresh-is : record { counts = new; least = z .least; looks = z .looks } ≡ countedTo doubled (windowAt (length ring) line i) old
-    afresh-is =
-        (λ j. record { counts = counted .written j; least = counted .least-is j; looks = counted .looks-are j })
-        ∙ ap (λ (w : List ℕ). countedTo doubled w old) (handed .is)
+-- If the window that `window` returned for start i is counted afresh, the contract of `verify_afresh` is met.
+pub afresh-is : {m : ℕ} {doubled line : List ℕ} {i : ℕ} {old edges new : List ℕ} {z : Fresh} → IsWindow line i m edges → IsCounted doubled edges old new z
+    → IsCountedTo m doubled line i old new (record { least = z .least; looks = z .looks })
+afresh-is {doubled = doubled} {old = old} handed counted = record {
+  is = (λ j. record { counts = counted .written j; least = counted .least-is j; looks = counted .looks-are j })
+      ∙ ap (λ (w : List ℕ). countedTo doubled w old) (handed .is);
+}
 
+module _ (ring : List ℕ) {doubled line : List ℕ} {i : ℕ} {old : List ℕ} where
+  -- The window at i is counted afresh.
+  module _ {new : List ℕ} {z : Least} (counted : IsCountedTo (length ring) doubled line i old new z) where
     -- If there is no earlier tally, counting the window at start i afresh meets the contract of `verify`.
     pub tallied-first : {last : LastVerified} → last ≡ Nothing → IsTalliedBy ring doubled line i last old new z
     unfolding tallyBy
-    tallied-first none = record { is = rw none afresh-is }
+    tallied-first none = record { is = rw none (counted .is) }
 
     -- If start i is not beyond the last verified one, counting its window afresh meets the contract of `verify`.
     pub tallied-behind : {last : LastVerified} {from : LinePlace} → last ≡ At from → i ≤ from .0 → IsTalliedBy ring doubled line i last old new z
     unfolding tallyBy
-    tallied-behind {from = from} after behind = record { is = rw (after, le-leb i (from .0) behind) afresh-is }
+    tallied-behind {from = from} after behind = record { is = rw (after, le-leb i (from .0) behind) (counted .is) }
 
     -- If start i is s beyond the last verified one and 2·s > m, counting its window afresh meets the contract of `verify`.
     pub tallied-far : {last : LastVerified} {from : LinePlace} → last ≡ At from → from .0 < i → length ring < 2 * (i - from .0) → IsTalliedBy ring doubled line i last old new z
     unfolding tallyBy
-    tallied-far {from = from} after beyond far = record { is = rw (after, lt-leb i (from .0) beyond, lt-ltb (length ring) (2 * (i - from .0)) far) afresh-is }
+    tallied-far {from = from} after beyond far = record { is = rw (after, lt-leb i (from .0) beyond, lt-ltb (length ring) (2 * (i - from .0)) far) (counted .is) }
 
   -- If the start is s beyond the last verified one and 2·s ≤ m, moving the tally s steps meets the contract of `verify`.
   pub tallied-moved : {last : LastVerified} {from : LinePlace} {new : List ℕ} {r : Reached} → last ≡ At from → from .0 < i → 2 * (i - from .0) ≤ length ring

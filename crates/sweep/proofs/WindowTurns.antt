@@ -2,12 +2,10 @@
 -- looks, and each starts past the one before.
 use Prim.Native.Nat.{ℕ, zero, suc, _+_, _-_, _*_, _≤_, _<_}
 use mathlib.Core.Path.{_≡_, refl, sym, ap, _∙_}
-use mathlib.Core.Bool.{true}
+use mathlib.Core.Bool.{true, false}
 use mathlib.Core.List.{List}
 use native.Mathlib.Omega.{arith}
-use lib.Dec.{leb}
 use lib.ListN.{length}
-use borrow.Author.Tests.{le-leb, lt-leb}
 use Rattle.lists.proofs.Cases.{by-test}
 use Rattle.meaning.specs.Meanings.{FitsInLine, IsPastLine, window, fitsInLine}
 use Rattle.meaning.proofs.Starts.{fits-line-iff, past-line-iff}
@@ -17,7 +15,7 @@ use Rattle.tally.specs.Counts.{mostCounts}
 use Rattle.tally.proofs.WindowEdges.{fitting-window, fitting-length}
 use Rattle.sweep.specs.declared.reading.WindowRead.{WindowRead}
 use Rattle.sweep.specs.declared.sweeping.WindowsRead.{WindowsRead}
-use Rattle.sweep.specs.Reads.{readBy, noneLeft, windowsOn, windowsBy, CanReadWindows}
+use Rattle.sweep.specs.Reads.{readBy, stoppedBy, noneLeft, windowsOn, windowsBy, CanReadWindows}
 use Rattle.sweep.proofs.ReadTurns.{read-sum, read-some}
 
 -- The invariant before the turn at start i: at most `left` windows are still to come, and `still` says that reading them from here gives the result of the whole loop.
@@ -79,22 +77,22 @@ module _ {ring table line : List ℕ} {k from i looks : ℕ} (known : StillWindo
     pub windows-looks-le : looks + r .looks ≤ mostCounts * (i + r .left + 1)
     windows-looks-le = omega (arith, known .looks-le, reads-fit .0, known .can .most)
 
-    -- If the window has at most k breaks it is the candidate, and returning there meets the contract.
-    pub windows-stop : r .breaks ≤ k
+    -- If the window was not stopped it is the candidate, and returning there meets the contract.
+    pub windows-stop : stoppedBy k r ≡ false
         → record { start = record { 0 = i }; next = record { 0 = i + r .left + 1 }; looks = looks + r .looks; candidate = true } ≡ windowsBy ring table line k from
     unfolding windowsOn
-    windows-stop few = rw (fits-line-iff ring line i .1 in-line, is-read, le-leb (r .breaks) k few) at from-here
+    windows-stop goes-on = rw (fits-line-iff ring line i .1 in-line, is-read, goes-on) at from-here
 
-    -- If the window has more than k breaks, the invariant holds at the next start.
-    pub windows-turn : k < r .breaks → StillWindows ring table line k from (i + r .left + 1) (looks + r .looks)
+    -- If the window was stopped, the invariant holds at the next start.
+    pub windows-turn : stoppedBy k r ≡ true → StillWindows ring table line k from (i + r .left + 1) (looks + r .looks)
     unfolding windowsOn
-    windows-turn many = record {
+    windows-turn stop = record {
       can = known .can;
       left = known .left - 1;
       enough = omega (arith, known .enough);
       start-le = windows-next-le;
       looks-le = windows-looks-le;
-      still = rw (fits-line-iff ring line i .1 in-line, is-read, lt-leb (r .breaks) k many) at from-here;
+      still = rw (fits-line-iff ring line i .1 in-line, is-read, stop) at from-here;
     }
 
 -- How far reading at most `left` windows goes: to a start of at most n + 1, with at most 256 looks for each window.
@@ -112,11 +110,11 @@ module _ (ring table line : List ℕ) (k from : ℕ) (can : CanReadWindows (leng
       let in-line = fits-line-iff ring line i .0 e in
       let r : WindowRead = readBy table (windowAt (length ring) line i) k in
       let reads = window-reads table k (can .some-edge) in-line (record { is = refl }) in
-      by-test (WindowsGo (length line) looks (suc left)) (leb (r .breaks) k)
-      (λ _. record { start-le = l; looks-le = omega (arith, reads .0, can .most) })
+      by-test (WindowsGo (length line) looks (suc left)) (stoppedBy k r)
       (λ _.
       let later = windows-go left (i + r .left + 1) (looks + r .looks) (omega (arith, reads .1)) in
-      record { start-le = later .start-le; looks-le = omega (arith, later .looks-le, reads .0, can .most) }))
+      record { start-le = later .start-le; looks-le = omega (arith, later .looks-le, reads .0, can .most) })
+      (λ _. record { start-le = l; looks-le = omega (arith, reads .0, can .most) }))
       (λ _. record { start-le = l; looks-le = omega arith })
 
   -- Reading windows from `from` on ends at a start of at most n + 1, with at most 256·(n + 1 − from) looks.

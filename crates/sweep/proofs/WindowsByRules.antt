@@ -2,22 +2,21 @@
 -- far was stopped (`StoppedTo`). The window at i is read as a line of its own (`read-by-rules`, `alone-reading` of crates/meaning). Either it is
 -- stopped, and the next one starts later; or it is the candidate; or it does not fit in the line.
 use Prim.Native.Nat.{ℕ, zero, suc, _+_, _-_, _≤_, _<_}
-use mathlib.Core.Path.{_≡_, refl, sym, ap, _∙_}
-use mathlib.Core.Bool.{true, true≢false}
+use mathlib.Core.Path.{_≡_, refl, sym, ap, ap₂, _∙_}
+use mathlib.Core.Bool.{Bool, true, false, _||_, true≢false}
 use mathlib.Core.List.{List}
 use native.Mathlib.Omega.{arith}
-use lib.Dec.{leb}
+use lib.Dec.{ltb}
 use lib.ListN.{length}
-use borrow.Author.Tests.{leb-true, leb-false, lt-ltb, le-ltb}
 use Rattle.lists.proofs.Cases.{by-test}
 use Rattle.meaning.specs.Meanings.{FitsInLine, IsPastLine, window, fitsInLine}
 use Rattle.meaning.proofs.Starts.{fits-line-iff, past-line-iff}
-use Rattle.meaning.specs.Rules.{readWindow}
+use Rattle.meaning.specs.Rules.{isStopped, readWindow}
 use Rattle.meaning.proofs.WindowAlone.{alone-reading}
 use Rattle.tally.specs.Windows.{windowAt}
 use Rattle.tally.proofs.WindowEdges.{fitting-window, fitting-length}
 use Rattle.sweep.specs.declared.reading.WindowRead.{WindowRead}
-use Rattle.sweep.specs.Reads.{readBy, noneLeft, windowsOn, windowsBy}
+use Rattle.sweep.specs.Reads.{readBy, stoppedBy, noneLeft, windowsOn, windowsBy}
 use Rattle.sweep.specs.ReadingRules.{OwnVectors, IsWindowRead}
 use Rattle.sweep.specs.SweepRules.{sweptStart, StoppedTo, none-stopped, one-stopped, IsWindowsRead}
 use Rattle.sweep.proofs.ReadByRules.{read-by-rules}
@@ -52,20 +51,27 @@ module _ (ring table line : List ℕ) (k from : ℕ) (own : OwnVectors ring tabl
       breaks-are : read i .breaks ≡ readWindow ring line k i .breaks
       breaks-are = by-rules .breaks-is ∙ ap (λ (w : List ℕ). readWindow ring w k 0 .breaks) alone ∙ alone-reading ring line i k .breaks-is
 
+      -- The window is stopped exactly when the rules stop it.
+      stops-are : stoppedBy k (read i) ≡ isStopped k (readWindow ring line k i)
+      stops-are =
+          let marks-are : read i .marked ≡ readWindow ring line k i .at-mark =
+          by-rules .mark-is ∙ ap (λ (w : List ℕ). readWindow ring w k 0 .at-mark) alone ∙ alone-reading ring line i k .mark-is in
+          ap₂ (λ (b : ℕ) (t : Bool). ltb k b || t) breaks-are marks-are
+
       next-is : i + read i .left + 1 ≡ sweptStart ring line k i
       next-is = omega (arith, reads-are, by-rules .left-is)
 
       -- The case that the window is stopped.
-      stopped-here : k < read i .breaks → StoppedTo ring line k from (i + read i .left + 1) (looks + read i .looks)
-      stopped-here many = rw (next-is, reads-are) (one-stopped h in-line (lt-ltb k _ (omega (arith, breaks-are))))
+      stopped-here : stoppedBy k (read i) ≡ true → StoppedTo ring line k from (i + read i .left + 1) (looks + read i .looks)
+      stopped-here stop = rw (next-is, reads-are) (one-stopped h in-line (sym stops-are ∙ stop))
 
       -- The case that it is the candidate.
-      stops-here : read i .breaks ≤ k
+      stops-here : stoppedBy k (read i) ≡ false
           → IsWindowsRead ring line k from (record { start = record { 0 = i }; next = record { 0 = i + read i .left + 1 }; looks = looks + read i .looks; candidate = true })
-      stops-here few = record {
+      stops-here goes-on = record {
         looks = looks;
         stopped-to = h;
-        candidate-is = λ _. record { in-line = in-line; not-stopped = le-ltb k _ (omega (arith, breaks-are)); next-is = next-is; looks-are = omega (arith, reads-are) };
+        candidate-is = λ _. record { in-line = in-line; not-stopped = sym stops-are ∙ goes-on; next-is = next-is; looks-are = omega (arith, reads-are) };
         ended = λ e. absurd (true≢false e);
       }
 
@@ -78,11 +84,9 @@ module _ (ring table line : List ℕ) (k from : ℕ) (own : OwnVectors ring tabl
       by-test (IsWindowsRead ring line k from) (fitsInLine ring line i)
       (λ passed.
       let in-line = fits-line-iff ring line i .0 passed in
-      by-test (IsWindowsRead ring line k from) (leb (read i .breaks) k)
-      (λ few. stops-here i looks h in-line (leb-true (read i .breaks) k few))
-      (λ many.
-      windows-on left (i + read i .left + 1) (looks + read i .looks) (omega arith)
-      (stopped-here i looks h in-line (leb-false (read i .breaks) k many))))
+      by-test (IsWindowsRead ring line k from) (stoppedBy k (read i))
+      (λ stop. windows-on left (i + read i .left + 1) (looks + read i .looks) (omega arith) (stopped-here i looks h in-line stop))
+      (λ goes-on. stops-here i looks h in-line goes-on))
       (λ out. ended i looks h (past-line-iff ring line i .0 out))
 
   -- Windows read with the ring's own vectors from a start of at most n + 1 on, up to the next candidate, are read by the rules.

@@ -3,21 +3,26 @@
 -- rules give.
 use Prim.Native.Nat.{ℕ, _+_, _≤_, _<_}
 use mathlib.Core.Path.{_≡_}
+use mathlib.Core.Bool.{false}
 use mathlib.Core.List.{List}
 use lib.ListN.{length}
+use Rattle.meaning.specs.Meanings.{holdsMark}
 use Rattle.meaning.specs.Rules.{readWindow}
 use Rattle.vectors.specs.ByValue.{Occurrences}
 use Rattle.tally.specs.Counts.{mostCounts}
 use Rattle.sweep.specs.declared.reading.WindowRead.{WindowRead}
 
--- The ring has 1 to 256 edges, and `table` holds its occurrence vectors.
+-- The ring has 1 to 256 edges and holds no mark, and `table` holds its occurrence vectors.
 pub record OwnVectors (ring table : List ℕ) : Type 0 where
   pub some-edge : 0 < length ring
   pub most : length ring ≤ mostCounts
+  pub no-mark : holdsMark ring ≡ false
   pub occurs : Occurrences ring table
 
--- r is the result of reading the window by rules 1 to 3: one look for each edge read, the number of edges left unread, and the number of breaks.
+-- r is the result of reading the window by rules 1 to 3: one look for each edge read, the number of edges left unread, the number of breaks, and whether the last
+-- edge read was a mark.
 pub record IsWindowRead (ring window : List ℕ) (k : ℕ) (r : WindowRead) : Type 0 where
   pub read-is : r .looks ≡ readWindow ring window k 0 .read
   pub left-is : r .looks + r .left ≡ length ring
   pub breaks-is : r .breaks ≡ readWindow ring window k 0 .breaks
+  pub mark-is : r .marked ≡ readWindow ring window k 0 .at-mark

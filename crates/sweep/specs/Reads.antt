@@ -4,15 +4,16 @@
 --
 --   heldWith                       the held vector after one more edge
 --   readOn, readWith, readBy       one window: from a given point; from its last edge with a given number of words; with as few words as m bits need
+--   stoppedBy                      whether a window was stopped
 --   noneLeft                       the result if no window fits in the line any more
 --   windowsOn, windowsBy           window after window, to the next candidate: at most a given number of them; all from a given start
 --   CanReadWindows                 the precondition of `read_windows`
 use Prim.Native.Nat.{ℕ, zero, suc, _+_, _-_, _*_, _≤_, _<_}
-use mathlib.Core.Bool.{true, false, cond}
+use mathlib.Core.Bool.{Bool, true, false, cond, _||_}
 use mathlib.Core.List.{List}
-use lib.Dec.{ltb, leb}
+use lib.Dec.{ltb}
 use lib.ListN.{length, getD}
-use Rattle.meaning.specs.Meanings.{fitsInLine}
+use Rattle.meaning.specs.Meanings.{fitsInLine, isMark}
 use Rattle.vectors.specs.Bits.{wordCount, firstBits, noBit}
 use Rattle.vectors.specs.Holding.{vectorAt}
 use Rattle.vectors.specs.ByValue.{vectorWords, grownWords}
@@ -29,16 +30,19 @@ heldWith table window words left held =
 
 -- The result of reading the edges before place `left`, given the held vector, the breaks and the looks so far. Rule 2: "If the grown stretch doesn't fit the ring,
 -- that edge is a break: count one and empty the stretch." The grown vector has no bit at a break; for the empty stretch all m bits are set. Rule 3: "Stop at break
--- k+1, or when all m edges are read."
+-- k+1, or when all m edges are read." And a mark is where "the quick scan leaves the window" (document 02, ticket 2): "one look and no break". It is asked for only
+-- where the grown vector has no bit, because a mark fits no ring of an accepted call.
 unfoldable pub readOn : List ℕ → List ℕ → ℕ → ℕ → ℕ → List ℕ → ℕ → ℕ → WindowRead
-readOn table window k words zero held breaks looks = record { left = 0; breaks = breaks; looks = looks }
+readOn table window k words zero held breaks looks = record { left = 0; breaks = breaks; looks = looks; marked = false }
 readOn table window k words (suc left) held breaks looks =
     let next : List ℕ = heldWith table window words left held in
-    let stopped : WindowRead = record { left = left; breaks = breaks + 1; looks = looks + 1 } in
+    let at-mark : WindowRead = record { left = left; breaks = breaks; looks = looks + 1; marked = true } in
+    let stopped : WindowRead = record { left = left; breaks = breaks + 1; looks = looks + 1; marked = false } in
     let emptied : WindowRead = readOn table window k words left (firstBits (length window) vectorWords) (breaks + 1) (looks + 1) in
     let grown : WindowRead = readOn table window k words left next breaks (looks + 1) in
     let broken : WindowRead = cond (ltb k (breaks + 1)) stopped emptied in
-    cond (noBit next words) broken grown
+    let empty : WindowRead = cond (isMark (getD window left 0)) at-mark broken in
+    cond (noBit next words) empty grown
 
 -- Rule 1: "read its edges from the last towards the first". At first all m bits are set, because the empty stretch is the beginning of every rotation. `words` is
 -- the number of machine words used for a vector.
@@ -49,20 +53,24 @@ readWith table window k words = readOn table window k words (length window) (fir
 abbrev pub readBy : List ℕ → List ℕ → ℕ → WindowRead
 readBy table window k = readWith table window k (wordCount (length window))
 
+-- Whether the window was stopped. Rule 3: "Stop at break k+1"; document 02, ticket 2: "On reading a mark the quick scan leaves the window".
+abbrev pub stoppedBy : ℕ → WindowRead → Bool
+stoppedBy k r = ltb k (r .breaks) || r .marked
+
 -- The result if no window fits in the line at place i: no candidate, and both places are i.
 abbrev pub noneLeft : ℕ → ℕ → WindowsRead
 noneLeft i looks = record { start = record { 0 = i }; next = record { 0 = i }; looks = looks; candidate = false }
 
 -- The result of reading at most `left` windows from start i on, up to the next candidate, with the looks so far. Rule 1: "While a window fits in the line". Rule 3:
--- "With j edges read, the next window starts m − j + 1 further on." Rule 4: "A window with all m edges read and at most k breaks is a candidate." A window with at
--- most k breaks was not stopped, so all its edges are read, and only its breaks are tested.
+-- "With j edges read, the next window starts m − j + 1 further on." Rule 4: "A window with all m edges read and at most k breaks is a candidate." All edges of a
+-- window that was not stopped are read, so only this is tested.
 unfoldable pub windowsOn : List ℕ → List ℕ → List ℕ → ℕ → ℕ → ℕ → ℕ → WindowsRead
 windowsOn ring table line k zero i looks = noneLeft i looks
 windowsOn ring table line k (suc left) i looks =
     let read : WindowRead = readBy table (windowAt (length ring) line i) k in
     let found : WindowsRead = record { start = record { 0 = i }; next = record { 0 = i + read .left + 1 }; looks = looks + read .looks; candidate = true } in
     let later : WindowsRead = windowsOn ring table line k left (i + read .left + 1) (looks + read .looks) in
-    let tried : WindowsRead = cond (leb (read .breaks) k) found later in
+    let tried : WindowsRead = cond (stoppedBy k read) later found in
     let none : WindowsRead = noneLeft i looks in
     cond (fitsInLine ring line i) tried none
 

@@ -18,7 +18,7 @@ use mathlib.Core.Bool.{Bool, true, false}
 use mathlib.Core.List.{List, [], _∷_}
 use mathlib.Core.Option.{some}
 use lib.ListN.{length}
-use Rattle.meaning.specs.Meanings.{FitsInLine, IsPastLine}
+use Rattle.meaning.specs.Meanings.{FitsInLine, IsPastLine, holdsMark}
 use Rattle.meaning.specs.Findings.{Finding, foundAt}
 use Rattle.meaning.specs.Rules.{isStopped, readWindow}
 use Rattle.meaning.specs.Looks.{tallyLooks}
@@ -76,10 +76,11 @@ pub record IsWindowsRead (ring line : List ℕ) (k from : ℕ) (r : WindowsRead)
   pub candidate-is : r .candidate ≡ true → IsCandidateRead ring line k looks r
   pub ended : r .candidate ≡ false → IsPastLine ring line (r .start .0) × (r .next .0 ≡ r .start .0) × (r .looks ≡ looks)
 
--- The sweep can go on by the rules: ring, line, start and looks are within the limits, there are 256 counts, the ring's own vectors and double are lent, and the counts
--- are the tally of the last verified start, if there is one. The allowance may have any value.
+-- The sweep can go on by the rules: ring, line, start and looks are within the limits, the ring holds no mark, there are 256 counts, the ring's own vectors and double
+-- are lent, and the counts are the tally of the last verified start, if there is one. The allowance may have any value.
 pub record CanSweepOn (ring doubled table line counts : List ℕ) (at : Sweep) : Type 0 where
   pub can-sweep : CanSweep (length ring) (length line) (at .start .0) (at .looks)
+  pub no-mark : holdsMark ring ≡ false
   pub size : length counts ≡ mostCounts
   pub occurs : Occurrences ring table
   pub twice : IsDoubled ring doubled

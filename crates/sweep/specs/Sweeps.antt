@@ -7,7 +7,7 @@
 --   mostLooks                2^62, more looks than any sweep takes
 --   canSweep, CanSweep       whether the sweep can go on: the test, and the same as facts
 --   IsSweptBy                the contract of `sweep_on`
---   IsTalliedBy, IsSweptTo   the contracts of `verify` and `to_candidate`
+--   IsCountedTo, IsTalliedBy, IsSweptTo   the contracts of `verify_afresh`, `verify` and `to_candidate`
 use Prim.Native.Nat.{ℕ, _+_, _-_, _*_, _^_, _≤_}
 use mathlib.Core.Path.{_≡_}
 use mathlib.Core.Bool.{Bool, cond, _&&_}
@@ -77,6 +77,10 @@ pub record IsSweptBy (ring doubled table line : List ℕ) (k : ℕ) (at : Sweep)
       ≡ cond (canSweep (length ring) (length line) (at .start .0) (at .looks)) (sweepBy ring doubled table line k at old) (record { swept = Ended at; counts = old })
 
 -- From here on: preconditions and contracts of private functions.
+
+-- The contract of `verify_afresh`: the counts at exit, their least and the looks are those of a fresh count of the window at i.
+pub record IsCountedTo (m : ℕ) (doubled line : List ℕ) (i : ℕ) (old new : List ℕ) (z : Least) : Type 0 where
+  pub is : record { counts = new; least = z .least; looks = z .looks } ≡ countedTo doubled (windowAt m line i) old
 
 -- The contract of `verify`: the counts at exit, their least and the looks are those of `tallyBy`.
 pub record IsTalliedBy (ring doubled line : List ℕ) (i : ℕ) (last : LastVerified) (old new : List ℕ) (z : Least) : Type 0 where

@@ -1,6 +1,7 @@
 // The sweep goes from candidate to candidate. Its state is small and is passed by value; the counts and the ring's
 // vectors are lent beside it.
 use crate::reading::read_window;
+use crate::reading::was_stopped;
 use crate::verifying::LastVerified;
 use crate::verifying::verify;
 use answers::LinePlace;
@@ -45,8 +46,8 @@ pub struct WindowsRead {
 }
 
 // Rules 1 to 3, window after window, to the next candidate. The next window starts past the edge at which reading
-// stopped, because every start up to there differs in more than k places. Most windows are stopped after a few reads, so
-// nothing else is done between them.
+// stopped: at break k + 1 every start up to there differs in more than k places, and at a mark no place up to there is a
+// start. Most windows are stopped after a few reads, so nothing else is done between them.
 fn read_windows(
     ring: &[u8],
     table: &[u64; TABLE_WORDS],
@@ -64,7 +65,7 @@ fn read_windows(
         let read = read_window(window(line, LinePlace(i), m), table, k);
         looks += read.looks;
         let next = i + read.left + 1;
-        if read.breaks <= k {
+        if !was_stopped(read, k) {
             return WindowsRead {
                 start: LinePlace(i),
                 next: LinePlace(next),

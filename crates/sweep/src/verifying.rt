@@ -7,12 +7,29 @@ use tally::count_afresh;
 use tally::window;
 ghost use Prim.Native.Nat.{_≤_};
 ghost use Rattle.moves.specs.Moves.{mostPlaces};
-ghost use Rattle.sweep.specs.Sweeps.{IsTalliedBy};
+ghost use Rattle.sweep.specs.Sweeps.{IsCountedTo, IsTalliedBy};
 
 // The last verified start, if there is one.
 pub enum LastVerified {
     Nothing,
     At(LinePlace),
+}
+
+// Counts the window at a start afresh. Which of its edges are marks is of no use here: a candidate's window holds none.
+fn verify_afresh(
+    counts: &mut [u16; MOST_COUNTS],
+    doubled: &[u8],
+    line: &[u8],
+    start: LinePlace,
+    m: usize,
+) -> Least
+    ensures { λ z. ⌜ IsCountedTo m (now (doubled .entry)) (now (line .entry)) (start .0) (now (counts .entry)) (now (counts .exit)) z ⌝ }
+{
+    let fresh = count_afresh(counts, doubled, window(line, start, m));
+    Least {
+        least: fresh.least,
+        looks: fresh.looks,
+    }
 }
 
 // Verifies a start. Rule 5: "With no earlier tally, or if the new start is s beyond the last verified one and 2·s > m,
@@ -31,14 +48,14 @@ pub fn verify(
 {
     let m = ring.len();
     match last {
-        LastVerified::Nothing => count_afresh(counts, doubled, window(line, start, m)),
+        LastVerified::Nothing => verify_afresh(counts, doubled, line, start, m),
         LastVerified::At(from) => {
             if start.0 <= from.0 {
-                return count_afresh(counts, doubled, window(line, start, m));
+                return verify_afresh(counts, doubled, line, start, m);
             }
             let s = start.0 - from.0;
             if m < 2 * s {
-                count_afresh(counts, doubled, window(line, start, m))
+                verify_afresh(counts, doubled, line, start, m)
             } else {
                 // The bound is 0, and no least count is below 0, so the tally moves all s steps.
                 let reached = move_counts(counts, ring, line, from, s, 0);

@@ -1,8 +1,10 @@
 -- `sweep::sweeping::read_windows` meets its contract: the loop keeps `StillWindows`. A turn passes a window that is stopped, or ends at the
 -- candidate. The measure is n + 1 - i.
 use Prim.Native.Nat.{_+_, _-_}
+use mathlib.Core.Path.{sym, _∙_}
 use native.Mathlib.Omega.{arith}
 use borrow.Author.Needs.{needs}
+use borrow.Author.Tests.{not-true, not-false}
 use lib.ListN.{length}
 use Rattle.tally.proofs.WindowEdges.{fitting-length}
 use Rattle.sweep.proofs.WindowTurns.{StillWindows, windows-start, windows-end, windows-next-le, windows-looks-le, windows-stop, windows-turn}
@@ -60,12 +62,16 @@ add-next-2 c =
     let known = turn .before .loop .inv in
     omega (arith, known .can .most-line, windows-next-le known (omega (arith, turn .loop-test .taken)) (read .before .window .ensures) (read .read-window .ensures))
 
+was-stopped-requires : tie.Need-was-stopped-requires Inv-loop μ-loop
+was-stopped-requires c κs = search needs
+
 -- The candidate.
 returns : tie.Need-returns Inv-loop μ-loop
 returns c =
     let read = c .before .before .before .before in
     let turn = at-turn read in
-    windows-stop (turn .before .loop .inv) (omega (arith, turn .loop-test .taken)) (read .before .window .ensures) (read .read-window .ensures) (omega (arith, c .if1 .taken))
+    windows-stop (turn .before .loop .inv) (omega (arith, turn .loop-test .taken)) (read .before .window .ensures) (read .read-window .ensures)
+    (sym (c .before .was-stopped .ensures) ∙ not-true _ (c .if1 .taken))
 
 loop-less : tie.Need-loop-less Inv-loop μ-loop
 loop-less c = omega (arith, at-turn (c .before .before .before .before) .loop-test .taken)
@@ -75,7 +81,8 @@ loop-again : tie.Need-loop-again Inv-loop μ-loop
 loop-again c =
     let read = c .before .before .before .before in
     let turn = at-turn read in
-    windows-turn (turn .before .loop .inv) (omega (arith, turn .loop-test .taken)) (read .before .window .ensures) (read .read-window .ensures) (omega (arith, c .if1 .left))
+    windows-turn (turn .before .loop .inv) (omega (arith, turn .loop-test .taken)) (read .before .window .ensures) (read .read-window .ensures)
+    (sym (c .before .was-stopped .ensures) ∙ not-false _ (c .if1 .left))
 
 -- No window fits in the line any more.
 returns-2 : tie.Need-returns-2 Inv-loop μ-loop
@@ -94,6 +101,7 @@ read-windows-spec =
     add-looks
     add-next
     add-next-2
+    was-stopped-requires
     returns
     loop-less
     loop-again
