@@ -6,12 +6,13 @@ use mathlib.Core.List.{List}
 use native.Mathlib.Numerals.{add-one}
 use native.Mathlib.Omega.{arith}
 use lib.ListN.{length}
+use borrow.Author.Tests.{ne-eqb}
 use Rattle.meaning.specs.Meanings.{FitsInLine}
 use Rattle.meaning.specs.Looks.{stepLooks, surveyLooksBelow}
 use Rattle.meaning.proofs.SurveyLooks.{surveyLooks-first, surveyLooks-below}
-use Rattle.tally.specs.declared.counts.Least.{Least}
+use Rattle.tally.specs.declared.afresh.Fresh.{Fresh}
 use Rattle.moves.specs.declared.steps.Reached.{Reached}
-use Rattle.tally.proofs.AfreshTallied.{counted-verified}
+use Rattle.tally.proofs.AfreshTallied.{counted-verified, counted-past}
 use Rattle.moves.proofs.MovedTallied.{moved-tallied}
 use Rattle.tally.specs.Windows.{IsWindow}
 use Rattle.tally.specs.Counts.{IsCounted}
@@ -20,8 +21,8 @@ use Rattle.survey.specs.Survey.{CanVerifyOn, IsVerifiedOn}
 
 module _ {ring doubled line : List ℕ} {k i : ℕ} {old : List ℕ} (can : CanVerifyOn ring doubled line k i old) where
   -- If i is 0 and its window is counted afresh, the contract of `verify_on` is met.
-  pub first-verified : {edges counts : List ℕ} {z : Least} → i ≡ 0 → IsWindow line i (length ring) edges → IsCounted doubled edges old counts z
-      → IsVerifiedOn ring line k i counts (record { start = record { 0 = i }; least = z .least; looks = z .looks })
+  pub first-verified : {edges counts : List ℕ} {z : Fresh} → i ≡ 0 → IsWindow line i (length ring) edges → IsCounted doubled edges old counts z
+      → IsVerifiedOn ring line k i counts (record { start = record { 0 = i }; least = z .least; looks = z .looks; past = z .past })
   unfolding surveyLooksBelow
   first-verified {edges} {counts} {z} first handed counted =
       let v = counted-verified ring line i doubled old counts edges z (can .can-tally .size) (can .can-tally .some-edge) (can .can-tally .most) (can .twice) (can .in-line) handed counted in
@@ -32,6 +33,11 @@ module _ {ring doubled line : List ℕ} {k i : ℕ} {old : List ℕ} (can : CanV
         least-is = v .least-is;
         looks-are = rw first (omega (arith, v .looks-are, surveyLooks-first ring line (omega (arith, can .in-line))));
         passed = λ j lo hi. absurd (omega arith);
+        past-is =
+            let all : 0 + length ring - 0 ≡ length ring = omega arith in
+            rw (first, all)
+            (counted-past ring line doubled old counts edges z (can .can-tally .size) (can .can-tally .some-edge) (can .can-tally .most) (can .twice)
+            (rw first at (can .in-line)) (rw first at handed) counted);
       }
 
   -- the survey's looks for the starts below i, and a step for each start from i to j, are its looks for the starts up to j
@@ -62,4 +68,7 @@ module _ {ring doubled line : List ℕ} {k i : ℕ} {old : List ℕ} (can : CanV
         least-is = reached .verified .least-is;
         looks-are = rw (reached .verified .looks-are) (steps-cost (r .start .0) after (omega (arith, reached .after)) in-line);
         passed = λ j lo hi. omega (arith, reached .passed j (omega arith) hi);
+        past-is =
+            let places : r .start .0 + length ring - (i - 1 + length ring) ≡ r .start .0 - (i - 1) = omega arith in
+            rw (ne-eqb i 0 (λ e. omega arith), places) (reached .past-is);
       }

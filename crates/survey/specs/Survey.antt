@@ -3,16 +3,20 @@
 -- `surveyLooks` of crates/meaning.
 --
 --   IsSurveyed                   the contract of `survey`
+--   edgesSeen, isFound           how many edges are seen before a place is verified; whether a verified place is a finding
 --   CanVerifyOn, IsVerifiedOn    precondition and contract of `verify_on`, which counts start 0 afresh, or moves the tally of the start before on to the next finding
 --                                or the last start
 --   CanSurvey, LineSurveyed      precondition and contract of `survey_starts`, which surveys the line of an accepted call; `survey_line` has the same contract
 use Prim.Native.Nat.{ℕ, _+_, _-_, _≤_, _<_}
 use mathlib.Core.Path.{_≡_}
+use mathlib.Core.Bool.{Bool, cond, _&&_}
 use mathlib.Core.List.{List}
+use lib.Dec.{leb, eqb}
 use lib.ListN.{length}
 use Rattle.meaning.specs.Meanings.{FitsInLine, leastDistance}
 use Rattle.meaning.specs.Looks.{surveyLooksBelow, surveyLooks}
 use Rattle.moves.specs.declared.steps.Reached.{Reached}
+use Rattle.tally.specs.Marks.{pastMark}
 use Rattle.tally.specs.Counts.{mostCounts, IsDoubled, IsLeast}
 use Rattle.tally.specs.Tallied.{Tallied, CanTally}
 use Rattle.findings.specs.declared.searching.Searched.{Searched}
@@ -25,6 +29,14 @@ IsSurveyed ring line k words r out = IsSearched ring line k (surveyLooks ring li
 
 -- From here on: preconditions and contracts of private functions.
 
+-- How many of the line's edges are seen before place i is verified: none before place 0, else those up to the end of the window before.
+abbrev pub edgesSeen : ℕ → ℕ → ℕ
+edgesSeen m i = cond (eqb i 0) 0 (i - 1 + m)
+
+-- Whether a verified place is a finding: its least count is at most k, and the place just past the last mark seen is at most its own, so it is a start.
+abbrev pub isFound : ℕ → ℕ → ℕ → ℕ → Bool
+isFound k least past i = leb least k && leb past i
+
 -- Precondition of `verify_on` at start i: there are 256 counts; ring, allowance and line are within the limits; the ring's double is lent; a window fits in the
 -- line at i; and for i above 0 the counts are the tally of start i − 1.
 pub record CanVerifyOn (ring doubled line : List ℕ) (k i : ℕ) (counts : List ℕ) : Type 0 where
@@ -36,7 +48,8 @@ pub record CanVerifyOn (ring doubled line : List ℕ) (k i : ℕ) (counts : List
   pub before : 0 < i → Tallied ring line (i - 1) counts
 
 -- Contract of `verify_on`: the starts from i to the one reached are verified. The counts are the tally of the start reached, r has their least, and the starts
--- passed are no findings. The looks are the survey's for these starts, "the first afresh and each next by one step".
+-- passed are no findings. The looks are the survey's for these starts, "the first afresh and each next by one step". `past` is the place just past the last mark
+-- among the edges first seen now; 0 if none of them is a mark.
 pub record IsVerifiedOn (ring line : List ℕ) (k i : ℕ) (counts : List ℕ) (r : Reached) : Type 0 where
   pub start-ge : i ≤ r .start .0
   pub in-line : FitsInLine ring line (r .start .0)
@@ -44,6 +57,7 @@ pub record IsVerifiedOn (ring line : List ℕ) (k i : ℕ) (counts : List ℕ) (
   pub least-is : IsLeast (length ring) counts (r .least)
   pub looks-are : surveyLooksBelow ring line i + r .looks ≡ surveyLooksBelow ring line (r .start .0 + 1)
   pub passed : (j : ℕ) → i ≤ j → j < r .start .0 → k < leastDistance ring line j
+  pub past-is : r .past ≡ pastMark line (edgesSeen (length ring) i) (r .start .0 + length ring - edgesSeen (length ring) i)
 
 -- Precondition of `survey_starts`: the call is accepted, and the ring's double and 256 counts are lent. The counts may hold anything.
 pub record CanSurvey (ring doubled line : List ℕ) (k : ℕ) (counts words : List ℕ) : Type 0 where

@@ -12,9 +12,11 @@ use tally::count_afresh;
 use tally::double;
 use tally::finding_at;
 use tally::window;
+ghost use mathlib.Core.Path.{_≡_};
+ghost use Prim.Native.Nat.{max};
 ghost use lib.ListN.{length};
 ghost use Rattle.findings.specs.Admitting.{Admitted};
-ghost use Rattle.survey.specs.Survey.{CanVerifyOn, IsVerifiedOn, CanSurvey, LineSurveyed, IsSurveyed};
+ghost use Rattle.survey.specs.Survey.{isFound, CanVerifyOn, IsVerifiedOn, CanSurvey, LineSurveyed, IsSurveyed};
 
 // Counts start 0 afresh; from a later start it moves the tally of the start before, one step for each start, to the next
 // finding or the last start. Rule 5's test 2·s > m is not made here: "each next by one step, at m = 1 too". The tally is
@@ -37,6 +39,7 @@ fn verify_on(
             start,
             least: first.least,
             looks: first.looks,
+            past: first.past,
         }
     } else {
         let from = start.0 - 1;
@@ -51,7 +54,24 @@ fn verify_on(
     }
 }
 
-// Surveys from finding to finding, while a window fits in the line.
+// The later of two places.
+fn later(a: usize, b: usize) -> usize
+    ensures { λ r. ⌜ r ≡ max a b ⌝ }
+{
+    if a < b { b } else { a }
+}
+
+// Whether a verified place is a finding: its least count is at most k, and the place just past the last mark seen is not
+// beyond it, so its window holds no mark.
+fn is_finding(least: usize, k: usize, past: usize, start: LinePlace) -> bool
+    ensures { λ r. ⌜ r ≡ isFound k least past (start .0) ⌝ }
+{
+    least <= k && past <= start.0
+}
+
+// Surveys from finding to finding, while a window fits in the line. The tally goes through windows that hold a mark as
+// through all others. A mark only counts as a differing edge there, so such a window may have a least count of at most k;
+// `is_finding` keeps it out.
 fn survey_starts(
     ring: &[u8],
     doubled: &[u8],
@@ -66,14 +86,16 @@ fn survey_starts(
     let m = ring.len();
     let mut found: usize = 0;
     let mut looks: usize = 0;
+    let mut past: usize = 0;
     let mut i = 0;
     while i + m <= line.len() {
         let reached = verify_on(counts, ring, doubled, line, k, LinePlace(i));
         looks += reached.looks;
+        past = later(past, reached.past);
         let start = reached.start;
         i = start.0 + 1;
         let least = reached.least;
-        if least <= k {
+        if is_finding(least, k, past, start) {
             put_finding(words, found, finding_at(counts, m, start, least));
             found += 1;
         }
@@ -91,7 +113,8 @@ fn survey_line(ring: &[u8], line: &[u8], k: usize, words: &mut [u32]) -> SearchC
     survey_starts(ring, &doubled, line, k, &mut counts, words)
 }
 
-// The plain survey: every start is verified, also those that a quick scan would skip.
+// The plain survey: every start is verified, also those that a quick scan would skip. So is every place whose window
+// holds a mark, because its tally leads to the next one's.
 pub fn survey(ring: &[u8], line: &[u8], k: usize, words: &mut [u32]) -> Searched
     ensures { λ r. ⌜ IsSurveyed (now (ring .entry)) (now (line .entry)) k (now (words .entry)) r (now (words .exit)) ⌝ }
 {

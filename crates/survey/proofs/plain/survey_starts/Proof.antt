@@ -1,5 +1,6 @@
 -- `survey::plain::survey_starts` meets its contract: the loop keeps `SurveyKeeps`, and in a turn the start reached is a finding or not. The measure is n + 1 - i.
 use Prim.Native.Nat.{_+_, _-_}
+use mathlib.Core.Path.{sym, _∙_}
 use native.Mathlib.Omega.{arith}
 use borrow.Author.Needs.{needs}
 use lib.ListN.{length}
@@ -8,10 +9,10 @@ use Rattle.survey.proofs.plain.survey_starts.Statement.{statement}
 use Rattle.survey.proofs.plain.survey_starts.Tie as tie
 
 abbrev Inv-loop : tie.InvT-loop
-Inv-loop ring doubled line k counts₀ words₀ m found₀ looks₀ i₀ counts words found looks i = SurveyKeeps ring doubled line k words₀ i found looks counts words
+Inv-loop ring doubled line k counts₀ words₀ m found₀ looks₀ past₀ i₀ counts words found looks past i = SurveyKeeps ring doubled line k words₀ i found looks past counts words
 
 abbrev μ-loop : tie.MeasureT-loop
-μ-loop ring doubled line k counts₀ words₀ m found₀ looks₀ i₀ counts words found looks i = length line + 1 - i
+μ-loop ring doubled line k counts₀ words₀ m found₀ looks₀ past₀ i₀ counts words found looks past i = length line + 1 - i
 
 -- the context at the start of the turn, seen from after `verify_on`
 abbrev at-turn : tie.After-verify-on Inv-loop μ-loop → tie.In-loop Inv-loop μ-loop
@@ -19,7 +20,11 @@ at-turn c = c .before .before
 
 -- the context after `verify_on`, seen from the test of the start reached
 abbrev at-verified : tie.After-struct-known2 Inv-loop μ-loop → tie.After-verify-on Inv-loop μ-loop
-at-verified c = c .before .before .before
+at-verified c = c .before .before .before .before
+
+-- the context after `later`, seen from the same place
+abbrev at-later : tie.After-struct-known2 Inv-loop μ-loop → tie.After-later Inv-loop μ-loop
+at-later c = c .before .before
 
 loop-holds : tie.Need-loop-holds Inv-loop μ-loop
 loop-holds c = survey-start (c .before .before .before .before .pre)
@@ -42,6 +47,12 @@ add-i c =
     let keeps = turn .before .loop .inv in
     omega (arith, survey-next-le keeps (omega (arith, turn .loop-test .taken)) (verified .verify-on .ensures), keeps .can .admitted .most-line)
 
+later-requires : tie.Need-later-requires Inv-loop μ-loop
+later-requires c κs = search needs
+
+is-finding-requires : tie.Need-is-finding-requires Inv-loop μ-loop
+is-finding-requires c κs = search needs
+
 finding-at-requires : tie.Need-finding-at-requires Inv-loop μ-loop
 finding-at-requires c κs = search needs
 
@@ -54,12 +65,12 @@ at-found c = c .before .before .before .before .before .before
 
 add-found : tie.Need-add-found Inv-loop μ-loop
 add-found c =
-    let keeps = at-turn (at-verified (at-found c .before)) .before .loop .inv in
+    let keeps = at-turn (at-verified (at-found c .before .before)) .before .loop .inv in
     omega (arith, survey-found-le keeps, keeps .start-le, keeps .can .admitted .most-line)
 
 loop-less : tie.Need-loop-less Inv-loop μ-loop
 loop-less c =
-    let verified = at-verified (at-found c .before) in
+    let verified = at-verified (at-found c .before .before) in
     let turn = at-turn verified in
     survey-less (turn .before .loop .inv) (omega (arith, turn .loop-test .taken)) (verified .verify-on .ensures)
 
@@ -68,23 +79,24 @@ loop-again : tie.Need-loop-again Inv-loop μ-loop
 loop-again c =
     let put = c .before .before in
     let found = at-found c in
-    let verified = at-verified (found .before) in
+    let verified = at-verified (found .before .before) in
     let turn = at-turn verified in
-    survey-found (turn .before .loop .inv) (omega (arith, turn .loop-test .taken)) (verified .verify-on .ensures) (omega (arith, found .if1 .taken))
-    (put .before .finding-at .ensures) (put .put-finding .ensures)
+    survey-found (turn .before .loop .inv) (omega (arith, turn .loop-test .taken)) (verified .verify-on .ensures)
+    (at-later (found .before .before) .later .ensures) (sym (found .before .is-finding .ensures) ∙ found .if1 .taken) (put .before .finding-at .ensures) (put .put-finding .ensures)
 
 loop-less-2 : tie.Need-loop-less-2 Inv-loop μ-loop
 loop-less-2 c =
-    let verified = at-verified (c .before) in
+    let verified = at-verified (c .before .before) in
     let turn = at-turn verified in
     survey-less (turn .before .loop .inv) (omega (arith, turn .loop-test .taken)) (verified .verify-on .ensures)
 
 -- No finding.
 loop-again-2 : tie.Need-loop-again-2 Inv-loop μ-loop
 loop-again-2 c =
-    let verified = at-verified (c .before) in
+    let verified = at-verified (c .before .before) in
     let turn = at-turn verified in
-    survey-none (turn .before .loop .inv) (omega (arith, turn .loop-test .taken)) (verified .verify-on .ensures) (omega (arith, c .if1 .left))
+    survey-none (turn .before .loop .inv) (omega (arith, turn .loop-test .taken)) (verified .verify-on .ensures)
+    (at-later (c .before .before) .later .ensures) (sym (c .before .is-finding .ensures) ∙ c .if1 .left)
 
 same-length : tie.Need-same-length Inv-loop μ-loop
 same-length c = c .before .loop .inv .length-is
@@ -102,7 +114,9 @@ survey-starts-spec =
     add-loop
     verify-on-requires
     add-looks
+    later-requires
     add-i
+    is-finding-requires
     finding-at-requires
     put-finding-requires
     add-found
