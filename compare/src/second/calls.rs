@@ -3,7 +3,7 @@
 use super::book::{self, Silence, FIELD, SILENCE_WORDS};
 use super::meaning::{findings, Finding};
 use super::refusals::{self, refuse_if, Refused};
-use super::rules::{plain_survey, quick_scan, Searched};
+use super::rules::{plain_survey, quick_scan, Marks, Searched};
 use std::cell::OnceCell;
 
 #[derive(Clone, Debug, Default, PartialEq, Eq)]
@@ -12,6 +12,8 @@ pub struct Answered<T> {
     pub hidden: usize,
     pub looks: u64,
     pub written: Vec<T>,
+    /// No call returns this: it is for the comparison's ledger.
+    pub marks: Marks,
 }
 
 pub type Outcome<T> = Result<Answered<T>, Refused>;
@@ -31,8 +33,8 @@ fn words(findings: &[Finding]) -> Vec<u32> {
 }
 
 fn all_shown(searched: &Searched) -> Answered<u32> {
-    let Searched { findings, looks, .. } = searched;
-    Answered { found: findings.len(), hidden: 0, looks: *looks, written: words(findings) }
+    let Searched { findings, looks, marks, .. } = searched;
+    Answered { found: findings.len(), hidden: 0, looks: *looks, written: words(findings), marks: *marks }
 }
 
 impl<'a> Search<'a> {
@@ -69,10 +71,11 @@ impl<'a> Search<'a> {
     pub fn report(&self, cell: u32, ring_number: u16, book: &[u8]) -> Outcome<u32> {
         self.refusals()?;
         let silences = book::read(book)?;
-        let Searched { findings, looks, .. } = self.scanned();
+        let Searched { findings, looks, marks, .. } = self.scanned();
         let silent = |f: &Finding| silences.contains(&Silence { cell, ring_number, start: f.start as u32 });
         let (hidden, shown): (Vec<Finding>, Vec<Finding>) = findings.iter().partition(|f| silent(f));
-        Ok(Answered { found: findings.len(), hidden: hidden.len(), looks: *looks, written: words(&shown) })
+        let (found, hidden) = (findings.len(), hidden.len());
+        Ok(Answered { found, hidden, looks: *looks, written: words(&shown), marks: *marks })
     }
 }
 
@@ -80,12 +83,12 @@ pub fn pack(words: &[u32], room: usize) -> Outcome<u8> {
     let records = book::to_pack(words)?;
     refuse_if(room < FIELD * records.len(), 10, 0)?;
     let written = records.iter().flat_map(Silence::field).collect();
-    Ok(Answered { found: records.len(), hidden: 0, looks: 0, written })
+    Ok(Answered { found: records.len(), written, ..Answered::default() })
 }
 
 pub fn unpack(book: &[u8], room: usize) -> Outcome<u32> {
     let records = book::read(book)?;
     refuse_if(room < SILENCE_WORDS * records.len(), 10, 0)?;
     let written = records.iter().flat_map(Silence::words).collect();
-    Ok(Answered { found: records.len(), hidden: 0, looks: 0, written })
+    Ok(Answered { found: records.len(), written, ..Answered::default() })
 }

@@ -3,6 +3,9 @@
 /// "a finding becomes four words: start, rotation, distance, ties" (ticket 1).
 pub const FINDING_WORDS: usize = 4;
 
+/// "Byte 255 is from now on a boundary mark" (ticket 2).
+pub const MARK: u8 = 255;
+
 #[derive(Clone, Copy, Debug, PartialEq, Eq)]
 pub struct Finding {
     pub start: usize,
@@ -49,10 +52,16 @@ pub fn nearest(window: &[u8], ring: &[u8]) -> usize {
     rotations(ring).iter().map(|rotation| distance(window, rotation)).min().unwrap_or(0)
 }
 
+/// "a window holding one isn't a start" (ticket 2).
+pub fn holds_mark(window: &[u8]) -> bool {
+    window.contains(&MARK)
+}
+
 pub fn findings(ring: &[u8], line: &[u8], allowance: usize) -> Vec<Finding> {
     let turned = rotations(ring);
     let windows = line.windows(ring.len()).enumerate();
-    windows
+    let starts = windows.filter(|(_, window)| !holds_mark(window));
+    starts
         .filter_map(|(start, window)| {
             let distances: Vec<usize> = turned.iter().map(|rotation| distance(window, rotation)).collect();
             judge(start, &distances, allowance)

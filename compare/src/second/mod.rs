@@ -1,5 +1,5 @@
-//! The second program: written from document 01 and ticket 1 of document 02 alone, word for word, and slow where that is
-//! plainer.
+//! The second program: written from document 01 and tickets 1 and 2 of document 02 alone, word for word, and slow where that
+//! is plainer.
 
 pub mod book;
 pub mod calls;

@@ -1,6 +1,6 @@
 //! The table of refusals. Each check stands alone; the calls put them in their order.
 
-use super::meaning::FINDING_WORDS;
+use super::meaning::{holds_mark, FINDING_WORDS};
 
 #[derive(Clone, Copy, Debug, PartialEq, Eq)]
 pub struct Refused {
@@ -21,11 +21,12 @@ pub fn refuse_if(given: bool, number: u32, place: usize) -> Result<(), Refused> 
     }
 }
 
-/// Refusals 1 to 4, which survey, scan and report share. "4 now asks 4·(n − m + 1) words" (ticket 1): a finding for each
-/// start.
+/// Refusals 1, 12, 2, 3 and 4, which survey, scan and report share. "4 now asks 4·(n − m + 1) words" (ticket 1): a finding
+/// for each window, with or without a mark. "12, a ring holding 255, place 0, after 1 and before 2" (ticket 2).
 pub fn search(ring: &[u8], line: &[u8], allowance: usize, room: usize) -> Result<(), Refused> {
     let (m, n) = (ring.len(), line.len());
     refuse_if(m == 0 || m > LONGEST_RING, 1, 0)?;
+    refuse_if(holds_mark(ring), 12, 0)?;
     refuse_if(allowance >= m, 2, 0)?;
     refuse_if(n > LONGEST_LINE, 3, 0)?;
     refuse_if(n >= m && room < FINDING_WORDS * (n - m + 1), 4, 0)

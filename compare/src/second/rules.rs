@@ -1,6 +1,6 @@
 //! The quick scan by rules 1 to 5, and the plain survey.
 
-use super::meaning::{rotations, Finding};
+use super::meaning::{holds_mark, rotations, Finding, MARK};
 use super::tally::Tally;
 
 #[derive(Default)]
@@ -8,6 +8,20 @@ pub struct Searched {
     pub findings: Vec<Finding>,
     pub candidates: usize,
     pub looks: u64,
+    pub marks: Marks,
+}
+
+/// What a search met of marks. No call returns it: the comparison adds it up, to show that its cases have marks in them.
+#[derive(Clone, Copy, Debug, Default, PartialEq, Eq)]
+pub struct Marks {
+    /// Windows that the quick scan left at a mark.
+    pub left: u64,
+    /// Of these, those left after k breaks, with k above 0.
+    pub after_breaks: u64,
+    /// Of these, those whose mark is their first edge, which is read last, with m above 1.
+    pub at_first: u64,
+    /// Windows with a mark that the survey moved its tally through.
+    pub passed: u64,
 }
 
 /// "A stretch of at most m edges fits the ring if it is the beginning of some rotation."
@@ -50,14 +64,25 @@ impl Stretch {
 /// On rings up to this length each fit is also decided by its definition.
 const SHORT_RING: usize = 16;
 
-/// Rules 1 to 3 on one window: the edges read and the breaks.
-fn read_window(window: &[u8], rotations: &[Vec<u8>], allowance: usize, looks: &mut u64) -> (usize, usize) {
+/// How a window was read: the edges read, the breaks, and whether the last edge read is a mark.
+struct Read {
+    edges: usize,
+    breaks: usize,
+    at_mark: bool,
+}
+
+/// Rules 1 to 3 on one window. "On reading a mark the quick scan leaves the window [..]; that read is one look and no break"
+/// (ticket 2).
+fn read_window(window: &[u8], rotations: &[Vec<u8>], allowance: usize, looks: &mut u64) -> Read {
     let ring = &rotations[0];
     let mut stretch = Stretch::empty(ring.len());
-    let (mut read, mut breaks, mut held) = (0, 0, 0);
+    let (mut edges, mut breaks, mut held) = (0, 0, 0);
     for (place, &edge) in window.iter().enumerate().rev() {
         *looks += 1;
-        read += 1;
+        edges += 1;
+        if edge == MARK {
+            return Read { edges, breaks, at_mark: true };
+        }
         held += 1;
         let fitting = stretch.grow(ring, edge);
         let checked = ring.len() > SHORT_RING || fitting == fits(&window[place..place + held], rotations);
@@ -71,12 +96,20 @@ fn read_window(window: &[u8], rotations: &[Vec<u8>], allowance: usize, looks: &m
             break;
         }
     }
-    (read, breaks)
+    Read { edges, breaks, at_mark: false }
 }
 
-/// The breaks of a window that is read to its first edge, however many they are.
+/// The breaks of a window that is read to its first edge or to a mark, however many they are.
 pub fn breaks(window: &[u8], ring: &[u8]) -> usize {
-    read_window(window, &rotations(ring), ring.len(), &mut 0).1
+    read_window(window, &rotations(ring), ring.len(), &mut 0).breaks
+}
+
+impl Marks {
+    fn leave(&mut self, read: &Read, m: usize, allowance: usize) {
+        self.left += 1;
+        self.after_breaks += u64::from(allowance > 0 && read.breaks == allowance);
+        self.at_first += u64::from(m > 1 && read.edges == m);
+    }
 }
 
 /// Rule 5: only the way since the last verified start decides, whatever windows were left in between.
@@ -100,18 +133,33 @@ pub fn quick_scan(ring: &[u8], line: &[u8], allowance: usize) -> Searched {
     let mut start = 0;
     while start + m <= line.len() {
         let window = &line[start..start + m];
-        let (read, breaks) = read_window(window, &rotations, allowance, &mut searched.looks);
-        if read == m && breaks <= allowance {
+        let read = read_window(window, &rotations, allowance, &mut searched.looks);
+        if read.at_mark {
+            searched.marks.leave(&read, m, allowance);
+        } else if read.edges == m && read.breaks <= allowance {
             searched.candidates += 1;
             let tally = verify(last.take(), start, &rotations, line, &mut searched.looks);
             searched.findings.extend(tally.verdict(allowance));
             last = Some(tally);
         }
-        start += m - read + 1;
+        // Rule 3. The last edge read is at start + m − j, so this is also "just past the mark" (ticket 2).
+        start += m - read.edges + 1;
     }
     searched
 }
 
+impl Searched {
+    /// The survey's verdict where its tally stands. A window with a mark is no start.
+    fn judge(&mut self, tally: &Tally, window: &[u8], allowance: usize) {
+        if holds_mark(window) {
+            self.marks.passed += 1;
+        } else {
+            self.findings.extend(tally.verdict(allowance));
+        }
+    }
+}
+
+/// "Plain survey: same findings, and its looks stay" (ticket 2): the tally also moves through windows with marks.
 pub fn plain_survey(ring: &[u8], line: &[u8], allowance: usize) -> Searched {
     let m = ring.len();
     let mut searched = Searched::default();
@@ -120,10 +168,10 @@ pub fn plain_survey(ring: &[u8], line: &[u8], allowance: usize) -> Searched {
     }
     let rotations = rotations(ring);
     let mut tally = Tally::afresh(&rotations, line, 0, &mut searched.looks);
-    searched.findings.extend(tally.verdict(allowance));
+    searched.judge(&tally, &line[..m], allowance);
     while tally.start + m < line.len() {
         tally.step(&rotations, line, &mut searched.looks);
-        searched.findings.extend(tally.verdict(allowance));
+        searched.judge(&tally, &line[tally.start..tally.start + m], allowance);
     }
     searched
 }
