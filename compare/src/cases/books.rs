@@ -2,9 +2,10 @@
 
 use super::call::{book_of, cell_and_ring, silences, Call, Search};
 use super::draw::Draw;
+use super::marks::strew;
 use super::searches::ring_and_line;
 use crate::second::book::{Silence, FIELD, SILENCE_WORDS};
-use crate::second::meaning::findings;
+use crate::second::meaning::{findings, holds_mark};
 
 const SMALL_BOOK: usize = 4;
 const SMALL_BYTES: u64 = (SMALL_BOOK * FIELD) as u64;
@@ -102,4 +103,18 @@ pub fn hiding(_: u64, draw: &mut Draw) -> Call {
     named.extend(silences(draw, cell, ring_number, n + 5, strays));
     let search = Search::new(ring, line, allowance);
     Call::Report { cell, ring_number, search, book: book_of(named) }
+}
+
+/// Books that name three in four of the windows with a mark, and one in four of the others. Only the latter can be findings.
+pub fn hiding_nothing(_: u64, draw: &mut Draw) -> Call {
+    let m = draw.between(1, 8);
+    let n = m + draw.below(60);
+    let (ring, mut line) = ring_and_line(draw, &[1, 2], m, n);
+    strew(draw, &mut line, m);
+    let (cell, ring_number) = cell_and_ring(draw);
+    let named = line.windows(m).enumerate().filter(|(_, window)| draw.chance(4) != holds_mark(window));
+    let silence = |(start, _): (usize, &[u8])| Silence { cell, ring_number, start: start as u32 };
+    let book = book_of(named.map(silence).collect());
+    let allowance = draw.allowance(m);
+    Call::Report { cell, ring_number, search: Search::new(ring, line, allowance), book }
 }

@@ -3,6 +3,7 @@
 use super::call::{in_turn, in_turn_as_it_is, Call, Search};
 use super::draw::Draw;
 use super::searches::repeated;
+use crate::second::meaning::MARK;
 
 /// A ring with one edge that no other shares, in a line without it: the break comes on the last edge read.
 fn late_break(m: usize, n: usize) -> (Vec<u8>, Vec<u8>) {
@@ -11,14 +12,15 @@ fn late_break(m: usize, n: usize) -> (Vec<u8>, Vec<u8>) {
     (ring, vec![b'a'; n])
 }
 
-/// The ring over and over, with a foreign edge about every one and a half rings.
+/// The ring over and over, with a foreign edge or a mark about every one and a half rings.
 fn half_apart(draw: &mut Draw, m: usize, n: usize) -> (Vec<u8>, Vec<u8>) {
     let part = draw.between(1, m / 2 + 1);
     let ring: Vec<u8> = (0..m).map(|place| (place % part) as u8).collect();
     let mut line = repeated(&ring, 0, n);
     let apart = m / 2 + draw.below(3);
+    let between = draw.one(&[MARK - 1, MARK]);
     for place in (m..n).step_by(m + apart.max(1)) {
-        line[place] = 255;
+        line[place] = between;
     }
     (ring, line)
 }

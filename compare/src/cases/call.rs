@@ -40,7 +40,7 @@ impl Search {
     }
 }
 
-/// A finding for each start.
+/// A finding for each window, marks or not.
 pub fn room(m: usize, n: usize) -> usize {
     if n >= m {
         FINDING_WORDS * (n - m + 1)

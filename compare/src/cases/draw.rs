@@ -1,5 +1,10 @@
 //! Numbers drawn from a seed, a kind's name and an index alone, so that every case can be made again.
 
+use crate::second::meaning::MARK;
+
+/// The bytes that are edge codes: those below the mark.
+pub const CODES: usize = MARK as usize;
+
 pub struct Draw {
     state: u64,
 }
@@ -37,10 +42,15 @@ impl Draw {
         self.below(one_in) == 0
     }
 
-    /// Letters of one alphabet lie side by side from a drawn code on, so that 0 and 255 come up as well.
+    /// Letters of one alphabet lie side by side from a drawn code on, so that 0 and 254 come up as well. None is the mark.
     pub fn alphabet(&mut self, letters: usize) -> Vec<u8> {
-        let first = self.below(256);
-        (0..letters).map(|letter| (first + letter) as u8).collect()
+        let first = self.below(CODES);
+        (0..letters).map(|letter| ((first + letter) % CODES) as u8).collect()
+    }
+
+    /// A code unlike this one.
+    pub fn other(&mut self, code: u8) -> u8 {
+        ((usize::from(code) + self.between(1, CODES - 1)) % CODES) as u8
     }
 
     pub fn edges(&mut self, alphabet: &[u8], length: usize) -> Vec<u8> {

@@ -2,12 +2,14 @@
 
 use super::call::{book_of, cell_and_ring, rising_words, room, silences, Call, Search};
 use super::draw::Draw;
+use super::marks::mark_ring;
 use super::searches::ring_and_line;
 use crate::second::book::{FIELD, SILENCE_WORDS};
 use crate::second::meaning::FINDING_WORDS;
 
-const OF_SEARCH: [u32; 4] = [1, 2, 3, 4];
-const OF_REPORT: [u32; 7] = [1, 2, 3, 4, 5, 6, 7];
+const OF_SEARCH: [u32; 5] = [1, 12, 2, 3, 4];
+pub const OF_BOOK: [u32; 3] = [5, 6, 7];
+const OF_REPORT: [u32; 8] = [1, 12, 2, 3, 4, 5, 6, 7];
 const OF_UNPACK: [u32; 4] = [5, 6, 7, 10];
 const OF_PACK: [u32; 4] = [8, 9, 7, 10];
 
@@ -21,7 +23,10 @@ fn faulty_search(draw: &mut Draw, faults: [u32; 2]) -> Search {
     let m = if faults.contains(&1) { draw.one(&[0, 257, 258, 300, 1_000]) } else { draw.between(1, 20) };
     let near = draw.below(60);
     let n = if faults.contains(&3) { draw.one(&[65_537, 65_538, 70_000]) } else { m + near };
-    let (ring, line) = ring_and_line(draw, &[3], m, n);
+    let (mut ring, line) = ring_and_line(draw, &[3], m, n);
+    if faults.contains(&12) {
+        mark_ring(draw, &mut ring);
+    }
     let mut search = Search::new(ring, line, 0);
     if m > 0 {
         search.allowance = draw.allowance(m);
@@ -97,7 +102,7 @@ pub fn of_report(index: u64, draw: &mut Draw) -> Call {
 
 /// With a line shorter than the ring the book is read all the same.
 pub fn of_report_without_start(index: u64, draw: &mut Draw) -> Call {
-    let faults = pair(&OF_REPORT[4..], index);
+    let faults = pair(&OF_BOOK, index);
     let m = draw.between(2, 256);
     let n = draw.below(m);
     let search = Search::new(vec![1; m], vec![1; n], draw.below(m));

@@ -2,9 +2,10 @@
 
 use super::call::{book_of, silences};
 use super::draw::Draw;
-use super::faults::{faulty_book, pair};
+use super::faults::{faulty_book, pair, OF_BOOK};
 use super::input::{Fields, Input, Manner};
 use super::inputs::right_fields;
+use super::marks::mark_ring;
 
 const FAULTS: u64 = 4;
 pub const FIELD_FAULTS: u64 = 5 * FAULTS;
@@ -44,8 +45,6 @@ pub fn field_faults(index: u64, draw: &mut Draw) -> Input {
     Input { bytes, manner: Manner::Whole }
 }
 
-const OF_BOOK: [u32; 3] = [5, 6, 7];
-
 /// Good books up to 1,000 records, and damaged ones.
 pub fn books(index: u64, draw: &mut Draw) -> Input {
     let mut fields = right_fields(draw);
@@ -61,7 +60,7 @@ pub fn books(index: u64, draw: &mut Draw) -> Input {
     fields.whole()
 }
 
-const OF_PROGRAM: [u32; 6] = [11, 1, 2, 5, 6, 7];
+const OF_PROGRAM: [u32; 7] = [11, 1, 12, 2, 5, 6, 7];
 
 pub fn pairs(index: u64, draw: &mut Draw) -> Input {
     let faults = pair(&OF_PROGRAM, index);
@@ -69,6 +68,9 @@ pub fn pairs(index: u64, draw: &mut Draw) -> Input {
     if faults.contains(&1) {
         let m = draw.one(&[0, 257, 300, 1_000]);
         fields.set_value(3, vec![3; m]);
+    }
+    if faults.contains(&12) {
+        mark_ring(draw, &mut fields.five[3].value);
     }
     if faults.contains(&2) {
         let m = fields.five[3].value.len().min(255);

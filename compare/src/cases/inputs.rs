@@ -1,7 +1,7 @@
 //! Right inputs, long ones, missing ones, and ones that come in pieces.
 
 use super::call::{book_of, silences};
-use super::draw::Draw;
+use super::draw::{Draw, CODES};
 use super::input::{asked, Asked, Fields, Input, Manner};
 use super::searches::{plant, ring_and_line};
 use crate::second::samples::EXAMPLE_INPUT;
@@ -10,7 +10,7 @@ use crate::second::samples::EXAMPLE_INPUT;
 pub fn right_fields(draw: &mut Draw) -> Fields {
     let m = draw.one(&[1, 2, 3, 4, 6, 9, 17, 64, 65, 100]);
     let n = if draw.chance(8) { draw.below(1_000) } else { draw.below(80) };
-    let (ring, mut line) = ring_and_line(draw, &[1, 2, 2, 4, 26, 256], m, n);
+    let (ring, mut line) = ring_and_line(draw, &[1, 2, 2, 4, 26, CODES], m, n);
     if n >= m && draw.chance(2) {
         let (start, edits) = (draw.below(n - m + 1), draw.below(3));
         plant(draw, &ring, &mut line, start, edits);

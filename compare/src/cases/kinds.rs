@@ -2,7 +2,8 @@
 
 use super::call::{in_turn, Call, Search};
 use super::draw::Draw;
-use super::{books, bounds, faults, input_faults, inputs, long, nulls, packing, searches, ties, Kind, Make};
+use super::{books, bounds, faults, input_faults, inputs, long, mark_places, marks, nulls, packing, searches, ties};
+use super::{Kind, Make};
 use crate::second::samples::{self, Sample, SAMPLES, SILENCED, THE_SILENCE};
 
 pub static CALLS: &[Kind] = &[
@@ -11,7 +12,12 @@ pub static CALLS: &[Kind] = &[
     kind("limits that document 01 names", bounds::LIMITS, Make::Call(bounds::limits)),
     kind("lines of 65,535 to 65,537 edges", 72, Make::Call(searches::longest_lines)),
     kind("every ring and line over two letters, every k", searches::EVERY_SMALL, Make::Call(searches::every_small)),
-    kind("random rings over 1 to 256 letters", 15_000, Make::Call(searches::random)),
+    kind(
+        "every line over two letters and the mark, every k",
+        mark_places::EVERY_SMALL,
+        Make::Call(mark_places::every_small),
+    ),
+    kind("random rings over 1 to 255 letters", 15_000, Make::Call(searches::random)),
     kind("periodic rings", 9_000, Make::Call(searches::periodic)),
     kind("rings of a part over and over, up to 256 edges", 1_500, Make::Call(ties::parts)),
     kind("windows that several rotations share", 1_500, Make::Call(ties::shared_windows)),
@@ -19,8 +25,14 @@ pub static CALLS: &[Kind] = &[
     kind("planted rotated copies", 15_000, Make::Call(searches::planted)),
     kind("lines against the look bound", 5_400, Make::Call(bounds::against_bound)),
     kind("lines about the ring's length", 3_000, Make::Call(searches::short_lines)),
-    kind("refusals of survey and scan, one and two", 1_600, Make::Call(faults::of_search)),
-    kind("refusals of the report, one and two", 2_450, Make::Call(faults::of_report)),
+    kind("boundaries between marks", 9_000, Make::Call(marks::boundaries)),
+    kind("marks read after breaks, and last of a window", 4_500, Make::Call(marks::after_breaks)),
+    kind("lines of marks alone", 600, Make::Call(marks::alone)),
+    kind("a mark at each place about a copy", mark_places::ABOUT_COPY, Make::Call(mark_places::about_copy)),
+    kind("a mark at each place of a ring", mark_places::OF_RINGS, Make::Call(mark_places::of_rings)),
+    kind("marks in the longest lines", mark_places::LIMITS, Make::Call(mark_places::limits)),
+    kind("refusals of survey and scan, one and two", 2_500, Make::Call(faults::of_search)),
+    kind("refusals of the report, one and two", 3_200, Make::Call(faults::of_report)),
     kind("refusals of the report without a start", 450, Make::Call(faults::of_report_without_start)),
     kind("refusals of the unpacker, one and two", 1_600, Make::Call(faults::of_unpack)),
     kind("refusals of the packer, one and two", 3_200, Make::Call(faults::of_pack)),
@@ -28,6 +40,7 @@ pub static CALLS: &[Kind] = &[
     kind("books cut at each length", books::CUT, Make::Call(books::cut)),
     kind("whole books", 2_000, Make::Call(books::whole)),
     kind("silences that hide and that do not", 10_000, Make::Call(books::hiding)),
+    kind("silences that name windows with marks", 3_000, Make::Call(books::hiding_nothing)),
     kind("words to pack", 6_000, Make::Call(packing::packing)),
     kind("null pointers for empty slices", 30 * nulls::CHOICES, Make::NullCall(nulls::each_choice)),
     kind("round trips of pack and unpack", 2_000, Make::RoundTrip(packing::round_trip)),
@@ -47,7 +60,7 @@ pub static INPUTS: &[Kind] = &[
         Make::Input(input_faults::field_faults),
     ),
     kind("inputs: books good and damaged", 1_440, Make::Input(input_faults::books)),
-    kind("inputs: refusals, one and two", 1_440, Make::Input(input_faults::pairs)),
+    kind("inputs: refusals, one and two", 1_470, Make::Input(input_faults::pairs)),
     kind("inputs: about 32,768 bytes and longer", inputs::LONG, Make::Input(inputs::long)),
     kind("inputs: written in pieces", 600, Make::Input(inputs::pieces)),
     kind("inputs: none, descriptor 0 closed or a folder", 60, Make::Input(inputs::none)),

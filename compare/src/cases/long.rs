@@ -4,16 +4,18 @@
 //! - the ring's length: in half of them near the bounds of machine words, else anything from 1 to 256;
 //! - the line's length: in 4 of 24 below the ring's, equal or a little more, in 14 up to 4,000 edges more, in 4 anything up
 //!   to 65,536, in 2 65,535 or 65,536; every fiftieth search has the longest ring and the longest line;
-//! - the codes: 1 to 256 of them;
+//! - the codes: 1 to 255 of them;
 //! - the allowance: often small, at times anything below m, at times just what some window needs to be a candidate or a
 //!   finding, so that some of its neighbours are and some are not;
-//! - the line: edges of the ring's codes, or the ring over and over, and copies of rotations from one end to the other.
+//! - the line: edges of the ring's codes, or the ring over and over, and copies of rotations from one end to the other;
+//! - marks: in a third of the lines, all over them and at the seams of the copies.
 //!
 //! The second program's time sets the shares: on average it takes some 60 ms for a search, and 0.8 s for the longest with
 //! every window a candidate.
 
 use super::call::{book_of, cell_and_ring, silences, Call, Search};
-use super::draw::Draw;
+use super::draw::{Draw, CODES};
+use super::marks::{mark_seams, strew};
 use super::searches::{repeated, ABOUT_WORDS};
 use crate::second::book::Silence;
 use crate::second::meaning::nearest;
@@ -40,12 +42,12 @@ fn lengths(index: u64, draw: &mut Draw) -> (usize, usize) {
 }
 
 fn codes(draw: &mut Draw) -> Vec<u8> {
-    let any = draw.between(1, 256);
-    let count = draw.one(&[1, 2, 3, 4, 26, 256, any, any]);
+    let any = draw.between(1, CODES);
+    let count = draw.one(&[1, 2, 3, 4, 26, CODES, any, any]);
     draw.alphabet(count)
 }
 
-/// Edges of the codes; now and then each code at most once, which for 256 codes and edges leaves no code out.
+/// Edges of the codes; now and then each code at most once, which for 255 codes and edges leaves no code out.
 fn ring_of(draw: &mut Draw, codes: &[u8], m: usize) -> Vec<u8> {
     if codes.len() < m || draw.chance(2) {
         return draw.edges(codes, m);
@@ -89,6 +91,8 @@ struct Copies<'a> {
     allowance: usize,
     /// A code that the ring does not have, if there is one: an edge with it is a break wherever it is read.
     foreign: u8,
+    /// Whether copies have marks at their seams.
+    marked: bool,
 }
 
 impl Copies<'_> {
@@ -103,11 +107,14 @@ impl Copies<'_> {
         let edits = draw.one(&[0, k, k, k + 1, any]).min(m);
         let all_foreign = draw.chance(2);
         for place in draw.places(m, edits) {
-            let other = copy[place].wrapping_add(draw.between(1, 255) as u8);
+            let other = draw.other(copy[place]);
             line[start + place] = if all_foreign { self.foreign } else { other };
         }
         if start > 0 && draw.chance(2) {
             line[start - 1] = self.foreign;
+        }
+        if self.marked && draw.chance(2) {
+            mark_seams(draw, line, start, m);
         }
     }
 
@@ -156,10 +163,14 @@ pub fn long(index: u64, draw: &mut Draw) -> [Call; 3] {
     let codes = codes(draw);
     let ring = ring_of(draw, &codes, m);
     let mut line = line_for(draw, &codes, &ring, n);
+    let marked = draw.chance(3);
+    if marked {
+        strew(draw, &mut line, m);
+    }
     let allowance = allowance(draw, &ring, &line);
-    let any = draw.below(256) as u8;
-    let foreign = (0..=255).map(|code: u8| code.wrapping_add(any)).find(|code| !ring.contains(code)).unwrap_or(any);
-    let planted = Copies { ring: &ring, allowance, foreign }.plant_all(draw, &mut line);
+    let any = draw.alphabet(CODES);
+    let foreign = any.iter().copied().find(|code| !ring.contains(code)).unwrap_or(any[0]);
+    let planted = Copies { ring: &ring, allowance, foreign, marked }.plant_all(draw, &mut line);
     let (cell, ring_number) = cell_and_ring(draw);
     let book = book(draw, cell, ring_number, &planted, n);
     let mut search = Search::new(ring, line, allowance);

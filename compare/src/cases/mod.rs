@@ -11,6 +11,8 @@ mod input_faults;
 mod inputs;
 mod kinds;
 mod long;
+mod mark_places;
+mod marks;
 mod nulls;
 mod packing;
 mod searches;

@@ -1,9 +1,10 @@
 //! Rings and lines for survey, scan and report.
 
 use super::call::{in_turn, Call, Search};
-use super::draw::Draw;
+use super::draw::{Draw, CODES};
+use super::marks::{mark_seams, strew};
 
-const ALPHABETS: [usize; 5] = [1, 2, 4, 26, 256];
+const ALPHABETS: [usize; 5] = [1, 2, 4, 26, CODES];
 
 /// Ring lengths about the bounds of machine words, and the least and greatest.
 pub const ABOUT_WORDS: [usize; 13] = [1, 2, 63, 64, 65, 127, 128, 129, 191, 192, 193, 255, 256];
@@ -26,12 +27,12 @@ pub const EVERY_SMALL: u64 = {
     3 * SMALL_LINES * rings
 };
 
-fn two_letters(pattern: u64, length: usize, letters: [u8; 2]) -> Vec<u8> {
+pub fn two_letters(pattern: u64, length: usize, letters: [u8; 2]) -> Vec<u8> {
     (0..length).map(|place| letters[(pattern >> place & 1) as usize]).collect()
 }
 
 pub fn every_small(index: u64, draw: &mut Draw) -> Call {
-    let letters = draw.one(&[[b'a', b'b'], [0, 255], [255, 254], [0, 1]]);
+    let letters = draw.one(&[[b'a', b'b'], [0, 254], [254, 253], [0, 1]]);
     // A leading 1 above the pattern carries the line's length.
     let line_number = index / 3 % SMALL_LINES + 1;
     let line = two_letters(line_number, line_number.ilog2() as usize, letters);
@@ -45,11 +46,15 @@ pub fn every_small(index: u64, draw: &mut Draw) -> Call {
     in_turn(index, draw, Search::new(ring, line, allowance))
 }
 
-/// A ring and a line over one alphabet, of one of these sizes.
+/// A ring and a line over one alphabet, of one of these sizes. One line in three has marks.
 pub fn ring_and_line(draw: &mut Draw, alphabets: &[usize], m: usize, n: usize) -> (Vec<u8>, Vec<u8>) {
     let letters = draw.one(alphabets);
     let alphabet = draw.alphabet(letters);
-    (draw.edges(&alphabet, m), draw.edges(&alphabet, n))
+    let (ring, mut line) = (draw.edges(&alphabet, m), draw.edges(&alphabet, n));
+    if draw.chance(3) {
+        strew(draw, &mut line, m);
+    }
+    (ring, line)
 }
 
 pub fn random(index: u64, draw: &mut Draw) -> Call {
@@ -77,6 +82,9 @@ pub fn periodic(index: u64, draw: &mut Draw) -> Call {
         let place = draw.below(n);
         line[place] = draw.one(&alphabet);
     }
+    if draw.chance(4) {
+        strew(draw, &mut line, m);
+    }
     let allowance = draw.allowance(m);
     in_turn(index, draw, Search::new(ring, line, allowance))
 }
@@ -89,13 +97,15 @@ pub fn plant(draw: &mut Draw, ring: &[u8], line: &mut [u8], start: usize, edits:
     }
     for _ in 0..edits.min(m) {
         let place = start + draw.below(m);
-        line[place] = line[place].wrapping_add(draw.between(1, 255) as u8);
+        line[place] = draw.other(line[place]);
     }
 }
 
-/// Copies at the line's very beginning and end, anywhere, and overlapping the copy before.
+/// Copies at the line's very beginning and end, anywhere, and overlapping the copy before. In one line of four each copy has
+/// a mark at its side or within it.
 fn plant_some(draw: &mut Draw, ring: &[u8], line: &mut [u8], allowance: usize, count: usize) {
     let last = line.len() - ring.len();
+    let marked = draw.chance(4);
     let mut before = 0;
     for _ in 0..count {
         let beside = (before + draw.between(1, ring.len())).min(last);
@@ -103,6 +113,9 @@ fn plant_some(draw: &mut Draw, ring: &[u8], line: &mut [u8], allowance: usize, c
         before = draw.one(&[0, last, any, beside]);
         let edits = draw.below(allowance + 3);
         plant(draw, ring, line, before, edits);
+        if marked {
+            mark_seams(draw, line, before, ring.len());
+        }
     }
 }
 
@@ -144,10 +157,13 @@ pub fn longest_lines(index: u64, draw: &mut Draw) -> Call {
     let number = (index / 3) as usize;
     let n = [65_535, 65_536, 65_537][number % 3];
     let m = draw.one(&[1, 2, 5, 64, 100, 129, 193, 256]);
-    let (ring, mut line) = ring_and_line(draw, &[4, 26, 256], m, n);
+    let (ring, mut line) = ring_and_line(draw, &[4, 26, CODES], m, n);
     let allowance = draw.below(4).min(m - 1);
     if number % 2 == 0 && m <= 64 {
         line = repeated(&ring, draw.below(m), n);
+        if number % 4 == 0 {
+            strew(draw, &mut line, m);
+        }
     }
     plant_some(draw, &ring, &mut line, allowance, 400);
     in_turn(index, draw, Search::new(ring, line, allowance))
