@@ -98,9 +98,9 @@ fn all(plan: &Plan, samples: Option<Lines>) -> ExitCode {
     let ledger = run_all(plan);
     ledger.print(&plan.kinds);
     let every_kind = plan.choice != Choice::Long;
-    let missing = if every_kind { ledger.refusals_without_case(plan.program.is_some()) } else { Vec::new() };
+    let missing = if every_kind { ledger.missing(plan.program.is_some()) } else { Vec::new() };
     if !missing.is_empty() {
-        println!("no case led to these refusals: {missing:?}");
+        println!("no case has these: {}", missing.join(", "));
     }
     let (same, other) = samples.as_ref().map_or((0, 0), tell_samples);
     let (compared, differing) = (ledger.compared(), ledger.differing());

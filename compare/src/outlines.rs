@@ -56,7 +56,10 @@ extern "C" {
     fn outlines_unpack(book: *const u8, book_length: usize, words: *mut u32, words_length: usize) -> Answer;
 }
 
-/// The table of refusals of document 01; the value of each is its number.
+/// The boundary mark. It cuts a line: no finding has it in its window. A ring must not hold it.
+pub const MARK: u8 = 255;
+
+/// The tables of refusals of documents 01 and 02; the value of each is its number.
 #[derive(Clone, Copy, Debug, PartialEq, Eq)]
 pub enum Refusal {
     RingLength = 1,
@@ -70,10 +73,11 @@ pub enum Refusal {
     RingNumberToPack = 9,
     RoomForOutput = 10,
     ProgramInput = 11,
+    MarkInRing = 12,
 }
 
 impl Refusal {
-    pub const ALL: [Refusal; 11] = [
+    pub const ALL: [Refusal; 12] = [
         Refusal::RingLength,
         Refusal::Allowance,
         Refusal::LineLength,
@@ -85,6 +89,7 @@ impl Refusal {
         Refusal::RingNumberToPack,
         Refusal::RoomForOutput,
         Refusal::ProgramInput,
+        Refusal::MarkInRing,
     ];
 
     pub fn number(self) -> u32 {
@@ -116,7 +121,7 @@ impl Answer {
         if self.refusal == 0 {
             return Ok(Counts { found: self.found, hidden: self.hidden, looks: self.looks });
         }
-        let refusal = Refusal::numbered(self.refusal).expect("a refusal of document 01's table");
+        let refusal = Refusal::numbered(self.refusal).expect("a refusal of the documents' tables");
         Err(Refused { refusal, place: self.place })
     }
 }
@@ -189,7 +194,8 @@ pub fn ask(request: Request, empty: Empty) -> Answer {
     }
 }
 
-/// Writes `FINDING_WORDS` words for each finding, by rising start. The words lent must hold a finding for each start.
+/// Writes `FINDING_WORDS` words for each finding, by rising start. The words lent must hold a finding for each window, with
+/// a mark in it or not: n − m + 1 findings.
 pub fn survey(search: Search, words: &mut [u32]) -> Result<Counts, Refused> {
     ask(Request::Survey(search, words), Empty::AsLent).result()
 }
@@ -199,8 +205,8 @@ pub fn scan(search: Search, words: &mut [u32]) -> Result<Counts, Refused> {
     ask(Request::Scan(search, words), Empty::AsLent).result()
 }
 
-/// Writes the words of `survey` for the findings that the book does not hide. The words lent must hold a finding for each
-/// start all the same.
+/// Writes the words of `survey` for the findings that the book does not hide. The words lent must hold as many findings as
+/// there all the same.
 pub fn report(
     (cell, ring_number): (u32, u16),
     search: Search,

@@ -6,10 +6,12 @@ use crate::memory::{bytes_of, Area, Placement, WORD};
 use crate::outlines::{self, ask, Answer, Empty, Request};
 use crate::second::book::SILENCE_WORDS;
 use crate::second::calls::{self, Outcome};
-use crate::second::meaning::FINDING_WORDS;
+use crate::second::meaning::{FINDING_WORDS, MARK};
+use crate::second::rules::Marks;
 
-// The words that outlines.rs names to its users are those that the second program writes.
+// The numbers that outlines.rs names to its users are those of the second program.
 const _: () = assert!(outlines::FINDING_WORDS == FINDING_WORDS && outlines::SILENCE_WORDS == SILENCE_WORDS);
+const _: () = assert!(outlines::MARK == MARK);
 
 /// More than any ring, line and book of a case has, refused ones included.
 const MOST_RING: usize = 4_096;
@@ -115,8 +117,16 @@ fn answer_of<T>(outcome: &Outcome<T>) -> Answer {
     }
 }
 
-fn of_words(outcome: Outcome<u32>) -> (Answer, Vec<u8>) {
-    (answer_of(&outcome), outcome.map(|answered| bytes_of(&answered.written)).unwrap_or_default())
+/// The second program's answer, the bytes it writes at the lent area's beginning, and what it met of marks.
+type Second = (Answer, Vec<u8>, Marks);
+
+fn of_outcome<T>(outcome: Outcome<T>, bytes: impl Fn(Vec<T>) -> Vec<u8>) -> Second {
+    let answer = answer_of(&outcome);
+    outcome.map_or((answer, Vec::new(), Marks::default()), |given| (answer, bytes(given.written), given.marks))
+}
+
+fn of_words(outcome: Outcome<u32>) -> Second {
+    of_outcome(outcome, |words| bytes_of(&words))
 }
 
 fn search(call: &Call) -> Option<calls::Search<'_>> {
@@ -124,18 +134,14 @@ fn search(call: &Call) -> Option<calls::Search<'_>> {
     Some(calls::Search::new(&given.ring, &given.line, given.allowance, given.room))
 }
 
-/// The second program's answer and the bytes it writes at the lent area's beginning.
-fn ask_second(call: &Call, search: Option<&calls::Search>) -> (Answer, Vec<u8>) {
+fn ask_second(call: &Call, search: Option<&calls::Search>) -> Second {
     match (call, search) {
         (Call::Survey(_), Some(search)) => of_words(search.survey()),
         (Call::Scan(_), Some(search)) => of_words(search.scan()),
         (Call::Report { cell, ring_number, book, .. }, Some(search)) => {
             of_words(search.report(*cell, *ring_number, book))
         }
-        (Call::Pack { words, room }, _) => {
-            let outcome = calls::pack(words, *room);
-            (answer_of(&outcome), outcome.map(|answered| answered.written).unwrap_or_default())
-        }
+        (Call::Pack { words, room }, _) => of_outcome(calls::pack(words, *room), |bytes| bytes),
         (Call::Unpack { book, room }, _) => of_words(calls::unpack(book, *room)),
         (_, None) => unreachable!("survey, scan and report have a search"),
     }
@@ -144,10 +150,10 @@ fn ask_second(call: &Call, search: Option<&calls::Search>) -> (Answer, Vec<u8>) 
 fn compare_with(search: Option<&calls::Search>, call: &Call, placement: Placement, areas: &mut Areas) -> Compared {
     let (given, before) = ask_library(call, placement, areas);
     let front = areas.lent.front();
-    let (answer, written) = ask_second(call, search);
+    let (answer, written, marks) = ask_second(call, search);
     let mut lent = before.clone();
     lent[front..front + written.len()].copy_from_slice(&written);
-    Compared { expected: Left { answer, lent, inputs_kept: true }, given, before, front }
+    Compared { expected: Left { answer, lent, inputs_kept: true }, given, before, front, marks }
 }
 
 pub fn compare(call: &Call, placement: Placement, areas: &mut Areas) -> Compared {

@@ -4,6 +4,7 @@ use crate::cases::call::Call;
 use crate::memory::WORD;
 use crate::outlines::Answer;
 use crate::second::meaning::FINDING_WORDS;
+use crate::second::rules::Marks;
 use crate::second::samples::bound;
 
 /// All that a call leaves behind: its answer, the lent area with the canaries about it, and whether the inputs with
@@ -39,6 +40,8 @@ pub struct Compared {
     /// The lent area with its canaries before the call, and where the area begins in it.
     pub before: Vec<u8>,
     pub front: usize,
+    /// What the second program met of marks in this call.
+    pub marks: Marks,
 }
 
 fn word_at(area: &[u8], front: usize, place: usize) -> u32 {

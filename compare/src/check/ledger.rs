@@ -5,6 +5,7 @@ use crate::cases::call::Call;
 use crate::cases::{Case, Kind};
 use crate::memory::Placement;
 use crate::outlines::{Answer, Refusal};
+use crate::second::meaning::holds_mark;
 use crate::second::refusals::{LONGEST_LINE, LONGEST_RING};
 use crate::second::samples::bound;
 use std::collections::BTreeMap;
@@ -12,10 +13,13 @@ use std::collections::BTreeMap;
 /// Differences that are printed in full; further ones are only counted.
 const TOLD: usize = 20;
 
+/// The refusals that the report program gives.
+const OF_PROGRAM: [u32; 7] = [11, 1, 12, 2, 5, 6, 7];
+
 /// How often each refusal came back, 0 for accepted.
 type Answers = BTreeMap<u32, u64>;
 
-/// Sums over the library's answers, and over the ties that the second program expects; they show that the cases have
+/// Sums over the library's answers, and over the ties and marks that the second program meets; they show that the cases have
 /// something to compare.
 #[derive(Clone, Copy)]
 enum Sum {
@@ -28,9 +32,34 @@ enum Sum {
     TiedApart,
     AtBound,
     Longest,
+    LongestMarked,
+    Marked,
+    MarkedFound,
+    Left,
+    LeftAfterBreaks,
+    LeftAtFirst,
+    Passed,
 }
 
-const SUMS: usize = 9;
+/// A name for each sum. A run with every kind of case fails if one of them is 0.
+const SUMS: [&str; 16] = [
+    "calls with a guard page behind",
+    "calls with a guard page before",
+    "calls with null pointers",
+    "findings",
+    "hidden findings",
+    "ties",
+    "ties at a distance",
+    "scans at the look bound",
+    "the longest ring in the longest line",
+    "the same with marks",
+    "lines with marks",
+    "findings in lines with marks",
+    "windows left at a mark",
+    "windows left at a mark after k breaks",
+    "windows left at a mark on their first edge",
+    "windows with marks that a survey passes",
+];
 
 /// What was compared of a kind: cases, the library's calls and the program's runs in them, and the cases that differ.
 #[derive(Clone, Copy, Default)]
@@ -61,7 +90,7 @@ impl Counts {
 pub struct Ledger {
     /// For each kind, by its place.
     kinds: BTreeMap<usize, Counts>,
-    sums: [u64; SUMS],
+    sums: [u64; SUMS.len()],
     answers: Answers,
     outputs: Answers,
     told: Vec<String>,
@@ -91,13 +120,27 @@ impl Ledger {
         self.add(Sum::Null, u64::from(placement == Placement::Null));
         self.add(Sum::AtBound, u64::from(at_bound(call, answer)));
         self.add(Sum::Longest, u64::from(longest(call) && answer.refusal == 0));
-        if call.search().is_some() {
+        if let Some(search) = call.search() {
             self.add(Sum::Found, answer.found);
             self.add(Sum::Hidden, answer.hidden);
             let [tied, apart] = compared.tied(call);
             self.add(Sum::Tied, tied);
             self.add(Sum::TiedApart, apart);
+            if answer.refusal == 0 && holds_mark(&search.line) {
+                self.add_marked(call, compared);
+            }
         }
+    }
+
+    /// An accepted search of a line with marks.
+    fn add_marked(&mut self, call: &Call, compared: &Compared) {
+        self.add(Sum::Marked, 1);
+        self.add(Sum::MarkedFound, compared.given.answer.found);
+        self.add(Sum::LongestMarked, u64::from(longest(call)));
+        self.add(Sum::Left, compared.marks.left);
+        self.add(Sum::LeftAfterBreaks, compared.marks.after_breaks);
+        self.add(Sum::LeftAtFirst, compared.marks.at_first);
+        self.add(Sum::Passed, compared.marks.passed);
     }
 
     pub fn add_output(&mut self, text: &[u8]) {
@@ -146,12 +189,7 @@ impl Ledger {
             self.kinds.get(&place).copied().unwrap_or_default().print(kind.name);
         }
         self.total().print("in all");
-        let [behind, before, null, found, hidden, tied, apart, at_bound, longest] = self.sums;
-        println!("calls flush against an inaccessible page, inputs read-only: {behind} behind, {before} before");
-        println!("calls with null pointers for empty slices: {null}; all other open sides have canaries");
-        println!("findings: {found}, of them hidden: {hidden}; scans that reach the look bound: {at_bound}");
-        println!("shown findings that several rotations reach: {tied}, of them at a distance above 0: {apart}");
-        println!("accepted calls with 256 edges in a line of 65,536: {longest}");
+        self.print_sums();
         for (whose, answers) in [("library", &self.answers), ("program", &self.outputs)] {
             let listed: Vec<String> = answers.iter().map(|(number, count)| format!("{number}: {count}")).collect();
             println!("answers of the {whose} by refusal, 0 accepted: {}", listed.join(", "));
@@ -163,12 +201,29 @@ impl Ledger {
         }
     }
 
-    /// The refusals that no case led to: they were not compared.
-    pub fn refusals_without_case(&self, with_program: bool) -> Vec<u32> {
-        let came = |number: &u32| match number {
-            11 => !with_program || self.outputs.contains_key(number),
-            _ => self.answers.contains_key(number),
-        };
-        Refusal::ALL.into_iter().map(Refusal::number).filter(|number| !came(number)).collect()
+    fn print_sums(&self) {
+        let [behind, before, null, found, hidden, tied, apart, at_bound, longest, ..] = self.sums;
+        let [.., longest_marked, marked, marked_found, left, after_breaks, at_first, passed] = self.sums;
+        println!("calls flush against an inaccessible page, inputs read-only: {behind} behind, {before} before");
+        println!("calls with null pointers for empty slices: {null}; all other open sides have canaries");
+        println!("findings: {found}, of them hidden: {hidden}; scans that reach the look bound: {at_bound}");
+        println!("shown findings that several rotations reach: {tied}, of them at a distance above 0: {apart}");
+        println!("accepted calls with 256 edges in a line of 65,536: {longest}, of them with marks: {longest_marked}");
+        println!("accepted searches of lines with marks: {marked}; findings in them: {marked_found}");
+        println!(
+            "windows left at a mark: {left}, of them after k > 0 breaks: {after_breaks}, at j = m > 1: {at_first}"
+        );
+        println!("windows with a mark that surveys moved through: {passed}");
+    }
+
+    /// What no case led to, hence what was not compared: refusals of the library and of the program, and sums that are 0.
+    pub fn missing(&self, with_program: bool) -> Vec<String> {
+        let library = Refusal::ALL.into_iter().filter(|&refusal| refusal != Refusal::ProgramInput).map(Refusal::number);
+        let library = library.filter(|number| !self.answers.contains_key(number));
+        let program = OF_PROGRAM.into_iter().filter(|number| with_program && !self.outputs.contains_key(number));
+        let sums = SUMS.iter().zip(self.sums).filter(|(_, sum)| *sum == 0);
+        let refusals = library.map(|number| format!("refusal {number}"));
+        let of_program = program.map(|number| format!("refusal {number} of the program"));
+        refusals.chain(of_program).chain(sums.map(|(name, _)| name.to_string())).collect()
     }
 }
