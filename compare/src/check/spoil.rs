@@ -12,7 +12,7 @@ pub struct Way {
     pub spoil: fn(&Call, &mut Compared) -> bool,
 }
 
-const fn way(name: &'static str, spoil: fn(&Call, &mut Compared) -> bool) -> Way {
+pub(super) const fn way(name: &'static str, spoil: fn(&Call, &mut Compared) -> bool) -> Way {
     Way { name, spoil }
 }
 
@@ -50,7 +50,7 @@ fn shown_words(call: &Call, spoilt: &Compared) -> usize {
     FINDING_WORDS * spoilt.given.shown(call)
 }
 
-fn set_word(spoilt: &mut Compared, place: usize, value: u32) -> bool {
+pub(super) fn set_word(spoilt: &mut Compared, place: usize, value: u32) -> bool {
     let at = spoilt.front + WORD * place;
     let fits = at + WORD <= spoilt.given.lent.len();
     if fits {

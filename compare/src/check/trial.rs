@@ -6,6 +6,7 @@ use super::crash;
 use super::program::{self, Slot};
 use super::run::Plan;
 use super::spoil::{Way, OF_REFUSALS_AND_BOOKS, OF_SEARCHES};
+use super::spoil_marks::OF_MARKS;
 use crate::cases::{Call, Case};
 use crate::memory::{Area, Placement};
 use crate::rows::Lines;
@@ -172,7 +173,7 @@ fn spoil_lines(samples: Lines) -> Vec<bool> {
 
 /// Prints a line for each way; returns the ways that passed and that failed.
 pub fn run_trial(plan: &Plan, samples: Option<Lines>) -> (usize, usize) {
-    let (mut searches, mut others) = (Trial::new(OF_SEARCHES), Trial::new(OF_REFUSALS_AND_BOOKS));
+    let mut of_calls = [OF_SEARCHES, OF_MARKS, OF_REFUSALS_AND_BOOKS].map(Trial::new);
     let mut of_long = Trial::new(OF_SEARCHES);
     let mut text_ways = [Noticed::default(); TEXT_WAYS.len()];
     let mut areas = Areas::new();
@@ -182,8 +183,7 @@ pub fn run_trial(plan: &Plan, samples: Option<Lines>) -> (usize, usize) {
             match &case {
                 Case::Call(call, placement) if !long(call) => {
                     let compared = compare(call, *placement, &mut areas);
-                    searches.spoil(call, &compared);
-                    others.spoil(call, &compared);
+                    of_calls.iter_mut().for_each(|trial| trial.spoil(call, &compared));
                 }
                 Case::Three(calls, placement) if number < SHARE_OF_LONG => {
                     let compared = compare_three(calls, *placement, &mut areas);
@@ -194,7 +194,8 @@ pub fn run_trial(plan: &Plan, samples: Option<Lines>) -> (usize, usize) {
             }
         }
     }
-    let mut results = [searches.told(""), others.told(""), of_long.told("long: ")].concat();
+    let mut results: Vec<bool> = of_calls.iter().flat_map(|trial| trial.told("")).collect();
+    results.extend(of_long.told("long: "));
     if plan.program.is_some() {
         results.extend(TEXT_WAYS.iter().zip(text_ways).map(|(way, noticed)| told(way.0, noticed)));
     }

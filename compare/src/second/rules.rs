@@ -31,20 +31,20 @@ fn fits(stretch: &[u8], rotations: &[Vec<u8>]) -> bool {
 
 /// The stretch of rule 2, kept as the rotations that it begins: trying every rotation again at each edge would be too slow
 /// for long rings.
-struct Stretch {
+pub struct Stretch {
     /// By rotation; behind the last one rotation 0 comes again.
     begins: Vec<bool>,
 }
 
 impl Stretch {
     /// The empty stretch begins every rotation.
-    fn empty(m: usize) -> Stretch {
+    pub fn empty(m: usize) -> Stretch {
         Stretch { begins: vec![true; m + 1] }
     }
 
     /// Grows to the left by an edge and returns whether it still fits. It then begins rotation r exactly when that edge is
     /// rotation r's first one, which is the ring's edge r, and what was held begins rotation r + 1.
-    fn grow(&mut self, ring: &[u8], edge: u8) -> bool {
+    pub fn grow(&mut self, ring: &[u8], edge: u8) -> bool {
         let m = ring.len();
         let begins = &mut self.begins[..m + 1];
         let mut fits = false;
@@ -56,7 +56,7 @@ impl Stretch {
         fits
     }
 
-    fn clear(&mut self) {
+    pub fn clear(&mut self) {
         self.begins.fill(true);
     }
 }
@@ -113,7 +113,7 @@ impl Marks {
 }
 
 /// Rule 5: only the way since the last verified start decides, whatever windows were left in between.
-fn verify(last: Option<Tally>, start: usize, rotations: &[Vec<u8>], line: &[u8], looks: &mut u64) -> Tally {
+pub fn verify(last: Option<Tally>, start: usize, rotations: &[Vec<u8>], line: &[u8], looks: &mut u64) -> Tally {
     match last {
         Some(mut tally) if 2 * (start - tally.start) <= rotations.len() => {
             while tally.start < start {
