@@ -26,11 +26,13 @@ struct finding {
     size_t ties;
 };
 
-// Refusals 1 to 4, or 0.
-static size_t admit(size_t m, size_t k, size_t n, size_t room)
+// Refusals 1, 12, 2, 3 and 4, in this order, or 0.
+static size_t admit(const uint8_t *ring, size_t m, size_t k, size_t n, size_t room)
 {
     if (m == 0 || m > MOST_RING)
         return 1;
+    if (memchr(ring, MARK, m) != NULL)
+        return 12;
     if (k >= m)
         return 2;
     if (n > MOST_LINE)
@@ -71,7 +73,7 @@ STRAIGHT bool sweep_window(struct search *search, struct sweep *at, struct findi
     struct window_read read = read_window(&search->table, search->line + i, search->m, search->k);
     at->looks += read.looks;
     bool found = false;
-    if (read.breaks <= search->k) {
+    if (read.candidate) {
         struct reached reached = verify(search, i, at->verified, at->last);
         at->verified = true;
         at->last = i;
@@ -105,7 +107,7 @@ static void prepare(struct search *search, const uint8_t *ring, size_t m, const 
 struct rules_answer rules_scan(const uint8_t *ring, size_t m, const uint8_t *line, size_t n, size_t k,
                                uint32_t *words, size_t room)
 {
-    struct rules_answer answer = {admit(m, k, n, room), 0, 0, 0, 0};
+    struct rules_answer answer = {admit(ring, m, k, n, room), 0, 0, 0, 0};
     if (answer.refusal != 0)
         return answer;
     struct search search;
@@ -120,7 +122,7 @@ struct rules_answer rules_scan(const uint8_t *ring, size_t m, const uint8_t *lin
     return answer;
 }
 
-// "The first afresh and each next by one step, at m = 1 too": on to the next finding or to the last start.
+// "The first afresh and each next by one step, at m = 1 too": on to the next finding or to the last window.
 static struct reached verify_on(struct search *search, size_t i)
 {
     if (i == 0)
@@ -133,7 +135,7 @@ static struct reached verify_on(struct search *search, size_t i)
 struct rules_answer rules_survey(const uint8_t *ring, size_t m, const uint8_t *line, size_t n, size_t k,
                                  uint32_t *words, size_t room)
 {
-    struct rules_answer answer = {admit(m, k, n, room), 0, 0, 0, 0};
+    struct rules_answer answer = {admit(ring, m, k, n, room), 0, 0, 0, 0};
     if (answer.refusal != 0)
         return answer;
     struct search search;
@@ -141,7 +143,7 @@ struct rules_answer rules_survey(const uint8_t *ring, size_t m, const uint8_t *l
     for (size_t i = 0; i + m <= n;) {
         struct reached reached = verify_on(&search, i);
         answer.looks += reached.looks;
-        if (reached.least <= k)
+        if (reached.least <= k && search.tally.past_mark <= reached.start)
             put_finding(words, answer.found++, finding_at(&search, reached));
         i = reached.start + 1;
     }
@@ -152,7 +154,7 @@ struct rules_answer rules_report(uint32_t cell, uint16_t ring_number, const uint
                                  const uint8_t *line, size_t n, size_t k, const uint8_t *bytes, size_t length,
                                  uint32_t *words, size_t room)
 {
-    struct rules_answer answer = {admit(m, k, n, room), 0, 0, 0, 0};
+    struct rules_answer answer = {admit(ring, m, k, n, room), 0, 0, 0, 0};
     struct book book = {bytes, length};
     if (answer.refusal == 0)
         answer.refusal = read_book(book, &answer.place);

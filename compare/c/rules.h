@@ -1,4 +1,4 @@
-// The calls of document 01 in C, built like the library's own code. The benchmark's ratios are to these.
+// The calls of documents 01 and 02 in C, built like the library's own code. The benchmark's ratios are to these.
 #ifndef RULES_H
 #define RULES_H
 
@@ -15,7 +15,7 @@ struct rules_answer {
 };
 
 // Rules 1 to 5: ring of m edges, line of n edges, allowance k, `room` words lent for the findings, which are four
-// words each: start, rotation, distance, ties.
+// words each: start, rotation, distance, ties. The byte 255 in the line is a boundary mark; a ring that holds it is refused.
 struct rules_answer rules_scan(const uint8_t *ring, size_t m, const uint8_t *line, size_t n, size_t k,
                                uint32_t *words, size_t room);
 

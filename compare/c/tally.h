@@ -6,11 +6,15 @@
 #include <stdint.h>
 #include <string.h>
 
+#include "mark.h"
+
 enum { MOST_RING = 256 };
 
-// A count is at most 256, which eight bits do not hold.
+// A count is at most 256, which eight bits do not hold. `past_mark` is the line place just past the last mark among the
+// edges counted, or 0: the window reached holds no mark if it begins there or later.
 struct tally {
     uint16_t counts[MOST_RING];
+    size_t past_mark;
 };
 
 // The start that a tally has reached, the least of its counts, and the looks that it took.
@@ -65,13 +69,22 @@ static size_t count_edge(uint16_t *restrict counts, const uint8_t *restrict over
     return looks;
 }
 
+static void note_mark(struct tally *tally, const uint8_t *line, size_t place)
+{
+    if (line[place] == MARK)
+        tally->past_mark = place + 1;
+}
+
 // Every rotation counted afresh: m edges, each against m ring edges.
 static struct reached count_afresh(struct tally *tally, const uint8_t *doubled, size_t m, const uint8_t *line, size_t start)
 {
     size_t looks = 0;
     memset(tally->counts, 0, m * sizeof tally->counts[0]);
-    for (size_t q = 0; q < m; q++)
+    tally->past_mark = 0;
+    for (size_t q = 0; q < m; q++) {
         looks += count_edge(tally->counts, doubled + q, m, line[start + q]);
+        note_mark(tally, line, start + q);
+    }
     return (struct reached){start, least_of(tally, m), looks};
 }
 
@@ -105,7 +118,8 @@ static void renumber(uint16_t *counts, size_t m)
     counts[0] = last;
 }
 
-// Moves the tally `steps` steps along the line, or only to the first start on the way whose least count is below `below`.
+// Moves the tally `steps` steps along the line, or only to the first start on the way whose least count is below `below`. A
+// window with a mark is no start.
 static struct reached move_along(struct tally *tally, const uint8_t *ring, size_t m, const uint8_t *line, size_t from,
                                  size_t steps, size_t below)
 {
@@ -114,10 +128,11 @@ static struct reached move_along(struct tally *tally, const uint8_t *ring, size_
         size_t i = reached.start;
         struct reached step = change(tally->counts, ring, m, line[i], line[i + m]);
         renumber(tally->counts, m);
+        note_mark(tally, line, i + m);
         reached.start++;
         reached.least = step.least;
         reached.looks += step.looks;
-        if (step.least < below)
+        if (step.least < below && tally->past_mark <= reached.start)
             break;
     }
     return reached;

@@ -10,15 +10,15 @@
 
 #define STRAIGHT static inline __attribute__((always_inline))
 
-enum { WORD_BITS = 64, VECTOR_WORDS = 4, EDGE_CODES = 256 };
+enum { WORD_BITS = 64, VECTOR_WORDS = 4, BYTES = 256 };
 
 struct vector {
     uint64_t word[VECTOR_WORDS];
 };
 
-// The ring's occurrence vectors, one for each edge code.
+// The ring's occurrence vectors, one for each byte; that of the mark is empty.
 struct table {
-    struct vector of[EDGE_CODES];
+    struct vector of[BYTES];
 };
 
 static void occurrences(struct table *table, const uint8_t *ring, size_t m)

@@ -1,7 +1,8 @@
 //! Every peer, and the rules in C and in Rust, compared with the definitions on many rings. These cases have what no row of
 //! the benchmark has: rings of one edge, lines shorter than the ring, allowances up to m - 1, widths at a word's end,
-//! refusals.
+//! refusals, marks at every place.
 mod common;
+mod marks;
 
 use common::{by_definition, field, looks_by_rules, Finding, Numbers};
 use compare::peers::{c_rules, rules, Answer, Question, Rules, FINDING_WORDS, PEERS};
@@ -145,7 +146,7 @@ fn check_refused((ring, line, k, room, book, refusal, place): RefusedRow) {
         let question = Question { cell: 7, ring_number: 2, ring, line, k, book };
         let answer = (version.report)(&question, &mut vec![0; room]);
         assert_eq!(answer, Answer { refusal, place, ..Answer::default() });
-        if refusal < 5 {
+        if refusal < 5 || refusal == 12 {
             assert_eq!((version.scan)(ring, line, k, &mut vec![0; room]), answer);
             assert_eq!((version.survey)(ring, line, k, &mut vec![0; room]), answer);
         }
@@ -156,7 +157,7 @@ fn check_refused((ring, line, k, room, book, refusal, place): RefusedRow) {
 fn refusals_are_the_same() {
     let long = vec![1; 65_537];
     let book = [field(7, 2, 5), field(7, 2, 5)].concat();
-    let rows: [RefusedRow; 9] = [
+    let rows: [RefusedRow; 16] = [
         (&[], &[1], 0, 9, &[], 1, 0),
         (&long[..257], &[1], 0, 9, &[], 1, 0),
         (&[1], &[1], 1, 9, &[], 2, 0),
@@ -166,6 +167,13 @@ fn refusals_are_the_same() {
         (&[1], &[1], 0, 9, &book[..14], 6, 13),
         (&[1, 2], &[1], 0, 9, &book, 7, 13),
         (&[1], &[1], 0, 9, &[0x22], 6, 0),
+        (&[255], &[1], 0, 9, &[], 12, 0),
+        (&[1, 255], &[1], 0, 9, &[], 12, 0),
+        (&[255, 1], &[255], 2, 9, &[], 12, 0),
+        (&[255], &long, 0, 9, &[], 12, 0),
+        (&[255], &[1, 1], 0, 0, &[], 12, 0),
+        (&[255], &[1], 0, 9, &book, 12, 0),
+        (&[255; 257], &[1], 0, 9, &[], 1, 0),
     ];
     rows.into_iter().for_each(check_refused);
 }

@@ -1,9 +1,11 @@
 //! ACB, source document 003: Algorithm 2 with its shift made a rotation of m bits, and arrays of words where m is above a
-//! word. It reads windows as the quick scan does and counts no looks.
+//! word. It reads windows as the quick scan does, marks included, and counts no looks.
 use super::filter::{by_width, sift};
 use super::vectors::{first_bits, grown, no_bit, occurrences};
+use super::MARK;
 
-/// How many edges are read, from the last towards the first, and whether they have at most k breaks. The ring has m edges.
+/// How many edges are read, from the last towards the first, and whether they have at most k breaks and no mark. The ring
+/// has m edges.
 #[inline(always)]
 pub fn read<const W: usize>(table: &[[u64; W]; 256], edges: &[u8], m: usize, k: usize) -> (usize, bool) {
     let full = first_bits::<W>(m);
@@ -12,10 +14,10 @@ pub fn read<const W: usize>(table: &[[u64; W]; 256], edges: &[u8], m: usize, k: 
     for (before, &edge) in edges.iter().rev().enumerate() {
         held = grown(held, &table[edge as usize], m);
         if no_bit(held) {
-            breaks += 1;
-            if breaks > k {
+            if edge == MARK || breaks == k {
                 return (before + 1, false);
             }
+            breaks += 1;
             held = full;
         }
     }

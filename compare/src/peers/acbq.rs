@@ -4,10 +4,12 @@
 //! 003 has a table of 4^q grams and data of four codes. Here a line may hold any byte, so the codes that the ring lacks form
 //! one class more; q is the largest whose table stays small, since making it is part of the call, and with no room for two
 //! edges this is ACB. Where break k + 1 lies within a gram, all q edges count as read: 003 leaves this open, and a shorter
-//! jump loses nothing.
+//! jump loses nothing. The ring lacks the mark like other codes, so it is looked for only in a gram with a break, and at a
+//! break.
 use super::acb;
 use super::filter::{by_width, sift};
 use super::vectors::{first_bits, grown, no_bit, occurrences};
+use super::MARK;
 
 /// The most grams that a table has.
 const MOST_GRAMS: usize = 1024;
@@ -74,16 +76,23 @@ impl<const W: usize, const Q: usize> Grams<W, Q> {
         let mut left = m;
         let mut breaks = 0;
         while left >= Q {
-            let gram = self.of(&window[left - Q..left]);
+            let edges = &window[left - Q..left];
+            let gram = self.of(edges);
             left -= Q;
+            if gram.breaks > 0 {
+                if let Some(place) = edges.iter().rposition(|&edge| edge == MARK) {
+                    return (m - left - place, false);
+                }
+            }
             breaks += gram.breaks;
             let mut held = gram.held;
             while breaks <= k && left > 0 && !no_bit(held) {
                 left -= 1;
                 held = grown(held, &self.table[window[left] as usize], m);
             }
-            breaks += no_bit(held) as usize;
-            if breaks > k {
+            let broken = no_bit(held);
+            breaks += broken as usize;
+            if breaks > k || (broken && window[left] == MARK) {
                 return (m - left, false);
             }
         }

@@ -1,6 +1,6 @@
 //! ACSMF-Simple, source document 000: the fragments of the ring followed by its first m - 1 edges are searched with one
 //! automaton; each hit is extended edge by edge, to both sides, up to k mismatches; the mismatches in between give the
-//! distance of every window that holds the hit.
+//! distance of every window that holds the hit. An extension ends at a mark.
 //!
 //! Whole fragments of length floor(m / (k + 2)), the rest dropped, instead of 2k + 4 near-equal ones: with those 000's
 //! Lemma 3 fails (document 01). Every rotation then holds k + 1 whole fragments, so each pair of start and rotation within
@@ -10,6 +10,7 @@ use super::automaton::Automaton;
 use super::findings::{Finding, Findings};
 use super::naive;
 use super::vectors::{MOST_WORDS, WORD_BITS};
+use super::MARK;
 
 /// More starts than are open at once: those of the windows around a hit.
 const OPEN: usize = 512;
@@ -69,27 +70,27 @@ impl Pending {
     }
 }
 
-/// The extensions of a hit, and in `marks` a 1 for each place of the text where they differ from the line.
+/// The extensions of a hit, and in `differing` a 1 for each place of the text where they differ from the line.
 struct Extender<'a> {
     text: &'a [u8],
     line: &'a [u8],
     m: usize,
     k: usize,
     length: usize,
-    marks: Vec<u8>,
+    differing: Vec<u8>,
 }
 
-/// How many pairs go before mismatch k + 1, each pair's mismatch marked.
+/// How many pairs of a text edge and a line edge go before mismatch k + 1 or a mark, each pair's mismatch noted.
 fn extend<'a>(pairs: impl Iterator<Item = ((&'a u8, &'a u8), &'a mut u8)>, k: usize) -> usize {
     let mut mismatches = 0;
     let mut extent = 0;
-    for ((a, b), mark) in pairs {
+    for ((a, b), noted) in pairs {
         let differs = a != b;
-        if differs && mismatches == k {
+        if differs && (mismatches == k || *b == MARK) {
             break;
         }
         mismatches += differs as usize;
-        *mark = differs as u8;
+        *noted = differs as u8;
         extent += 1;
     }
     extent
@@ -100,7 +101,7 @@ impl Extender<'_> {
     /// right. No window that holds the fragment reaches further than m.
     fn extents(&mut self, p: usize, t: usize) -> (usize, usize) {
         let most = self.m - self.length;
-        let (before, rest) = self.marks.split_at_mut(p);
+        let (before, rest) = self.differing.split_at_mut(p);
         let (within, after) = rest.split_at_mut(self.length);
         within.fill(0);
         let text = self.text[..p].iter().rev();
@@ -117,7 +118,7 @@ impl Extender<'_> {
             return;
         }
         let mut rotation = p - left;
-        let mut distance = self.marks[rotation..rotation + self.m].iter().map(|&mark| mark as usize).sum();
+        let mut distance = self.differing[rotation..rotation + self.m].iter().map(|&noted| noted as usize).sum();
         let last = p + self.length + right - self.m;
         loop {
             if distance <= self.k {
@@ -126,7 +127,7 @@ impl Extender<'_> {
             if rotation >= last.min(p) {
                 return;
             }
-            distance = distance + self.marks[rotation + self.m] as usize - self.marks[rotation] as usize;
+            distance = distance + self.differing[rotation + self.m] as usize - self.differing[rotation] as usize;
             rotation += 1;
         }
     }
@@ -140,7 +141,7 @@ pub fn search(ring: &[u8], line: &[u8], k: usize, words: &mut [u32]) -> usize {
     }
     let text = [ring, &ring[..m - 1]].concat();
     let automaton = Automaton::new(&text, length);
-    let mut extender = Extender { text: &text, line, m, k, length, marks: vec![0; text.len()] };
+    let mut extender = Extender { text: &text, line, m, k, length, differing: vec![0; text.len()] };
     let mut pending = Pending { best: [NONE; OPEN], low: 0, high: 0 };
     let mut findings = Findings::new(words);
     automaton.run(line, |end, places| {

@@ -3,11 +3,12 @@
 //!
 //! With h = m, and columns kept in place of the matrix, as 004 says. Only cells with m edges behind them are counted, and the
 //! row 2m, which is rotation 0 again, is left out. 004 truncates by "j 1's" with j = h mod w; where that is 0 the whole word
-//! is meant.
+//! is meant. A start before the place just past the last mark has the mark in its window.
 use super::doubled;
 use super::filter::by_width;
 use super::findings::{Finding, Findings};
 use super::vectors::{first_bits, WORD_BITS};
+use super::MARK;
 
 type Cell<const W: usize> = [u64; W];
 
@@ -48,10 +49,14 @@ fn search_in<const W: usize>(ring: &[u8], line: &[u8], k: usize, words: &mut [u3
     let mut findings = Findings::new(words);
     let mut column: Vec<Cell<W>> = (0..2 * m).map(|row| first_bits(row.min(m))).collect();
     let mut next = column.clone();
+    let mut past_mark = 0;
     for (place, &edge) in line.iter().enumerate() {
         next_column(&column, &mut next, &doubled, edge);
         std::mem::swap(&mut column, &mut next);
-        if place + 1 < m {
+        if edge == MARK {
+            past_mark = place + 1;
+        }
+        if place + 1 < past_mark + m {
             continue;
         }
         if let Some(finding) = finding(&column[m..], place + 1 - m, k) {

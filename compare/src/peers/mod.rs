@@ -1,6 +1,6 @@
 //! Peers: what a user might pick instead of the library, and the library's own rules written again in C and in Rust.
 //! All give the same findings: start, the lowest rotation that reaches the least distance, that distance, and how many
-//! rotations reach it.
+//! rotations reach it. A window that holds a mark is no start.
 pub mod acb;
 pub mod acbq;
 pub mod acsmf;
@@ -16,6 +16,9 @@ pub mod sliding;
 mod vectors;
 
 pub use findings::FINDING_WORDS;
+
+/// The boundary mark. No ring holds it, so it fits and equals no edge of a ring.
+pub const MARK: u8 = 255;
 
 /// A refusal's number and place, or 0 and 0 with the counts of an accepted call. The layout is that of the C header.
 #[repr(C)]
@@ -42,7 +45,7 @@ pub struct Question<'a> {
 /// Scan or survey: ring, line, allowance, lent words.
 pub type Search = fn(&[u8], &[u8], usize, &mut [u32]) -> Answer;
 
-/// The three calls of document 01, in one implementation.
+/// The three calls of documents 01 and 02, in one implementation.
 pub struct Rules {
     pub scan: Search,
     pub survey: Search,

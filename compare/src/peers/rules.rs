@@ -6,7 +6,7 @@ mod sweep;
 mod tally;
 
 use super::findings::{Findings, FINDING_WORDS};
-use super::{doubled, Answer, Question, Rules};
+use super::{doubled, Answer, Question, Rules, MARK};
 use book::{is_for, read, seek, seek_on, Address};
 use sweep::Sweep;
 use tally::{Tally, MOST_RING};
@@ -16,10 +16,13 @@ pub const RULES: Rules = Rules { scan, survey, report };
 /// "Line: n edges, 0 to 65,536."
 const MOST_LINE: usize = 65_536;
 
-/// Refusals 1 to 4, or 0.
-fn admit(m: usize, k: usize, n: usize, room: usize) -> usize {
+/// Refusals 1, 12, 2, 3 and 4, in this order, or 0.
+fn admit(ring: &[u8], k: usize, n: usize, room: usize) -> usize {
+    let m = ring.len();
     if m == 0 || m > MOST_RING {
         1
+    } else if ring.contains(&MARK) {
+        12
     } else if k >= m {
         2
     } else if n > MOST_LINE {
@@ -32,7 +35,7 @@ fn admit(m: usize, k: usize, n: usize, room: usize) -> usize {
 }
 
 fn scan(ring: &[u8], line: &[u8], k: usize, words: &mut [u32]) -> Answer {
-    let refusal = admit(ring.len(), k, line.len(), words.len());
+    let refusal = admit(ring, k, line.len(), words.len());
     if refusal != 0 {
         return Answer { refusal, ..Answer::default() };
     }
@@ -44,10 +47,10 @@ fn scan(ring: &[u8], line: &[u8], k: usize, words: &mut [u32]) -> Answer {
     Answer { found: findings.found, looks: sweep.looks, ..Answer::default() }
 }
 
-/// "the first afresh and each next by one step, at m = 1 too": on to the next finding or to the last start.
+/// "the first afresh and each next by one step, at m = 1 too": on to the next finding or to the last window.
 fn survey(ring: &[u8], line: &[u8], k: usize, words: &mut [u32]) -> Answer {
     let (m, n) = (ring.len(), line.len());
-    let refusal = admit(m, k, n, words.len());
+    let refusal = admit(ring, k, n, words.len());
     if refusal != 0 {
         return Answer { refusal, ..Answer::default() };
     }
@@ -62,7 +65,7 @@ fn survey(ring: &[u8], line: &[u8], k: usize, words: &mut [u32]) -> Answer {
             _ => tally.move_along(ring, line, start - 1, n - m - (start - 1), k + 1),
         };
         looks += reached.looks;
-        if reached.least as usize <= k {
+        if reached.least as usize <= k && tally.past_mark <= reached.start {
             findings.put(tally.finding_at(m, &reached));
         }
         start = reached.start + 1;
@@ -71,7 +74,7 @@ fn survey(ring: &[u8], line: &[u8], k: usize, words: &mut [u32]) -> Answer {
 }
 
 fn report(q: &Question, words: &mut [u32]) -> Answer {
-    let (refusal, place) = match admit(q.ring.len(), q.k, q.line.len(), words.len()) {
+    let (refusal, place) = match admit(q.ring, q.k, q.line.len(), words.len()) {
         0 => read(q.book),
         refusal => (refusal, 0),
     };

@@ -5,6 +5,7 @@
 //! Those come through `#[target_feature]`, not through `-C target-cpu=native`, which would also rebuild every other peer. On
 //! x86-64 that is AVX2 where the processor has it; on AArch64 NEON is in every target and needs no attribute.
 use super::findings::{Finding, Findings};
+use super::MARK;
 
 const MOST_RING: usize = 256;
 
@@ -84,15 +85,20 @@ fn survey<C: Count>(ring: &[u8], line: &[u8], k: usize, words: &mut [u32]) -> us
     let counts = &mut store[..lanes];
     let around: Vec<u8> = ring.iter().copied().cycle().take(m + lanes).collect();
     let mut least = afresh(counts, &around, &line[..m]);
+    let mut past_mark = line[..m].iter().rposition(|&edge| edge == MARK).map_or(0, |place| place + 1);
     let mut turn = 0; // start modulo m
     for start in 0.. {
-        if least.distance() <= k {
+        if least.distance() <= k && past_mark <= start {
             findings.put(finding(&counts[..m], start, turn, least));
         }
         if start + m == line.len() {
             break;
         }
-        least = step(counts, &around[turn..turn + lanes], line[start], line[start + m]);
+        let entering = line[start + m];
+        least = step(counts, &around[turn..turn + lanes], line[start], entering);
+        if entering == MARK {
+            past_mark = start + m + 1;
+        }
         turn = if turn + 1 == m { 0 } else { turn + 1 };
     }
     findings.found

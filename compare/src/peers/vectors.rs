@@ -28,7 +28,7 @@ pub fn no_bit<const W: usize>(held: [u64; W]) -> bool {
     held.iter().fold(0, |joined, word| joined | word) == 0
 }
 
-/// The ring's occurrence vectors, one for each edge code.
+/// The ring's occurrence vectors, one for each byte; that of the mark is empty.
 pub fn occurrences<const W: usize>(ring: &[u8]) -> [[u64; W]; 256] {
     let mut table = [[0; W]; 256];
     for (r, &code) in ring.iter().enumerate() {

@@ -3,6 +3,7 @@ use super::tally::{Reached, Tally};
 use crate::peers::doubled;
 use crate::peers::findings::Finding;
 use crate::peers::vectors::{first_bits, grown, no_bit, occurrences, WORD_BITS};
+use crate::peers::MARK;
 
 /// A call's ring and line, and what is made of the ring once for a call.
 pub struct Sweep<'a> {
@@ -18,11 +19,11 @@ pub struct Sweep<'a> {
     pub looks: usize,
 }
 
-/// How far a window was read: the edges left unread, the breaks, the looks.
+/// How far a window was read: the edges left unread, the looks, and whether all are read with at most k breaks and no mark.
 struct WindowRead {
     left: usize,
-    breaks: usize,
     looks: usize,
+    candidate: bool,
 }
 
 impl<'a> Sweep<'a> {
@@ -31,28 +32,31 @@ impl<'a> Sweep<'a> {
         Sweep { ring, line, k, doubled: doubled(ring), table, tally: Tally::new(), start: 0, last: None, looks: 0 }
     }
 
-    /// Rules 1 to 3, with the held vector in W words. The test for break k + 1 stands at the break.
+    /// Rules 1 to 3, with the held vector in W words. The test for break k + 1 stands at the break, and so does that for a
+    /// mark: no ring holds one, so a mark never fits.
     #[inline(always)]
     fn read_words<const W: usize>(&self, window: &[u8]) -> WindowRead {
         let m = self.ring.len();
         let full = first_bits::<W>(m);
         let mut held = full;
-        let mut read = WindowRead { left: m, breaks: 0, looks: 0 };
+        let mut read = WindowRead { left: m, looks: 0, candidate: false };
+        let mut breaks = 0;
         while read.left > 0 {
             read.left -= 1;
             let edge = window[read.left];
             read.looks += 1; // one look
             let next = grown(held, &self.table[edge as usize], m);
             if no_bit(next) {
-                read.breaks += 1;
-                if read.breaks > self.k {
-                    break;
+                if edge == MARK || breaks == self.k {
+                    return read;
                 }
+                breaks += 1;
                 held = full;
             } else {
                 held = next;
             }
         }
+        read.candidate = true;
         read
     }
 
@@ -86,7 +90,7 @@ impl<'a> Sweep<'a> {
         let read = self.read_window(&self.line[start..start + m]);
         self.looks += read.looks;
         let mut finding = None;
-        if read.breaks <= self.k {
+        if read.candidate {
             let reached = self.verify();
             self.last = Some(start);
             self.looks += reached.looks;

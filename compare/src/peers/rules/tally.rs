@@ -1,11 +1,15 @@
 //! Rule 5: the tally of one count for each rotation, counted afresh or moved along the line. It is changed in place.
 use crate::peers::findings::Finding;
+use crate::peers::MARK;
 
 /// "Ring: m edges, 1 to 256." A count is at most that, which eight bits do not hold.
 pub const MOST_RING: usize = 256;
 
 pub struct Tally {
     counts: [u16; MOST_RING],
+    /// The line place just past the last mark among the edges counted, or 0: the window reached holds no mark if it begins
+    /// there or later.
+    pub past_mark: usize,
 }
 
 /// The start that a tally has reached, the least of its counts, and the looks that it took.
@@ -52,32 +56,40 @@ fn renumber(counts: &mut [u16]) {
 
 impl Tally {
     pub fn new() -> Self {
-        Tally { counts: [0; MOST_RING] }
+        Tally { counts: [0; MOST_RING], past_mark: 0 }
     }
 
     /// Every rotation counted afresh: m edges, each against m ring edges.
     pub fn count_afresh(&mut self, doubled: &[u8], m: usize, line: &[u8], start: usize) -> Reached {
         let counts = &mut self.counts[..m];
         counts.fill(0);
+        self.past_mark = 0;
         let mut looks = 0;
         for (q, &edge) in line[start..start + m].iter().enumerate() {
             looks += count_edge(counts, &doubled[q..q + m], edge);
+            if edge == MARK {
+                self.past_mark = start + q + 1;
+            }
         }
         let least = counts.iter().copied().min().unwrap_or(0);
         Reached { start, least, looks }
     }
 
     /// Moves the tally `steps` steps along the line, or only to the first start on the way whose least count is below
-    /// `below`.
+    /// `below`. A window with a mark is no start.
     pub fn move_along(&mut self, ring: &[u8], line: &[u8], from: usize, steps: usize, below: usize) -> Reached {
         let m = ring.len();
         let counts = &mut self.counts[..m];
         let mut reached = Reached { start: from, least: 0, looks: 0 };
         while reached.start < from + steps {
-            let (least, looks) = change(counts, ring, line[reached.start], line[reached.start + m]);
+            let (leaving, entering) = (line[reached.start], line[reached.start + m]);
+            let (least, looks) = change(counts, ring, leaving, entering);
             renumber(counts);
+            if entering == MARK {
+                self.past_mark = reached.start + m + 1;
+            }
             reached = Reached { start: reached.start + 1, least, looks: reached.looks + looks };
-            if (least as usize) < below {
+            if (least as usize) < below && self.past_mark <= reached.start {
                 break;
             }
         }
