@@ -1,7 +1,7 @@
 //! The inputs that are timed. All are made from seeds.
 use super::boundaries::{boundaries, boundary};
 use super::numbers::Numbers;
-use crate::peers::{Question, FINDING_WORDS};
+use crate::peers::{Question, FINDING_WORDS, MARK};
 
 pub const CELL: u32 = 7;
 pub const RING_NUMBER: u16 = 2;
@@ -13,12 +13,23 @@ const SILENCES: usize = 1000;
 /// Which table an input belongs to.
 #[derive(Clone, Copy, PartialEq, Eq, Debug)]
 pub enum Kind {
-    /// Its row counts in the means; with the number of codes, or 0 for boundaries.
-    Main(usize),
+    /// Its row counts in the means.
+    Main(Part),
     GrowingLine,
     GrowingRing,
     /// Every start is a finding: for the report against the scan.
     AllFound,
+}
+
+/// A part of the main rows, with a mean of its own.
+#[derive(Clone, Copy, PartialEq, Eq, Debug)]
+pub enum Part {
+    /// Edges drawn evenly from this many codes.
+    Codes(usize),
+    /// The same, cut by marks.
+    Cut,
+    Constant,
+    Boundaries,
 }
 
 pub struct Input {
@@ -60,12 +71,15 @@ fn random_edges(numbers: &mut Numbers, length: usize, codes: usize) -> Vec<u8> {
     (0..length).map(|_| numbers.below(codes) as u8).collect()
 }
 
-/// Puts rotated copies of the ring into the line, one in each tenth of it, each with up to k edges changed.
-fn plant(numbers: &mut Numbers, ring: &[u8], line: &mut [u8], k: usize) {
+/// Puts rotated copies of the ring into the line, one in each tenth of it, each with up to k edges changed. Returns where
+/// they begin.
+fn plant(numbers: &mut Numbers, ring: &[u8], line: &mut [u8], k: usize) -> Vec<usize> {
     let m = ring.len();
     let tenth = line.len() / COPIES;
-    for part in line.chunks_mut(tenth).take(COPIES) {
+    let mut starts = Vec::new();
+    for (at, part) in line.chunks_mut(tenth).take(COPIES).enumerate() {
         let start = numbers.below(tenth - m + 1);
+        starts.push(at * tenth + start);
         let rotation = numbers.below(m);
         let copy = &mut part[start..start + m];
         copy.iter_mut().enumerate().for_each(|(q, edge)| *edge = ring[(rotation + q) % m]);
@@ -73,16 +87,34 @@ fn plant(numbers: &mut Numbers, ring: &[u8], line: &mut [u8], k: usize) {
             copy[numbers.below(m)] = ring[numbers.below(m)];
         }
     }
+    starts
+}
+
+/// Puts marks 50 to 200 edges apart, and on either side of each copy, but none within one.
+fn cut(numbers: &mut Numbers, line: &mut [u8], copies: &[usize], m: usize) {
+    let n = line.len();
+    let mut places: Vec<usize> = copies.iter().flat_map(|&start| [start.wrapping_sub(1), start + m]).collect();
+    let mut place = 50 + numbers.below(151);
+    while place < n {
+        places.push(place);
+        place += 50 + numbers.below(151);
+    }
+    let within = |place: usize| copies.iter().any(|&start| (start..start + m).contains(&place));
+    places.into_iter().filter(|&place| place < n && !within(place)).for_each(|place| line[place] = MARK);
 }
 
 fn planted(kind: Kind, codes: usize, n: usize, m: usize, k: usize) -> Input {
     let mut numbers = Numbers::seeded((codes * 1_000_000 + m * 1000 + k + n) as u64);
     let ring = random_edges(&mut numbers, m, codes);
     let mut line = random_edges(&mut numbers, n, codes);
-    plant(&mut numbers, &ring, &mut line, k);
+    let copies = plant(&mut numbers, &ring, &mut line, k);
+    if kind == Kind::Main(Part::Cut) {
+        cut(&mut numbers, &mut line, &copies, m);
+    }
     let name = match kind {
         Kind::GrowingLine => format!("n {n}"),
         Kind::GrowingRing => format!("m {m}"),
+        Kind::Main(Part::Cut) => format!("{codes}, cut / {m} / {k}"),
         _ => format!("{codes} / {m} / {k}"),
     };
     Input { name, kind, ring, line, k, book: Vec::new() }
@@ -98,23 +130,34 @@ fn outlined(m: usize, k: usize) -> Input {
     let ring = boundary(&mut numbers, m);
     let mut line = boundaries(&mut numbers, MOST_LINE);
     plant(&mut numbers, &ring, &mut line, k);
-    Input { name: format!("boundaries / {m} / {k}"), kind: Kind::Main(0), ring, line, k, book: Vec::new() }
+    Input {
+        name: format!("boundaries / {m} / {k}"),
+        kind: Kind::Main(Part::Boundaries),
+        ring,
+        line,
+        k,
+        book: Vec::new(),
+    }
 }
 
-/// The rows that count in the means: three alphabets, five rings, three allowances; two rows with many candidates; a
-/// constant line; boundaries.
+/// The most codes that a ring may have: every byte but the mark.
+const ALL_CODES: usize = MARK as usize;
+const ALPHABETS: [usize; 3] = [4, 26, ALL_CODES];
+
+/// The rows that count in the means: three alphabets, five rings, three allowances; two rows with many candidates; the three
+/// alphabets cut by marks; a constant line; boundaries.
 fn main_rows() -> Vec<Input> {
+    let drawn = |codes, m, k| planted(Kind::Main(Part::Codes(codes)), codes, MOST_LINE, m, k);
     let mut rows = Vec::new();
-    for codes in [4, 26, 256] {
+    for codes in ALPHABETS {
         for m in [20, 40, 60, 128, 256] {
-            for k in [1, 2, 5] {
-                rows.push(planted(Kind::Main(codes), codes, MOST_LINE, m, k));
-            }
+            rows.extend([1, 2, 5].map(|k| drawn(codes, m, k)));
         }
     }
-    rows.push(planted(Kind::Main(4), 4, MOST_LINE, 60, 15));
-    rows.push(planted(Kind::Main(4), 4, MOST_LINE, 256, 60));
-    rows.push(constant("constant / 60 / 2", Kind::Main(1), 60, 2));
+    rows.push(drawn(4, 60, 15));
+    rows.push(drawn(4, 256, 60));
+    rows.extend(ALPHABETS.map(|codes| planted(Kind::Main(Part::Cut), codes, MOST_LINE, 40, 2)));
+    rows.push(constant("constant / 60 / 2", Kind::Main(Part::Constant), 60, 2));
     rows.push(outlined(128, 5));
     rows
 }

@@ -1,6 +1,6 @@
 //! The page of results: ratios first, then the times they come from.
 use super::contenders::{Call, Version, VERSIONS};
-use super::inputs::Kind;
+use super::inputs::{Kind, Part};
 use super::machine;
 use super::results::{geometric_mean, Results, Row, Second, BAR};
 use super::rows::{growth, main_row, ratios, times};
@@ -13,18 +13,19 @@ const METHOD: &str = include_str!("method.md");
 /// Trials that were timed by hand, behind choices of docs/DECISIONS.md: no run changes these either.
 const TRIALS: &str = include_str!("trials.md");
 
-/// Some of the main rows, by their number of codes.
-type Part = (&'static str, fn(usize) -> bool);
+/// A mean's name and the main rows that it is of.
+type Mean = (&'static str, fn(Part) -> bool);
 
 /// A line for each contender: its geometric means over all main rows and over parts of them, and its extremes.
 fn means(page: &mut String, results: &Results) {
-    let parts: [Part; 6] = [
+    let parts: [Mean; 7] = [
         ("all rows", |_| true),
-        ("4 codes", |codes| codes == 4),
-        ("26 codes", |codes| codes == 26),
-        ("256 codes", |codes| codes == 256),
-        ("constant", |codes| codes == 1),
-        ("boundaries", |codes| codes == 0),
+        ("4 codes", |part| part == Part::Codes(4)),
+        ("26 codes", |part| part == Part::Codes(26)),
+        ("255 codes", |part| part == Part::Codes(255)),
+        ("cut by marks", |part| part == Part::Cut),
+        ("constant", |part| part == Part::Constant),
+        ("boundaries", |part| part == Part::Boundaries),
     ];
     let names = parts.iter().map(|part| part.0.to_string());
     let head = heads(&["", "over C"], names.chain(["least".to_string(), "most".to_string()]));

@@ -1,7 +1,7 @@
 //! The picture of the ratios: a line for each contender, a dot for each row, a bar at the geometric mean. The rules and the
 //! peers have a panel each, since their ratios differ by powers of ten.
 use super::contenders::Contender;
-use super::inputs::Kind;
+use super::inputs::{Kind, Part};
 use super::results::{geometric_mean, Results};
 use std::fmt::Write;
 
@@ -16,25 +16,29 @@ const FOOT: f64 = 48.0;
 /// Colours for a light page and, by media query, for a dark one. The picture has its own ground, so it is readable on both.
 const STYLE: &str = "<style>
   .ground { fill: #ffffff } .grid { stroke: #d5d8dc } .one { stroke: #555b61 } text { fill: #24292e; font: 12px sans-serif }
-  .c4 { fill: #1f6fb2 } .c26 { fill: #c05a00 } .c256 { fill: #2b8a3e } .other { fill: #8540a8 } .mean { stroke: #24292e }
+  .c4 { fill: #1f6fb2 } .c26 { fill: #c05a00 } .c255 { fill: #2b8a3e } .other { fill: #8540a8 } .mean { stroke: #24292e }
   @media (prefers-color-scheme: dark) {
     .ground { fill: #16191d } .grid { stroke: #343a40 } .one { stroke: #9aa1a8 } text { fill: #dfe3e7 }
-    .c4 { fill: #6cb2f0 } .c26 { fill: #f2a155 } .c256 { fill: #6fce84 } .other { fill: #cf9bea } .mean { stroke: #ffffff }
+    .c4 { fill: #6cb2f0 } .c26 { fill: #f2a155 } .c255 { fill: #6fce84 } .other { fill: #cf9bea } .mean { stroke: #ffffff }
   }
 </style>";
 
-const LEGEND: [(&str, &str); 4] =
-    [("c4", "4 codes"), ("c26", "26 codes"), ("c256", "256 codes"), ("other", "constant line, boundaries")];
+const LEGEND: [(&str, &str); 4] = [
+    ("c4", "4 codes"),
+    ("c26", "26 codes"),
+    ("c255", "255 codes"),
+    ("other", "cut by marks, constant line, boundaries"),
+];
 
 /// Where a panel may have a line of its grid: finely about 1, then by tens.
 const FINE: [f64; 9] = [0.125, 0.25, 0.5, 0.75, 1.0, 1.3, 2.0, 4.0, 8.0];
 const COARSE: [f64; 9] = [0.001, 0.01, 0.1, 1.0, 10.0, 100.0, 1000.0, 10_000.0, 100_000.0];
 
-fn colour(codes: usize) -> &'static str {
-    match codes {
-        4 => "c4",
-        26 => "c26",
-        256 => "c256",
+fn colour(part: Part) -> &'static str {
+    match part {
+        Part::Codes(4) => "c4",
+        Part::Codes(26) => "c26",
+        Part::Codes(255) => "c255",
         _ => "other",
     }
 }
@@ -92,8 +96,8 @@ impl<'a> Panel<'a> {
             contender.name()
         );
         for row in &self.results.rows {
-            if let Kind::Main(codes) = row.kind {
-                let (class, x) = (colour(codes), self.x(row.ratio(at, contender)));
+            if let Kind::Main(part) = row.kind {
+                let (class, x) = (colour(part), self.x(row.ratio(at, contender)));
                 let _ = writeln!(
                     svg,
                     "<circle class=\"{class}\" cx=\"{x:.1}\" cy=\"{y}\" r=\"3.5\" fill-opacity=\"0.65\"/>"

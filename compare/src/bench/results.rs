@@ -1,6 +1,6 @@
 //! What was measured, and the ratios and means of it.
 use super::contenders::{Call, Contender, Version};
-use super::inputs::{Input, Kind};
+use super::inputs::{Input, Kind, Part};
 
 /// A scan that takes longer than this many times the scan in C misses the bar, and its row is timed once more.
 pub const BAR: f64 = 1.3;
@@ -59,9 +59,9 @@ impl Results {
     }
 
     /// A contender's ratios on the rows that count in the means.
-    pub fn ratios(&self, at: usize, belongs: impl Fn(usize) -> bool) -> Vec<f64> {
+    pub fn ratios(&self, at: usize, belongs: impl Fn(Part) -> bool) -> Vec<f64> {
         let contender = &self.contenders[at];
-        let main = |kind| matches!(kind, Kind::Main(codes) if belongs(codes));
+        let main = |kind| matches!(kind, Kind::Main(part) if belongs(part));
         self.rows_of(main).map(|row| row.ratio(at, contender)).collect()
     }
 
