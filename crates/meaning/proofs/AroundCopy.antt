@@ -1,15 +1,19 @@
 -- One stored copy gives several findings. A step of one place changes a distance by at most 1, if the rotation moves along with it (`distance-step`): at most
 -- one edge that agreed leaves the window, and at most one that differs enters. So s places from a copy with d differing edges, some rotation differs in at most
--- d + s places. Every start within k − d places of the copy, on either side, is found; an exact copy gives at least 2·k + 1 findings away from the line's ends.
+-- d + s places. Every start within k − d places of the copy, on either side, is found; an exact copy gives at least 2·k + 1 findings away from the line's ends
+-- and from marks. Between two marks it stands alone (`alone-between`): every other window so near contains one of them.
 use Prim.Native.Nat.{ℕ, zero, suc, _+_, _-_, _%_, _≤_, _<_}
 use mathlib.Core.Path.{_≡_, sym, ap, _∙_, subst}
+use mathlib.Core.Logic.{⊎-elim}
 use mathlib.Core.List.{List, List·Memᴰ}
 use native.Mathlib.Nat.{add-zero, mod-lt, mod-add-mod, add-mod-right, mod-eq-of-lt}
 use native.Mathlib.Omega.{arith}
 use lib.ListN.{length, getD}
-use Rattle.meaning.specs.Meanings.{IsStart, windowEdge, unequal, distance}
+use Rattle.meaning.specs.Meanings.{IsStart, windowEdge, mark, unequal, distance}
 use Rattle.meaning.specs.Findings.{Finding, findings}
+use Rattle.lists.proofs.Cases.{le-or-lt}
 use Rattle.meaning.proofs.Count.{oneIf-le}
+use Rattle.meaning.proofs.Starts.{no-start-over}
 use Rattle.meaning.proofs.TallyStep.{distance-step}
 use Rattle.meaning.proofs.FoundExactly.{found-iff}
 
@@ -68,3 +72,15 @@ module _ (ring line : List ℕ) (pos : 0 < length ring) where
     found-before le start =
         let near : Near i (distance ring line (i + s) r + s) = near-ahead s i (distance ring line (i + s) r) (r, l, omega arith) in
         found-iff ring line k pos i .1 (start, (near .0, near .1, omega (arith, near .2, le)))
+
+  -- If the line has marks at p and at p + m + 1, the only start within m places of p + 1 is p + 1 itself.
+  pub alone-between : (p : ℕ) → getD line p 0 ≡ mark → getD line (p + m + 1) 0 ≡ mark
+      → (i : ℕ) → p < i + m → i ≤ p + m + 1 → IsStart ring line i → i ≡ p + 1
+  alone-between p first second i lo hi start =
+      ⊎-elim
+      (λ before. absurd (no-start-over ring line i p first before lo start))
+      (λ after. ⊎-elim
+      (λ le. omega arith)
+      (λ behind. absurd (no-start-over ring line i (p + m + 1) second hi (omega arith) start))
+      (le-or-lt i (p + 1)))
+      (le-or-lt i p)

@@ -1,14 +1,17 @@
--- Theorems about the meanings and rules. Other crates cite them as Rattle.meaning.proofs.NAME. Read the statements of these nine modules first:
+-- Theorems about the meanings and rules. Other crates cite them as Rattle.meaning.proofs.NAME. Read the statements of these ten modules first:
 --
 --   FoundExactly    `findings-iff`, `found-iff`            the list `findings` has exactly the findings
 --   Ties            `ties-most`, `another-iff`             a finding has 1 to m ties, above 1 exactly when another rotation is as near
 --   Rising          `findings-rising`, `findings-unique`   they are listed by strictly rising start, at most one for each start
 --   FitDecided      `fits-iff`                             the test for a stretch that fits is right
---   NothingLost     `nothing-lost`                         a jump passes over no finding
+--   NothingLost     `nothing-lost`, `no-start-to-mark`     a jump passes over no finding; up to a mark it passes over no start
 --   QuickFindsAll   `quick-finds-all`                      the rules report exactly the findings
 --   LookBound       `quickLooks-le`                        for n ≥ m the quick scan takes at most 3·m·n − 2·m·m + m looks
 --   SurveyLooks     `surveyLooks-is`                       for n ≥ m the plain survey takes 2·m·n − m·m looks
 --   AroundCopy      `found-after`, `found-before`          every start within k − d places of a copy with d differing edges is found
+--                   `alone-between`                        between two marks a copy stands alone
+--   WithoutMarks    `findings-before`,                     on a line without marks findings and looks are those of document 01 before marks
+--                   `quick-looks-before`
 --
 -- The other modules are their lemmas, and what the proofs of code cite. Each group below uses only itself and the groups above it.
 
@@ -46,3 +49,5 @@ pub mod WindowLoop
 pub mod ScanLoop
 -- the findings around one stored copy
 pub mod AroundCopy
+-- a line without marks has the answers that it had before there were marks
+pub mod WithoutMarks

@@ -3,13 +3,13 @@
 -- stretch that is the beginning of no rotation, so in every alignment one of its edges is unlike (`unlike-in-stretch`). These stretches do not overlap and lie
 -- within the edges read. The windows of all those starts contain the edges read, so each start has a distance above k under every rotation.
 use Prim.Native.Nat.{ℕ, zero, suc, pred, _+_, _-_, _*_, _≤_, _<_}
-use mathlib.Core.Path.{_≡_, refl, ap, subst, _∙_}
+use mathlib.Core.Path.{_≡_, refl, ap, subst}
 use mathlib.Core.Bool.{true}
 use mathlib.Core.Logic.{⊎-elim}
 use mathlib.Core.List.{List, [], _∷_}
 use native.Mathlib.Nat.{add-zero, add-suc}
 use native.Mathlib.Omega.{arith}
-use lib.ListN.{length, getD}
+use lib.ListN.{length}
 use Rattle.meaning.specs.Counting.{count}
 use Rattle.meaning.specs.Meanings.{windowEdge, IsStart, distance, lowestRotation}
 use Rattle.meaning.specs.Findings.{Finding, IsFinding, foundAt}
@@ -19,7 +19,7 @@ use Rattle.meaning.proofs.Count.{count-split, count-part-le}
 use Rattle.meaning.proofs.FitDecided.{fits-no}
 use Rattle.meaning.proofs.Alignment.{unlike, distance-aligned, FromLine, unlike-in-stretch}
 use Rattle.meaning.proofs.WindowRead.{by-edge, stopped-iff, window-read}
-use Rattle.meaning.proofs.Starts.{marked-no-start, no-start}
+use Rattle.meaning.proofs.Starts.{no-start-over, no-start}
 use Rattle.meaning.proofs.Places.{found-no-start, found-no}
 
 module _ (ring line : List ℕ) (pos : 0 < length ring) (k i : ℕ) where
@@ -139,10 +139,8 @@ module _ (ring line : List ℕ) (pos : 0 < length ring) (k i : ℕ) where
     pub no-start-to-mark : readWindow ring line k i .at-mark ≡ true → IsStart ring line i′ → ⊥
     no-start-to-mark left =
         let was = window-read ring line k i in
-        let at : ℕ = i + (length ring - readWindow ring line k i .read) in
         let is = was .mark-is left in
-        let there : i′ + (at - i′) ≡ at = omega (arith, was .start-is) in
-        marked-no-start ring line i′ (at - i′) (omega (arith, is .0, was .read-le)) (ap (λ (p : ℕ). getD line p 0) there ∙ is .1)
+        no-start-over ring line i′ (i + (length ring - readWindow ring line k i .read)) (is .1) (omega (arith, was .start-is)) (omega (arith, is .0))
 
     -- If the window at i is stopped, no finding is at i, nor at any place jumped over.
     pub nothing-lost : isStopped k (readWindow ring line k i) ≡ true → foundAt ring line k i′ ≡ []

@@ -1,11 +1,12 @@
 -- The test `fitsInLine` decides whether a window fits in the line, and `isStart` whether a place is a start: a window in the line is at a start exactly when it
 -- holds no mark.
-use Prim.Native.Nat.{ℕ, _+_, _<_}
-use mathlib.Core.Path.{_≡_, sym}
+use Prim.Native.Nat.{ℕ, _+_, _-_, _≤_, _<_}
+use mathlib.Core.Path.{_≡_, sym, ap, _∙_}
 use mathlib.Core.Bool.{true, false}
 use mathlib.Core.Logic.{_↔_, _⊎_, inl, inr, ⊎-elim, Iff·trans}
 use mathlib.Core.List.{List}
-use lib.ListN.{length}
+use native.Mathlib.Omega.{arith}
+use lib.ListN.{length, getD}
 use borrow.Author.Tests.{leb-true, leb-false, le-leb, lt-leb}
 use Rattle.lists.proofs.Cases.{le-or-lt}
 use Rattle.lists.proofs.SizesTested.{and-iff, not-iff, test-fails}
@@ -47,6 +48,10 @@ module _ (ring line : List ℕ) (i : ℕ) where
   -- If one of the m edges from i on is a mark, i is not a start.
   pub marked-no-start : (q : ℕ) → q < length ring → windowEdge line i q ≡ mark → IsStart ring line i → ⊥
   marked-no-start q l is start = start .no-mark (window-marked ring line i (start .fits-in-line) q l is)
+
+  -- If the line has a mark at p, and p is one of the m places from i on, i is not a start.
+  pub no-start-over : (p : ℕ) → getD line p 0 ≡ mark → i ≤ p → p < i + length ring → IsStart ring line i → ⊥
+  no-start-over p is lo hi = let there : i + (p - i) ≡ p = omega arith in marked-no-start (p - i) (omega arith) (ap (λ (x : ℕ). getD line x 0) there ∙ is)
 
   -- If i cannot be a start, the test fails.
   pub no-start : (IsStart ring line i → ⊥) → isStart ring line i ≡ false
