@@ -69,7 +69,7 @@ module _ (cell ringNumber : ℕ) (ring line : List ℕ) (k : ℕ) where
 module _ (cell ringNumber : ℕ) (ring line : List ℕ) (k : ℕ) (book words : List ℕ) {r : AnswerStruct} {out : List ℕ} (bytes : IsBytes book)
     (e : IsReportExported cell ringNumber ring line k book words r out) where
   abbrev rows : List (Option Refusal)
-  rows = reportRows (length ring) k (length line) (length words) book
+  rows = reportRows ring k (length line) (length words) book
 
   -- a report answers by rows 1 to 7
   reported-by-rows : GoesByRows rows (reportCounts ring line k cell ringNumber (silencesRead book))
@@ -78,11 +78,11 @@ module _ (cell ringNumber : ℕ) (ring line : List ℕ) (k : ℕ) (book words : 
   reported-by-rows = record { paper = e .paper; written = e .written }
 
   -- and these agree with the rows of the page
-  report-agrees : AllAgree rows (reportTable (length ring) k (length line) (length words) book)
+  report-agrees : AllAgree rows (reportTable ring k (length line) (length words) book)
   unfolding reportRows
   report-agrees =
-      agree-append (admitRows (length ring) k (length line) (length words)) (searchTable (length ring) k (length line) (length words)) (bookRows book) (bookTable book)
-      (search-agrees (length ring) k (length line) (length words)) (λ _. book-agrees book bytes)
+      agree-append (admitRows ring k (length line) (length words)) (searchTable ring k (length line) (length words)) (bookRows book) (bookTable book)
+      (search-agrees ring k (length line) (length words)) (λ _. book-agrees book bytes)
 
   module _ (zero-is : r .refusal ≡ 0) where
     -- what an accepted report gives: no row is given, and its counts and words are those of the silences read
@@ -91,13 +91,13 @@ module _ (cell ringNumber : ℕ) (ring line : List ℕ) (k : ℕ) (book words : 
     taken = accepts reported-by-rows zero-is
 
     -- no row is given, neither of 1 to 4 nor of the book
-    none-of-either : (admitRefusal (length ring) k (length line) (length words) ≡ none) × (firstGiven (bookRows book) ≡ none)
+    none-of-either : (admitRefusal ring k (length line) (length words) ≡ none) × (firstGiven (bookRows book) ≡ none)
     unfolding reportRows
-    none-of-either = none-append-iff (admitRows (length ring) k (length line) (length words)) (bookRows book) .0 (taken .none-given)
+    none-of-either = none-append-iff (admitRows ring k (length line) (length words)) (bookRows book) .0 (taken .none-given)
 
     -- the ring has at least one edge
     some-edge : 0 < length ring
-    some-edge = no-row-iff (length ring) k (length line) (length words) .0 (none-of-either .0) .some-edge
+    some-edge = no-row-iff ring k (length line) (length words) .0 (none-of-either .0) .some-edge
 
     -- an accepted report meets demand 2
     accepted-demand-2 : Demand2 (BookNames book cell ringNumber) ring line k words r out

@@ -21,11 +21,11 @@ use Rattle.exports.proofs.BookPlaces.{read-place-le}
 pub report-place-le : (ring line : List ℕ) (k room cell ringNumber : ℕ) (book : List ℕ)
     → answerPaper noReportCounts (reportAnswer ring line k cell ringNumber book room) .place ≤ mostBytes
 unfolding reportAnswer
-report-place-le ring line k room cell ringNumber book = by-row (reportRefusal (length ring) k (length line) room book) refl
+report-place-le ring line k room cell ringNumber book = by-row (reportRefusal ring k (length line) room book) refl
   where
-    by-row : (o : Option Refusal) → reportRefusal (length ring) k (length line) room book ≡ o
+    by-row : (o : Option Refusal) → reportRefusal ring k (length line) room book ≡ o
         → answerPaper noReportCounts (answerBy o (reportCounts ring line k cell ringNumber (silencesRead book))) .place ≤ mostBytes
     by-row none e = omega arith
     by-row (some q) e =
-        report-row-has (length ring) k (length line) room book (λ (r : Refusal). placeOf r ≤ mostBytes)
-        (λ r is. omega (arith, row-places (length ring) k (length line) room r is)) (λ r is. rw (book-refused-iff book r .1 is) at (read-place-le book)) q e
+        report-row-has ring k (length line) room book (λ (r : Refusal). placeOf r ≤ mostBytes)
+        (λ r is. omega (arith, row-places ring k (length line) room r is)) (λ r is. rw (book-refused-iff book r .1 is) at (read-place-le book)) q e

@@ -29,11 +29,11 @@ use Rattle.exports.specs.Demands.{searchTable, NeverNamed, Demand1, Dema
 use Rattle.exports.proofs.RowsAgree.{AllAgree, row-agrees, GoesByRows, Accepts, demand-1-met, accepts}
 
 -- The rows of a search agree with those of the page of demands, 1 to 4.
-pub search-agrees : (m k n room : ℕ) → AllAgree (admitRows m k n room) (searchTable m k n room)
+pub search-agrees : (ring : List ℕ) (k n room : ℕ) → AllAgree (admitRows ring k n room) (searchTable ring k n room)
 unfolding admitRows
-search-agrees m k n room = (
-  row-agrees (is-row-1 m k n room) refl,
-  λ _. (row-agrees (is-row-2 m k n room) refl, λ _. (row-agrees (is-row-3 m k n room) refl, λ _. (row-agrees (is-row-4 m k n room) refl, λ _. tt))),
+search-agrees ring k n room = (
+  row-agrees (is-row-1 ring k n room) refl,
+  λ _. (row-agrees (is-row-2 ring k n room) refl, λ _. (row-agrees (is-row-3 ring k n room) refl, λ _. (row-agrees (is-row-4 ring k n room) refl, λ _. tt))),
 )
 
 -- For a ring that is not empty: if the shown findings are exactly those not named, then a start is among them exactly when some rotation differs in at most k places and
@@ -62,26 +62,26 @@ in-struct-by (some q) c = refl
 module _ (ring line : List ℕ) (k looks : ℕ) (words : List ℕ) {r : AnswerStruct} {out : List ℕ}
     (exported : IsExported (paperInStruct searchInStruct (searchPaper ring line k (length words) looks)) (searchedWords ring line k words) r out) where
   -- a search answers by rows 1 to 4
-  searched-by-rows : GoesByRows (admitRows (length ring) k (length line) (length words)) (countsInStruct ring line k looks) (written (wordsOf (findings ring line k)) words) words r out
+  searched-by-rows : GoesByRows (admitRows ring k (length line) (length words)) (countsInStruct ring line k looks) (written (wordsOf (findings ring line k)) words) words r out
   unfolding searched searchedWords
   searched-by-rows = record {
     paper = exported .paper
-        ∙ in-struct-by (admitRefusal (length ring) k (length line) (length words)) (record { found = length (findings ring line k); looks = looks });
+        ∙ in-struct-by (admitRefusal ring k (length line) (length words)) (record { found = length (findings ring line k); looks = looks });
     written = exported .written;
   }
 
   -- it meets demand 1
-  search-demand-1 : Demand1 (searchTable (length ring) k (length line) (length words)) r words out
-  search-demand-1 = demand-1-met (search-agrees (length ring) k (length line) (length words)) searched-by-rows
+  search-demand-1 : Demand1 (searchTable ring k (length line) (length words)) r words out
+  search-demand-1 = demand-1-met (search-agrees ring k (length line) (length words)) searched-by-rows
 
   module _ (zero-is : r .refusal ≡ 0) where
     -- what an accepted search gives: no row is given, and it counts and writes all findings
-    taken : Accepts (admitRows (length ring) k (length line) (length words)) (countsInStruct ring line k looks) (written (wordsOf (findings ring line k)) words) r out
+    taken : Accepts (admitRows ring k (length line) (length words)) (countsInStruct ring line k looks) (written (wordsOf (findings ring line k)) words) r out
     taken = accepts searched-by-rows zero-is
 
     -- the call is within the limits and has room
-    admitted : Admitted (length ring) k (length line) (length words)
-    admitted = no-row-iff (length ring) k (length line) (length words) .0 (taken .none-given)
+    admitted : Admitted ring k (length line) (length words)
+    admitted = no-row-iff ring k (length line) (length words) .0 (taken .none-given)
 
     -- the answer's looks are the search's
     looks-are : r .looks ≡ looks
@@ -158,5 +158,5 @@ same-but-looks (some q) found looks looks′ p p′ same = record {
 pub survey-scan-same : (ring line : List ℕ) (k : ℕ) (words : List ℕ) {r r′ : AnswerStruct} {out out′ : List ℕ}
     → IsSurveyExported ring line k words r out → IsScanExported ring line k words r′ out′ → SurveyScanSame r r′ out out′
 survey-scan-same ring line k words e e′ =
-    same-but-looks (admitRefusal (length ring) k (length line) (length words)) (length (findings ring line k)) (surveyLooks ring line) (quickLooks ring line k)
+    same-but-looks (admitRefusal ring k (length line) (length words)) (length (findings ring line k)) (surveyLooks ring line) (quickLooks ring line k)
     (searched-by-rows ring line k (surveyLooks ring line) words e .paper) (searched-by-rows ring line k (quickLooks ring line k) words e′ .paper) (e′ .written ∙ sym (e .written))

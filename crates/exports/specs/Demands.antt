@@ -49,17 +49,17 @@ unfoldable pub NoRow : List Row → Type 0
 NoRow [] = Unit {0}
 NoRow (r ∷ rows) = ((n p : ℕ) → r n p → ⊥) × NoRow rows
 
--- "Order: survey and scan 1 to 4". m edges of the ring, n of the line, allowance k, `room` words lent for findings.
-abbrev pub searchTable : ℕ → ℕ → ℕ → ℕ → List Row
-searchTable m k n room =
+-- "Order: survey and scan 1 to 4". The ring, m edges long, allowance k, n edges of the line, `room` words lent for findings.
+abbrev pub searchTable : List ℕ → ℕ → ℕ → ℕ → List Row
+searchTable ring k n room =
     -- "m = 0 or m > 256"
-    rowOf 1 ((m ≡ 0) ⊎ (256 < m))
+    rowOf 1 ((length ring ≡ 0) ⊎ (256 < length ring))
     -- "k ≥ m"
-    ∷ rowOf 2 (m ≤ k)
+    ∷ rowOf 2 (length ring ≤ k)
     -- "n > 65,536"
     ∷ rowOf 3 (65536 < n)
     -- "n ≥ m and fewer than" 4·(n − m + 1) "words are lent for findings"; document 01 has 3·(n − m + 1), and document 02, ticket 1, makes it 4
-    ∷ rowOf 4 ((m ≤ n) × (room < 4 * (n - m + 1)))
+    ∷ rowOf 4 ((length ring ≤ n) × (room < 4 * (n - length ring + 1)))
     ∷ []
 
 -- Rows 5, 6 and 7 of a book that is read. "Within a book the first faulty field decides, 6 before 7": a fault requires that all fields before it are right.
@@ -72,8 +72,8 @@ bookTable book =
     ∷ []
 
 -- "report 1 to 7": the rows of a search, then those of the book.
-abbrev pub reportTable : ℕ → ℕ → ℕ → ℕ → List ℕ → List Row
-reportTable m k n room book = searchTable m k n room ++ bookTable book
+abbrev pub reportTable : List ℕ → ℕ → ℕ → ℕ → List ℕ → List Row
+reportTable ring k n room book = searchTable ring k n room ++ bookTable book
 
 -- "unpacker 5, 6, 7, 10": with room for `room` words.
 abbrev pub unpackTable : List ℕ → ℕ → List Row
@@ -174,14 +174,14 @@ pub record GivesBack (given : List ℕ) (first second : AnswerStruct) (out : Lis
 
 -- The demands on `outlines_survey`. "2·m·n − m·m looks for n ≥ m, else 0"
 pub record SurveyMeets (ring line : List ℕ) (k : ℕ) (words : List ℕ) (r : AnswerStruct) (out : List ℕ) : Type 0 where
-  pub demand-1 : Demand1 (searchTable (length ring) k (length line) (length words)) r words out
+  pub demand-1 : Demand1 (searchTable ring k (length line) (length words)) r words out
   pub demand-2 : r .refusal ≡ 0 → Demand2 NeverNamed ring line k words r out
   pub looks-are : r .refusal ≡ 0 → length ring ≤ length line → r .looks ≡ 2 * length ring * length line - length ring * length ring
   pub no-looks : r .refusal ≡ 0 → length line < length ring → r .looks ≡ 0
 
 -- The demands on `outlines_scan`.
 pub record ScanMeets (ring line : List ℕ) (k : ℕ) (words : List ℕ) (r : AnswerStruct) (out : List ℕ) : Type 0 where
-  pub demand-1 : Demand1 (searchTable (length ring) k (length line) (length words)) r words out
+  pub demand-1 : Demand1 (searchTable ring k (length line) (length words)) r words out
   pub demand-2 : r .refusal ≡ 0 → Demand2 NeverNamed ring line k words r out
   pub demand-3 : r .refusal ≡ 0 → Demand3 ring line k r
 
@@ -195,7 +195,7 @@ pub record SurveyScanSame (survey scan : AnswerStruct) (survey-out scan-out : Li
 
 -- The demands on `outlines_report`.
 pub record ReportMeets (cell ringNumber : ℕ) (ring line : List ℕ) (k : ℕ) (book words : List ℕ) (r : AnswerStruct) (out : List ℕ) : Type 0 where
-  pub demand-1 : Demand1 (reportTable (length ring) k (length line) (length words) book) r words out
+  pub demand-1 : Demand1 (reportTable ring k (length line) (length words) book) r words out
   pub demand-2 : r .refusal ≡ 0 → Demand2 (BookNames book cell ringNumber) ring line k words r out
   pub demand-3 : r .refusal ≡ 0 → Demand3 ring line k r
 

@@ -16,19 +16,19 @@ use Rattle.findings.proofs.AdmitRows.{no-row-iff}
 pub record AcceptedSearch (ring line : List ℕ) (k room looks : ℕ) (p : Paper Counts) : Type 0 where
   pub found-is : p .counts .found ≡ length (findings ring line k)
   pub looks-are : p .counts .looks ≡ looks
-  pub admitted : Admitted (length ring) k (length line) room
+  pub admitted : Admitted ring k (length line) room
 
 -- A search whose paper has number 0 is an accepted search.
 pub search-counts : (ring line : List ℕ) (k room looks : ℕ) (p : Paper Counts) → p ≡ searchPaper ring line k room looks → p .number ≡ 0
     → AcceptedSearch ring line k room looks p
 unfolding searched
 search-counts ring line k room looks p paper zero-is =
-    let row = admitRefusal (length ring) k (length line) room in
+    let row = admitRefusal ring k (length line) room in
     let counts : Counts = record { found = length (findings ring line k); looks = looks } in
     let no-row : row ≡ none = accepted-number-iff noCounts counts row paper .0 zero-is in
     let same : p .counts ≡ counts = accepted-counts noCounts counts row paper no-row in
     record {
       found-is = ap (λ (c : Counts). c .found) same;
       looks-are = ap (λ (c : Counts). c .looks) same;
-      admitted = no-row-iff (length ring) k (length line) room .0 no-row;
+      admitted = no-row-iff ring k (length line) room .0 no-row;
     }

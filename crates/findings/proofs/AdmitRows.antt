@@ -3,8 +3,10 @@
 use Prim.Native.Nat.{ℕ, _≤_, _<_}
 use mathlib.Core.Path.{_≡_, refl}
 use mathlib.Core.Logic.{_↔_, _⊎_, inl, inr, ⊎-elim, Iff·trans}
+use mathlib.Core.List.{List}
 use mathlib.Core.Option.{none, some}
 use native.Mathlib.Omega.{arith}
+use lib.ListN.{length}
 use Rattle.lists.proofs.SizesTested.{lt-iff, le-iff, eq-iff, and-iff, or-iff}
 use Rattle.answers.specs.declared.refusals.Refusal.{Refusal}
 use Rattle.answers.specs.declared.refusals.Refusal.the-variants.{Ring, Allowance, Line, FindingsRoom}
@@ -13,12 +15,15 @@ use Rattle.answers.specs.Rows.{row}
 use Rattle.answers.proofs.RowsExactly.{IsRow, is-row, end, row-has, first-has, at-row, past-row, no-row, no-last-row}
 use Rattle.findings.specs.Admitting.{mostRing, mostLine, roomRequired, isRow1, isRow2, isRow3, isRow4, admitRows, admitRefusal, IsRingLength, Admitted}
 
-module _ (m k n room : ℕ) where
+module _ (ring : List ℕ) (k n room : ℕ) where
+  abbrev m : ℕ
+  m = length ring
+
   -- Row 1 is given exactly when "m = 0 or m > 256", and not given exactly when m is 1 to 256.
   pub is-row-1 : IsRow (row (isRow1 m) Ring) Ring ((m ≡ 0) ⊎ (mostRing < m)) (IsRingLength m)
   is-row-1 =
       is-row (or-iff (eq-iff m 0) (lt-iff mostRing m))
-      (λ ring. ⊎-elim (λ empty. omega (arith, ring .some-edge)) (λ long. omega (arith, ring .most)))
+      (λ fits. ⊎-elim (λ empty. omega (arith, fits .some-edge)) (λ long. omega (arith, fits .most)))
       (λ not.
       let not-empty : m ≡ 0 → ⊥ = λ e. not (inl e) in
       let not-long : mostRing < m → ⊥ = λ l. not (inr l) in
@@ -41,34 +46,34 @@ module _ (m k n room : ℕ) where
       omega arith)
 
   -- Row 1 is the first exactly when "m = 0 or m > 256".
-  pub row-1-iff : (admitRefusal m k n room ≡ some Ring) ↔ ((m ≡ 0) ⊎ (mostRing < m))
+  pub row-1-iff : (admitRefusal ring k n room ≡ some Ring) ↔ ((m ≡ 0) ⊎ (mostRing < m))
   unfolding admitRows
   row-1-iff = at-row is-row-1 (row-has is-row-2 (omega arith) (row-has is-row-3 (omega arith) (row-has is-row-4 (omega arith) end))) .exactly
 
   -- Row 2 is the first exactly when "k ≥ m" and row 1 is not given.
-  pub row-2-iff : (admitRefusal m k n room ≡ some Allowance) ↔ (IsRingLength m × (m ≤ k))
+  pub row-2-iff : (admitRefusal ring k n room ≡ some Allowance) ↔ (IsRingLength m × (m ≤ k))
   unfolding admitRows
   row-2-iff = past-row is-row-1 (omega arith) (at-row is-row-2 (row-has is-row-3 (omega arith) (row-has is-row-4 (omega arith) end))) .exactly
 
   -- Row 3 is the first exactly when "n > 65,536" and rows 1 and 2 are not given.
-  pub row-3-iff : (admitRefusal m k n room ≡ some Line) ↔ (IsRingLength m × ((k < m) × (mostLine < n)))
+  pub row-3-iff : (admitRefusal ring k n room ≡ some Line) ↔ (IsRingLength m × ((k < m) × (mostLine < n)))
   unfolding admitRows
   row-3-iff =
       past-row is-row-1 (omega arith) (past-row is-row-2 (omega arith) (at-row is-row-3 (row-has is-row-4 (omega arith) end))) .exactly
 
   -- Row 4 is the first exactly when "n ≥ m and fewer than" 4·(n − m + 1) "words are lent for findings" and rows 1 to 3 are not given.
-  pub row-4-iff : (admitRefusal m k n room ≡ some FindingsRoom) ↔ (IsRingLength m × ((k < m) × ((n ≤ mostLine) × ((m ≤ n) × (room < roomRequired m n)))))
+  pub row-4-iff : (admitRefusal ring k n room ≡ some FindingsRoom) ↔ (IsRingLength m × ((k < m) × ((n ≤ mostLine) × ((m ≤ n) × (room < roomRequired m n)))))
   unfolding admitRows
   row-4-iff =
       past-row is-row-1 (omega arith) (past-row is-row-2 (omega arith) (past-row is-row-3 (omega arith) (at-row is-row-4 end))) .exactly
 
   -- None of rows 1 to 4 is given exactly when m is 1 to 256, k < m, n ≤ 65,536, and n ≥ m implies enough words.
-  pub none-iff : (admitRefusal m k n room ≡ none) ↔ (IsRingLength m × ((k < m) × ((n ≤ mostLine) × (m ≤ n → roomRequired m n ≤ room))))
+  pub none-iff : (admitRefusal ring k n room ≡ none) ↔ (IsRingLength m × ((k < m) × ((n ≤ mostLine) × (m ≤ n → roomRequired m n ≤ room))))
   unfolding admitRows
   none-iff = no-row is-row-1 (no-row is-row-2 (no-row is-row-3 (no-last-row is-row-4))) .exactly
 
   -- None of rows 1 to 4 is given exactly when `Admitted` holds.
-  pub no-row-iff : (admitRefusal m k n room ≡ none) ↔ Admitted m k n room
+  pub no-row-iff : (admitRefusal ring k n room ≡ none) ↔ Admitted ring k n room
   no-row-iff =
       Iff·trans none-iff (
         λ h. record { some-edge = h .0 .some-edge; most-ring = h .0 .most; allowed = h .1 .0; most-line = h .1 .1 .0; room-for = h .1 .1 .1 },
@@ -79,17 +84,17 @@ module _ (m k n room : ℕ) where
   pub by-row : (P : Refusal → Type 0) → ((m ≡ 0) ⊎ (mostRing < m) → P Ring) → (IsRingLength m × (m ≤ k) → P Allowance)
       → (IsRingLength m × ((k < m) × (mostLine < n)) → P Line)
       → (IsRingLength m × ((k < m) × ((n ≤ mostLine) × ((m ≤ n) × (room < roomRequired m n)))) → P FindingsRoom)
-      → (q : Refusal) → admitRefusal m k n room ≡ some q → P q
+      → (q : Refusal) → admitRefusal ring k n room ≡ some q → P q
   unfolding admitRows
   by-row P one two three four q e =
-      first-has {P = λ (r : Refusal). admitRefusal m k n room ≡ some r → P r}
+      first-has {P = λ (r : Refusal). admitRefusal ring k n room ≡ some r → P r}
       (row-has is-row-1 (λ f. one (row-1-iff .0 f))
       (row-has is-row-2 (λ f. two (row-2-iff .0 f)) (row-has is-row-3 (λ f. three (row-3-iff .0 f)) (row-has is-row-4 (λ f. four (row-4-iff .0 f)) end)))) q e e
 
   -- The first row that is given has a number of at most 4.
-  pub row-numbers : (q : Refusal) → admitRefusal m k n room ≡ some q → numberOf q ≤ 4
+  pub row-numbers : (q : Refusal) → admitRefusal ring k n room ≡ some q → numberOf q ≤ 4
   row-numbers = by-row (λ q. numberOf q ≤ 4) (λ _. omega arith) (λ _. omega arith) (λ _. omega arith) (λ _. omega arith)
 
   -- The first row that is given has place 0.
-  pub row-places : (q : Refusal) → admitRefusal m k n room ≡ some q → placeOf q ≡ 0
+  pub row-places : (q : Refusal) → admitRefusal ring k n room ≡ some q → placeOf q ≡ 0
   row-places = by-row (λ q. placeOf q ≡ 0) (λ _. refl) (λ _. refl) (λ _. refl) (λ _. refl)

@@ -27,8 +27,8 @@ verdict-back Accepted = refl
 verdict-back (RefusedBy refusal) = refl
 
 -- Any two verdicts that meet the contract of `admit` are equal.
-pub one-verdict : (m k n room : ℕ) (r r′ : Verdict) → IsVerdict m k n room r → IsVerdict m k n room r′ → r ≡ r′
-one-verdict m k n room r r′ a b = sym (verdict-back r) ∙ ap verdictBack (a .is ∙ sym (b .is)) ∙ verdict-back r′
+pub one-verdict : (ring : List ℕ) (k n room : ℕ) (r r′ : Verdict) → IsVerdict ring k n room r → IsVerdict ring k n room r′ → r ≡ r′
+one-verdict ring k n room r r′ a b = sym (verdict-back r) ∙ ap verdictBack (a .is ∙ sym (b .is)) ∙ verdict-back r′
 
 -- Any two lists of words at exit that meet the contract of `put_finding` are equal.
 pub one-put : (words : List ℕ) (before : ℕ) (f : Finding) (out out′ : List ℕ) → IsFindingPut words before f out → IsFindingPut words before f out′ → out ≡ out′

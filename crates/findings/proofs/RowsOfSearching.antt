@@ -20,23 +20,22 @@ use Rattle.findings.proofs.AdmitRows.{row-1-iff, row-2-iff, row-3-iff, 
 
 -- Every answer that meets the contract of a search, whatever its looks, obeys the table `SearchRows`.
 pub rows-of-search : {ring line : List ℕ} {k expected : ℕ} {words : List ℕ} {r : Searched} {out : List ℕ} → IsSearched ring line k expected words r out
-    → SearchRows (length ring) k (length line) words (paperOf r) out
+    → SearchRows ring k (length line) words (paperOf r) out
 unfolding searched searchedWords
 rows-of-search {ring} {line} {k} {expected} {words} meets =
-    let m = length ring in
     let n = length line in
     let room = length words in
-    let row : Option Refusal = admitRefusal m k n room in
+    let row : Option Refusal = admitRefusal ring k n room in
     let counts : Counts = record { found = length (findings ring line k); looks = expected } in
     let paper = meets .paper in
     record {
-      row-1 = Iff·trans (row-number-iff noCounts counts row paper Ring (omega arith)) (row-1-iff m k n room);
-      row-2 = Iff·trans (row-number-iff noCounts counts row paper Allowance (omega arith)) (row-2-iff m k n room);
-      row-3 = Iff·trans (row-number-iff noCounts counts row paper Line (omega arith)) (row-3-iff m k n room);
-      row-4 = Iff·trans (row-number-iff noCounts counts row paper FindingsRoom (omega arith)) (row-4-iff m k n room);
-      accepted = Iff·trans (accepted-number-iff noCounts counts row paper) (none-iff m k n room);
-      number-le = number-by noCounts counts row paper (λ (number : ℕ). number ≤ 4) (omega arith) (row-numbers m k n room);
-      place-is = place-by noCounts counts row paper (row-places m k n room);
+      row-1 = Iff·trans (row-number-iff noCounts counts row paper Ring (omega arith)) (row-1-iff ring k n room);
+      row-2 = Iff·trans (row-number-iff noCounts counts row paper Allowance (omega arith)) (row-2-iff ring k n room);
+      row-3 = Iff·trans (row-number-iff noCounts counts row paper Line (omega arith)) (row-3-iff ring k n room);
+      row-4 = Iff·trans (row-number-iff noCounts counts row paper FindingsRoom (omega arith)) (row-4-iff ring k n room);
+      accepted = Iff·trans (accepted-number-iff noCounts counts row paper) (none-iff ring k n room);
+      number-le = number-by noCounts counts row paper (λ (number : ℕ). number ≤ 4) (omega arith) (row-numbers ring k n room);
+      place-is = place-by noCounts counts row paper (row-places ring k n room);
       no-found = λ l. ap (λ (c : Counts). c .found) (refused-counts noCounts counts row paper l);
       no-looks = λ l. ap (λ (c : Counts). c .looks) (refused-counts noCounts counts row paper l);
       untouched = refused-area noCounts counts row paper (written (wordsOf (findings ring line k)) words) words (meets .written);

@@ -17,7 +17,7 @@ use Rattle.findings.specs.Searching.{noCounts, searched, searchedWords, 
 module _ (ring line : List ℕ) (k : ℕ) (words : List ℕ) where
   -- the refusal of the first row that is given, if one is
   abbrev first-refusal : Option Refusal
-  first-refusal = admitRefusal (length ring) k (length line) (length words)
+  first-refusal = admitRefusal ring k (length line) (length words)
 
   -- the paper that this row decides is the search's
   paper-by : (o : Option Refusal) (expected : ℕ) → o ≡ first-refusal
@@ -32,13 +32,13 @@ module _ (ring line : List ℕ) (k : ℕ) (words : List ℕ) where
 
 module _ {ring line : List ℕ} {k expected : ℕ} {words : List ℕ} where
   -- If a row is given, returning its refusal and leaving the words as they were meets the contract of a search.
-  pub refused-search : {refusal : Refusal} → some refusal ≡ admitRefusal (length ring) k (length line) (length words)
+  pub refused-search : {refusal : Refusal} → some refusal ≡ admitRefusal ring k (length line) (length words)
       → IsSearched ring line k expected words (Refused refusal) words
   refused-search {refusal} e =
       record { paper = paper-by ring line k words (some refusal) expected e; written = words-by ring line k words (some refusal) e }
 
   -- If no row is given and the line is searched, returning found and looks meets the contract of a search.
-  pub accepted-search : {found looks : ℕ} {out : List ℕ} → none ≡ admitRefusal (length ring) k (length line) (length words)
+  pub accepted-search : {found looks : ℕ} {out : List ℕ} → none ≡ admitRefusal ring k (length line) (length words)
       → LineSearched ring line k expected words found looks out → IsSearched ring line k expected words (CountsCase found looks) out
   accepted-search e done =
       record {

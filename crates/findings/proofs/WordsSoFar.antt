@@ -16,7 +16,7 @@ use Rattle.findings.proofs.WordsPut.{put-more, put-none, put-length}
 use Rattle.findings.proofs.PutCases.{words-are-put}
 
 -- In an accepted call, the words of a finding are 32-bit words.
-pub admitted-words : (ring line : List ℕ) {k room : ℕ} {f : Finding} → Admitted (length ring) k (length line) room → IsFinding ring line k f → IsWords (findingWords f)
+pub admitted-words : (ring line : List ℕ) {k room : ℕ} {f : Finding} → Admitted ring k (length line) room → IsFinding ring line k f → IsWords (findingWords f)
 admitted-words ring line {k} {room} {f} admitted is =
     below-more (omega (arith, is .is-start .fits-in-line, admitted .most-line))
     (below-more (omega (arith, is .is-rotation, admitted .most-ring))

@@ -16,6 +16,7 @@ use mathlib.Core.Bool.{Bool, _&&_, _||_}
 use mathlib.Core.List.{List, [], _∷_}
 use mathlib.Core.Option.{Option, none, some}
 use lib.Dec.{ltb, leb, eqb}
+use lib.ListN.{length}
 use Rattle.meaning.specs.Findings.{wordsEach}
 use Rattle.answers.specs.declared.refusals.Refusal.{Refusal}
 use Rattle.answers.specs.declared.refusals.Refusal.the-variants.{Ring, Allowance, Line, FindingsRoom}
@@ -51,14 +52,18 @@ isRow3 n = ltb mostLine n
 abbrev pub isRow4 : ℕ → ℕ → ℕ → Bool
 isRow4 m n room = leb m n && ltb room (roomRequired m n)
 
--- "Order: survey and scan 1 to 4": the rows for m, k, n and the number of words lent, each with its refusal if it is given.
-unfoldable pub admitRows : ℕ → ℕ → ℕ → ℕ → List (Option Refusal)
-admitRows m k n room =
-    row (isRow1 m) Ring ∷ row (isRow2 m k) Allowance ∷ row (isRow3 n) Line ∷ row (isRow4 m n room) FindingsRoom ∷ []
+-- "Order: survey and scan 1 to 4": the rows for the ring, k, n and the number of words lent, each with its refusal if it is given.
+unfoldable pub admitRows : List ℕ → ℕ → ℕ → ℕ → List (Option Refusal)
+admitRows ring k n room =
+    row (isRow1 (length ring)) Ring
+    ∷ row (isRow2 (length ring) k) Allowance
+    ∷ row (isRow3 n) Line
+    ∷ row (isRow4 (length ring) n room) FindingsRoom
+    ∷ []
 
 -- The refusal of the first of rows 1 to 4 that is given; none if no row is.
-abbrev pub admitRefusal : ℕ → ℕ → ℕ → ℕ → Option Refusal
-admitRefusal m k n room = firstGiven (admitRows m k n room)
+abbrev pub admitRefusal : List ℕ → ℕ → ℕ → ℕ → Option Refusal
+admitRefusal ring k n room = firstGiven (admitRows ring k n room)
 
 -- "Ring: m edges, 1 to 256": row 1 is not given.
 pub record IsRingLength (m : ℕ) : Type 0 where
@@ -66,19 +71,19 @@ pub record IsRingLength (m : ℕ) : Type 0 where
   pub most : m ≤ mostRing
 
 -- None of rows 1 to 4 is given: the document's limits hold, and there is room for the findings.
-pub record Admitted (m k n room : ℕ) : Type 0 where
-  pub some-edge : 0 < m
-  pub most-ring : m ≤ mostRing
-  pub allowed : k < m
+pub record Admitted (ring : List ℕ) (k n room : ℕ) : Type 0 where
+  pub some-edge : 0 < length ring
+  pub most-ring : length ring ≤ mostRing
+  pub allowed : k < length ring
   pub most-line : n ≤ mostLine
-  pub room-for : m ≤ n → roomRequired m n ≤ room
+  pub room-for : length ring ≤ n → roomRequired (length ring) n ≤ room
 
 -- The refusal that a verdict holds; none if the call is accepted.
 abbrev pub verdictOf : Verdict → Option Refusal
 verdictOf Accepted = none
 verdictOf (Refused refusal) = some refusal
 
--- The contract of `admit`, which returns the verdict r: r holds the refusal of the first row that is given, and accepts if no row is. `room` is the number of
--- words lent for findings.
-pub record IsVerdict (m k n room : ℕ) (r : Verdict) : Type 0 where
-  pub is : verdictOf r ≡ admitRefusal m k n room
+-- The contract of `admit`, which returns the verdict r: r holds the refusal of the first row that is given, and accepts if no row is. n is the line's length,
+-- `room` the number of words lent for findings.
+pub record IsVerdict (ring : List ℕ) (k n room : ℕ) (r : Verdict) : Type 0 where
+  pub is : verdictOf r ≡ admitRefusal ring k n room

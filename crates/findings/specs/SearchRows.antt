@@ -12,18 +12,20 @@ use Rattle.answers.specs.Paper.{Paper}
 use Rattle.findings.specs.Admitting.{IsRingLength}
 use Rattle.findings.specs.Searching.{Counts}
 
--- The table for a search with m, k, n and the lent words. p is the paper of its answer, `out` are the words at exit.
-pub record SearchRows (m k n : ℕ) (words : List ℕ) (p : Paper Counts) (out : List ℕ) : Type 0 where
+-- The table for a search with the ring, whose length is m, and k, n and the lent words. p is the paper of its answer, `out` are the words at exit.
+pub record SearchRows (ring : List ℕ) (k n : ℕ) (words : List ℕ) (p : Paper Counts) (out : List ℕ) : Type 0 where
   -- "m = 0 or m > 256"
-  pub row-1 : (p .number ≡ 1) ↔ ((m ≡ 0) ⊎ (256 < m))
+  pub row-1 : (p .number ≡ 1) ↔ ((length ring ≡ 0) ⊎ (256 < length ring))
   -- "k ≥ m", row 1 not given
-  pub row-2 : (p .number ≡ 2) ↔ (IsRingLength m × (m ≤ k))
+  pub row-2 : (p .number ≡ 2) ↔ (IsRingLength (length ring) × (length ring ≤ k))
   -- "n > 65,536", rows 1 and 2 not given
-  pub row-3 : (p .number ≡ 3) ↔ (IsRingLength m × ((k < m) × (65536 < n)))
+  pub row-3 : (p .number ≡ 3) ↔ (IsRingLength (length ring) × ((k < length ring) × (65536 < n)))
   -- "n ≥ m and fewer than" 4·(n − m + 1) "words are lent for findings", rows 1 to 3 not given. (Document 01 has 3; document 02, ticket 1, makes it 4.)
-  pub row-4 : (p .number ≡ 4) ↔ (IsRingLength m × ((k < m) × ((n ≤ 65536) × ((m ≤ n) × (length words < 4 * (n - m + 1))))))
+  pub row-4 : (p .number ≡ 4)
+      ↔ (IsRingLength (length ring) × ((k < length ring) × ((n ≤ 65536) × ((length ring ≤ n) × (length words < 4 * (n - length ring + 1))))))
   -- Accepted exactly when none of these rows is given.
-  pub accepted : (p .number ≡ 0) ↔ (IsRingLength m × ((k < m) × ((n ≤ 65536) × (m ≤ n → 4 * (n - m + 1) ≤ length words))))
+  pub accepted : (p .number ≡ 0)
+      ↔ (IsRingLength (length ring) × ((k < length ring) × ((n ≤ 65536) × (length ring ≤ n → 4 * (n - length ring + 1) ≤ length words))))
   -- No other number is given.
   pub number-le : p .number ≤ 4
   -- Each of these rows has place 0, and so has an accepted answer.

@@ -33,12 +33,12 @@ noCounts = record { found = 0; looks = 0 }
 -- looks.
 unfoldable pub searched : List ℕ → List ℕ → ℕ → ℕ → ℕ → Answer Counts
 searched ring line k room looks =
-    answerBy (admitRefusal (length ring) k (length line) room) (record { found = length (findings ring line k); looks = looks })
+    answerBy (admitRefusal ring k (length line) room) (record { found = length (findings ring line k); looks = looks })
 
 -- The lent words after a search: the words of the findings "by rising start", then the rest as it was. If the call is refused, all as it was.
 unfoldable pub searchedWords : List ℕ → List ℕ → ℕ → List ℕ → List ℕ
 searchedWords ring line k words =
-    areaBy (admitRefusal (length ring) k (length line) (length words)) (written (wordsOf (findings ring line k)) words) words
+    areaBy (admitRefusal ring k (length line) (length words)) (written (wordsOf (findings ring line k)) words) words
 
 -- The contract of the search itself, once the call is accepted: all findings are counted, the looks are `expected`, and the findings' words are written.
 pub record LineSearched (ring line : List ℕ) (k expected : ℕ) (words : List ℕ) (found looks : ℕ) (out : List ℕ) : Type 0 where

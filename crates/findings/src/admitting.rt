@@ -15,10 +15,12 @@ pub enum Verdict {
     Refused(Refusal),
 }
 
-// Tests rows 1 to 4 in their order and returns the first that is given. `room` is the number of words lent for findings.
-pub fn admit(m: usize, k: usize, n: usize, room: usize) -> Verdict
-    ensures { λ r. ⌜ IsVerdict m k n room r ⌝ }
+// Tests rows 1 to 4 in their order and returns the first that is given. n is the line's length, `room` the number of
+// words lent for findings.
+pub fn admit(ring: &[u8], k: usize, n: usize, room: usize) -> Verdict
+    ensures { λ r. ⌜ IsVerdict (now (ring .entry)) k n room r ⌝ }
 {
+    let m = ring.len();
     if m == 0 {
         return Verdict::Refused(Refusal::Ring);
     }

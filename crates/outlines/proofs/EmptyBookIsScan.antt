@@ -71,13 +71,13 @@ module _ (cell ringNumber : ℕ) where
         → IsScanned ring line k words (ScanRefused refusal) out
     unfolding reportAnswer reportedWords
     refused-scan {refusal} {out} meets =
-        let row : Option Refusal = reportRefusal (length ring) k (length line) (length words) [] in
+        let row : Option Refusal = reportRefusal ring k (length line) (length words) [] in
         let counts : ReportCounts = reportCounts ring line k cell ringNumber (silencesRead []) in
         let is : row ≡ some refusal = row-place-iff noReportCounts counts row (meets .paper) refusal .0 (refl, refl) in
         let untouched : out ≡ words =
         refused-area noReportCounts counts row (meets .paper) (written (wordsOf (shown (silencesRead []) cell ringNumber (findings ring line k))) words) words (meets .written) (number-in refusal .0) in
         subst (IsScanned ring line k words (ScanRefused refusal)) (sym untouched)
-        (refused-search (sym is ∙ accepted-book-row (length ring) k (length line) (length words) [] empty-book-read))
+        (refused-search (sym is ∙ accepted-book-row ring k (length line) (length words) [] empty-book-read))
 
 -- A scan's answer as a report's answer, with hidden 0.
 abbrev pub reportOf : Searched → Reported
@@ -90,7 +90,7 @@ module _ (cell ringNumber : ℕ) (ring line : List ℕ) (k : ℕ) (words : List 
   empty-book-same (CountsCase found hid looks) out′ meets =
       let done = report-gives meets in
       let same = scan-unique ring line k words _ q _ out
-      (accepted-search (sym (no-row-iff (length ring) k (length line) (length words) .1 (done .admitted))) (empty-book-searched cell ringNumber done)) scanned in
+      (accepted-search (sym (no-row-iff ring k (length line) (length words) .1 (done .admitted))) (empty-book-searched cell ringNumber done)) scanned in
       (ap (λ (h : ℕ). CountsCase found h looks) (done .hidden-is ∙ hidden-none cell ringNumber (findings ring line k)) ∙ ap reportOf (same .0), same .1)
   empty-book-same (Refused refusal) out′ meets =
       let same = scan-unique ring line k words _ q _ out (refused-scan cell ringNumber meets) scanned in

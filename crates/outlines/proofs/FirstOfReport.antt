@@ -17,42 +17,42 @@ use Rattle.findings.specs.Admitting.{admitRows, admitRefusal, Admitted}
 use Rattle.findings.proofs.AdmitRows.{row-numbers, no-row-iff}
 use Rattle.outlines.specs.Report.{reportRows, reportRefusal}
 
-module _ (m k n room : ℕ) (book : List ℕ) where
+module _ (ring : List ℕ) (k n room : ℕ) (book : List ℕ) where
   -- A refusal with number 1 to 4 is the report's exactly when it is that of rows 1 to 4.
-  pub early-row-iff : (q : Refusal) → numberOf q ≤ 4 → (reportRefusal m k n room book ≡ some q) ↔ (admitRefusal m k n room ≡ some q)
+  pub early-row-iff : (q : Refusal) → numberOf q ≤ 4 → (reportRefusal ring k n room book ≡ some q) ↔ (admitRefusal ring k n room ≡ some q)
   unfolding reportRows
   early-row-iff q early =
-      early-iff (admitRows m k n room) (bookRows book) q
+      early-iff (admitRows ring k n room) (bookRows book) q
       (λ e. omega (arith, refusal-has book (λ (r : Refusal). 5 ≤ numberOf r) (omega arith) (λ at. omega arith) (λ at. omega arith) q e))
 
   -- A refusal with number 5 or more is the report's exactly when none of rows 1 to 4 is given and it is the book's.
-  pub late-row-iff : (q : Refusal) → 5 ≤ numberOf q → (reportRefusal m k n room book ≡ some q) ↔ (Admitted m k n room × (bookRefusal book ≡ some q))
+  pub late-row-iff : (q : Refusal) → 5 ≤ numberOf q → (reportRefusal ring k n room book ≡ some q) ↔ (Admitted ring k n room × (bookRefusal book ≡ some q))
   unfolding reportRows
   late-row-iff q late =
-      Iff·trans (late-iff (admitRows m k n room) (bookRows book) q (λ e. omega (arith, row-numbers m k n room q e))) (Iff·and (no-row-iff m k n room) Iff·rfl)
+      Iff·trans (late-iff (admitRows ring k n room) (bookRows book) q (λ e. omega (arith, row-numbers ring k n room q e))) (Iff·and (no-row-iff ring k n room) Iff·rfl)
 
   -- The report has no refusal exactly when none of rows 1 to 4 is given and the book has none.
-  pub none-row-iff : (reportRefusal m k n room book ≡ none) ↔ (Admitted m k n room × (bookRefusal book ≡ none))
+  pub none-row-iff : (reportRefusal ring k n room book ≡ none) ↔ (Admitted ring k n room × (bookRefusal book ≡ none))
   unfolding reportRows
-  none-row-iff = Iff·trans (none-append-iff (admitRows m k n room) (bookRows book)) (Iff·and (no-row-iff m k n room) Iff·rfl)
+  none-row-iff = Iff·trans (none-append-iff (admitRows ring k n room) (bookRows book)) (Iff·and (no-row-iff ring k n room) Iff·rfl)
 
   -- If P holds for the refusal of rows 1 to 4 and for the book's, then P holds for the report's.
-  pub report-row-has : (P : Refusal → Type 0) → ((q : Refusal) → admitRefusal m k n room ≡ some q → P q) → ((q : Refusal) → bookRefusal book ≡ some q → P q)
-      → (q : Refusal) → reportRefusal m k n room book ≡ some q → P q
+  pub report-row-has : (P : Refusal → Type 0) → ((q : Refusal) → admitRefusal ring k n room ≡ some q → P q) → ((q : Refusal) → bookRefusal book ≡ some q → P q)
+      → (q : Refusal) → reportRefusal ring k n room book ≡ some q → P q
   unfolding reportRows
-  report-row-has P early late q e = go (admitRefusal m k n room) refl
+  report-row-has P early late q e = go (admitRefusal ring k n room) refl
     where
-      go : (o : Option Refusal) → admitRefusal m k n room ≡ o → P q
-      go none no-row = late q (sym (first-append-none (admitRows m k n room) (bookRows book) no-row) ∙ e)
+      go : (o : Option Refusal) → admitRefusal ring k n room ≡ o → P q
+      go none no-row = late q (sym (first-append-none (admitRows ring k n room) (bookRows book) no-row) ∙ e)
       go (some p) is =
-          let same : p ≡ q = let first = first-append-some (admitRows m k n room) (bookRows book) is in cc in
+          let same : p ≡ q = let first = first-append-some (admitRows ring k n room) (bookRows book) is in cc in
           subst P same (early p is)
 
   -- If the book is accepted, the report's refusal is that of rows 1 to 4.
-  pub accepted-book-row : bookRefusal book ≡ none → reportRefusal m k n room book ≡ admitRefusal m k n room
+  pub accepted-book-row : bookRefusal book ≡ none → reportRefusal ring k n room book ≡ admitRefusal ring k n room
   unfolding reportRows
-  accepted-book-row read = go (admitRefusal m k n room) refl
+  accepted-book-row read = go (admitRefusal ring k n room) refl
     where
-      go : (o : Option Refusal) → admitRefusal m k n room ≡ o → firstGiven (admitRows m k n room ++ bookRows book) ≡ o
-      go none no-row = first-append-none (admitRows m k n room) (bookRows book) no-row ∙ read
-      go (some p) is = first-append-some (admitRows m k n room) (bookRows book) is
+      go : (o : Option Refusal) → admitRefusal ring k n room ≡ o → firstGiven (admitRows ring k n room ++ bookRows book) ≡ o
+      go none no-row = first-append-none (admitRows ring k n room) (bookRows book) no-row ∙ read
+      go (some p) is = first-append-some (admitRows ring k n room) (bookRows book) is

@@ -45,7 +45,7 @@ pub record QuickLoop (cell ringNumber : ℕ) (ring doubled table line : List ℕ
   pub held-from : HeldFrom cell ringNumber book (at .start .0) (asked .held)
 
 -- an accepted call has room for the words of all findings
-room-for-all : (ring line : List ℕ) (k : ℕ) {room : ℕ} → Admitted (length ring) k (length line) room → wordsEach * length (findings ring line k) ≤ room
+room-for-all : (ring line : List ℕ) (k : ℕ) {room : ℕ} → Admitted ring k (length line) room → wordsEach * length (findings ring line k) ≤ room
 room-for-all ring line k admitted =
     ⊎-elim
     (λ long. omega (arith, admitted .room-for long, findings-length-le ring line k (admitted .some-edge) long))

@@ -36,7 +36,7 @@ read-refused {book} {r} {refusal} meets e =
 
 module _ {cell ringNumber : ℕ} {ring line : List ℕ} {k : ℕ} {book words : List ℕ} where
   -- if a row is given, returning the first one's refusal and leaving the words meets the contract
-  report-refused : {refusal : Refusal} → reportRefusal (length ring) k (length line) (length words) book ≡ some refusal
+  report-refused : {refusal : Refusal} → reportRefusal ring k (length line) (length words) book ≡ some refusal
       → IsReported cell ringNumber ring line k book words (Refused refusal) words
   unfolding reportAnswer reportedWords
   report-refused e = record {
@@ -45,24 +45,24 @@ module _ {cell ringNumber : ℕ} {ring line : List ℕ} {k : ℕ} {book words : 
   }
 
   -- If one of rows 1 to 4 is given, returning the first one's refusal and leaving the words meets the contract of `report`.
-  pub report-refused-row : {refusal : Refusal} → some refusal ≡ admitRefusal (length ring) k (length line) (length words)
+  pub report-refused-row : {refusal : Refusal} → some refusal ≡ admitRefusal ring k (length line) (length words)
       → IsReported cell ringNumber ring line k book words (Refused refusal) words
   unfolding reportRows
-  report-refused-row e = report-refused (first-append-some (admitRows (length ring) k (length line) (length words)) (bookRows book) (sym e))
+  report-refused-row e = report-refused (first-append-some (admitRows ring k (length line) (length words)) (bookRows book) (sym e))
 
   -- If none of rows 1 to 4 is given and the book has a refusal, returning this and leaving the words meets the contract of `report`.
-  pub report-refused-book : {refusal : Refusal} → none ≡ admitRefusal (length ring) k (length line) (length words) → bookRefusal book ≡ some refusal
+  pub report-refused-book : {refusal : Refusal} → none ≡ admitRefusal ring k (length line) (length words) → bookRefusal book ≡ some refusal
       → IsReported cell ringNumber ring line k book words (Refused refusal) words
   unfolding reportRows
   report-refused-book no-row e =
-      report-refused (first-append-none (admitRows (length ring) k (length line) (length words)) (bookRows book) (sym no-row) ∙ e)
+      report-refused (first-append-none (admitRows ring k (length line) (length words)) (bookRows book) (sym no-row) ∙ e)
 
   -- If no row is given and the line is scanned with the book, returning found, hidden and looks meets the contract of `report`.
   pub report-accepted : {found hid looks : ℕ} {out : List ℕ} → LineScanned cell ringNumber ring line k book words found hid looks out
       → IsReported cell ringNumber ring line k book words (CountsCase found hid looks) out
   unfolding reportAnswer reportedWords
   report-accepted done =
-      let no-row = none-row-iff (length ring) k (length line) (length words) book .1 (done .admitted, done .book-read) in
+      let no-row = none-row-iff ring k (length line) (length words) book .1 (done .admitted, done .book-read) in
       record {
         paper =
             (λ j. record { number = 0; place = 0; counts = record { found = done .found-is j; hidden = done .hidden-is j; looks = done .looks-are j } })

@@ -23,11 +23,11 @@ module _ {cell ringNumber : ℕ} {ring line : List ℕ} {k : ℕ} {book words : 
   pub report-gives : LineScanned cell ringNumber ring line k book words found hid looks out
   unfolding reportAnswer reportedWords
   report-gives =
-      let row : Option Refusal = reportRefusal (length ring) k (length line) (length words) book in
+      let row : Option Refusal = reportRefusal ring k (length line) (length words) book in
       let counts : ReportCounts = reportCounts ring line k cell ringNumber (silencesRead book) in
       let no-row : row ≡ none = accepted-number-iff noReportCounts counts row (meets .paper) .0 refl in
       let same = accepted-counts noReportCounts counts row (meets .paper) no-row in
-      let by = none-row-iff (length ring) k (length line) (length words) book .0 no-row in
+      let by = none-row-iff ring k (length line) (length words) book .0 no-row in
       record {
         admitted = by .0;
         book-read = by .1;

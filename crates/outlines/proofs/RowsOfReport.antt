@@ -35,31 +35,30 @@ place-by-row (some q) counts paper each small =
 
 -- Every answer that meets the contract of `report`, for a book of bytes, obeys the table `ReportRows`.
 pub report-rows : {cell ringNumber : ℕ} {ring line : List ℕ} {k : ℕ} {book words : List ℕ} {r : Reported} {out : List ℕ} → IsBytes book
-    → IsReported cell ringNumber ring line k book words r out → ReportRows (length ring) k (length line) book words (paperOf r) out
+    → IsReported cell ringNumber ring line k book words r out → ReportRows ring k (length line) book words (paperOf r) out
 unfolding reportAnswer reportedWords
 report-rows {cell} {ringNumber} {ring} {line} {k} {book} {words} bytes meets =
-    let m = length ring in
     let n = length line in
     let room = length words in
-    let row : Option Refusal = reportRefusal m k n room book in
+    let row : Option Refusal = reportRefusal ring k n room book in
     let counts : ReportCounts = reportCounts ring line k cell ringNumber (silencesRead book) in
     let paper = meets .paper in
     record {
-      row-1 = Iff·trans (row-number-iff noReportCounts counts row paper Ring (omega arith)) (Iff·trans (early-row-iff m k n room book Ring (omega arith)) (row-1-iff m k n room));
-      row-2 = Iff·trans (row-number-iff noReportCounts counts row paper Allowance (omega arith)) (Iff·trans (early-row-iff m k n room book Allowance (omega arith)) (row-2-iff m k n room));
-      row-3 = Iff·trans (row-number-iff noReportCounts counts row paper Line (omega arith)) (Iff·trans (early-row-iff m k n room book Line (omega arith)) (row-3-iff m k n room));
-      row-4 = Iff·trans (row-number-iff noReportCounts counts row paper FindingsRoom (omega arith)) (Iff·trans (early-row-iff m k n room book FindingsRoom (omega arith)) (row-4-iff m k n room));
-      row-5 = Iff·trans (row-number-iff noReportCounts counts row paper BookLength (omega arith)) (Iff·trans (late-row-iff m k n room book BookLength (omega arith)) (Iff·and Iff·rfl (refusal-5-iff book)));
-      row-6 = λ at. Iff·trans (row-place-iff noReportCounts counts row paper (Field at)) (Iff·trans (late-row-iff m k n room book (Field at) (omega arith)) (Iff·and Iff·rfl (refusal-6-iff book bytes at)));
-      row-7 = λ at. Iff·trans (row-place-iff noReportCounts counts row paper (NotAbove at)) (Iff·trans (late-row-iff m k n room book (NotAbove at) (omega arith)) (Iff·and Iff·rfl (refusal-7-iff book bytes at)));
-      accepted = Iff·trans (accepted-number-iff noReportCounts counts row paper) (Iff·trans (none-row-iff m k n room book) (Iff·and Iff·rfl (no-refusal-iff book bytes)));
+      row-1 = Iff·trans (row-number-iff noReportCounts counts row paper Ring (omega arith)) (Iff·trans (early-row-iff ring k n room book Ring (omega arith)) (row-1-iff ring k n room));
+      row-2 = Iff·trans (row-number-iff noReportCounts counts row paper Allowance (omega arith)) (Iff·trans (early-row-iff ring k n room book Allowance (omega arith)) (row-2-iff ring k n room));
+      row-3 = Iff·trans (row-number-iff noReportCounts counts row paper Line (omega arith)) (Iff·trans (early-row-iff ring k n room book Line (omega arith)) (row-3-iff ring k n room));
+      row-4 = Iff·trans (row-number-iff noReportCounts counts row paper FindingsRoom (omega arith)) (Iff·trans (early-row-iff ring k n room book FindingsRoom (omega arith)) (row-4-iff ring k n room));
+      row-5 = Iff·trans (row-number-iff noReportCounts counts row paper BookLength (omega arith)) (Iff·trans (late-row-iff ring k n room book BookLength (omega arith)) (Iff·and Iff·rfl (refusal-5-iff book)));
+      row-6 = λ at. Iff·trans (row-place-iff noReportCounts counts row paper (Field at)) (Iff·trans (late-row-iff ring k n room book (Field at) (omega arith)) (Iff·and Iff·rfl (refusal-6-iff book bytes at)));
+      row-7 = λ at. Iff·trans (row-place-iff noReportCounts counts row paper (NotAbove at)) (Iff·trans (late-row-iff ring k n room book (NotAbove at) (omega arith)) (Iff·and Iff·rfl (refusal-7-iff book bytes at)));
+      accepted = Iff·trans (accepted-number-iff noReportCounts counts row paper) (Iff·trans (none-row-iff ring k n room book) (Iff·and Iff·rfl (no-refusal-iff book bytes)));
       number-le =
           number-by noReportCounts counts row paper (λ (number : ℕ). number ≤ 7) (omega arith)
-          (report-row-has m k n room book (λ (q : Refusal). numberOf q ≤ 7) (λ q e. omega (arith, row-numbers m k n room q e))
+          (report-row-has ring k n room book (λ (q : Refusal). numberOf q ≤ 7) (λ q e. omega (arith, row-numbers ring k n room q e))
           (refusal-has book (λ (q : Refusal). numberOf q ≤ 7) (omega arith) (λ at. omega arith) (λ at. omega arith)));
       place-is =
           place-by-row row counts paper
-          (report-row-has m k n room book (λ (q : Refusal). numberOf q ≤ 5 → placeOf q ≡ 0) (λ q e _. row-places m k n room q e)
+          (report-row-has ring k n room book (λ (q : Refusal). numberOf q ≤ 5 → placeOf q ≡ 0) (λ q e _. row-places ring k n room q e)
           (refusal-has book (λ (q : Refusal). numberOf q ≤ 5 → placeOf q ≡ 0) (λ _. refl) (λ at small. absurd (omega arith)) (λ at small. absurd (omega arith))));
       no-found = λ l. ap (λ (c : ReportCounts). c .found) (refused-counts noReportCounts counts row paper l);
       no-hidden = λ l. ap (λ (c : ReportCounts). c .hidden) (refused-counts noReportCounts counts row paper l);

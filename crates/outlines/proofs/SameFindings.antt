@@ -31,7 +31,7 @@ row-same (some refusal) found looks looks′ = record { number-is = refl; place-
 -- The papers of two searches that differ only in their looks are equal but for the looks.
 search-same : (ring line : List ℕ) (k room looks looks′ : ℕ) → SameButLooks (searchPaper ring line k room looks) (searchPaper ring line k room looks′)
 unfolding searched
-search-same ring line k room looks looks′ = row-same (admitRefusal (length ring) k (length line) room) (length (findings ring line k)) looks looks′
+search-same ring line k room looks looks′ = row-same (admitRefusal ring k (length line) room) (length (findings ring line k)) looks looks′
 
 -- Survey and scan give the same number, place and found, and the same words, on every input.
 pub survey-scan-same : (ring line : List ℕ) (k : ℕ) (words : List ℕ) (surveyed scanned : Searched) (out out′ : List ℕ)

@@ -18,7 +18,7 @@ use Rattle.outlines.specs.Scan.{IsScanned}
 
 module _ (ring line : List ℕ) (k : ℕ) (words : List ℕ) (r : Searched) (out : List ℕ) (meets : IsScanned ring line k words r out) where
   -- Every answer of `scan` obeys rows 1 to 4 of the table.
-  pub scan-rows : SearchRows (length ring) k (length line) words (paperOf r) out
+  pub scan-rows : SearchRows ring k (length line) words (paperOf r) out
   scan-rows = rows-of-search meets
 
   -- The found of an accepted scan is the number of findings.

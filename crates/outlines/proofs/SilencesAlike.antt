@@ -38,7 +38,7 @@ module _ (ss ts : List Silence) (cell ringNumber : ℕ) where
   module _ (ring line : List ℕ) (k : ℕ) (book book′ words : List ℕ) (is : readBook book ≡ accepted ss) (is′ : readBook book′ ≡ accepted ts)
       (alike : (f : Finding) → IsFinding ring line k f → isHidden ss cell ringNumber f ≡ isHidden ts cell ringNumber f) where
     abbrev first-refusal : Option Refusal
-    first-refusal = admitRefusal (length ring) k (length line) (length words)
+    first-refusal = admitRefusal ring k (length line) (length words)
 
     -- Both books are accepted, so the refusal of rows 1 to 4 decides what a report returns and writes. If there is none, the silences decide. So any value `by` that is
     -- the same for each refusal, and for equal shown and hidden findings, is the same for the two reports.
@@ -46,22 +46,22 @@ module _ (ss ts : List Silence) (cell ringNumber : ℕ) where
         → ((q : Refusal) → by (some q) ss ≡ by (some q) ts)
         → (shown ss cell ringNumber (findings ring line k) ≡ shown ts cell ringNumber (findings ring line k)
         → hidden ss cell ringNumber (findings ring line k) ≡ hidden ts cell ringNumber (findings ring line k) → by none ss ≡ by none ts)
-        → by (reportRefusal (length ring) k (length line) (length words) book) (silencesRead book)
-        ≡ by (reportRefusal (length ring) k (length line) (length words) book′) (silencesRead book′)
+        → by (reportRefusal ring k (length line) (length words) book) (silencesRead book)
+        ≡ by (reportRefusal ring k (length line) (length words) book′) (silencesRead book′)
     given by refused-same accepted-same =
         let read = book-accepted-iff book ss .0 is in
         let read′ = book-accepted-iff book′ ts .0 is′ in
         rw (
-          accepted-book-row (length ring) k (length line) (length words) book (read .0),
+          accepted-book-row ring k (length line) (length words) book (read .0),
           read .1,
-          accepted-book-row (length ring) k (length line) (length words) book′ (read′ .0),
+          accepted-book-row ring k (length line) (length words) book′ (read′ .0),
           read′ .1,
         ) (go first-refusal refl)
       where
         go : (o : Option Refusal) → first-refusal ≡ o → by o ss ≡ by o ts
         go (some refusal) e = refused-same refusal
         go none e =
-            let pos : 0 < length ring = no-row-iff (length ring) k (length line) (length words) .0 e .some-edge in
+            let pos : 0 < length ring = no-row-iff ring k (length line) (length words) .0 e .some-edge in
             let named : NamesAlike (findings ring line k) = λ f m. alike f (findings-iff ring line k pos f .0 m) in
             accepted-same (shown-same (findings ring line k) named) (hidden-same (findings ring line k) named)
 

@@ -19,12 +19,12 @@ use Rattle.outlines.specs.Report.{shown, hidden}
 
 -- The precondition of `scan_line`: none of refusals 1 to 7 is given.
 pub record CanScanLine (ring line : List ℕ) (k : ℕ) (book words : List ℕ) : Type 0 where
-  pub admitted : Admitted (length ring) k (length line) (length words)
+  pub admitted : Admitted ring k (length line) (length words)
   pub book-read : bookRefusal book ≡ none
 
 -- The precondition of `scan_windows`: none of refusals 1 to 7 is given, and the ring's vectors, its double and 256 counts are lent. The counts may hold anything.
 pub record CanScan (ring doubled table line : List ℕ) (k : ℕ) (book counts words : List ℕ) : Type 0 where
-  pub admitted : Admitted (length ring) k (length line) (length words)
+  pub admitted : Admitted ring k (length line) (length words)
   pub book-read : bookRefusal book ≡ none
   pub occurs : Occurrences ring table
   pub twice : IsDoubled ring doubled
@@ -33,7 +33,7 @@ pub record CanScan (ring doubled table line : List ℕ) (k : ℕ) (book counts w
 -- The contract of `scan_line` and `scan_windows`: no refusal is given; found is the number of findings, `hid` the number of those that the book's silences hide, the
 -- looks are the quick scan's, and the words of the shown findings are written.
 pub record LineScanned (cell ringNumber : ℕ) (ring line : List ℕ) (k : ℕ) (book words : List ℕ) (found hid looks : ℕ) (out : List ℕ) : Type 0 where
-  pub admitted : Admitted (length ring) k (length line) (length words)
+  pub admitted : Admitted ring k (length line) (length words)
   pub book-read : bookRefusal book ≡ none
   pub found-is : found ≡ length (findings ring line k)
   pub hidden-is : hid ≡ length (hidden (silencesRead book) cell ringNumber (findings ring line k))

@@ -51,14 +51,14 @@ shown silences cell ringNumber fs = takenBy (isShown silences cell ringNumber) f
 abbrev pub hidden : List Silence → ℕ → ℕ → List Finding → List Finding
 hidden silences cell ringNumber fs = takenBy (isHidden silences cell ringNumber) fs
 
--- "report 1 to 7": the rows for m, k, n, the number of words lent and the book, each with its refusal if it is given. The book's rows are tested for every line, also
--- for one shorter than the ring.
-unfoldable pub reportRows : ℕ → ℕ → ℕ → ℕ → List ℕ → List (Option Refusal)
-reportRows m k n room book = admitRows m k n room ++ bookRows book
+-- "report 1 to 7": the rows for the ring, k, n, the number of words lent and the book, each with its refusal if it is given. The book's rows are tested for every
+-- line, also for one shorter than the ring.
+unfoldable pub reportRows : List ℕ → ℕ → ℕ → ℕ → List ℕ → List (Option Refusal)
+reportRows ring k n room book = admitRows ring k n room ++ bookRows book
 
 -- The refusal of the first of rows 1 to 7 that is given; none if no row is.
-abbrev pub reportRefusal : ℕ → ℕ → ℕ → ℕ → List ℕ → Option Refusal
-reportRefusal m k n room book = firstGiven (reportRows m k n room book)
+abbrev pub reportRefusal : List ℕ → ℕ → ℕ → ℕ → List ℕ → Option Refusal
+reportRefusal ring k n room book = firstGiven (reportRows ring k n room book)
 
 -- "found (hidden ones included), hidden, looks"
 pub record ReportCounts : Type 0 where
@@ -81,12 +81,12 @@ reportCounts ring line k cell ringNumber silences = record {
 -- The answer of a report that is lent `room` words: the first of refusals 1 to 7 that is given, else the counts by the book's silences.
 unfoldable pub reportAnswer : List ℕ → List ℕ → ℕ → ℕ → ℕ → List ℕ → ℕ → Answer ReportCounts
 reportAnswer ring line k cell ringNumber book room =
-    answerBy (reportRefusal (length ring) k (length line) room book) (reportCounts ring line k cell ringNumber (silencesRead book))
+    answerBy (reportRefusal ring k (length line) room book) (reportCounts ring line k cell ringNumber (silencesRead book))
 
 -- The lent words after a report: the words of the shown findings without a gap, then the rest as it was. A refusal "writes nothing to any lent area".
 unfoldable pub reportedWords : List ℕ → List ℕ → ℕ → ℕ → ℕ → List ℕ → List ℕ → List ℕ
 reportedWords ring line k cell ringNumber book words =
-    areaBy (reportRefusal (length ring) k (length line) (length words) book)
+    areaBy (reportRefusal ring k (length line) (length words) book)
     (written (wordsOf (shown (silencesRead book) cell ringNumber (findings ring line k))) words) words
 
 -- The returned enum as an answer.

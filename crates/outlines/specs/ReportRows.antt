@@ -15,26 +15,27 @@ use Rattle.silences.specs.Faults.{IsFieldFault, IsOrderFault}
 use Rattle.findings.specs.Admitting.{IsRingLength, Admitted}
 use Rattle.outlines.specs.Report.{ReportCounts}
 
--- The table for a report with m, k, n, the book and the lent words. p is the paper of its answer, `out` are the words at exit. `Admitted` says that none of rows 1 to
--- 4 is given.
-pub record ReportRows (m k n : ℕ) (book words : List ℕ) (p : Paper ReportCounts) (out : List ℕ) : Type 0 where
+-- The table for a report with the ring, whose length is m, and k, n, the book and the lent words. p is the paper of its answer, `out` are the words at exit.
+-- `Admitted` says that none of rows 1 to 4 is given.
+pub record ReportRows (ring : List ℕ) (k n : ℕ) (book words : List ℕ) (p : Paper ReportCounts) (out : List ℕ) : Type 0 where
   -- "m = 0 or m > 256"
-  pub row-1 : (p .number ≡ 1) ↔ ((m ≡ 0) ⊎ (256 < m))
+  pub row-1 : (p .number ≡ 1) ↔ ((length ring ≡ 0) ⊎ (256 < length ring))
   -- "k ≥ m", row 1 not given
-  pub row-2 : (p .number ≡ 2) ↔ (IsRingLength m × (m ≤ k))
+  pub row-2 : (p .number ≡ 2) ↔ (IsRingLength (length ring) × (length ring ≤ k))
   -- "n > 65,536", rows 1 and 2 not given
-  pub row-3 : (p .number ≡ 3) ↔ (IsRingLength m × ((k < m) × (65536 < n)))
+  pub row-3 : (p .number ≡ 3) ↔ (IsRingLength (length ring) × ((k < length ring) × (65536 < n)))
   -- "n ≥ m and fewer than" 4·(n − m + 1) "words are lent for findings", rows 1 to 3 not given. The room is for all findings, hidden ones too.
   -- (Document 01 has 3; document 02, ticket 1, makes it 4.)
-  pub row-4 : (p .number ≡ 4) ↔ (IsRingLength m × ((k < m) × ((n ≤ 65536) × ((m ≤ n) × (length words < 4 * (n - m + 1))))))
+  pub row-4 : (p .number ≡ 4)
+      ↔ (IsRingLength (length ring) × ((k < length ring) × ((n ≤ 65536) × ((length ring ≤ n) × (length words < 4 * (n - length ring + 1))))))
   -- "book longer than 13,000 bytes", rows 1 to 4 not given
-  pub row-5 : (p .number ≡ 5) ↔ (Admitted m k n (length words) × (13000 < length book))
+  pub row-5 : (p .number ≡ 5) ↔ (Admitted ring k n (length words) × (13000 < length book))
   -- "a field isn't 13 bytes beginning 21 00 0A hex, or is cut off"; place: its byte offset; rows 1 to 5 not given, and no earlier field is faulty
-  pub row-6 : (at : ℕ) → ((p .number ≡ 6) × (p .place ≡ at)) ↔ (Admitted m k n (length words) × ((length book ≤ 13000) × IsFieldFault book at))
+  pub row-6 : (at : ℕ) → ((p .number ≡ 6) × (p .place ≡ at)) ↔ (Admitted ring k n (length words) × ((length book ≤ 13000) × IsFieldFault book at))
   -- "a record isn't above the one before it"; place: its byte offset; rows 1 to 5 not given, and no earlier field is faulty
-  pub row-7 : (at : ℕ) → ((p .number ≡ 7) × (p .place ≡ at)) ↔ (Admitted m k n (length words) × ((length book ≤ 13000) × IsOrderFault book at))
+  pub row-7 : (at : ℕ) → ((p .number ≡ 7) × (p .place ≡ at)) ↔ (Admitted ring k n (length words) × ((length book ≤ 13000) × IsOrderFault book at))
   -- Accepted exactly when none of these rows is given: the call is admitted, and the book is the book of some list of silences.
-  pub accepted : (p .number ≡ 0) ↔ (Admitted m k n (length words) × ((ss : List Silence) × IsBook ss book))
+  pub accepted : (p .number ≡ 0) ↔ (Admitted ring k n (length words) × ((ss : List Silence) × IsBook ss book))
   -- No other number is given.
   pub number-le : p .number ≤ 7
   -- Rows 1 to 5 have place 0, and so has an accepted answer.

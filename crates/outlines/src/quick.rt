@@ -112,7 +112,7 @@ pub fn scan_line(
 pub fn scan(ring: &[u8], line: &[u8], k: usize, words: &mut [u32]) -> Searched
     ensures { λ r. ⌜ IsScanned (now (ring .entry)) (now (line .entry)) k (now (words .entry)) r (now (words .exit)) ⌝ }
 {
-    match admit(ring.len(), k, line.len(), words.len()) {
+    match admit(ring, k, line.len(), words.len()) {
         Verdict::Refused(refusal) => Searched::Refused(refusal),
         Verdict::Accepted => {
             let counted = scan_line(0, 0, ring, line, k, b"", words);

@@ -30,7 +30,7 @@ pub fn report(
 ) -> Reported
     ensures { λ r. ⌜ IsReported cell «ring_number» (now (ring .entry)) (now (line .entry)) k (now (book .entry)) (now (words .entry)) r (now (words .exit)) ⌝ }
 {
-    match admit(ring.len(), k, line.len(), words.len()) {
+    match admit(ring, k, line.len(), words.len()) {
         Verdict::Refused(refusal) => Reported::Refused(refusal),
         Verdict::Accepted => match read(book) {
             BookAnswer::Refused(refusal) => Reported::Refused(refusal),

@@ -39,10 +39,10 @@ pub record Answered (q : Request) (found hid looks : ℕ) (words : List ℕ) : T
 
 -- the text of a request, by the report's first row, with the words that the program lends
 text-by : (q : Request) (room : ℕ) {o : Option Refusal} → length (q .line) ≤ lineField .most → mostFindingWords ≤ room
-    → reportRefusal (length (q .ring)) (q .allowance) (length (q .line)) room (q .book) ≡ o → requestText q ≡ linesBy q o
+    → reportRefusal (q .ring) (q .allowance) (length (q .line)) room (q .book) ≡ o → requestText q ≡ linesBy q o
 unfolding requestText
 text-by q room line-le enough e =
-    ap (linesBy q) (sym (refusal-same (length (q .ring)) (q .allowance) (length (q .line)) room (q .book) (λ some-edge fits. omega arith)) ∙ e)
+    ap (linesBy q) (sym (refusal-same (q .ring) (q .allowance) (length (q .line)) room (q .book) (λ some-edge fits. omega arith)) ∙ e)
 
 module _ {cell ringNumber k : ℕ} {ring line book words out : List ℕ} {r : Reported} (meets : IsReported cell ringNumber ring line k book words r out)
     (line-le : length line ≤ lineField .most) (enough : mostFindingWords ≤ length words) where
@@ -52,7 +52,7 @@ module _ {cell ringNumber k : ℕ} {ring line book words out : List ℕ} {r : Re
   refused-text refusal e =
       sym
       (text-by (request cell ringNumber k ring line book) (length words) line-le enough
-      (row-place-iff noReportCounts (reportCounts ring line k cell ringNumber (silencesRead book)) (reportRefusal (length ring) k (length line) (length words) book)
+      (row-place-iff noReportCounts (reportCounts ring line k cell ringNumber (silencesRead book)) (reportRefusal ring k (length line) (length words) book)
       (sym (ap paperOf e) ∙ meets .paper) refusal .0 (refl, refl)))
 
   -- An accepted report's counts and words give the request's text, in three pieces.
@@ -70,7 +70,7 @@ module _ {cell ringNumber k : ℕ} {ring line book words out : List ℕ} {r : Re
       let words-are : length (wordsOf seen) ≡ wordsEach * (found - hid) = omega (arith, words-length seen) in
       let front : take (wordsEach * (found - hid)) out ≡ wordsOf seen = written-front (wordsOf seen) words (given .words-are) (wordsEach * (found - hid)) words-are in
       let text : requestText q ≡ reportLines q (silencesRead book) =
-      text-by q (length words) line-le enough (none-row-iff (length ring) k (length line) (length words) book .1 (given .admitted, given .book-read)) in
+      text-by q (length words) line-le enough (none-row-iff ring k (length line) (length words) book .1 (given .admitted, given .book-read)) in
       let counts : countsOf found hid looks ≡ reportCounts ring line k cell ringNumber (silencesRead book) =
       λ j. countsOf (found-is j) (hidden-is j) (given .looks-are j) in
       record {

@@ -6,6 +6,7 @@ use mathlib.Core.Bool.{Bool, true, false}
 use mathlib.Core.List.{List, _∷_}
 use native.Mathlib.Omega.{arith}
 use lib.Dec.{leb, eqb}
+use lib.ListN.{length}
 use borrow.Author.Tests.{le-ltb, leb-true, eqb-false}
 use Rattle.answers.specs.declared.refusals.Refusal.the-variants.{Ring, Allowance, Line, FindingsRoom}
 use Rattle.answers.specs.Rows.{row, firstGiven}
@@ -13,7 +14,10 @@ use Rattle.silences.specs.Reading.{bookRows}
 use Rattle.findings.specs.Admitting.{roomRequired, isRow1, isRow2, isRow3, isRow4, admitRows}
 use Rattle.outlines.specs.Report.{reportRows, reportRefusal}
 
-module _ (m k n room : ℕ) (book : List ℕ) (enough : 0 < m → m ≤ n → roomRequired m n ≤ room) where
+module _ (ring : List ℕ) (k n room : ℕ) (book : List ℕ) (enough : 0 < length ring → length ring ≤ n → roomRequired (length ring) n ≤ room) where
+  abbrev m : ℕ
+  m = length ring
+
   -- row 4 is not given, with either room
   row-4-same : 0 < m → isRow4 m n room ≡ isRow4 m n (roomRequired m n)
   row-4-same some-edge = go (leb m n) refl
@@ -23,11 +27,11 @@ module _ (m k n room : ℕ) (book : List ℕ) (enough : 0 < m → m ≤ n → ro
       go true e = simp (e, le-ltb room (roomRequired m n) (enough some-edge (leb-true m n e)), le-ltb (roomRequired m n) (roomRequired m n) (omega arith))
 
   -- With at least as many words as row 4 requires, the first of the report's rows that is given is the same as with exactly that many.
-  pub refusal-same : reportRefusal m k n room book ≡ reportRefusal m k n (roomRequired m n) book
+  pub refusal-same : reportRefusal ring k n room book ≡ reportRefusal ring k n (roomRequired m n) book
   unfolding reportRows admitRows firstGiven
   refusal-same = go (eqb m 0) refl
     where
-      go : (t : Bool) → eqb m 0 ≡ t → reportRefusal m k n room book ≡ reportRefusal m k n (roomRequired m n) book
+      go : (t : Bool) → eqb m 0 ≡ t → reportRefusal ring k n room book ≡ reportRefusal ring k n (roomRequired m n) book
       go true e = simp e
       go false e =
           let none-empty : 0 < m = omega (arith, eqb-false m 0 e) in

@@ -23,14 +23,14 @@ module _ (q : Request) (line-le : length (q .line) ≤ lineField .most) where
   n = length (q .line)
 
   -- of rows 1 to 4 only 1 and 2 are given
-  early-rows : (refusal : Refusal) → admitRefusal m (q .allowance) n (roomRequired m n) ≡ some refusal → numberOf refusal ≤ 2
+  early-rows : (refusal : Refusal) → admitRefusal (q .ring) (q .allowance) n (roomRequired m n) ≡ some refusal → numberOf refusal ≤ 2
   early-rows =
-      by-row m (q .allowance) n (roomRequired m n) (λ (r : Refusal). numberOf r ≤ 2) (λ _. omega arith) (λ _. omega arith) (λ long. absurd (omega arith)) (λ short. absurd (omega arith))
+      by-row (q .ring) (q .allowance) n (roomRequired m n) (λ (r : Refusal). numberOf r ≤ 2) (λ _. omega arith) (λ _. omega arith) (λ long. absurd (omega arith)) (λ short. absurd (omega arith))
 
   -- A request whose line has at most 4,096 edges is refused neither by 3 nor by 4.
-  pub rows-3-4-never : (refusal : Refusal) → reportRefusal m (q .allowance) n (roomRequired m n) (q .book) ≡ some refusal
+  pub rows-3-4-never : (refusal : Refusal) → reportRefusal (q .ring) (q .allowance) n (roomRequired m n) (q .book) ≡ some refusal
       → (numberOf refusal ≡ 3 → ⊥) × (numberOf refusal ≡ 4 → ⊥)
   rows-3-4-never =
-      report-row-has m (q .allowance) n (roomRequired m n) (q .book) (λ (r : Refusal). (numberOf r ≡ 3 → ⊥) × (numberOf r ≡ 4 → ⊥))
+      report-row-has (q .ring) (q .allowance) n (roomRequired m n) (q .book) (λ (r : Refusal). (numberOf r ≡ 3 → ⊥) × (numberOf r ≡ 4 → ⊥))
       (λ r e. let early = early-rows r e in (λ k. omega arith, λ k. omega arith))
       (refusal-has (q .book) (λ (r : Refusal). (numberOf r ≡ 3 → ⊥) × (numberOf r ≡ 4 → ⊥)) (λ k. omega arith, λ k. omega arith) (λ at. (λ k. omega arith, λ k. omega arith)) (λ at. (λ k. omega arith, λ k. omega arith)))

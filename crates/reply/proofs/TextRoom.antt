@@ -52,7 +52,7 @@ finding-lines-le (f ∷ fs) short =
       finding-lines-le fs (λ g m. short g (List·Memᴰ·tail m)),
     ))
 
-module _ (q : Request) (room : ℕ) (admitted : Admitted (length (q .ring)) (q .allowance) (length (q .line)) room)
+module _ (q : Request) (room : ℕ) (admitted : Admitted (q .ring) (q .allowance) (length (q .line)) room)
     (line-le : length (q .line) ≤ lineField .most) (silences : List Silence) where
   abbrev all : List Finding
   all = findings (q .ring) (q .line) (q .allowance)

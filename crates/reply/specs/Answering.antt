@@ -40,7 +40,7 @@ linesBy q (some refusal) = refusalLine refusal
 -- The output for a request, with exactly the room that row 4 requires.
 unfoldable pub requestText : Request → List ℕ
 requestText q =
-    linesBy q (reportRefusal (length (q .ring)) (q .allowance) (length (q .line)) (roomRequired (length (q .ring)) (length (q .line))) (q .book))
+    linesBy q (reportRefusal (q .ring) (q .allowance) (length (q .line)) (roomRequired (length (q .ring)) (length (q .line))) (q .book))
 
 -- The output by what was read: the text of the request, or the line of refusal 11.
 abbrev pub textBy : Answer Request → List ℕ

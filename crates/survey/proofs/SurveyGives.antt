@@ -15,7 +15,7 @@ use Rattle.survey.specs.Survey.{IsSurveyed}
 
 module _ (ring line : List ℕ) (k : ℕ) (words : List ℕ) (r : Searched) (out : List ℕ) (meets : IsSurveyed ring line k words r out) where
   -- Every answer of `survey` obeys rows 1 to 4 of the table.
-  pub survey-rows : SearchRows (length ring) k (length line) words (paperOf r) out
+  pub survey-rows : SearchRows ring k (length line) words (paperOf r) out
   survey-rows = rows-of-search meets
 
   -- The found of an accepted survey is the number of findings.

@@ -62,7 +62,7 @@ survey-start {line = line} {area = area} can = record {
 module _ {ring doubled line : List ℕ} {k : ℕ} {area : List ℕ} {i found looks past : ℕ} {counts words : List ℕ}
     (keeps : SurveyKeeps ring doubled line k area i found looks past counts words) where
   -- the call is accepted
-  admitted : Admitted (length ring) k (length line) (length area)
+  admitted : Admitted ring k (length line) (length area)
   admitted = keeps .can .admitted
 
   -- If no window fits in the line at i, the contract of `survey_starts` is met.

@@ -61,7 +61,7 @@ pub record IsVerifiedOn (ring line : List ℕ) (k i : ℕ) (counts : List ℕ) (
 
 -- Precondition of `survey_starts`: the call is accepted, and the ring's double and 256 counts are lent. The counts may hold anything.
 pub record CanSurvey (ring doubled line : List ℕ) (k : ℕ) (counts words : List ℕ) : Type 0 where
-  pub admitted : Admitted (length ring) k (length line) (length words)
+  pub admitted : Admitted ring k (length line) (length words)
   pub twice : IsDoubled ring doubled
   pub size : length counts ≡ mostCounts
 

@@ -105,7 +105,7 @@ fn survey_starts(
 
 // Makes the ring's double and the counts, once for each call, and surveys the line. Making them reads no line edge.
 fn survey_line(ring: &[u8], line: &[u8], k: usize, words: &mut [u32]) -> SearchCounts
-    requires { ⌜ Admitted (length (now ring)) k (length (now line)) (length (now words)) ⌝ }
+    requires { ⌜ Admitted (now ring) k (length (now line)) (length (now words)) ⌝ }
     ensures { λ z. ⌜ LineSurveyed (now (ring .entry)) (now (line .entry)) k (now (words .entry)) (z .found) (z .looks) (now (words .exit)) ⌝ }
 {
     let doubled = double(ring);
@@ -118,7 +118,7 @@ fn survey_line(ring: &[u8], line: &[u8], k: usize, words: &mut [u32]) -> SearchC
 pub fn survey(ring: &[u8], line: &[u8], k: usize, words: &mut [u32]) -> Searched
     ensures { λ r. ⌜ IsSurveyed (now (ring .entry)) (now (line .entry)) k (now (words .entry)) r (now (words .exit)) ⌝ }
 {
-    match admit(ring.len(), k, line.len(), words.len()) {
+    match admit(ring, k, line.len(), words.len()) {
         Verdict::Refused(refusal) => Searched::Refused(refusal),
         Verdict::Accepted => {
             let counted = survey_line(ring, line, k, words);
