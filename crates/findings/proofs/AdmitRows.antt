@@ -2,10 +2,12 @@
 -- crates/answers gives for each row: it is the first exactly when its condition holds and no row before it is given.
 use Prim.Native.Nat.{ℕ, _≤_, _<_}
 use mathlib.Core.Path.{_≡_, refl}
+use mathlib.Core.Bool.{Bool, true, _||_}
 use mathlib.Core.Logic.{_↔_, _⊎_, inl, inr, ⊎-elim, Iff·trans}
 use mathlib.Core.List.{List}
 use mathlib.Core.Option.{none, some}
 use native.Mathlib.Omega.{arith}
+use lib.Dec.{eqb}
 use lib.ListN.{length}
 use Rattle.lists.proofs.SizesTested.{lt-iff, le-iff, eq-iff, and-iff, or-iff}
 use Rattle.answers.specs.declared.refusals.Refusal.{Refusal}
@@ -14,6 +16,10 @@ use Rattle.answers.specs.Refusals.{numberOf, placeOf}
 use Rattle.answers.specs.Rows.{row}
 use Rattle.answers.proofs.RowsExactly.{IsRow, is-row, end, row-has, first-has, at-row, past-row, no-row, no-last-row}
 use Rattle.findings.specs.Admitting.{mostRing, mostLine, roomRequired, isRow1, isRow2, isRow3, isRow4, admitRows, admitRefusal, IsRingLength, Admitted}
+
+-- Whether a refusal is that of a row of a search. A report has these rows and the book's, and no refusal belongs to both.
+abbrev pub isSearchRefusal : Refusal → Bool
+isSearchRefusal q = eqb (numberOf q) 1 || (eqb (numberOf q) 2 || (eqb (numberOf q) 3 || eqb (numberOf q) 4))
 
 module _ (ring : List ℕ) (k n room : ℕ) where
   abbrev m : ℕ
@@ -90,6 +96,10 @@ module _ (ring : List ℕ) (k n room : ℕ) where
       first-has {P = λ (r : Refusal). admitRefusal ring k n room ≡ some r → P r}
       (row-has is-row-1 (λ f. one (row-1-iff .0 f))
       (row-has is-row-2 (λ f. two (row-2-iff .0 f)) (row-has is-row-3 (λ f. three (row-3-iff .0 f)) (row-has is-row-4 (λ f. four (row-4-iff .0 f)) end)))) q e e
+
+  -- The first row that is given has the refusal of a search.
+  pub row-of-search : (q : Refusal) → admitRefusal ring k n room ≡ some q → isSearchRefusal q ≡ true
+  row-of-search = by-row (λ q. isSearchRefusal q ≡ true) (λ _. refl) (λ _. refl) (λ _. refl) (λ _. refl)
 
   -- The first row that is given has a number of at most 4.
   pub row-numbers : (q : Refusal) → admitRefusal ring k n room ≡ some q → numberOf q ≤ 4

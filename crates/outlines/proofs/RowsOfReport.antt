@@ -26,12 +26,15 @@ use Rattle.outlines.specs.Report.{shown, reportRefusal, ReportCounts, no
 use Rattle.outlines.specs.ReportRows.{ReportRows}
 use Rattle.outlines.proofs.FirstOfReport.{early-row-iff, late-row-iff, none-row-iff, report-row-has}
 
--- if each row with a number of at most 5 has place 0, so has the paper that the first row decides
+-- the place is 0 unless the number is 6 or 7
+abbrev PlaceIsZero : ℕ → ℕ → Type 0
+PlaceIsZero number place = (number ≡ 6 → ⊥) → (number ≡ 7 → ⊥) → place ≡ 0
+
+-- if this holds for the number and place of every row that can be given, it holds for those of the paper that the first row decides
 place-by-row : (o : Option Refusal) (counts : ReportCounts) {p : Paper ReportCounts} → p ≡ answerPaper noReportCounts (answerBy o counts)
-    → ((q : Refusal) → o ≡ some q → numberOf q ≤ 5 → placeOf q ≡ 0) → p .number ≤ 5 → p .place ≡ 0
-place-by-row none counts paper each small = ap (λ (x : Paper ReportCounts). x .place) paper
-place-by-row (some q) counts paper each small =
-    ap (λ (x : Paper ReportCounts). x .place) paper ∙ each q refl (omega (arith, ap (λ (x : Paper ReportCounts). x .number) paper))
+    → ((q : Refusal) → o ≡ some q → PlaceIsZero (numberOf q) (placeOf q)) → PlaceIsZero (p .number) (p .place)
+place-by-row none counts paper each = λ _ _. ap (λ (x : Paper ReportCounts). x .place) paper
+place-by-row (some q) counts paper each = rw paper (each q refl)
 
 -- Every answer that meets the contract of `report`, for a book of bytes, obeys the table `ReportRows`.
 pub report-rows : {cell ringNumber : ℕ} {ring line : List ℕ} {k : ℕ} {book words : List ℕ} {r : Reported} {out : List ℕ} → IsBytes book
@@ -44,13 +47,13 @@ report-rows {cell} {ringNumber} {ring} {line} {k} {book} {words} bytes meets =
     let counts : ReportCounts = reportCounts ring line k cell ringNumber (silencesRead book) in
     let paper = meets .paper in
     record {
-      row-1 = Iff·trans (row-number-iff noReportCounts counts row paper Ring (omega arith)) (Iff·trans (early-row-iff ring k n room book Ring (omega arith)) (row-1-iff ring k n room));
-      row-2 = Iff·trans (row-number-iff noReportCounts counts row paper Allowance (omega arith)) (Iff·trans (early-row-iff ring k n room book Allowance (omega arith)) (row-2-iff ring k n room));
-      row-3 = Iff·trans (row-number-iff noReportCounts counts row paper Line (omega arith)) (Iff·trans (early-row-iff ring k n room book Line (omega arith)) (row-3-iff ring k n room));
-      row-4 = Iff·trans (row-number-iff noReportCounts counts row paper FindingsRoom (omega arith)) (Iff·trans (early-row-iff ring k n room book FindingsRoom (omega arith)) (row-4-iff ring k n room));
-      row-5 = Iff·trans (row-number-iff noReportCounts counts row paper BookLength (omega arith)) (Iff·trans (late-row-iff ring k n room book BookLength (omega arith)) (Iff·and Iff·rfl (refusal-5-iff book)));
-      row-6 = λ at. Iff·trans (row-place-iff noReportCounts counts row paper (Field at)) (Iff·trans (late-row-iff ring k n room book (Field at) (omega arith)) (Iff·and Iff·rfl (refusal-6-iff book bytes at)));
-      row-7 = λ at. Iff·trans (row-place-iff noReportCounts counts row paper (NotAbove at)) (Iff·trans (late-row-iff ring k n room book (NotAbove at) (omega arith)) (Iff·and Iff·rfl (refusal-7-iff book bytes at)));
+      row-1 = Iff·trans (row-number-iff noReportCounts counts row paper Ring (omega arith)) (Iff·trans (early-row-iff ring k n room book Ring refl) (row-1-iff ring k n room));
+      row-2 = Iff·trans (row-number-iff noReportCounts counts row paper Allowance (omega arith)) (Iff·trans (early-row-iff ring k n room book Allowance refl) (row-2-iff ring k n room));
+      row-3 = Iff·trans (row-number-iff noReportCounts counts row paper Line (omega arith)) (Iff·trans (early-row-iff ring k n room book Line refl) (row-3-iff ring k n room));
+      row-4 = Iff·trans (row-number-iff noReportCounts counts row paper FindingsRoom (omega arith)) (Iff·trans (early-row-iff ring k n room book FindingsRoom refl) (row-4-iff ring k n room));
+      row-5 = Iff·trans (row-number-iff noReportCounts counts row paper BookLength (omega arith)) (Iff·trans (late-row-iff ring k n room book BookLength refl) (Iff·and Iff·rfl (refusal-5-iff book)));
+      row-6 = λ at. Iff·trans (row-place-iff noReportCounts counts row paper (Field at)) (Iff·trans (late-row-iff ring k n room book (Field at) refl) (Iff·and Iff·rfl (refusal-6-iff book bytes at)));
+      row-7 = λ at. Iff·trans (row-place-iff noReportCounts counts row paper (NotAbove at)) (Iff·trans (late-row-iff ring k n room book (NotAbove at) refl) (Iff·and Iff·rfl (refusal-7-iff book bytes at)));
       accepted = Iff·trans (accepted-number-iff noReportCounts counts row paper) (Iff·trans (none-row-iff ring k n room book) (Iff·and Iff·rfl (no-refusal-iff book bytes)));
       number-le =
           number-by noReportCounts counts row paper (λ (number : ℕ). number ≤ 7) (omega arith)
@@ -58,8 +61,9 @@ report-rows {cell} {ringNumber} {ring} {line} {k} {book} {words} bytes meets =
           (refusal-has book (λ (q : Refusal). numberOf q ≤ 7) (omega arith) (λ at. omega arith) (λ at. omega arith)));
       place-is =
           place-by-row row counts paper
-          (report-row-has ring k n room book (λ (q : Refusal). numberOf q ≤ 5 → placeOf q ≡ 0) (λ q e _. row-places ring k n room q e)
-          (refusal-has book (λ (q : Refusal). numberOf q ≤ 5 → placeOf q ≡ 0) (λ _. refl) (λ at small. absurd (omega arith)) (λ at small. absurd (omega arith))));
+          (report-row-has ring k n room book (λ (q : Refusal). PlaceIsZero (numberOf q) (placeOf q)) (λ q e _ _. row-places ring k n room q e)
+          (refusal-has book (λ (q : Refusal). PlaceIsZero (numberOf q) (placeOf q)) (λ _ _. refl) (λ at not-6 _. absurd (not-6 refl))
+          (λ at _ not-7. absurd (not-7 refl))));
       no-found = λ l. ap (λ (c : ReportCounts). c .found) (refused-counts noReportCounts counts row paper l);
       no-hidden = λ l. ap (λ (c : ReportCounts). c .hidden) (refused-counts noReportCounts counts row paper l);
       no-looks = λ l. ap (λ (c : ReportCounts). c .looks) (refused-counts noReportCounts counts row paper l);

@@ -38,8 +38,8 @@ pub record ReportRows (ring : List ℕ) (k n : ℕ) (book words : List ℕ) (p :
   pub accepted : (p .number ≡ 0) ↔ (Admitted ring k n (length words) × ((ss : List Silence) × IsBook ss book))
   -- No other number is given.
   pub number-le : p .number ≤ 7
-  -- Rows 1 to 5 have place 0, and so has an accepted answer.
-  pub place-is : p .number ≤ 5 → p .place ≡ 0
+  -- Every other row has place 0, and so has an accepted answer.
+  pub place-is : (p .number ≡ 6 → ⊥) → (p .number ≡ 7 → ⊥) → p .place ≡ 0
   -- A refusal carries "zero in every count".
   pub no-found : 0 < p .number → p .counts .found ≡ 0
   pub no-hidden : 0 < p .number → p .counts .hidden ≡ 0

@@ -22,15 +22,19 @@ module _ (q : Request) (line-le : length (q .line) ≤ lineField .most) where
   abbrev n : ℕ
   n = length (q .line)
 
-  -- of rows 1 to 4 only 1 and 2 are given
-  early-rows : (refusal : Refusal) → admitRefusal (q .ring) (q .allowance) n (roomRequired m n) ≡ some refusal → numberOf refusal ≤ 2
-  early-rows =
-      by-row (q .ring) (q .allowance) n (roomRequired m n) (λ (r : Refusal). numberOf r ≤ 2) (λ _. omega arith) (λ _. omega arith) (λ long. absurd (omega arith)) (λ short. absurd (omega arith))
+  -- neither number 3 nor number 4
+  abbrev NotThreeNorFour : Refusal → Type 0
+  NotThreeNorFour refusal = (numberOf refusal ≡ 3 → ⊥) × (numberOf refusal ≡ 4 → ⊥)
+
+  -- of a search's rows, 3 and 4 are never given
+  search-rows : (refusal : Refusal) → admitRefusal (q .ring) (q .allowance) n (roomRequired m n) ≡ some refusal → NotThreeNorFour refusal
+  search-rows =
+      by-row (q .ring) (q .allowance) n (roomRequired m n) NotThreeNorFour (λ _. (λ e. omega arith, λ e. omega arith)) (λ _. (λ e. omega arith, λ e. omega arith))
+      (λ long. absurd (omega arith)) (λ short. absurd (omega arith))
 
   -- A request whose line has at most 4,096 edges is refused neither by 3 nor by 4.
   pub rows-3-4-never : (refusal : Refusal) → reportRefusal (q .ring) (q .allowance) n (roomRequired m n) (q .book) ≡ some refusal
       → (numberOf refusal ≡ 3 → ⊥) × (numberOf refusal ≡ 4 → ⊥)
   rows-3-4-never =
-      report-row-has (q .ring) (q .allowance) n (roomRequired m n) (q .book) (λ (r : Refusal). (numberOf r ≡ 3 → ⊥) × (numberOf r ≡ 4 → ⊥))
-      (λ r e. let early = early-rows r e in (λ k. omega arith, λ k. omega arith))
-      (refusal-has (q .book) (λ (r : Refusal). (numberOf r ≡ 3 → ⊥) × (numberOf r ≡ 4 → ⊥)) (λ k. omega arith, λ k. omega arith) (λ at. (λ k. omega arith, λ k. omega arith)) (λ at. (λ k. omega arith, λ k. omega arith)))
+      report-row-has (q .ring) (q .allowance) n (roomRequired m n) (q .book) NotThreeNorFour search-rows
+      (refusal-has (q .book) NotThreeNorFour (λ e. omega arith, λ e. omega arith) (λ at. (λ e. omega arith, λ e. omega arith)) (λ at. (λ e. omega arith, λ e. omega arith)))
