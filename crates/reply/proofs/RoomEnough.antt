@@ -1,17 +1,15 @@
 -- With at least as many words as row 4 requires, the report's first row is the same as with exactly that many (`refusal-same`): row 4 is given with neither, and no
 -- other row depends on the room.
 use Prim.Native.Nat.{ℕ, _≤_, _<_}
-use mathlib.Core.Path.{_≡_, refl, ap}
+use mathlib.Core.Path.{_≡_, refl}
 use mathlib.Core.Bool.{Bool, true, false}
-use mathlib.Core.List.{List, _∷_}
+use mathlib.Core.List.{List}
 use native.Mathlib.Omega.{arith}
 use lib.Dec.{leb, eqb}
 use lib.ListN.{length}
 use borrow.Author.Tests.{le-ltb, leb-true, eqb-false}
-use Rattle.answers.specs.declared.refusals.Refusal.the-variants.{Ring, Allowance, Line, FindingsRoom}
-use Rattle.answers.specs.Rows.{row, firstGiven}
-use Rattle.silences.specs.Reading.{bookRows}
-use Rattle.findings.specs.Admitting.{roomRequired, isRow1, isRow2, isRow3, isRow4, admitRows}
+use Rattle.answers.specs.Rows.{firstGiven}
+use Rattle.findings.specs.Admitting.{roomRequired, isRow4, admitRows}
 use Rattle.outlines.specs.Report.{reportRows, reportRefusal}
 
 module _ (ring : List ℕ) (k n room : ℕ) (book : List ℕ) (enough : 0 < length ring → length ring ≤ n → roomRequired (length ring) n ≤ room) where
@@ -35,6 +33,4 @@ module _ (ring : List ℕ) (k n room : ℕ) (book : List ℕ) (enough : 0 < leng
       go true e = simp e
       go false e =
           let none-empty : 0 < m = omega (arith, eqb-false m 0 e) in
-          ap
-          (λ (t : Bool). firstGiven (row (isRow1 m) Ring ∷ row (isRow2 m k) Allowance ∷ row (isRow3 n) Line ∷ row t FindingsRoom ∷ bookRows book))
-          (row-4-same none-empty)
+          rw (row-4-same none-empty)
