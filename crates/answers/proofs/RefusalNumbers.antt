@@ -5,7 +5,7 @@ use mathlib.Core.Logic.{_↔_}
 use mathlib.Core.Path.{_≡_, refl, sym, ap, subst, _∙_}
 use native.Mathlib.Omega.{arith}
 use Rattle.answers.specs.declared.refusals.Refusal.{Refusal}
-use Rattle.answers.specs.declared.refusals.Refusal.the-variants.{Ring, Allowance, Line, FindingsRoom, BookLength, Field, NotAbove, WordCount, RingNumber, OutputRoom, Input}
+use Rattle.answers.specs.declared.refusals.Refusal.the-variants.{Ring, Allowance, Line, FindingsRoom, BookLength, Field, NotAbove, WordCount, RingNumber, OutputRoom, Input, RingMark}
 use Rattle.answers.specs.Refusals.{numberOf, placeOf}
 use Rattle.answers.specs.Paper.{Answer, accepted, refused, Paper, answerPaper}
 use Rattle.answers.proofs.OneAnswer.{refusal-unique, number-in}
@@ -30,6 +30,7 @@ place-zero WordCount h = refl
 place-zero (RingNumber place) h = absurd (h .not-9 refl)
 place-zero OutputRoom h = refl
 place-zero (Input place) h = absurd (h .not-11 refl)
+place-zero RingMark h = refl
 
 module _ {C : Type 0} (zeros : C) where
   -- If the paper of an answer has the number and place of q, the answer is the refusal q.

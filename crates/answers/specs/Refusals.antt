@@ -1,15 +1,15 @@
--- Document 01, "What each call returns": the table of refusals, rows 1 to 11. This file gives the number and the place of each refusal. Each call
--- defines when its rows are given.
+-- Document 01, "What each call returns": the table of refusals, rows 1 to 11, and row 12 of document 02, ticket 2. This file gives the number and the
+-- place of each refusal. Each call defines when its rows are given.
 --
 --   numberOf             the column "No."
 --   placeOf              the column "Place"
 --   IsNumber, IsPlace    the contracts of `number_of` and `place_of`
 --
--- A refusal whose place is always 0 holds no place. All 11 rows are here, and no other.
+-- A refusal whose place is always 0 holds no place. All 12 rows are here, and no other.
 use Prim.Native.Nat.{ℕ}
 use mathlib.Core.Path.{_≡_}
 use Rattle.answers.specs.declared.refusals.Refusal.{Refusal}
-use Rattle.answers.specs.declared.refusals.Refusal.the-variants.{Ring, Allowance, Line, FindingsRoom, BookLength, Field, NotAbove, WordCount, RingNumber, OutputRoom, Input}
+use Rattle.answers.specs.declared.refusals.Refusal.the-variants.{Ring, Allowance, Line, FindingsRoom, BookLength, Field, NotAbove, WordCount, RingNumber, OutputRoom, Input, RingMark}
 
 -- The number of a refusal. Above each case stands the table's sentence for that row.
 abbrev pub numberOf : Refusal → ℕ
@@ -35,6 +35,8 @@ numberOf (RingNumber place) = 9
 numberOf OutputRoom = 10
 -- "the program's input isn't as laid down below"
 numberOf (Input place) = 11
+-- "a ring holding 255" (document 02, ticket 2)
+numberOf RingMark = 12
 
 -- The place of a refusal. Above each case stand the row's number and the table's words; for row 11 the words of "The report program".
 abbrev pub placeOf : Refusal → ℕ
@@ -60,6 +62,8 @@ placeOf (RingNumber place) = place
 placeOf OutputRoom = 0
 -- 11: "the offset where the first such field begins or should begin", or 0
 placeOf (Input place) = place
+-- 12: "place 0" (document 02, ticket 2)
+placeOf RingMark = 0
 
 -- The contract of `number_of`, which returns r.
 pub record IsNumber (refusal : Refusal) (r : ℕ) : Type 0 where

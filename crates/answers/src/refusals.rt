@@ -1,5 +1,5 @@
-// Document 01's table of refusals: a name for each row, its number and its place. A variant holds a place if the table
-// gives one that is not always 0.
+// Document 01's table of refusals and row 12 of document 02: a name for each row, its number and its place. A variant
+// holds a place if the table gives one that is not always 0.
 ghost use Rattle.answers.specs.Refusals.{IsNumber, IsPlace};
 
 // A refusal: one row of the table, with its place if the row has one.
@@ -27,6 +27,8 @@ pub enum Refusal {
     // 11: the program's input isn't as laid down; the offset where the first such field begins or should begin, or 0 if
     // the input is too long
     Input(usize),
+    // 12: a ring holding 255, a boundary mark (document 02, ticket 2)
+    RingMark,
 }
 
 // The number of a refusal: the table's column "No.".
@@ -45,6 +47,7 @@ pub fn number_of(refusal: Refusal) -> usize
         Refusal::RingNumber(_) => 9,
         Refusal::OutputRoom => 10,
         Refusal::Input(_) => 11,
+        Refusal::RingMark => 12,
     }
 }
 
@@ -64,5 +67,6 @@ pub fn place_of(refusal: Refusal) -> usize
         Refusal::BookLength => 0,
         Refusal::WordCount => 0,
         Refusal::OutputRoom => 0,
+        Refusal::RingMark => 0,
     }
 }
