@@ -1,5 +1,5 @@
--- `outlines_report` meets the demands. It answers by rows 1 to 7, so demand 1 follows as for every call (RowsAgree). Where it is accepted, the book is the layout of the
--- silences read (`accepted-iff` of crates/silences), so a finding is shown exactly when the book's bytes do not name it. Its looks are the scan's.
+-- `outlines_report` meets the demands. It answers by the rows of a report, so demand 1 follows as for every call (RowsAgree). Where it is accepted, the book is the
+-- layout of the silences read (`accepted-iff` of crates/silences), so a finding is shown exactly when the book's bytes do not name it. Its looks are the scan's.
 use Prim.Native.Nat.{ℕ, _+_, _<_}
 use mathlib.Core.Path.{_≡_, refl, sym, ap, subst, _∙_}
 use mathlib.Core.Logic.{_↔_, Iff·trans, Iff·and, Iff·rfl}
@@ -71,7 +71,7 @@ module _ (cell ringNumber : ℕ) (ring line : List ℕ) (k : ℕ) (book words : 
   abbrev rows : List (Option Refusal)
   rows = reportRows ring k (length line) (length words) book
 
-  -- a report answers by rows 1 to 7
+  -- a report answers by its rows
   reported-by-rows : GoesByRows rows (reportCounts ring line k cell ringNumber (silencesRead book))
       (written (wordsOf (shown (silencesRead book) cell ringNumber (findings ring line k))) words) words r out
   unfolding reportAnswer reportedWords
@@ -90,7 +90,7 @@ module _ (cell ringNumber : ℕ) (ring line : List ℕ) (k : ℕ) (book words : 
         (written (wordsOf (shown (silencesRead book) cell ringNumber (findings ring line k))) words) r out
     taken = accepts reported-by-rows zero-is
 
-    -- no row is given, neither of 1 to 4 nor of the book
+    -- no row is given, neither of the search nor of the book
     none-of-either : (admitRefusal ring k (length line) (length words) ≡ none) × (firstGiven (bookRows book) ≡ none)
     unfolding reportRows
     none-of-either = none-append-iff (admitRows ring k (length line) (length words)) (bookRows book) .0 (taken .none-given)

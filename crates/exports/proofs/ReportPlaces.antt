@@ -1,4 +1,4 @@
--- The place of a report's refusal is at most 13,000: rows 1 to 4 have place 0, and the others have the places of reading the book.
+-- The place of a report's refusal is at most 13,000: the search's rows have place 0, and the others have the places of reading the book.
 use Prim.Native.Nat.{ℕ, _≤_}
 use mathlib.Core.Path.{_≡_, refl}
 use mathlib.Core.List.{List}

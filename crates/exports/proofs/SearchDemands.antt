@@ -1,6 +1,6 @@
--- `outlines_survey` and `outlines_scan` meet the demands. Both answer by rows 1 to 4 (`searched-by-rows`), so demand 1 follows as for every call (RowsAgree). Where they are
--- accepted, they write the findings, which are exactly those of `IsFinding` (`findings-iff` of crates/meaning). Their looks are `surveyLooks` and `quickLooks`, whose
--- value and bound crates/meaning proves.
+-- `outlines_survey` and `outlines_scan` meet the demands. Both answer by the rows of a search (`searched-by-rows`), so demand 1 follows as for every call
+-- (RowsAgree). Where they are accepted, they write the findings, which are exactly those of `IsFinding` (`findings-iff` of crates/meaning). Their looks are
+-- `surveyLooks` and `quickLooks`, whose value and bound crates/meaning proves.
 use Prim.Native.Nat.{ℕ, _+_, _-_, _*_, _≤_, _<_}
 use mathlib.Core.Path.{_≡_, refl, sym, ap, subst, _∙_}
 use mathlib.Core.Logic.{_↔_}
@@ -21,19 +21,22 @@ use Rattle.answers.specs.Paper.{Paper, answerPaper}
 use Rattle.answers.specs.Rows.{answerBy}
 use Rattle.findings.specs.Admitting.{admitRows, admitRefusal, Admitted}
 use Rattle.findings.specs.Searching.{Counts, noCounts, searched, searchPaper, searchedWords}
-use Rattle.findings.proofs.AdmitRows.{is-row-1, is-row-2, is-row-3, is-row-4, no-row-iff}
+use Rattle.findings.proofs.AdmitRows.{is-row-1, is-row-12, is-row-2, is-row-3, is-row-4, no-row-iff}
 use Rattle.outlines.specs.Report.{ReportCounts, noReportCounts}
 use Rattle.exports.specs.declared.answering.Answer.{Answer as AnswerStruct}
 use Rattle.exports.specs.Exported.{paperOf, paperInStruct, searchInStruct, IsExported, IsSurveyExported, IsScanExported}
 use Rattle.exports.specs.Demands.{searchTable, NeverNamed, Demand1, Demand2, Demand3, SurveyMeets, ScanMeets, SurveyScanSame}
 use Rattle.exports.proofs.RowsAgree.{AllAgree, row-agrees, GoesByRows, Accepts, demand-1-met, accepts}
 
--- The rows of a search agree with those of the page of demands, 1 to 4.
+-- The rows of a search agree with those of the page of demands, 1, 12, 2, 3, 4.
 pub search-agrees : (ring : List ℕ) (k n room : ℕ) → AllAgree (admitRows ring k n room) (searchTable ring k n room)
 unfolding admitRows
 search-agrees ring k n room = (
   row-agrees (is-row-1 ring k n room) refl,
-  λ _. (row-agrees (is-row-2 ring k n room) refl, λ _. (row-agrees (is-row-3 ring k n room) refl, λ _. (row-agrees (is-row-4 ring k n room) refl, λ _. tt))),
+  λ _. (
+    row-agrees (is-row-12 ring k n room) refl,
+    λ _. (row-agrees (is-row-2 ring k n room) refl, λ _. (row-agrees (is-row-3 ring k n room) refl, λ _. (row-agrees (is-row-4 ring k n room) refl, λ _. tt))),
+  ),
 )
 
 -- For a ring that is not empty: if the shown findings are exactly those not named, then a start is among them exactly when some rotation differs in at most k places and
@@ -61,7 +64,7 @@ in-struct-by (some q) c = refl
 
 module _ (ring line : List ℕ) (k looks : ℕ) (words : List ℕ) {r : AnswerStruct} {out : List ℕ}
     (exported : IsExported (paperInStruct searchInStruct (searchPaper ring line k (length words) looks)) (searchedWords ring line k words) r out) where
-  -- a search answers by rows 1 to 4
+  -- a search answers by its rows
   searched-by-rows : GoesByRows (admitRows ring k (length line) (length words)) (countsInStruct ring line k looks) (written (wordsOf (findings ring line k)) words) words r out
   unfolding searched searchedWords
   searched-by-rows = record {

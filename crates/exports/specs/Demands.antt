@@ -1,6 +1,6 @@
--- The three demands on the calls, stated for what a C caller gets: the struct of five numbers and the lent area at exit. Read this page beside document 01 and ticket 1
--- of document 02. Nothing here says how a call works. proofs/SearchDemands.antt (survey and scan), proofs/ReportDemands.antt and proofs/BookDemands.antt prove that each
--- call meets its demands.
+-- The three demands on the calls, stated for what a C caller gets: the struct of five numbers and the lent area at exit. Read this page beside document 01 and
+-- tickets 1 and 2 of document 02. Nothing here says how a call works. proofs/SearchDemands.antt (survey and scan), proofs/ReportDemands.antt and
+-- proofs/BookDemands.antt prove that each call meets its demands.
 --
 --   Row, rowOf, FirstRow, NoRow              a row of the table of refusals; the first row that is given; no row is given
 --   searchTable, bookTable, reportTable,     the rows of each call in its order, "Given exactly when"
@@ -21,7 +21,7 @@ use mathlib.Core.Logic.{_↔_, _⊎_}
 use mathlib.Core.List.{List, [], _∷_, _++_, List·Memᴰ}
 use lib.ListN.{length, take}
 use Rattle.lists.specs.Areas.{written}
-use Rattle.meaning.specs.Meanings.{IsStart, distance}
+use Rattle.meaning.specs.Meanings.{HoldsMark, IsStart, distance}
 use Rattle.meaning.specs.Findings.{Finding, IsFinding, Rising, wordsOf}
 use Rattle.meaning.specs.Looks.{quickLooks}
 use Rattle.silences.specs.Silences.{Silence, Names}
@@ -49,11 +49,14 @@ unfoldable pub NoRow : List Row → Type 0
 NoRow [] = Unit {0}
 NoRow (r ∷ rows) = ((n p : ℕ) → r n p → ⊥) × NoRow rows
 
--- "Order: survey and scan 1 to 4". The ring, m edges long, allowance k, n edges of the line, `room` words lent for findings.
+-- "Order: survey and scan 1 to 4", with 12 "after 1 and before 2" (document 02, ticket 2). The ring, m edges long, allowance k, n edges of the line, `room` words
+-- lent for findings.
 abbrev pub searchTable : List ℕ → ℕ → ℕ → ℕ → List Row
 searchTable ring k n room =
     -- "m = 0 or m > 256"
     rowOf 1 ((length ring ≡ 0) ⊎ (256 < length ring))
+    -- "a ring holding 255" (document 02, ticket 2)
+    ∷ rowOf 12 (HoldsMark ring)
     -- "k ≥ m"
     ∷ rowOf 2 (length ring ≤ k)
     -- "n > 65,536"
@@ -71,7 +74,7 @@ bookTable book =
     ∷ (λ number place. ((number ≡ 6) × IsFieldFault book place) ⊎ ((number ≡ 7) × IsOrderFault book place))
     ∷ []
 
--- "report 1 to 7": the rows of a search, then those of the book.
+-- "report 1 to 7", with 12 after 1: the rows of a search, then those of the book.
 abbrev pub reportTable : List ℕ → ℕ → ℕ → ℕ → List ℕ → List Row
 reportTable ring k n room book = searchTable ring k n room ++ bookTable book
 

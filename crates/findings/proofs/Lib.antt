@@ -3,7 +3,7 @@
 --
 -- The loop that seeks a mark.
 pub mod MarkLoop
--- Rows 1 to 4: when each is the first that is given.
+-- Rows 1, 12, 2, 3, 4: when each is the first that is given.
 pub mod AdmitRows
 -- A finding's words in the lent words.
 pub mod WordsPut

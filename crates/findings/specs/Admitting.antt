@@ -1,10 +1,11 @@
 -- Document 01, "What each call returns", rows 1 to 4 of the table: the refusals that lengths, k and room decide. Row 4 asks for four words for each
--- start, as document 02, ticket 1, says.
+-- start, as document 02, ticket 1, says. And row 12 of ticket 2, which the ring's edges decide. These are the rows of every search.
 --
 --   mostRing, mostLine    the document's limits
 --   roomRequired          the words that row 4 requires
---   isRow1 to isRow4      the tests: whether each row is given
---   admitRows             "Order: survey and scan 1 to 4"
+--   isRow1 to isRow4,     the tests: whether each row is given
+--   isRow12
+--   admitRows             the rows in their order: 1, 12, 2, 3, 4
 --   admitRefusal          the refusal of the first of these rows that is given, if one is
 --   IsRingLength          row 1 is not given
 --   Admitted              none of these rows is given
@@ -12,14 +13,15 @@
 --   IsVerdict             the contract of `admit`
 use Prim.Native.Nat.{ℕ, _+_, _-_, _*_, _≤_, _<_}
 use mathlib.Core.Path.{_≡_}
-use mathlib.Core.Bool.{Bool, _&&_, _||_}
+use mathlib.Core.Bool.{Bool, false, _&&_, _||_}
 use mathlib.Core.List.{List, [], _∷_}
 use mathlib.Core.Option.{Option, none, some}
 use lib.Dec.{ltb, leb, eqb}
 use lib.ListN.{length}
+use Rattle.meaning.specs.Meanings.{holdsMark}
 use Rattle.meaning.specs.Findings.{wordsEach}
 use Rattle.answers.specs.declared.refusals.Refusal.{Refusal}
-use Rattle.answers.specs.declared.refusals.Refusal.the-variants.{Ring, Allowance, Line, FindingsRoom}
+use Rattle.answers.specs.declared.refusals.Refusal.the-variants.{Ring, Allowance, Line, FindingsRoom, RingMark}
 use Rattle.answers.specs.Rows.{row, firstGiven}
 use Rattle.findings.specs.declared.admitting.Verdict.{Verdict}
 use Rattle.findings.specs.declared.admitting.Verdict.the-variants.{Accepted, Refused}
@@ -32,13 +34,17 @@ mostRing = 256
 abbrev pub mostLine : ℕ
 mostLine = 65536
 
--- "4·(n − m + 1) words" (document 02, ticket 1): room for as many findings as there are starts (for n ≥ m).
+-- "4·(n − m + 1) words" (document 02, ticket 1): room for as many findings as there are windows (for n ≥ m).
 abbrev pub roomRequired : ℕ → ℕ → ℕ
 roomRequired m n = wordsEach * (n - m + 1)
 
 -- Row 1: "m = 0 or m > 256".
 abbrev pub isRow1 : ℕ → Bool
 isRow1 m = eqb m 0 || ltb mostRing m
+
+-- Row 12: "a ring holding 255" (document 02, ticket 2).
+abbrev pub isRow12 : List ℕ → Bool
+isRow12 ring = holdsMark ring
 
 -- Row 2: "k ≥ m".
 abbrev pub isRow2 : ℕ → ℕ → Bool
@@ -52,16 +58,18 @@ isRow3 n = ltb mostLine n
 abbrev pub isRow4 : ℕ → ℕ → ℕ → Bool
 isRow4 m n room = leb m n && ltb room (roomRequired m n)
 
--- "Order: survey and scan 1 to 4": the rows for the ring, k, n and the number of words lent, each with its refusal if it is given.
+-- "Order: survey and scan 1 to 4", and 12 "after 1 and before 2" (document 02, ticket 2): the rows for the ring, k, n and the number of words lent, each with its
+-- refusal if it is given.
 unfoldable pub admitRows : List ℕ → ℕ → ℕ → ℕ → List (Option Refusal)
 admitRows ring k n room =
     row (isRow1 (length ring)) Ring
+    ∷ row (isRow12 ring) RingMark
     ∷ row (isRow2 (length ring) k) Allowance
     ∷ row (isRow3 n) Line
     ∷ row (isRow4 (length ring) n room) FindingsRoom
     ∷ []
 
--- The refusal of the first of rows 1 to 4 that is given; none if no row is.
+-- The refusal of the first of these rows that is given; none if no row is.
 abbrev pub admitRefusal : List ℕ → ℕ → ℕ → ℕ → Option Refusal
 admitRefusal ring k n room = firstGiven (admitRows ring k n room)
 
@@ -70,10 +78,11 @@ pub record IsRingLength (m : ℕ) : Type 0 where
   pub some-edge : 0 < m
   pub most : m ≤ mostRing
 
--- None of rows 1 to 4 is given: the document's limits hold, and there is room for the findings.
+-- None of these rows is given: the document's limits hold, the ring holds no mark, and there is room for the findings.
 pub record Admitted (ring : List ℕ) (k n room : ℕ) : Type 0 where
   pub some-edge : 0 < length ring
   pub most-ring : length ring ≤ mostRing
+  pub no-mark : holdsMark ring ≡ false
   pub allowed : k < length ring
   pub most-line : n ≤ mostLine
   pub room-for : length ring ≤ n → roomRequired (length ring) n ≤ room

@@ -29,7 +29,7 @@ pub record Counts : Type 0 where
 abbrev pub noCounts : Counts
 noCounts = record { found = 0; looks = 0 }
 
--- The answer of a search that takes `looks` looks and is lent `room` words: the first of refusals 1 to 4 that is given, else the number of findings and the
+-- The answer of a search that takes `looks` looks and is lent `room` words: the first of refusals 1, 12, 2, 3, 4 that is given, else the number of findings and the
 -- looks.
 unfoldable pub searched : List ℕ → List ℕ → ℕ → ℕ → ℕ → Answer Counts
 searched ring line k room looks =

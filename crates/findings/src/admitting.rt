@@ -1,4 +1,6 @@
-// Rows 1 to 4 of document 01's table: the refusals that lengths, k and room decide.
+// Rows 1 to 4 of document 01's table, the refusals that lengths, k and room decide, and row 12 of document 02, which the
+// ring's edges decide.
+use crate::marks::holds_mark;
 use answers::Refusal;
 ghost use Rattle.findings.specs.Admitting.{IsVerdict};
 
@@ -15,8 +17,8 @@ pub enum Verdict {
     Refused(Refusal),
 }
 
-// Tests rows 1 to 4 in their order and returns the first that is given. n is the line's length, `room` the number of
-// words lent for findings.
+// Tests rows 1, 12, 2, 3, 4 in this order and returns the first that is given. n is the line's length, `room` the number
+// of words lent for findings.
 pub fn admit(ring: &[u8], k: usize, n: usize, room: usize) -> Verdict
     ensures { λ r. ⌜ IsVerdict (now (ring .entry)) k n room r ⌝ }
 {
@@ -26,6 +28,11 @@ pub fn admit(ring: &[u8], k: usize, n: usize, room: usize) -> Verdict
     }
     if MOST_RING < m {
         return Verdict::Refused(Refusal::Ring);
+    }
+    // Row 1 is ruled out, so at most 256 edges are read.
+    let marked = holds_mark(ring);
+    if marked {
+        return Verdict::Refused(Refusal::RingMark);
     }
     if m <= k {
         return Verdict::Refused(Refusal::Allowance);

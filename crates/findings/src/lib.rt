@@ -1,4 +1,5 @@
-// What survey, scan and report share: rows 1 to 4 of document 01's table, the answer of a search, and a finding's words.
+// What survey, scan and report share: rows 1 to 4 of document 01's table and row 12 of document 02, the answer of a
+// search, and a finding's words.
 //
 // `admit` accepts a call or returns the refusal of the first row that is given; its contract is in specs/Admitting.antt.
 // `put_finding` writes a finding's words behind those of the findings before it; its contract is in specs/Putting.antt.

@@ -1,5 +1,6 @@
--- Which of the report's rows is the first that is given: one of the search's rows, if one of them is; else one of the book's rows. The report's list is made of these two
--- parts, and no refusal belongs to both: `isSearchRefusal` tells them apart, so that a new row of either part changes nothing here (`RowsExactly` of crates/answers).
+-- Which of the report's rows is the first that is given: one of the search's rows, if one of them is; else one of the book's rows. The report's list is made of
+-- these two parts, and no refusal belongs to both: `isSearchRefusal` tells them apart, so that a new row of either part changes nothing here (`RowsExactly` of
+-- crates/answers).
 use Prim.Native.Nat.{ℕ}
 use mathlib.Core.Bool.{true, false, false≢true}
 use mathlib.Core.Logic.{_↔_, Iff·trans, Iff·and, Iff·rfl}

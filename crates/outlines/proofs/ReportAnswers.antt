@@ -1,5 +1,5 @@
--- The three ways in which `report` meets its contract: one of rows 1 to 4 is given; none of them is, and one of the book's rows is; or no row is given, and the line is
--- scanned with the book. A refusal leaves the words as they were.
+-- The three ways in which `report` meets its contract: one of the search's rows is given; none of them is, and one of the book's rows is; or no row is given, and
+-- the line is scanned with the book. A refusal leaves the words as they were.
 use Prim.Native.Nat.{ℕ}
 use mathlib.Core.Path.{_≡_, sym, ap, _∙_}
 use mathlib.Core.List.{List}
@@ -44,13 +44,13 @@ module _ {cell ringNumber : ℕ} {ring line : List ℕ} {k : ℕ} {book words : 
     written = sym (ap (λ (o : Option Refusal). areaBy o (written (wordsOf (shown (silencesRead book) cell ringNumber (findings ring line k))) words) words) e);
   }
 
-  -- If one of rows 1 to 4 is given, returning the first one's refusal and leaving the words meets the contract of `report`.
+  -- If one of the search's rows is given, returning the first one's refusal and leaving the words meets the contract of `report`.
   pub report-refused-row : {refusal : Refusal} → some refusal ≡ admitRefusal ring k (length line) (length words)
       → IsReported cell ringNumber ring line k book words (Refused refusal) words
   unfolding reportRows
   report-refused-row e = report-refused (first-append-some (admitRows ring k (length line) (length words)) (bookRows book) (sym e))
 
-  -- If none of rows 1 to 4 is given and the book has a refusal, returning this and leaving the words meets the contract of `report`.
+  -- If none of the search's rows is given and the book has a refusal, returning this and leaving the words meets the contract of `report`.
   pub report-refused-book : {refusal : Refusal} → none ≡ admitRefusal ring k (length line) (length words) → bookRefusal book ≡ some refusal
       → IsReported cell ringNumber ring line k book words (Refused refusal) words
   unfolding reportRows

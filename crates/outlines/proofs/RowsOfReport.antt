@@ -1,9 +1,9 @@
--- Rows 1 to 7 of the table hold for every answer that meets the contract of `report`, if the book is a list of bytes. The first row that is given (`reportRefusal`)
--- decides the paper and the words. So the paper has a row's number exactly when that row is the first (`AnswerByRows` of crates/answers), and FirstOfReport states when
--- it is.
+-- The rows of the table, 1, 12 and 2 to 7, hold for every answer that meets the contract of `report`, if the book is a list of bytes. The first row that is given
+-- (`reportRefusal`) decides the paper and the words. So the paper has a row's number exactly when that row is the first (`AnswerByRows` of crates/answers), and
+-- FirstOfReport states when it is.
 use Prim.Native.Nat.{ℕ, _≤_}
 use mathlib.Core.Path.{_≡_, refl, ap, _∙_}
-use mathlib.Core.Logic.{Iff·trans, Iff·and, Iff·rfl}
+use mathlib.Core.Logic.{_⊎_, inl, inr, ⊎-elim, Iff·trans, Iff·and, Iff·rfl}
 use mathlib.Core.List.{List}
 use mathlib.Core.Option.{Option, none, some}
 use native.Mathlib.Omega.{arith}
@@ -12,7 +12,7 @@ use Rattle.lists.specs.Areas.{written}
 use Rattle.lists.specs.Bounds.{IsBytes}
 use Rattle.meaning.specs.Findings.{findings, wordsOf}
 use Rattle.answers.specs.declared.refusals.Refusal.{Refusal}
-use Rattle.answers.specs.declared.refusals.Refusal.the-variants.{Ring, Allowance, Line, FindingsRoom, BookLength, Field, NotAbove}
+use Rattle.answers.specs.declared.refusals.Refusal.the-variants.{Ring, Allowance, Line, FindingsRoom, BookLength, Field, NotAbove, RingMark}
 use Rattle.answers.specs.Refusals.{numberOf, placeOf}
 use Rattle.answers.specs.Paper.{Paper, answerPaper}
 use Rattle.answers.specs.Rows.{answerBy}
@@ -20,11 +20,15 @@ use Rattle.answers.proofs.AnswerByRows.{row-number-iff, row-place-iff, accepted
 use Rattle.silences.specs.Reading.{silencesRead}
 use Rattle.silences.proofs.BookRows.{refusal-5-iff, refusal-6-iff, refusal-7-iff, refusal-has}
 use Rattle.silences.proofs.AcceptedIsLayout.{no-refusal-iff}
-use Rattle.findings.proofs.AdmitRows.{row-1-iff, row-2-iff, row-3-iff, row-4-iff, row-numbers, row-places}
+use Rattle.findings.proofs.AdmitRows.{row-1-iff, row-12-iff, row-2-iff, row-3-iff, row-4-iff, row-numbers, row-places}
 use Rattle.outlines.specs.declared.reporting.Reported.{Reported}
 use Rattle.outlines.specs.Report.{shown, reportRefusal, ReportCounts, noReportCounts, reportCounts, reportAnswer, reportedWords, paperOf, IsReported}
 use Rattle.outlines.specs.ReportRows.{ReportRows}
 use Rattle.outlines.proofs.FirstOfReport.{early-row-iff, late-row-iff, none-row-iff, report-row-has}
+
+-- the numbers of a report's rows, and 0
+abbrev InTable : ℕ → Type 0
+InTable number = (number ≤ 7) ⊎ (number ≡ 12)
 
 -- the place is 0 unless the number is 6 or 7
 abbrev PlaceIsZero : ℕ → ℕ → Type 0
@@ -48,6 +52,7 @@ report-rows {cell} {ringNumber} {ring} {line} {k} {book} {words} bytes meets =
     let paper = meets .paper in
     record {
       row-1 = Iff·trans (row-number-iff noReportCounts counts row paper Ring (omega arith)) (Iff·trans (early-row-iff ring k n room book Ring refl) (row-1-iff ring k n room));
+      row-12 = Iff·trans (row-number-iff noReportCounts counts row paper RingMark (omega arith)) (Iff·trans (early-row-iff ring k n room book RingMark refl) (row-12-iff ring k n room));
       row-2 = Iff·trans (row-number-iff noReportCounts counts row paper Allowance (omega arith)) (Iff·trans (early-row-iff ring k n room book Allowance refl) (row-2-iff ring k n room));
       row-3 = Iff·trans (row-number-iff noReportCounts counts row paper Line (omega arith)) (Iff·trans (early-row-iff ring k n room book Line refl) (row-3-iff ring k n room));
       row-4 = Iff·trans (row-number-iff noReportCounts counts row paper FindingsRoom (omega arith)) (Iff·trans (early-row-iff ring k n room book FindingsRoom refl) (row-4-iff ring k n room));
@@ -55,10 +60,10 @@ report-rows {cell} {ringNumber} {ring} {line} {k} {book} {words} bytes meets =
       row-6 = λ at. Iff·trans (row-place-iff noReportCounts counts row paper (Field at)) (Iff·trans (late-row-iff ring k n room book (Field at) refl) (Iff·and Iff·rfl (refusal-6-iff book bytes at)));
       row-7 = λ at. Iff·trans (row-place-iff noReportCounts counts row paper (NotAbove at)) (Iff·trans (late-row-iff ring k n room book (NotAbove at) refl) (Iff·and Iff·rfl (refusal-7-iff book bytes at)));
       accepted = Iff·trans (accepted-number-iff noReportCounts counts row paper) (Iff·trans (none-row-iff ring k n room book) (Iff·and Iff·rfl (no-refusal-iff book bytes)));
-      number-le =
-          number-by noReportCounts counts row paper (λ (number : ℕ). number ≤ 7) (omega arith)
-          (report-row-has ring k n room book (λ (q : Refusal). numberOf q ≤ 7) (λ q e. omega (arith, row-numbers ring k n room q e))
-          (refusal-has book (λ (q : Refusal). numberOf q ≤ 7) (omega arith) (λ at. omega arith) (λ at. omega arith)));
+      numbers =
+          number-by noReportCounts counts row paper InTable (inl (omega arith))
+          (report-row-has ring k n room book (λ (q : Refusal). InTable (numberOf q)) (λ q e. ⊎-elim (λ l. inl (omega arith)) (λ is. inr is) (row-numbers ring k n room q e))
+          (refusal-has book (λ (q : Refusal). InTable (numberOf q)) (inl (omega arith)) (λ at. inl (omega arith)) (λ at. inl (omega arith))));
       place-is =
           place-by-row row counts paper
           (report-row-has ring k n room book (λ (q : Refusal). PlaceIsZero (numberOf q) (placeOf q)) (λ q e _ _. row-places ring k n room q e)

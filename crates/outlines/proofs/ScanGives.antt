@@ -1,4 +1,4 @@
--- What follows for every answer that meets the contract of `scan`: rows 1 to 4 of the table hold, and an accepted scan has counted all findings. Its looks are
+-- What follows for every answer that meets the contract of `scan`: rows 1 to 4 and 12 of the table hold, and an accepted scan has counted all findings. Its looks are
 -- the steps of rules 1 to 5. "For n ≥ m they are never above 3·m·n − 2·m·m + m, which is at most 3·m·n." SearchGives of crates/findings proves what holds for
 -- every search.
 use Prim.Native.Nat.{ℕ, _+_, _-_, _*_, _≤_, _<_}
@@ -17,7 +17,7 @@ use Rattle.findings.proofs.SearchGives.{accepted-gives, looks-of-search}
 use Rattle.outlines.specs.Scan.{IsScanned}
 
 module _ (ring line : List ℕ) (k : ℕ) (words : List ℕ) (r : Searched) (out : List ℕ) (meets : IsScanned ring line k words r out) where
-  -- Every answer of `scan` obeys rows 1 to 4 of the table.
+  -- Every answer of `scan` obeys rows 1 to 4 and 12 of the table.
   pub scan-rows : SearchRows ring k (length line) words (paperOf r) out
   scan-rows = rows-of-search meets
 

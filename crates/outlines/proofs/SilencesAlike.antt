@@ -40,8 +40,8 @@ module _ (ss ts : List Silence) (cell ringNumber : ℕ) where
     abbrev first-refusal : Option Refusal
     first-refusal = admitRefusal ring k (length line) (length words)
 
-    -- Both books are accepted, so the refusal of rows 1 to 4 decides what a report returns and writes. If there is none, the silences decide. So any value `by` that is
-    -- the same for each refusal, and for equal shown and hidden findings, is the same for the two reports.
+    -- Both books are accepted, so the refusal of the search's rows decides what a report returns and writes. If there is none, the silences decide. So any value
+    -- `by` that is the same for each refusal, and for equal shown and hidden findings, is the same for the two reports.
     given : {A : Type 0} (by : Option Refusal → List Silence → A)
         → ((q : Refusal) → by (some q) ss ≡ by (some q) ts)
         → (shown ss cell ringNumber (findings ring line k) ≡ shown ts cell ringNumber (findings ring line k)

@@ -1,8 +1,8 @@
 -- Scan and report. Read them in this order:
 --
 --   Scan             the contract of `scan`
---   Report           the contract of `report`: which findings are hidden and which are shown, the refusals 1 to 7, the counts, the words
---   ReportRows       rows 1 to 7 once more, in plain comparisons over an answer's number, place and counts
+--   Report           the contract of `report`: which findings are hidden and which are shown, the refusals 1 to 7 and 12, the counts, the words
+--   ReportRows       these rows once more, in plain comparisons over an answer's number, place and counts
 --   Hiding           contracts of the private functions of src/asking.rt, which ask the book for one finding
 --   LineScan         contracts of the private functions of src/quick.rt, which scan a line with a book
 --   ReportSamples    document 01's samples with silences, computed

@@ -17,12 +17,13 @@ use Rattle.tally.specs.Counts.{mostCounts, IsDoubled}
 use Rattle.findings.specs.Admitting.{Admitted}
 use Rattle.outlines.specs.Report.{shown, hidden}
 
--- The precondition of `scan_line`: none of refusals 1 to 7 is given.
+-- The precondition of `scan_line`: none of refusals 1 to 7 and 12 is given.
 pub record CanScanLine (ring line : List ℕ) (k : ℕ) (book words : List ℕ) : Type 0 where
   pub admitted : Admitted ring k (length line) (length words)
   pub book-read : bookRefusal book ≡ none
 
--- The precondition of `scan_windows`: none of refusals 1 to 7 is given, and the ring's vectors, its double and 256 counts are lent. The counts may hold anything.
+-- The precondition of `scan_windows`: none of refusals 1 to 7 and 12 is given, and the ring's vectors, its double and 256 counts are lent. The counts may hold
+-- anything.
 pub record CanScan (ring doubled table line : List ℕ) (k : ℕ) (book counts words : List ℕ) : Type 0 where
   pub admitted : Admitted ring k (length line) (length words)
   pub book-read : bookRefusal book ≡ none

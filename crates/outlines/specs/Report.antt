@@ -4,7 +4,7 @@
 --   isHidden, isShown              a silence of the book names the report's cell and ring number and the finding's start; none does
 --   takenBy                        the findings of a list that pass a test, in their order
 --   shown, hidden                  the findings of a list that are shown, and those that are hidden
---   reportRows                     "report 1 to 7"
+--   reportRows                     "report 1 to 7", with 12 after 1
 --   reportRefusal                  the refusal of the first of these rows that is given, if one is
 --   ReportCounts, noReportCounts   found, hidden and looks; all zero
 --   reportCounts                   the counts of a report, given the silences of its book
@@ -51,12 +51,12 @@ shown silences cell ringNumber fs = takenBy (isShown silences cell ringNumber) f
 abbrev pub hidden : List Silence → ℕ → ℕ → List Finding → List Finding
 hidden silences cell ringNumber fs = takenBy (isHidden silences cell ringNumber) fs
 
--- "report 1 to 7": the rows for the ring, k, n, the number of words lent and the book, each with its refusal if it is given. The book's rows are tested for every
--- line, also for one shorter than the ring.
+-- "report 1 to 7", with 12 "after 1 and before 2" (document 02, ticket 2): the rows for the ring, k, n, the number of words lent and the book, each with its refusal
+-- if it is given. The book's rows are tested for every line, also for one shorter than the ring.
 unfoldable pub reportRows : List ℕ → ℕ → ℕ → ℕ → List ℕ → List (Option Refusal)
 reportRows ring k n room book = admitRows ring k n room ++ bookRows book
 
--- The refusal of the first of rows 1 to 7 that is given; none if no row is.
+-- The refusal of the first of these rows that is given; none if no row is.
 abbrev pub reportRefusal : List ℕ → ℕ → ℕ → ℕ → List ℕ → Option Refusal
 reportRefusal ring k n room book = firstGiven (reportRows ring k n room book)
 
@@ -78,7 +78,7 @@ reportCounts ring line k cell ringNumber silences = record {
   looks = quickLooks ring line k;
 }
 
--- The answer of a report that is lent `room` words: the first of refusals 1 to 7 that is given, else the counts by the book's silences.
+-- The answer of a report that is lent `room` words: the refusal of the first of these rows that is given, else the counts by the book's silences.
 unfoldable pub reportAnswer : List ℕ → List ℕ → ℕ → ℕ → ℕ → List ℕ → ℕ → Answer ReportCounts
 reportAnswer ring line k cell ringNumber book room =
     answerBy (reportRefusal ring k (length line) room book) (reportCounts ring line k cell ringNumber (silencesRead book))

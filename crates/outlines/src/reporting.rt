@@ -17,8 +17,8 @@ pub enum Reported {
     Refused(Refusal),
 }
 
-// The report, with refusals in the order "report 1 to 7". The book is read for every line, also for one that has no
-// start.
+// The report, with refusals in the order "report 1 to 7" and 12 after 1. The book is read for every line, also for one
+// that has no start.
 pub fn report(
     cell: u32,
     ring_number: u16,

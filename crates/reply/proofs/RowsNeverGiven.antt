@@ -1,5 +1,5 @@
 -- A request is never refused by 3, because its line has at most 4,096 edges, nor by 4, because the report is lent at least as many words as row 4 requires. So the
--- program's refusals are 11, and after it 1, 2, 5, 6 and 7.
+-- program's refusals are 11, and after it 1, 12, 2, 5, 6 and 7.
 use Prim.Native.Nat.{ℕ, _≤_}
 use mathlib.Core.Path.{_≡_}
 use mathlib.Core.Option.{some}
@@ -30,7 +30,7 @@ module _ (q : Request) (line-le : length (q .line) ≤ lineField .most) where
   search-rows : (refusal : Refusal) → admitRefusal (q .ring) (q .allowance) n (roomRequired m n) ≡ some refusal → NotThreeNorFour refusal
   search-rows =
       by-row (q .ring) (q .allowance) n (roomRequired m n) NotThreeNorFour (λ _. (λ e. omega arith, λ e. omega arith)) (λ _. (λ e. omega arith, λ e. omega arith))
-      (λ long. absurd (omega arith)) (λ short. absurd (omega arith))
+      (λ _. (λ e. omega arith, λ e. omega arith)) (λ long. absurd (omega arith)) (λ short. absurd (omega arith))
 
   -- A request whose line has at most 4,096 edges is refused neither by 3 nor by 4.
   pub rows-3-4-never : (refusal : Refusal) → reportRefusal (q .ring) (q .allowance) n (roomRequired m n) (q .book) ≡ some refusal

@@ -5,7 +5,7 @@ use mathlib.Core.Path.{_≡_, refl}
 use mathlib.Core.List.{List, [], _∷_, _++_}
 use lib.ListN.{replicate, take}
 use Rattle.meaning.specs.Counting.{count, lowest, someBelow}
-use Rattle.meaning.specs.Meanings.{differs, distance, lowestRotation, rotationsReaching}
+use Rattle.meaning.specs.Meanings.{holdsMark, differs, distance, lowestRotation, rotationsReaching}
 use Rattle.meaning.specs.Findings.{foundAt, findingsBelow}
 use Rattle.meaning.specs.Stretch.{begins, fits}
 use Rattle.meaning.specs.Rules.{readEdge, readLeft, readWindow, windowsFrom, candidatesOf}
@@ -41,7 +41,7 @@ printed letters = letters ++ lf ∷ []
 -- "Output, whole": the text for the sample's input. Document 02, ticket 1, adds the ties to a finding's line.
 sample-right : answerText (sampleFields ++ sampleBook)
     ≡ printed (ascii "cell 7 ring 2 edges 2 allow 0") ++ (printed (ascii "0 0 0 2") ++ printed (ascii "found 2 hidden 1 looks 12"))
-unfolding sampleFields sampleBook ascii answerText requestOf inputFault firstFault partsFrom isFieldAt numberAt requestText reportLines firstLine findingLine findingLines lastLine digitsWithin decimal reportRows admitRows firstGiven bookRows readBook readFrom fieldsFrom fieldAt fieldBy lengthByTag isWhole silenceAt isBelow isSame names takenBy findingsBelow foundAt lowestRotation rotationsReaching lowest distance count differs readLooks tallyLooks verifyLooks windowsFrom candidatesOf readWindow readLeft readEdge begins fits someBelow
+unfolding sampleFields sampleBook ascii answerText requestOf inputFault firstFault partsFrom isFieldAt numberAt requestText reportLines firstLine findingLine findingLines lastLine digitsWithin decimal reportRows admitRows holdsMark firstGiven bookRows readBook readFrom fieldsFrom fieldAt fieldBy lengthByTag isWhole silenceAt isBelow isSame names takenBy findingsBelow foundAt lowestRotation rotationsReaching lowest distance count differs readLooks tallyLooks verifyLooks windowsFrom candidatesOf readWindow readLeft readEdge begins fits someBelow
 sample-right = refl
 
 -- The sample's input is this request, laid down.
@@ -76,8 +76,17 @@ order-of-rows : (answerText (fieldsWith 0 [] 3) ≡ printed (ascii "refused 1 pl
     × (answerText (sampleFields ++ 0x21 ∷ []) ≡ printed (ascii "refused 6 place 0"))
     × (answerText (sampleFields ++ (sampleBook ++ 0x21 ∷ [])) ≡ printed (ascii "refused 6 place 13"))
     × (answerText (sampleFields ++ (sampleBook ++ sampleBook)) ≡ printed (ascii "refused 7 place 13"))
-unfolding sampleFields sampleBook ascii laidDown bytesOf answerText requestOf inputFault firstFault partsFrom isFieldAt numberAt requestText refusalLineOf digitsWithin decimal reportRows admitRows firstGiven bookRows readBook readFrom fieldsFrom fieldAt fieldBy lengthByTag isWhole silenceAt isBelow
+unfolding sampleFields sampleBook ascii laidDown bytesOf answerText requestOf inputFault firstFault partsFrom isFieldAt numberAt requestText refusalLineOf digitsWithin decimal reportRows admitRows holdsMark someBelow firstGiven bookRows readBook readFrom fieldsFrom fieldAt fieldBy lengthByTag isWhole silenceAt isBelow
 order-of-rows = (refl, refl, refl, refl, refl, refl, refl)
+
+-- Refusal 12, "a ring holding 255" (document 02, ticket 2): the mark is the ring's first edge, its last, its only one. It comes after 11, where the line is cut as
+-- well, and "after 1 and before 2": the last sample has k = m and a book of one byte.
+row-12 : (answerText (fieldsWith 0 (255 ∷ ascii "a") 3) ≡ printed (ascii "refused 12 place 0"))
+    × (answerText (fieldsWith 0 (ascii "a" ++ 255 ∷ []) 3) ≡ printed (ascii "refused 12 place 0"))
+    × (answerText (take 22 (fieldsWith 0 (255 ∷ []) 3)) ≡ printed (ascii "refused 11 place 20"))
+    × (answerText (fieldsWith 1 (255 ∷ []) 3 ++ 0x21 ∷ []) ≡ printed (ascii "refused 12 place 0"))
+unfolding ascii laidDown bytesOf answerText requestOf inputFault firstFault partsFrom isFieldAt numberAt requestText refusalLineOf digitsWithin decimal reportRows admitRows holdsMark someBelow firstGiven
+row-12 = (refl, refl, refl, refl)
 
 -- Digits: no leading zero, and a 0 for zero.
 digits-right : (decimal 0 ≡ ascii "0") × (decimal 9 ≡ ascii "9") × (decimal 10 ≡ ascii "10") × (decimal 4096 ≡ ascii "4096") × (decimal 4294967295 ≡ ascii "4294967295")

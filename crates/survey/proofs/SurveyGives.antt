@@ -1,5 +1,5 @@
--- What follows for every answer that meets the contract of `survey`: rows 1 to 4 hold, and an accepted call has counted all findings, with "2·m·n − m·m looks for
--- n ≥ m, else 0". SearchGives of crates/findings proves what holds for every search; only the looks are the survey's own.
+-- What follows for every answer that meets the contract of `survey`: rows 1 to 4 and 12 hold, and an accepted call has counted all findings, with "2·m·n − m·m looks
+-- for n ≥ m, else 0". SearchGives of crates/findings proves what holds for every search; only the looks are the survey's own.
 use Prim.Native.Nat.{ℕ, _-_, _*_, _≤_, _<_}
 use mathlib.Core.Path.{_≡_, refl, _∙_}
 use mathlib.Core.List.{List}
@@ -14,7 +14,7 @@ use Rattle.findings.proofs.SearchGives.{accepted-gives, looks-of-search}
 use Rattle.survey.specs.Survey.{IsSurveyed}
 
 module _ (ring line : List ℕ) (k : ℕ) (words : List ℕ) (r : Searched) (out : List ℕ) (meets : IsSurveyed ring line k words r out) where
-  -- Every answer of `survey` obeys rows 1 to 4 of the table.
+  -- Every answer of `survey` obeys rows 1 to 4 and 12 of the table.
   pub survey-rows : SearchRows ring k (length line) words (paperOf r) out
   survey-rows = rows-of-search meets
 

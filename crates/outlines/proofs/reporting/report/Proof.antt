@@ -1,5 +1,5 @@
--- `outlines::reporting::report` meets its contract: one of rows 1 to 4 is given; none of them is, and the book is refused; or the line is scanned with the book
--- (`ReportAnswers`).
+-- `outlines::reporting::report` meets its contract: one of the search's rows is given; none of them is, and the book is refused; or the line is scanned with the
+-- book (`ReportAnswers`).
 use mathlib.Core.Path.{sym, ap, _∙_}
 use borrow.Author.Needs.{needs}
 use Rattle.findings.specs.Admitting.{verdictOf}
@@ -35,13 +35,13 @@ scan-line-requires c κs =
       book-read = read-accepted (read .read .ensures) (c .before .enum-told2 .given .1);
     }
 
--- One of rows 1 to 4 is given.
+-- One of the search's rows is given.
 returns : tie.Need-returns
 returns c =
     let admitted = c .before .before .before in
     report-refused-row (sym (ap verdictOf (c .before .refusal .given .1)) ∙ admitted .admit .ensures .is)
 
--- One of rows 5 to 7 is given.
+-- One of the book's rows is given.
 returns-2 : tie.Need-returns-2
 returns-2 c =
     let read = c .before .before .before in
