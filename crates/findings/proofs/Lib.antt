@@ -3,8 +3,9 @@
 --
 -- The loop that seeks a mark.
 pub mod MarkLoop
--- Rows 1, 12, 2, 3, 4: when each is the first that is given.
+-- Rows 1, 12, 2, 3, 4: when each is the first that is given; and that without a mark they are document 01's.
 pub mod AdmitRows
+pub mod RowsUnmarked
 -- A finding's words in the lent words.
 pub mod WordsPut
 pub mod PutCases
