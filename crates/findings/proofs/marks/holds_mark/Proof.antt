@@ -27,7 +27,7 @@ returns : tie.Need-returns Inv-loop μ-loop
 returns c =
     let asked = c .before in
     let turn = asked .before .before in
-    some-here (turn .before .loop .inv) (turn .loop-test .taken) (asked .is-mark .ensures .is) (c .if1 .taken)
+    some-here (turn .before .loop .inv) (omega arith) (asked .is-mark .ensures .is) (c .if1 .taken)
 
 add-q : tie.Need-add-q Inv-loop μ-loop
 add-q c = search needs
@@ -39,11 +39,11 @@ loop-again : tie.Need-loop-again Inv-loop μ-loop
 loop-again c =
     let asked = c .before in
     let turn = asked .before .before in
-    none-next (turn .before .loop .inv) (turn .loop-test .taken) (asked .is-mark .ensures .is) (c .if1 .left)
+    none-next (turn .before .loop .inv) (omega arith) (asked .is-mark .ensures .is) (c .if1 .left)
 
 -- No edge is a mark.
 returns-2 : tie.Need-returns-2 Inv-loop μ-loop
-returns-2 c = none-all (c .before .loop .inv) (c .loop-test .left)
+returns-2 c = none-all (c .before .loop .inv) (omega arith)
 
 pub holds-mark-spec : {M : Type 1} → statement M
 holds-mark-spec =
