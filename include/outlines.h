@@ -1,12 +1,12 @@
 /* Outlines stored twice: finds a closed ring of edges in a line of edges, starting at any of its edges and with at most k edges that differ.
  * Link with target/native/libexports.a, which tools/native makes. docs/SPEC.md has all of this in full.
  *
- * Terms. A ring has m edges and a line has n, one byte each; all 256 byte values are ordinary edge codes. Turning the ring by r, 0 <= r < m, brings its
- * edge (r + q) mod m to place q; r is called a rotation. A line place i is a start if i + m <= n; the line's places i to i + m - 1 are its window. The
- * distance of a start under a rotation counts the places at which the window and the turned ring have different edges. A start is a finding if its
- * distance is at most k, the allowance, for at least one rotation. A finding has four numbers: the start, the lowest rotation with the least distance,
- * that distance, and the ties: how many rotations have that distance, itself included, 1 to m (equal turns of a periodic ring each count). Places and
- * rotations count from 0.
+ * Terms. A ring has m edges and a line has n, one byte each. Byte 255 is a boundary mark, which a ring must not hold (refusal 12); the other 255
+ * values are ordinary edge codes. Turning the ring by r, 0 <= r < m, brings its edge (r + q) mod m to place q; r is called a rotation. A line place i
+ * is a start if i + m <= n; the line's places i to i + m - 1 are its window. The distance of a start under a rotation counts the places at which the
+ * window and the turned ring have different edges. A start is a finding if its distance is at most k, the allowance, for at least one rotation. A
+ * finding has four numbers: the start, the lowest rotation with the least distance, that distance, and the ties: how many rotations have that
+ * distance, itself included, 1 to m (equal turns of a periodic ring each count). Places and rotations count from 0.
  *
  * One stored copy can be several findings. If an exact copy of the ring stands at start i, a window that begins s edges before or after it has a distance
  * of at most s. So every start from i - k to i + k is a finding, and the copy gives at least 2 k + 1 findings, fewer only at the line's ends. A reviewer
@@ -50,7 +50,8 @@ enum outlines_refusal {
     OUTLINES_WORD_COUNT = 8,    /* the number of words to pack is not a multiple of 3, or is above 3,000; place 0 */
     OUTLINES_RING_NUMBER = 9,   /* a word to pack as a ring number is above 65,535; place: its record number */
     OUTLINES_OUTPUT_ROOM = 10,  /* the area lent to pack or unpack is too small for the whole output; place 0 */
-    OUTLINES_INPUT = 11         /* the report program's input is not laid out as SPEC, section 8, says; no call declared here gives it */
+    OUTLINES_INPUT = 11,        /* the report program's input is not laid out as SPEC, section 8, says; no call declared here gives it */
+    OUTLINES_RING_MARK = 12     /* the ring holds 255, a boundary mark; place 0 */
 };
 
 /* What every call returns. A look is one line edge read by the quick scan, or one comparison of a line edge with a ring edge in computing distances; to
@@ -64,12 +65,12 @@ struct outlines_answer {
 };
 
 /* The plain survey: computes the least distance of every start.
- *   ring, ring_length     the ring, m = ring_length: 1 to 256 edges
+ *   ring, ring_length     the ring, m = ring_length: 1 to 256 edges, none of them 255
  *   line, line_length     the line, n = line_length: 0 to 65,536 edges; a line shorter than the ring is accepted and has no start
  *   k                     the allowance: 0 to m - 1
  *   words, words_length   lent for the findings: at least 4 (n - m + 1) words if n >= m; none are needed if n < m
  * Returns found and looks; looks are 2 m n - m m if n >= m, else 0. Writes four words for each finding (start, rotation, distance, ties), by rising
- * start, and no word behind them. Refusals, in order: 1, 2, 3, 4. */
+ * start, and no word behind them. Refusals, in order: 1, 12, 2, 3, 4. */
 struct outlines_answer outlines_survey(const uint8_t *ring, size_t ring_length, const uint8_t *line, size_t line_length, size_t k, uint32_t *words,
                                        size_t words_length);
 
@@ -86,8 +87,8 @@ struct outlines_answer outlines_scan(const uint8_t *ring, size_t ring_length, co
  *   book, book_length     a silence book, as outlines_pack writes it: 0 to 13,000 bytes; an empty book is valid
  *   the others            as for outlines_scan, with the same room for findings however many are hidden
  * Returns found (hidden ones included), hidden, and the looks of the scan. Writes the words of the shown findings only, found - hidden of them, by
- * rising start and without a gap, and no word behind them. Refusals, in order: 1, 2, 3, 4, 5, then the first faulty field
- * of the book, 6 before 7. The book is read even if the line is shorter than the ring. */
+ * rising start and without a gap, and no word behind them. Refusals, in order: 1, 12, 2, 3, 4, 5, then the first faulty
+ * field of the book, 6 before 7. The book is read even if the line is shorter than the ring. */
 struct outlines_answer outlines_report(uint32_t cell, uint16_t ring_number, const uint8_t *ring, size_t ring_length, const uint8_t *line,
                                        size_t line_length, size_t k, const uint8_t *book, size_t book_length, uint32_t *words, size_t words_length);
 
