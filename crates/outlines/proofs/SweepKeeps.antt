@@ -83,6 +83,7 @@ module _ {ring doubled table line : List ℕ} {k : ℕ} {book counts₀ area : L
           mul-le-mul (can .admitted .most-ring) (can .admitted .most-line),
         );
       };
+      no-mark = can .admitted .no-mark;
       size = h .size;
       occurs = can .occurs;
       twice = can .twice;

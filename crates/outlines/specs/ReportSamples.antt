@@ -6,7 +6,7 @@ use mathlib.Core.List.{List, [], _∷_}
 use lib.ListN.{length}
 use Rattle.lists.specs.Records.{numbersOfEach}
 use Rattle.meaning.specs.Counting.{count, lowest, someBelow}
-use Rattle.meaning.specs.Meanings.{differs, distance, lowestRotation, rotationsReaching}
+use Rattle.meaning.specs.Meanings.{window, holdsMark, differs, distance, lowestRotation, rotationsReaching}
 use Rattle.meaning.specs.Findings.{foundAt, findingsBelow, findings, wordsOf}
 use Rattle.lists.specs.Areas.{written}
 use Rattle.meaning.specs.Stretch.{begins, fits}
@@ -36,12 +36,12 @@ sample-hidden : (shown silence10 7 2 (findings ring2 line2 1) ≡ finding 9 3 1 
     × (length (hidden silence10 8 2 (findings ring2 line2 1)) ≡ 0)
     × (length (hidden silence10 0 2 (findings ring2 line2 1)) ≡ 0)
     × (length (hidden silence10 7 3 (findings ring2 line2 1)) ≡ 0)
-unfolding ring2 line2 silence10 takenBy isSame names ascii count lowest differs distance lowestRotation rotationsReaching foundAt findingsBelow
+unfolding ring2 line2 silence10 takenBy isSame names ascii window holdsMark count lowest someBelow differs distance lowestRotation rotationsReaching foundAt findingsBelow
 sample-hidden = (refl, refl, refl, refl, refl, refl)
 
 -- A silence for cell 0 hides in cell 0 alone. "Letting cell 0 in a silence stand for all cells" is one of the readings that look right and are wrong.
 sample-cell-0 : (length (hidden (silence 0 2 10 ∷ []) 7 2 (findings ring2 line2 1)) ≡ 0) × (length (hidden (silence 0 2 10 ∷ []) 0 2 (findings ring2 line2 1)) ≡ 1)
-unfolding ring2 line2 takenBy isSame names ascii count lowest differs distance lowestRotation rotationsReaching foundAt findingsBelow
+unfolding ring2 line2 takenBy isSame names ascii window holdsMark count lowest someBelow differs distance lowestRotation rotationsReaching foundAt findingsBelow
 sample-cell-0 = (refl, refl)
 
 -- "found 2 hidden 1 looks 12", and one shown finding, whose line is `0 0 0 2` with its ties: of the eight words lent, four are written and four kept. As cell 8
@@ -50,5 +50,5 @@ sample-example : (reportCounts (ascii "aa") (ascii "aaa") 0 7 2 (silence 7 2 1 �
     × (reportCounts (ascii "aa") (ascii "aaa") 0 8 2 (silence 7 2 1 ∷ []) ≡ record { found = 2; hidden = 0; looks = 12 })
     × (written (wordsOf (shown (silence 7 2 1 ∷ []) 7 2 (findings (ascii "aa") (ascii "aaa") 0))) (1 ∷ 2 ∷ 3 ∷ 4 ∷ 5 ∷ 6 ∷ 7 ∷ 8 ∷ [])
     ≡ 0 ∷ 0 ∷ 0 ∷ 2 ∷ 5 ∷ 6 ∷ 7 ∷ 8 ∷ [])
-unfolding takenBy numbersOfEach written isSame names ascii count lowest someBelow differs distance lowestRotation rotationsReaching foundAt findingsBelow begins fits readEdge readLeft readWindow windowsFrom candidatesOf reported readLooks tallyLooks verifyLooks
+unfolding takenBy numbersOfEach written isSame names ascii window holdsMark count lowest someBelow differs distance lowestRotation rotationsReaching foundAt findingsBelow begins fits readEdge readLeft readWindow windowsFrom candidatesOf reported readLooks tallyLooks verifyLooks
 sample-example = (refl, refl, refl)

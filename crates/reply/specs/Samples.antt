@@ -5,7 +5,7 @@ use mathlib.Core.Path.{_≡_, refl}
 use mathlib.Core.List.{List, [], _∷_, _++_}
 use lib.ListN.{replicate, take}
 use Rattle.meaning.specs.Counting.{count, lowest, someBelow}
-use Rattle.meaning.specs.Meanings.{holdsMark, differs, distance, lowestRotation, rotationsReaching}
+use Rattle.meaning.specs.Meanings.{window, holdsMark, differs, distance, lowestRotation, rotationsReaching}
 use Rattle.meaning.specs.Findings.{foundAt, findingsBelow}
 use Rattle.meaning.specs.Stretch.{begins, fits}
 use Rattle.meaning.specs.Rules.{readEdge, readLeft, readWindow, windowsFrom, candidatesOf}
@@ -41,7 +41,7 @@ printed letters = letters ++ lf ∷ []
 -- "Output, whole": the text for the sample's input. Document 02, ticket 1, adds the ties to a finding's line.
 sample-right : answerText (sampleFields ++ sampleBook)
     ≡ printed (ascii "cell 7 ring 2 edges 2 allow 0") ++ (printed (ascii "0 0 0 2") ++ printed (ascii "found 2 hidden 1 looks 12"))
-unfolding sampleFields sampleBook ascii answerText requestOf inputFault firstFault partsFrom isFieldAt numberAt requestText reportLines firstLine findingLine findingLines lastLine digitsWithin decimal reportRows admitRows holdsMark firstGiven bookRows readBook readFrom fieldsFrom fieldAt fieldBy lengthByTag isWhole silenceAt isBelow isSame names takenBy findingsBelow foundAt lowestRotation rotationsReaching lowest distance count differs readLooks tallyLooks verifyLooks windowsFrom candidatesOf readWindow readLeft readEdge begins fits someBelow
+unfolding sampleFields sampleBook ascii answerText requestOf inputFault firstFault partsFrom isFieldAt numberAt requestText reportLines firstLine findingLine findingLines lastLine digitsWithin decimal reportRows admitRows holdsMark firstGiven bookRows readBook readFrom fieldsFrom fieldAt fieldBy lengthByTag isWhole silenceAt isBelow isSame names takenBy findingsBelow foundAt window lowestRotation rotationsReaching lowest distance count differs readLooks tallyLooks verifyLooks windowsFrom candidatesOf readWindow readLeft readEdge begins fits someBelow
 sample-right = refl
 
 -- The sample's input is this request, laid down.
