@@ -11,6 +11,7 @@ START = re.compile(r"let mut looks(?:: usize)? = 0;")
 NO_SUM = "neither a look, nor 0"
 NOT_FOLLOWED = "the line goes where it is not followed"
 NO_LOOK = "an edge of the line is used without a look"
+NOT_COUNTED = "is asked whether it is a mark, and is not counted"
 NO_ROW = "has no row for what it takes of the line"
 
 
@@ -22,6 +23,7 @@ def copies(tree, check):
     public = next(f for f in check.all if f.public and "line" in f.line_names and f.name not in set().union(*(g.called() for g in check.all)))
     reader = next(f for f in check.all if f.reads and f.uses)
     giver = sorted(check.givers)[0]
+    marks = check.functions["is_mark"][0].path
 
     def with_text(path, text):
         return {**tree, path: text}
@@ -68,6 +70,9 @@ def copies(tree, check):
     yield "an edge of a window read without a look", in_public(f"let first = {giver}(line, 0, 1)[0] as usize;"), NO_LOOK
     yield "an edge read in a function that the line is passed to", in_public("let first = first_of(line);", "fn first_of(edges: &[u8]) -> u8 {\n    edges[0]\n}\n"), NO_LOOK
     yield "an edge compared in a function that it is passed to", in_public("let same = is_it(line[0]);", "fn is_it(edge: u8) -> bool {\n    edge == 7\n}\n"), NO_LOOK
+    yield "an edge read only to ask for a mark", in_public("let marked = is_mark(line[0]);"), NOT_COUNTED
+    yield "an edge with a name read only to ask for a mark", in_public("let first = line[0];\nlet marked = is_mark(first);"), NOT_COUNTED
+    yield "a test for a mark that tests something else", with_text(marks, tree[marks].replace("edge == MARK", "edge == 7")), NO_LOOK
     yield "the line as a field", in_public("let kept = Kept { line };"), NOT_FOLLOWED
     yield "the line in a pair", in_public("let pair = (line, 0);"), NOT_FOLLOWED
     yield "the line of a branch", in_public("let edges = if k == 0 { line } else { ring };"), NOT_FOLLOWED
