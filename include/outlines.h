@@ -1,16 +1,21 @@
 /* Outlines stored twice: finds a closed ring of edges in a line of edges, starting at any of its edges and with at most k edges that differ.
  * Link with target/native/libexports.a, which tools/native makes. docs/SPEC.md has all of this in full.
  *
- * Terms. A ring has m edges and a line has n, one byte each. Byte 255 is a boundary mark, which a ring must not hold (refusal 12); the other 255
- * values are ordinary edge codes. Turning the ring by r, 0 <= r < m, brings its edge (r + q) mod m to place q; r is called a rotation. A line place i
- * is a start if i + m <= n; the line's places i to i + m - 1 are its window. The distance of a start under a rotation counts the places at which the
- * window and the turned ring have different edges. A start is a finding if its distance is at most k, the allowance, for at least one rotation. A
+ * Terms. A ring has m edges and a line has n bytes, an edge each. The bytes 0 to 254 are ordinary edge codes. Byte 255 (OUTLINES_MARK) is no edge but a
+ * boundary mark: it stands in a line where one boundary ends and the next begins. It counts as one of the line's n bytes. A ring must not hold one
+ * (refusal 12). Turning the ring by r, 0 <= r < m, brings its edge (r + q) mod m to place q; r is called a rotation. If i + m <= n, the line's places i
+ * to i + m - 1 are the window at i, and i is a start if that window holds no mark. The distance of a start under a rotation counts the places at which
+ * the window and the turned ring have different edges. A start is a finding if its distance is at most k, the allowance, for at least one rotation. A
  * finding has four numbers: the start, the lowest rotation with the least distance, that distance, and the ties: how many rotations have that
  * distance, itself included, 1 to m (equal turns of a periodic ring each count). Places and rotations count from 0.
  *
+ * Marks are new. Up to change request 1 byte 255 was an edge code like any other: a line in which it means an edge is searched differently now, and a
+ * ring with that edge is refused. Books are as before; a silence whose start is no start any more hides nothing.
+ *
  * One stored copy can be several findings. If an exact copy of the ring stands at start i, a window that begins s edges before or after it has a distance
- * of at most s. So every start from i - k to i + k is a finding, and the copy gives at least 2 k + 1 findings, fewer only at the line's ends. A reviewer
- * who accepts that copy needs as many silences: 5 at k = 2, so that a book of 1,000 silences is full after some 200 separate copies.
+ * of at most s. So every start from i - k to i + k is a finding, and the copy gives at least 2 k + 1 findings, fewer only near the line's ends and near
+ * marks: with a mark on either side of it the copy gives one. A reviewer who accepts that copy needs as many silences: 5 at k = 2, so that a book of
+ * 1,000 silences is full after some 200 separate copies.
  *
  * Calls. Every call takes every input. It is accepted or refused, and returns a struct outlines_answer by value. A refused call has written nothing
  * and returns zero in every count. A length counts elements: bytes of a ring, a line or a book, 32-bit words of an area of words. A pointer may be
@@ -29,7 +34,8 @@ extern "C" {
 
 /* Limits and sizes. */
 #define OUTLINES_MOST_RING 256      /* most edges of a ring; the least is 1 */
-#define OUTLINES_MOST_LINE 65536    /* most edges of a line; the least is 0 */
+#define OUTLINES_MOST_LINE 65536    /* most bytes of a line, marks included; the least is 0 */
+#define OUTLINES_MARK 255           /* the byte that is a boundary mark */
 #define OUTLINES_FINDING_WORDS 4    /* words of a finding: start, rotation, distance, ties */
 #define OUTLINES_SILENCE_WORDS 3    /* words of a silence: cell, ring number, start */
 #define OUTLINES_SILENCE_BYTES 13   /* bytes of a silence in a book */
@@ -42,7 +48,7 @@ enum outlines_refusal {
     OUTLINES_ACCEPTED = 0,
     OUTLINES_RING = 1,          /* the ring has no edge, or more than 256; place 0 */
     OUTLINES_ALLOWANCE = 2,     /* k is m or more; place 0 */
-    OUTLINES_LINE = 3,          /* the line has more than 65,536 edges; place 0 */
+    OUTLINES_LINE = 3,          /* the line has more than 65,536 bytes; place 0 */
     OUTLINES_FINDINGS_ROOM = 4, /* n >= m, and fewer than 4 (n - m + 1) words are lent for the findings; place 0 */
     OUTLINES_BOOK_LENGTH = 5,   /* the book has more than 13,000 bytes; place 0 */
     OUTLINES_FIELD = 6,         /* a field of the book does not begin with 21 00 0A hex, or has fewer than 13 bytes; place: the field's byte offset */
@@ -64,12 +70,12 @@ struct outlines_answer {
     uint64_t looks;   /* survey, scan and report: looks; 0 from pack and unpack */
 };
 
-/* The plain survey: computes the least distance of every start.
+/* The plain survey: computes the least distance at every place i with i + m <= n, and lists the starts among them that are findings.
  *   ring, ring_length     the ring, m = ring_length: 1 to 256 edges, none of them 255
- *   line, line_length     the line, n = line_length: 0 to 65,536 edges; a line shorter than the ring is accepted and has no start
+ *   line, line_length     the line, n = line_length: 0 to 65,536 bytes, with marks anywhere; a line shorter than the ring is accepted and has no start
  *   k                     the allowance: 0 to m - 1
- *   words, words_length   lent for the findings: at least 4 (n - m + 1) words if n >= m; none are needed if n < m
- * Returns found and looks; looks are 2 m n - m m if n >= m, else 0. Writes four words for each finding (start, rotation, distance, ties), by rising
+ *   words, words_length   lent for the findings: at least 4 (n - m + 1) words if n >= m, marks or not; none are needed if n < m
+ * Returns found and looks; looks are 2 m n - m m if n >= m, marks or not, else 0. Writes four words for each finding (start, rotation, distance, ties), by rising
  * start, and no word behind them. Refusals, in order: 1, 12, 2, 3, 4. */
 struct outlines_answer outlines_survey(const uint8_t *ring, size_t ring_length, const uint8_t *line, size_t line_length, size_t k, uint32_t *words,
                                        size_t words_length);
