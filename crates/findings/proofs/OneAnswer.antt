@@ -2,6 +2,7 @@
 -- search the equation is one for its paper: the paper determines the answer (`answer-unique` of crates/answers), and the answer determines the enum's case.
 use Prim.Native.Nat.{ℕ}
 use mathlib.Core.Path.{_≡_, refl, sym, ap, _∙_}
+use mathlib.Core.Bool.{Bool}
 use mathlib.Core.List.{List}
 use mathlib.Core.Option.{Option, none, some}
 use Rattle.meaning.specs.Findings.{Finding}
@@ -12,9 +13,14 @@ use Rattle.findings.specs.declared.admitting.Verdict.{Verdict}
 use Rattle.findings.specs.declared.admitting.Verdict.the-variants.{Accepted, Refused as RefusedBy}
 use Rattle.findings.specs.declared.searching.Searched.{Searched}
 use Rattle.findings.specs.declared.searching.Searched.the-variants.{Counts as CountsCase, Refused}
+use Rattle.findings.specs.Marks.{SaysIsMark}
 use Rattle.findings.specs.Admitting.{verdictOf, IsVerdict}
 use Rattle.findings.specs.Putting.{IsFindingPut}
 use Rattle.findings.specs.Searching.{Counts, noCounts, answerOf, paperOf, IsSearched}
+
+-- Any two answers that meet the contract of `is_mark` are equal.
+pub one-mark : (edge : ℕ) (r r′ : Bool) → SaysIsMark edge r → SaysIsMark edge r′ → r ≡ r′
+one-mark edge r r′ a b = a .is ∙ sym (b .is)
 
 -- the verdict that holds this refusal; the accepting one for none
 abbrev verdictBack : Option Refusal → Verdict
