@@ -1,8 +1,8 @@
 /* Outlines stored twice: finds a closed ring of edges in a line of edges, starting at any of its edges and with at most k edges that differ.
  * Link with target/native/libexports.a, which tools/native makes. docs/SPEC.md has all of this in full.
  *
- * Terms. A ring has m edges and a line has n bytes, an edge each. The bytes 0 to 254 are ordinary edge codes. Byte 255 (OUTLINES_MARK) is no edge but a
- * boundary mark: it stands in a line where one boundary ends and the next begins. It counts as one of the line's n bytes. A ring must not hold one
+ * Terms. A ring has m edges, one byte each; a line has n bytes, edges and boundary marks. The bytes 0 to 254 are ordinary edge codes. Byte 255
+ * (OUTLINES_MARK) is a mark: it stands in a line where one boundary ends and the next begins. It counts as one of the n bytes. A ring must not hold one
  * (refusal 12). Turning the ring by r, 0 <= r < m, brings its edge (r + q) mod m to place q; r is called a rotation. If i + m <= n, the line's places i
  * to i + m - 1 are the window at i, and i is a start if that window holds no mark. The distance of a start under a rotation counts the places at which
  * the window and the turned ring have different edges. A start is a finding if its distance is at most k, the allowance, for at least one rotation. A
@@ -75,8 +75,8 @@ struct outlines_answer {
  *   line, line_length     the line, n = line_length: 0 to 65,536 bytes, with marks anywhere; a line shorter than the ring is accepted and has no start
  *   k                     the allowance: 0 to m - 1
  *   words, words_length   lent for the findings: at least 4 (n - m + 1) words if n >= m, marks or not; none are needed if n < m
- * Returns found and looks; looks are 2 m n - m m if n >= m, marks or not, else 0. Writes four words for each finding (start, rotation, distance, ties), by rising
- * start, and no word behind them. Refusals, in order: 1, 12, 2, 3, 4. */
+ * Returns found and looks; looks are 2 m n - m m if n >= m, marks or not, else 0. Writes four words for each finding (start, rotation, distance, ties), by
+ * rising start, and no word behind them. Refusals, in order: 1, 12, 2, 3, 4. */
 struct outlines_answer outlines_survey(const uint8_t *ring, size_t ring_length, const uint8_t *line, size_t line_length, size_t k, uint32_t *words,
                                        size_t words_length);
 

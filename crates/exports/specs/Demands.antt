@@ -126,7 +126,7 @@ NeverNamed start = ⊥
 pub record Demand2 (Named : ℕ → Type 0) (ring line : List ℕ) (k : ℕ) (words : List ℕ) (r : AnswerStruct) (out : List ℕ) : Type 0 where
   pub shown : List Finding
   pub hidden : List Finding
-  -- A start is among the shown exactly when some rotation differs from its window in at most k places and the book does not name it.
+  -- A start ("a window holding" a mark "isn't a start", document 02, ticket 2) is among the shown exactly when some rotation differs from its window in at most k places and the book does not name it.
   pub start-iff : (i : ℕ)
       → ((f : Finding) × (f .start ≡ i) × List·Memᴰ f shown)
       ↔ ((IsStart ring line i × ((q : ℕ) × (q < length ring) × (distance ring line i q ≤ k))) × (Named i → ⊥))
@@ -175,7 +175,7 @@ pub record GivesBack (given : List ℕ) (first second : AnswerStruct) (out : Lis
   pub found-is : second .found ≡ first .found
   pub front-is : take (length given) out ≡ given
 
--- The demands on `outlines_survey`. "2·m·n − m·m looks for n ≥ m, else 0"
+-- The demands on `outlines_survey`. "2·m·n − m·m looks for n ≥ m, else 0", and with marks in the line "its looks stay" (document 02, ticket 2).
 pub record SurveyMeets (ring line : List ℕ) (k : ℕ) (words : List ℕ) (r : AnswerStruct) (out : List ℕ) : Type 0 where
   pub demand-1 : Demand1 (searchTable ring k (length line) (length words)) r words out
   pub demand-2 : r .refusal ≡ 0 → Demand2 NeverNamed ring line k words r out

@@ -110,12 +110,12 @@ module _ (ring : List ℕ) (k n room : ℕ) where
         λ h. record {
           some-edge = h .0 .some-edge;
           most-ring = h .0 .most;
-          no-mark = sym (test-fails (holds-iff ring) (h .1 .0));
+          no-mark = h .1 .0;
           allowed = h .1 .1 .0;
           most-line = h .1 .1 .1 .0;
           room-for = h .1 .1 .1 .1;
         },
-        λ a. (record { some-edge = a .some-edge; most = a .most-ring }, (unmarked refl (a .no-mark), (a .allowed, (a .most-line, a .room-for)))),
+        λ a. (record { some-edge = a .some-edge; most = a .most-ring }, (a .no-mark, (a .allowed, (a .most-line, a .room-for)))),
       )
 
   -- If P holds for each row's refusal under the condition that makes this row the first, then P holds for the refusal of the first row that is given.

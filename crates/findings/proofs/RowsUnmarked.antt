@@ -1,25 +1,27 @@
--- For a ring without marks the rows of a search are rows 1 to 4 as they were before ticket 2: of the ring they ask only its length. Row 12 is never given then, and a
--- row that is not given can be left out of the list.
+-- For a ring and a line without marks survey and scan answer as they did before ticket 2. Row 12 is never given then, and a row that is not given can be left out of
+-- the list; the findings are those of document 01 alone (`findings-before` of crates/meaning).
 use Prim.Native.Nat.{ℕ}
-use mathlib.Core.Path.{_≡_, refl}
+use mathlib.Core.Path.{_≡_, refl, ap₂}
 use mathlib.Core.Bool.{false}
-use mathlib.Core.List.{List, [], _∷_}
+use mathlib.Core.List.{List, _∷_}
 use mathlib.Core.Option.{Option, none, some}
 use lib.ListN.{length}
+use Rattle.lists.specs.Areas.{written}
 use Rattle.meaning.specs.Meanings.{holdsMark}
+use Rattle.meaning.specs.Findings.{Finding, wordsOf}
+use Rattle.meaning.specs.BeforeMarks.{findingsBefore}
+use Rattle.meaning.proofs.WithoutMarks.{findings-before}
 use Rattle.answers.specs.declared.refusals.Refusal.{Refusal}
-use Rattle.answers.specs.declared.refusals.Refusal.the-variants.{Ring, Allowance, Line, FindingsRoom, RingMark}
-use Rattle.answers.specs.Rows.{row, firstGiven}
-use Rattle.findings.specs.Admitting.{isRow1, isRow2, isRow3, isRow4, admitRows, admitRefusal}
+use Rattle.answers.specs.declared.refusals.Refusal.the-variants.{RingMark}
+use Rattle.answers.specs.Paper.{Answer}
+use Rattle.answers.specs.Rows.{firstGiven, answerBy, areaBy}
+use Rattle.findings.specs.Admitting.{admitRows, admitRefusal}
+use Rattle.findings.specs.Searching.{Counts, searched, searchedWords}
+use Rattle.findings.specs.BeforeMarks.{rowsBefore}
 use Rattle.findings.proofs.AdmitRows.{unmarked, row-12-iff}
 
--- "Order: survey and scan 1 to 4" (document 01): the rows for m, k, n and the number of words lent, row 4 with the four words each of document 02, ticket 1.
-unfoldable pub fourRows : ℕ → ℕ → ℕ → ℕ → List (Option Refusal)
-fourRows m k n room =
-    row (isRow1 m) Ring ∷ row (isRow2 m k) Allowance ∷ row (isRow3 n) Line ∷ row (isRow4 m n room) FindingsRoom ∷ []
-
--- a second row that is not given can be left out
-second-left-out : (first : Option Refusal) (rows : List (Option Refusal)) → firstGiven (first ∷ none ∷ rows) ≡ firstGiven (first ∷ rows)
+-- A second row that is not given can be left out.
+pub second-left-out : (first : Option Refusal) (rows : List (Option Refusal)) → firstGiven (first ∷ none ∷ rows) ≡ firstGiven (first ∷ rows)
 unfolding firstGiven
 second-left-out none rows = refl
 second-left-out (some refusal) rows = refl
@@ -29,7 +31,26 @@ module _ (ring : List ℕ) (k n room : ℕ) (no-mark : holdsMark ring ≡ false)
   pub row-12-never : admitRefusal ring k n room ≡ some RingMark → ⊥
   row-12-never e = unmarked refl no-mark (row-12-iff ring k n room .0 e .1)
 
-  -- For a ring without marks the first row that is given is the first of these four.
-  pub rows-unmarked : admitRefusal ring k n room ≡ firstGiven (fourRows (length ring) k n room)
-  unfolding admitRows fourRows
+  -- For a ring without marks the first row that is given is the first of the four that were there before.
+  pub rows-unmarked : admitRefusal ring k n room ≡ firstGiven (rowsBefore (length ring) k n room)
+  unfolding admitRows rowsBefore
   rows-unmarked = rw no-mark (second-left-out _ _)
+
+module _ (ring line : List ℕ) (k : ℕ) (no-mark : holdsMark ring ≡ false) (unmarked-line : holdsMark line ≡ false) where
+  -- For a ring and a line without marks a search answers as before.
+  pub search-unmarked : (room looks : ℕ)
+      → searched ring line k room looks
+      ≡ answerBy (firstGiven (rowsBefore (length ring) k (length line) room)) (record { found = length (findingsBefore ring line k); looks = looks })
+  unfolding searched
+  search-unmarked room looks =
+      ap₂ (λ (refusal : Option Refusal) (fs : List Finding). answerBy {A = Counts} refusal (record { found = length fs; looks = looks }))
+      (rows-unmarked ring k (length line) room no-mark) (findings-before ring line k unmarked-line)
+
+  -- Its lent words at exit are as before, too.
+  pub words-unmarked : (words : List ℕ)
+      → searchedWords ring line k words
+      ≡ areaBy (firstGiven (rowsBefore (length ring) k (length line) (length words))) (written (wordsOf (findingsBefore ring line k)) words) words
+  unfolding searchedWords
+  words-unmarked words =
+      ap₂ (λ (refusal : Option Refusal) (fs : List Finding). areaBy refusal (written (wordsOf fs) words) words)
+      (rows-unmarked ring k (length line) (length words) no-mark) (findings-before ring line k unmarked-line)

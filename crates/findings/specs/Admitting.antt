@@ -1,5 +1,5 @@
 -- Document 01, "What each call returns", rows 1 to 4 of the table: the refusals that lengths, k and room decide. Row 4 asks for four words for each
--- start, as document 02, ticket 1, says. And row 12 of ticket 2, which the ring's edges decide. These are the rows of every search.
+-- of the n − m + 1 windows, marked or not (document 02, ticket 1). And row 12 of ticket 2, which the ring's edges decide. These are the rows of every search.
 --
 --   mostRing, mostLine    the document's limits
 --   roomRequired          the words that row 4 requires
@@ -18,7 +18,7 @@ use mathlib.Core.List.{List, [], _∷_}
 use mathlib.Core.Option.{Option, none, some}
 use lib.Dec.{ltb, leb, eqb}
 use lib.ListN.{length}
-use Rattle.meaning.specs.Meanings.{holdsMark}
+use Rattle.meaning.specs.Meanings.{HoldsMark, holdsMark}
 use Rattle.meaning.specs.Findings.{wordsEach}
 use Rattle.answers.specs.declared.refusals.Refusal.{Refusal}
 use Rattle.answers.specs.declared.refusals.Refusal.the-variants.{Ring, Allowance, Line, FindingsRoom, RingMark}
@@ -82,7 +82,7 @@ pub record IsRingLength (m : ℕ) : Type 0 where
 pub record Admitted (ring : List ℕ) (k n room : ℕ) : Type 0 where
   pub some-edge : 0 < length ring
   pub most-ring : length ring ≤ mostRing
-  pub no-mark : holdsMark ring ≡ false
+  pub no-mark : HoldsMark ring → ⊥
   pub allowed : k < length ring
   pub most-line : n ≤ mostLine
   pub room-for : length ring ≤ n → roomRequired (length ring) n ≤ room

@@ -2,6 +2,7 @@
 // search, and a finding's words.
 //
 // `admit` accepts a call or returns the refusal of the first row that is given; its contract is in specs/Admitting.antt.
+// `is_mark` says whether an edge is a boundary mark; its contract is in specs/Marks.antt.
 // `put_finding` writes a finding's words behind those of the findings before it; its contract is in specs/Putting.antt.
 // No public function has a `requires`: each takes every input.
 mod admitting;

@@ -1,5 +1,5 @@
 -- The findings at places below i. Each place adds at most one, and a place without a finding adds none. So if no place from s on is a start, the findings
--- below s are all findings. For n ≥ m there are at most n − m + 1, one for each start. In a line shorter than the ring there are none.
+-- below s are all findings. For n ≥ m there are at most n − m + 1, one for each window. In a line shorter than the ring there are none.
 use Prim.Native.Nat.{ℕ, zero, suc, _+_, _-_, _≤_, _<_}
 use mathlib.Core.Path.{_≡_, sym, ap, ap₂, _∙_}
 use mathlib.Core.Bool.{_&&_}

@@ -1,5 +1,5 @@
 -- The quick scan's looks are at most 3·m·n − 2·m·m + m for n ≥ m, and so at most 3·m·n; for n < m they are 0. Reading costs at most m looks for each of the
--- n − m + 1 starts. Verifying costs m·m looks for the first candidate, and from then on at most 2·m for each place beyond it, because a fresh count is never
+-- n − m + 1 places where a window fits in the line. Verifying costs m·m looks for the first candidate, and from then on at most 2·m for each place beyond it, because a fresh count is never
 -- dearer than the steps it replaces (`tallyLooks-le`). The sum of (n − m + 1)·m, m·m and (n − m)·2·m is the bound.
 use Prim.Native.Nat.{ℕ, suc, _+_, _-_, _*_, _≤_, _<_}
 use mathlib.Core.Path.{_≡_, sym, ap, subst}
@@ -31,7 +31,7 @@ module _ (ring line : List ℕ) (k : ℕ) where
   abbrev m : ℕ
   m = length ring
 
-  -- Reading these windows costs at most g·m looks, if every start from i on is among the g places from i on.
+  -- Reading these windows costs at most g·m looks, if every window in the line from i on begins at one of the g places from i on.
   abbrev ReadsAtMost : ℕ → List Reading → Type 0
   ReadsAtMost i ws = (g : ℕ) → length line + 1 ≤ i + g + m → readLooks ws ≤ g * m
 
@@ -48,7 +48,7 @@ module _ (ring line : List ℕ) (k : ℕ) where
       one-window : (a b g : ℕ) → 0 < g → a ≤ m → b ≤ (g - 1) * m → a + b ≤ g * m
       one-window a b g left ha hb = let q : g ≡ suc (g - 1) = omega arith in omega (arith, ap (λ (x : ℕ). x * m) q)
 
-  -- Verifying the candidates among these windows, after the verified start `last`, costs at most g steps, if no start is more than g places beyond `last`.
+  -- Verifying the candidates among these windows, after the verified start `last`, costs at most g steps, if no window in the line begins more than g places beyond `last`.
   abbrev StepsAtMost : ℕ → List Reading → Type 0
   StepsAtMost i ws = (last g : ℕ) → last < i → length line ≤ last + g + m → verifyLooks m (some last) (candidatesOf ring k ws) ≤ g * stepLooks m
 
@@ -81,7 +81,7 @@ module _ (ring line : List ℕ) (k : ℕ) where
       (steps-add last i g _ l (omega arith) (rest i (g - (i - last)) (next-above ring line k i) (omega arith))))
       (λ _. rest last g (omega (arith, next-above ring line k i)) h))
 
-  -- Verifying with no start verified before costs at most one fresh count, and g steps, if no start is more than g places beyond i.
+  -- Verifying with no start verified before costs at most one fresh count, and g steps, if no window in the line begins more than g places beyond i.
   abbrev FirstAtMost : ℕ → List Reading → Type 0
   FirstAtMost i ws = (g : ℕ) → length line ≤ i + g + m → verifyLooks m none (candidatesOf ring k ws) ≤ m * m + g * stepLooks m
 

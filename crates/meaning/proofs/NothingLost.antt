@@ -140,7 +140,7 @@ module _ (ring line : List ℕ) (pos : 0 < length ring) (k i : ℕ) where
     no-start-to-mark left =
         let was = window-read ring line k i in
         let is = was .mark-is left in
-        no-start-over ring line i′ (i + (length ring - readWindow ring line k i .read)) (is .1) (omega (arith, was .start-is)) (omega (arith, is .0))
+        no-start-over ring line i′ (i + (length ring - readWindow ring line k i .read)) (is .is-mark) (omega (arith, was .start-is)) (omega (arith, is .some-read))
 
     -- If the window at i is stopped, no finding is at i, nor at any place jumped over.
     pub nothing-lost : isStopped k (readWindow ring line k i) ≡ true → foundAt ring line k i′ ≡ []

@@ -12,7 +12,7 @@ use Rattle.lists.proofs.Cases.{le-or-lt}
 use Rattle.lists.proofs.SizesTested.{and-iff, not-iff, test-fails}
 use Rattle.meaning.specs.Meanings.{FitsInLine, IsPastLine, fitsInLine, window, windowEdge, mark, isMark, IsStart, isStart}
 use Rattle.meaning.proofs.Marks.{holds-iff}
-use Rattle.meaning.proofs.Windows.{window-marked, window-unmarked}
+use Rattle.meaning.proofs.Windows.{window-holds, window-holds-none}
 
 module _ (ring line : List ℕ) (i : ℕ) where
   -- The test `fitsInLine` passes exactly when a window fits in the line at i.
@@ -43,11 +43,11 @@ module _ (ring line : List ℕ) (i : ℕ) where
 
   -- If a window fits in the line at i and none of its edges is a mark, i is a start.
   pub unmarked-is-start : FitsInLine ring line i → ((q : ℕ) → q < length ring → isMark (windowEdge line i q) ≡ false) → IsStart ring line i
-  unmarked-is-start in-line none = record { fits-in-line = in-line; no-mark = window-unmarked ring line i in-line none }
+  unmarked-is-start in-line none = record { fits-in-line = in-line; no-mark = window-holds-none ring line i in-line none }
 
   -- If one of the m edges from i on is a mark, i is not a start.
   pub marked-no-start : (q : ℕ) → q < length ring → windowEdge line i q ≡ mark → IsStart ring line i → ⊥
-  marked-no-start q l is start = start .no-mark (window-marked ring line i (start .fits-in-line) q l is)
+  marked-no-start q l is start = start .no-mark (window-holds ring line i (start .fits-in-line) q l is)
 
   -- If the line has a mark at p, and p is one of the m places from i on, i is not a start.
   pub no-start-over : (p : ℕ) → getD line p 0 ≡ mark → i ≤ p → p < i + length ring → IsStart ring line i → ⊥

@@ -1,10 +1,10 @@
 -- The loop that reads one window and keeps a vector of m bits in place of the stretch: its invariant and its turns. Bit r says whether the held stretch is the
 -- beginning of rotation r. When an edge is read, the bits are rotated by one place and kept only at the places where the ring has that edge (`GrownBy`, source
 -- document 003). They then say the same about the grown stretch, so the grown stretch fits exactly when some bit is still set.
-use Prim.Native.Nat.{ℕ, zero, suc, _+_, _%_, _≤_, _<_}
+use Prim.Native.Nat.{ℕ, suc, _+_, _%_, _≤_, _<_}
 use mathlib.Core.Path.{_≡_, refl, sym, ap, ap₂, _∙_}
 use mathlib.Core.Bool.{Bool, true, false, _&&_, and-comm, or-true}
-use mathlib.Core.List.{List, [], _∷_}
+use mathlib.Core.List.{List, _∷_}
 use native.Mathlib.Nat.{mod-eq-of-lt, mod-mod, mod-lt}
 use native.Mathlib.Numerals.{add-one}
 use native.Mathlib.Omega.{arith}

@@ -25,11 +25,11 @@ module _ (ring line : List ℕ) (i : ℕ) (in-line : FitsInLine ring line i) whe
   window-length = length-take-le m (drop i line) (omega (arith, length-drop i line))
 
   -- If one of its places has a mark, the window holds a mark.
-  pub window-marked : (q : ℕ) → q < m → windowEdge line i q ≡ mark → HoldsMark (window m line i)
-  window-marked q l is = record { place = q; in-edges = omega (arith, window-length); is-mark = window-edge-is m line i q l ∙ is }
+  pub window-holds : (q : ℕ) → q < m → windowEdge line i q ≡ mark → HoldsMark (window m line i)
+  window-holds q l is = record { place = q; in-edges = omega (arith, window-length); is-mark = window-edge-is m line i q l ∙ is }
 
   -- If none of its places has a mark, the window holds none.
-  pub window-unmarked : ((q : ℕ) → q < m → isMark (windowEdge line i q) ≡ false) → HoldsMark (window m line i) → ⊥
-  window-unmarked none holds =
+  pub window-holds-none : ((q : ℕ) → q < m → isMark (windowEdge line i q) ≡ false) → HoldsMark (window m line i) → ⊥
+  window-holds-none none holds =
       let in-window : holds .place < m = omega (arith, window-length, holds .in-edges) in
       eqb-false (windowEdge line i (holds .place)) mark (none (holds .place) in-window) (sym (window-edge-is m line i (holds .place) in-window) ∙ holds .is-mark)

@@ -1,17 +1,17 @@
 -- On a line without marks nothing has changed: findings and looks are those of document 01 before marks (BeforeMarks of specs/). No edge of the line is a mark, so a
 -- start is again every place where a window fits in the line, and no window is left at a mark. (The survey's looks do not depend on marks at all.)
-use Prim.Native.Nat.{ℕ, zero, suc, _+_, _<_}
-use mathlib.Core.Path.{_≡_, refl, sym, ap, ap₂, _∙_}
-use mathlib.Core.Bool.{Bool, true, false, not, cond, _&&_, and-true, or-false}
+use Prim.Native.Nat.{ℕ, zero, suc, _+_}
+use mathlib.Core.Path.{_≡_, refl, ap, ap₂, _∙_}
+use mathlib.Core.Bool.{Bool, false, not, cond, _&&_, or-false}
 use mathlib.Core.Logic.{⊎-elim}
 use mathlib.Core.List.{List, [], _∷_, _++_}
 use mathlib.Core.Option.{none}
 use native.Mathlib.Omega.{arith}
 use lib.Dec.{leb, ltb, eqb}
 use lib.ListN.{length, getD, List·getD-eq-default}
-use Rattle.lists.proofs.Cases.{by-test, le-or-lt, not-passed}
+use Rattle.lists.proofs.Cases.{by-test, le-or-lt}
 use Rattle.lists.proofs.SizesTested.{lt-iff, le-iff, not-iff, test-same}
-use Rattle.meaning.specs.Meanings.{FitsInLine, fitsInLine, windowEdge, isMark, IsStart, holdsMark, isStart, leastDistance}
+use Rattle.meaning.specs.Meanings.{fitsInLine, windowEdge, isMark, holdsMark, isStart, leastDistance}
 use Rattle.meaning.specs.Findings.{Finding, findingAt, foundAt, findingsBelow, findings}
 use Rattle.meaning.specs.Stretch.{fits}
 use Rattle.meaning.specs.Rules.{Reading, unread, readEdge, isStopped, readLeft, readWindow, nextStart, windowsFrom, candidatesOf}
@@ -35,14 +35,14 @@ module _ (ring line : List ℕ) (k : ℕ) (unmarked : holdsMark line ≡ false) 
       test-same (start-iff ring line i) (fits-line-iff ring line i)
       (λ s. s .fits-in-line, λ in-line. unmarked-is-start ring line i in-line (λ q _. edge-no-mark (i + q)))
 
-  found-before : (i : ℕ) → foundAt ring line k i ≡ foundBefore ring line k i
+  found-same : (i : ℕ) → foundAt ring line k i ≡ foundBefore ring line k i
   unfolding foundAt foundBefore
-  found-before i = ap (λ (t : Bool). cond (t && leb (leastDistance ring line i) k) (findingAt ring line i ∷ []) []) (start-before i)
+  found-same i = ap (λ (t : Bool). cond (t && leb (leastDistance ring line i) k) (findingAt ring line i ∷ []) []) (start-before i)
 
   below-before : (i : ℕ) → findingsBelow ring line k i ≡ belowBefore ring line k i
   unfolding findingsBelow belowBefore
   below-before zero = refl
-  below-before (suc i) = ap₂ (λ (a b : List Finding). a ++ b) (below-before i) (found-before i)
+  below-before (suc i) = ap₂ (λ (a b : List Finding). a ++ b) (below-before i) (found-same i)
 
   -- On a line without marks the findings are what they were.
   pub findings-before : findings ring line k ≡ findingsBefore ring line k

@@ -1,7 +1,7 @@
 -- Document 01 as it read before document 02, ticket 2: no byte is a mark, so every place where a window fits in the line is a start, and every edge read is held
 -- or is a break. No contract uses these definitions. `WithoutMarks` of proofs/ shows that on a line without marks all answers are still what they give.
 --
---   foundBefore, findingsBefore                the finding at a place, and all findings
+--   foundBefore, belowBefore, findingsBefore   the finding at a place, those below a place, and all
 --   edgeBefore, leftBefore, windowBefore       an edge read; the edges left; a window
 --   windowsBefore, candidatesBefore            the windows read from a place on; the starts of those that are candidates
 --   quickLooksBefore                           the looks of the quick scan

@@ -1,6 +1,6 @@
 -- The meanings and rules of document 01, in its order and its words, with the ties and the boundary marks of document 02, tickets 1 and 2. Read the modules in
 -- the order of the list at the end.
--- Nothing here is code. A ring, a line and a stretch are lists of edge codes; places, starts, rotations, distances and looks are numbers.
+-- Nothing here is code. A ring and a stretch are lists of edge codes, and a line may also hold marks; places, starts, rotations, distances and looks are numbers.
 -- Document 01 says "Here every byte value 0 to 255 is an edge code like any other". Since document 02, ticket 2, this holds for 0 to 254, and 255 is a boundary
 -- mark. Beyond that the definitions only ask whether two edge codes are equal.
 -- Elsewhere: the refusals, and ring places and line places as two types ("never added or compared directly"), in crates/answers; the silence book
@@ -44,6 +44,8 @@
 -- The table leaves out the parts of these definitions: `oneIf` (Counting); `unequal`, `reaches`, `rotationsReaching` (Meanings); `Finding`, `findingAt`,
 -- `foundAt`, `findingsBelow`, `wordsEach`, `findingWords` (Findings); `begins` (Stretch); `unread`, `markRead`, `grownRead`, `brokenRead`, `readLeft`, `windowsFrom`, `candidatesOf` (Rules); `verifyLooks`,
 -- `surveyLooksBelow` (Looks); `Sample`, `finding`, `answered`, `marked` (Samples); those of BeforeMarks.
+--
+-- Where a window, a tally or a sweep has a `start`, this is the place where its window begins; since document 02, ticket 2, that place need not be a start.
 --
 -- Where a word has two forms, the lower-case one computes, and the upper-case one states the same as a fact: window in the line, mark held, start, finding, fit.
 -- proofs/ has the laws that join the two: `fits-line-iff`, `holds-iff`, `start-iff`, `findings-iff`, `fits-iff`.

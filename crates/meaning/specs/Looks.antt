@@ -38,8 +38,8 @@ verifyLooks m last (i ∷ starts) = tallyLooks m last i + verifyLooks m (some i)
 abbrev pub quickLooks : List ℕ → List ℕ → ℕ → ℕ
 quickLooks ring line k = readLooks (windows ring line k) + verifyLooks (length ring) none (candidates ring line k)
 
--- "The plain survey verifies every start, the first afresh and each next by one step, at m = 1 too": its looks for the places below i where a
--- window fits in the line, afresh at place 0 and one step at every other.
+-- "The plain survey verifies every start, the first afresh and each next by one step, at m = 1 too", and "its looks stay" (document 02, ticket 2), so a window
+-- that holds a mark costs as much as any other: the looks for the places below i where a window fits in the line, afresh at place 0 and one step at every other.
 unfoldable pub surveyLooksBelow : List ℕ → List ℕ → ℕ → ℕ
 surveyLooksBelow ring line zero = 0
 surveyLooksBelow ring line (suc i) =

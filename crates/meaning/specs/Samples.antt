@@ -140,7 +140,7 @@ mark-samples =
     ∷ sampleRow "n = m, a mark at place 1" (ascii "abc") (marked "a|c") 2 [] (some 2) (some 0) (some 9)
     ∷ sampleRow "n = m, a mark at place 2" (ascii "abc") (marked "ab|") 2 [] (some 1) (some 0) (some 9)
     ∷ sampleRow "one edge and a mark" (ascii "a") (marked "a|a") 0 (finding 0 0 0 1 ∷ finding 2 0 0 1 ∷ []) (some 5) (some 2) (some 5)
-    ∷ sampleRow "a mark after k breaks is no break" (ascii "abc") (marked "a|zabc") 1 (finding 2 2 1 1 ∷ finding 3 0 0 1 ∷ []) (some 23) (some 2) (some 27)
+    ∷ sampleRow "a mark after k breaks" (ascii "abc") (marked "a|zabc") 1 (finding 2 2 1 1 ∷ finding 3 0 0 1 ∷ []) (some 23) (some 2) (some 27)
     ∷ sampleRow "a mark as the last edge read" (ascii "abc") (marked "|bcabc") 1 (finding 1 1 0 1 ∷ finding 2 2 0 1 ∷ finding 3 0 0 1 ∷ []) (some 33) (some 3) (some 27)
     ∷ sampleRow "marks only" (ascii "ab") (marked "|||||||") 1 [] (some 3) (some 0) (some 24)
     ∷ []

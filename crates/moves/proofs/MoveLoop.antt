@@ -3,19 +3,18 @@
 -- A step takes at most 512 looks, so a machine word holds the sum.
 use Prim.Native.Nat.{ℕ, zero, suc, _+_, _-_, _*_, _≤_, _<_}
 use mathlib.Core.Path.{_≡_, refl, sym, ap, _∙_}
-use mathlib.Core.Bool.{cond}
 use mathlib.Core.List.{List}
 use native.Mathlib.Nat.{add-mul}
 use native.Mathlib.Omega.{arith}
 use lib.Dec.{ltb}
 use lib.ListN.{length, getD}
 use borrow.Author.Tests.{lt-ltb, le-ltb}
-use Rattle.meaning.specs.Meanings.{windowEdge, isMark}
+use Rattle.meaning.specs.Meanings.{windowEdge}
 use Rattle.lists.proofs.Cases.{by-test}
 use Rattle.meaning.specs.Looks.{stepLooks}
 use Rattle.tally.specs.declared.counts.Least.{Least}
 use Rattle.tally.specs.Windows.{IsWindow}
-use Rattle.tally.specs.Marks.{IsPastMark}
+use Rattle.tally.specs.Marks.{pastAfter, IsPastMark}
 use Rattle.tally.specs.Counts.{mostCounts, leastOf, HasCounts}
 use Rattle.moves.specs.Moves.{steppedCounts, CountsAt, unmoved, stepOn, moveOn, CanMove, IsStepped, IsMovedOn}
 use Rattle.lists.proofs.StoreLoop.{storedFirst-length}
@@ -89,7 +88,7 @@ module _ (ring line : List ℕ) (from steps below : ℕ) (old : List ℕ) (can :
         counts = sym new-is j;
         least = (ap (leastOf m) (sym new-is) ∙ sym (stepped .least-is)) j;
         looks = ap (λ (n : ℕ). looks + n) (sym (stepped .looks-are)) j;
-        past = sym (asked .is ∙ ap (λ (x : ℕ). cond (isMark x) (i + 1 + m) past) enters) j;
+        past = sym (asked .is ∙ ap (λ (x : ℕ). pastAfter x past (i + 1 + m)) enters) j;
       }
 
       one-less : from + steps - i ≡ suc (from + steps - (i + 1))

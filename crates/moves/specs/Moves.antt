@@ -1,11 +1,12 @@
 -- The counts moved along the line, a step at a time, whatever they hold. Rule 5: "it moves s steps, each 2·m looks (the leaving and the entering edge,
--- each against m ring edges)". A move may also end early, at the first start whose least count is below a given bound: the survey moves on to the next finding.
+-- each against m ring edges)". A move may also end early, at the first start whose least count is below a given bound: the survey moves on to the next
+-- place whose least count is at most k.
 --
 --   sixteenBits               2^16, the number of values of a count
 --   changedCount, changedAt   count − (leaving edge differs) + (entering edge differs), mod 2^16
 --   earlier                   the rotation before a rotation
 --   steppedCounts             the counts after a step
---   CountsAt, unmoved         one point of a move: start, counts, their least, looks, last mark; the point before the first step
+--   CountsAt, unmoved         one point of a move: start, counts, their least, looks, the place just past the last mark; the point before the first step
 --   stepOn, moveOn            one step; at most a given number of steps
 --   mostPlaces                2^32, the most places of a line
 --   canMove, CanMove          whether counts can be moved: the test, and the same as facts
@@ -22,10 +23,10 @@ use lib.Dec.{ltb, leb, eqb}
 use lib.ListN.{length, getD}
 use Rattle.lists.specs.ByPlace.{storedFirst}
 use Rattle.meaning.specs.Counting.{oneIf}
-use Rattle.meaning.specs.Meanings.{unequal, windowEdge, isMark, leastDistance}
+use Rattle.meaning.specs.Meanings.{unequal, windowEdge, leastDistance}
 use Rattle.meaning.specs.Looks.{stepLooks}
 use Rattle.tally.specs.declared.counts.Least.{Least}
-use Rattle.tally.specs.Marks.{pastMark}
+use Rattle.tally.specs.Marks.{pastAfter, pastMark}
 use Rattle.tally.specs.Counts.{mostCounts, leastOf, HasCounts}
 use Rattle.tally.specs.Tallied.{Verified}
 use Rattle.moves.specs.declared.steps.Reached.{Reached}
@@ -69,7 +70,7 @@ unfoldable pub stepOn : List ℕ → List ℕ → CountsAt → CountsAt
 stepOn ring line at =
     let entering : ℕ = windowEdge line (at .start + 1) (length ring - 1) in
     let new : List ℕ = steppedCounts ring (windowEdge line (at .start) 0) entering (at .counts) in
-    let past : ℕ = cond (isMark entering) (at .start + 1 + length ring) (at .past) in
+    let past : ℕ = pastAfter entering (at .past) (at .start + 1 + length ring) in
     record { start = at .start + 1; counts = new; least = leastOf (length ring) new; looks = at .looks + stepLooks (length ring); past = past }
 
 -- At most the given number of steps: the move ends at the first start reached whose least count is below `below`, else after the last step.

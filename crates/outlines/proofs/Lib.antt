@@ -26,3 +26,5 @@ pub mod ShownRising
 pub mod SilencesAlike
 pub mod OneSilenceMore
 pub mod EmptyBookIsScan
+-- Rings and lines without marks.
+pub mod ReportUnmarked

@@ -2,7 +2,7 @@
 -- (`reportRefusal`) decides the paper and the words. So the paper has a row's number exactly when that row is the first (`AnswerByRows` of crates/answers), and
 -- FirstOfReport states when it is.
 use Prim.Native.Nat.{ℕ, _≤_}
-use mathlib.Core.Path.{_≡_, refl, ap, _∙_}
+use mathlib.Core.Path.{_≡_, refl, ap}
 use mathlib.Core.Logic.{_⊎_, inl, inr, ⊎-elim, Iff·trans, Iff·and, Iff·rfl}
 use mathlib.Core.List.{List}
 use mathlib.Core.Option.{Option, none, some}

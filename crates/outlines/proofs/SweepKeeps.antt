@@ -11,6 +11,8 @@ use native.Mathlib.Omega.{arith}
 use lib.ListN.{length}
 use Rattle.meaning.specs.Meanings.{FitsInLine}
 use Rattle.meaning.specs.Findings.{Finding, foundAt, findingWords}
+use Rattle.lists.proofs.SizesTested.{test-fails}
+use Rattle.meaning.proofs.Marks.{holds-iff}
 use Rattle.meaning.proofs.LookBound.{quickLooks-most}
 use Rattle.meaning.proofs.Places.{found-start}
 use Rattle.meaning.proofs.FoundExactly.{found-is}
@@ -83,7 +85,7 @@ module _ {ring doubled table line : List ℕ} {k : ℕ} {book counts₀ area : L
           mul-le-mul (can .admitted .most-ring) (can .admitted .most-line),
         );
       };
-      no-mark = can .admitted .no-mark;
+      no-mark = sym (test-fails (holds-iff ring) (can .admitted .no-mark));
       size = h .size;
       occurs = can .occurs;
       twice = can .twice;

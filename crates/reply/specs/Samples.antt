@@ -80,13 +80,14 @@ unfolding sampleFields sampleBook ascii laidDown bytesOf answerText requestOf in
 order-of-rows = (refl, refl, refl, refl, refl, refl, refl)
 
 -- Refusal 12, "a ring holding 255" (document 02, ticket 2): the mark is the ring's first edge, its last, its only one. It comes after 11, where the line is cut as
--- well, and "after 1 and before 2": the last sample has k = m and a book of one byte.
+-- well, and "after 1 and before 2": the fourth sample has 257 edges, the last k = m and a book of one byte.
 row-12 : (answerText (fieldsWith 0 (255 ∷ ascii "a") 3) ≡ printed (ascii "refused 12 place 0"))
     × (answerText (fieldsWith 0 (ascii "a" ++ 255 ∷ []) 3) ≡ printed (ascii "refused 12 place 0"))
     × (answerText (take 22 (fieldsWith 0 (255 ∷ []) 3)) ≡ printed (ascii "refused 11 place 20"))
+    × (answerText (fieldsWith 0 (replicate 257 255) 3) ≡ printed (ascii "refused 1 place 0"))
     × (answerText (fieldsWith 1 (255 ∷ []) 3 ++ 0x21 ∷ []) ≡ printed (ascii "refused 12 place 0"))
 unfolding ascii laidDown bytesOf answerText requestOf inputFault firstFault partsFrom isFieldAt numberAt requestText refusalLineOf digitsWithin decimal reportRows admitRows holdsMark someBelow firstGiven
-row-12 = (refl, refl, refl, refl)
+row-12 = (refl, refl, refl, refl, refl)
 
 -- Digits: no leading zero, and a 0 for zero.
 digits-right : (decimal 0 ≡ ascii "0") × (decimal 9 ≡ ascii "9") × (decimal 10 ≡ ascii "10") × (decimal 4096 ≡ ascii "4096") × (decimal 4294967295 ≡ ascii "4294967295")

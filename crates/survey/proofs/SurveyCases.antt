@@ -1,5 +1,5 @@
--- The two cases of `verify_on`, "the first afresh and each next by one step". Start 0 is counted afresh. For i above 0 the tally of start i − 1 is moved, to the
--- next finding or to the last start.
+-- The two cases of `verify_on`, "the first afresh and each next by one step". Place 0 is counted afresh. For i above 0 the tally of place i − 1 is moved, to
+-- the next place whose least count is at most k or to the last window.
 use Prim.Native.Nat.{ℕ, _+_, _-_, _*_, _≤_, _<_}
 use mathlib.Core.Path.{_≡_, ap, _∙_}
 use mathlib.Core.List.{List}

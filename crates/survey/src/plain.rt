@@ -18,9 +18,9 @@ ghost use lib.ListN.{length};
 ghost use Rattle.findings.specs.Admitting.{Admitted};
 ghost use Rattle.survey.specs.Survey.{isFound, CanVerifyOn, IsVerifiedOn, CanSurvey, LineSurveyed, IsSurveyed};
 
-// Counts start 0 afresh; from a later start it moves the tally of the start before, one step for each start, to the next
-// finding or the last start. Rule 5's test 2·s > m is not made here: "each next by one step, at m = 1 too". The tally is
-// copied once for each such move, not once for each start.
+// Counts place 0 afresh; for a later place it moves the tally of the place before, a step for each, to the next place
+// whose least count is at most k or to the last window. Rule 5's test 2·s > m is not made here: "each next by one step, at
+// m = 1 too". The tally is copied once for each such move, not once for each step.
 fn verify_on(
     counts: &mut [u16; MOST_COUNTS],
     ring: &[u8],
@@ -39,7 +39,7 @@ fn verify_on(
             start,
             least: first.least,
             looks: first.looks,
-            past: first.past,
+            past: first.past, // at place 0 the window's places are the line's
         }
     } else {
         let from = start.0 - 1;
@@ -69,9 +69,9 @@ fn is_finding(least: usize, k: usize, past: usize, start: LinePlace) -> bool
     least <= k && past <= start.0
 }
 
-// Surveys from finding to finding, while a window fits in the line. The tally goes through windows that hold a mark as
-// through all others. A mark only counts as a differing edge there, so such a window may have a least count of at most k;
-// `is_finding` keeps it out.
+// Surveys from one place with a least count of at most k to the next, while a window fits in the line. The tally goes
+// through windows that hold a mark as through all others. A mark only counts as a differing edge there, so such a
+// window may have a least count of at most k; `is_finding` keeps it out.
 fn survey_starts(
     ring: &[u8],
     doubled: &[u8],

@@ -1,7 +1,7 @@
 -- Windows read with the ring's own vectors, up to the next candidate, are read by the rules. By induction on how many windows may still come: every window so
 -- far was stopped (`StoppedTo`). The window at i is read as a line of its own (`read-by-rules`, `alone-reading` of crates/meaning). Either it is
 -- stopped, and the next one starts later; or it is the candidate; or it does not fit in the line.
-use Prim.Native.Nat.{ℕ, zero, suc, _+_, _-_, _≤_, _<_}
+use Prim.Native.Nat.{ℕ, zero, suc, _+_, _-_, _≤_}
 use mathlib.Core.Path.{_≡_, refl, sym, ap, ap₂, _∙_}
 use mathlib.Core.Bool.{Bool, true, false, _||_, true≢false}
 use mathlib.Core.List.{List}

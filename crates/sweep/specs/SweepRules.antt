@@ -1,18 +1,18 @@
 -- The sweep to the next candidate as rules 1 to 5 say, in the terms of crates/meaning. The loop of scan and report uses these statements. `sweepBy` of Sweeps
 -- is what `sweep_on` computes on every input; `swept-by-rules` in proofs/SweptByRules.antt proves that under `CanSweepOn` it satisfies `IsSweptOn`. `StoppedTo`
--- and `stoppedState` are named after windows that were left because reading stopped at break k + 1 (rule 3).
+-- and `stoppedState` are named after windows that were left, at break k + 1 (rule 3) or at a mark (document 02, ticket 2).
 --
 --   sweptStart                   where the next window starts
 --   stateOf, foundOf, hasEnded   the parts of an answer: the sweep after it, the finding reported, whether the sweep has ended
---   StoppedTo                    a run of windows, each stopped at break k + 1
+--   StoppedTo                    a run of windows, each of them stopped
 --   IsCandidateRead              a window is read and is a candidate
 --   IsWindowsRead                windows are read, up to the next candidate
 --   CanSweepOn                   the sweep can go on by the rules
 --   IsCandidateSwept             a candidate is read and verified
 --   HasEnded                     no window fits in the line any more
---   stoppedState                 the sweep after a run of windows stopped at break k + 1
+--   stoppedState                 the sweep after a run of stopped windows
 --   IsSweptOn                    the sweep to the next candidate
-use Prim.Native.Nat.{ℕ, _+_, _-_, _≤_, _<_}
+use Prim.Native.Nat.{ℕ, _+_, _-_}
 use mathlib.Core.Path.{_≡_}
 use mathlib.Core.Bool.{Bool, true, false}
 use mathlib.Core.List.{List, [], _∷_}

@@ -3,14 +3,12 @@
 -- most q, so sixteen bits hold it. The looks are q·m, at most 256·q. The place just past the last mark is that of the first q edges.
 use Prim.Native.Nat.{ℕ, _+_, _*_, _%_, _≤_, _<_}
 use mathlib.Core.Path.{_≡_, refl, sym, ap, _∙_}
-use mathlib.Core.Bool.{cond}
 use mathlib.Core.List.{List}
 use native.Mathlib.Nat.{zero-add, add-mul, zero-mul, mod-eq-of-lt}
 use native.Mathlib.Numerals.{add-one}
 use native.Mathlib.Omega.{arith}
 use lib.ListN.{length, getD}
 use Rattle.meaning.specs.Counting.{oneIf, count}
-use Rattle.meaning.specs.Meanings.{isMark}
 use Rattle.meaning.proofs.Count.{count-last, count-le}
 use Rattle.answers.specs.Places.{IsRingPlace}
 use Rattle.answers.specs.declared.places.RingPlace.{RingPlace}
@@ -18,7 +16,7 @@ use Rattle.answers.specs.declared.places.LinePlace.{LinePlace}
 use Rattle.answers.proofs.PlacesUndo.{ring-place-is}
 use Rattle.lists.specs.ByPlace.{StoredFirst}
 use Rattle.lists.proofs.StoreLoop.{stored-again, stored-is}
-use Rattle.tally.specs.Marks.{pastMark, IsPastMark}
+use Rattle.tally.specs.Marks.{pastAfter, pastMark, IsPastMark}
 use Rattle.tally.specs.Counts.{mostCounts, differsThere, afreshCount, afreshCounts, edgeCounted, CanCount, IsLeast, IsCountedAfresh}
 use Rattle.tally.proofs.PastMark.{past-next}
 use Rattle.tally.proofs.LeastIsOne.{leastOf-only}
@@ -69,7 +67,7 @@ module _ (doubled window old cleared : List ℕ) (can : CanCount (length window)
           (sym (count-last (differsThere doubled window r) 0 q ∙ ap (λ (p : ℕ). count (differsThere doubled window r) 0 q + oneIf (differsThere doubled window r p)) (zero-add q))));
       looks-are = omega (arith, known .looks-are, counted .1, add-mul q 1 m);
       looks-le = omega (arith, known .looks-le, counted .1, can .has-counts .most);
-      past-is = asked .is ∙ ap (λ (p : ℕ). cond (isMark (getD window q 0)) (q + 1) p) (known .past-is)
+      past-is = asked .is ∙ ap (λ (p : ℕ). pastAfter (getD window q 0) p (q + 1)) (known .past-is)
           ∙ past-next window 0 q q (sym (zero-add q)) ∙ ap (pastMark window 0) (sym (add-one q));
     }
 

@@ -1,8 +1,8 @@
--- The place just past the last mark. Parts of the line that lie side by side are joined by taking the later of their two places (`past-join`). Where the part ends
--- with a window, that window is at a start exactly when the place is at most the window's own (`start-iff-past`). Induction on the number of places.
+-- The place just past the last mark. Parts of the line that lie side by side are joined by taking the later of their two places (`past-join`). Where the part
+-- begins at place 0 and ends with a window, that window is at a start exactly when the place is at most the window's own (`start-iff-past`). Induction on the number of places.
 use Prim.Native.Nat.{ℕ, zero, suc, _+_, _≤_, _<_, max}
 use mathlib.Core.Path.{_≡_, refl, sym, ap, _∙_}
-use mathlib.Core.Bool.{Bool, true, false, cond}
+use mathlib.Core.Bool.{Bool, true, false}
 use mathlib.Core.List.{List}
 use mathlib.Core.Logic.{_↔_, ⊎-elim}
 use native.Mathlib.Nat.{add-zero, zero-add, add-suc, eq-or-lt-of-le, le-of-suc-le-suc}
@@ -12,7 +12,7 @@ use borrow.Author.Tests.{eqb-true}
 use Rattle.lists.proofs.Cases.{by-test, not-passed}
 use Rattle.meaning.specs.Meanings.{FitsInLine, windowEdge, mark, isMark, IsStart}
 use Rattle.meaning.proofs.Starts.{unmarked-is-start, marked-no-start}
-use Rattle.tally.specs.Marks.{pastMark}
+use Rattle.tally.specs.Marks.{pastAfter, pastMark}
 
 module _ (line : List ℕ) where
   -- Of no places the place is 0.
@@ -22,7 +22,7 @@ module _ (line : List ℕ) where
 
   -- One place more: the edge at `place`, the next one, is asked.
   pub past-next : (from places place : ℕ) → place ≡ from + places
-      → cond (isMark (getD line place 0)) (place + 1) (pastMark line from places) ≡ pastMark line from (suc places)
+      → pastAfter (getD line place 0) (pastMark line from places) (place + 1) ≡ pastMark line from (suc places)
   unfolding pastMark
   past-next from places place here = rw here refl
 

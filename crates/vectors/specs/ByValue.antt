@@ -2,7 +2,7 @@
 -- longest ring has edges ("Ring: m edges, 1 to 256"). Every input has a result. For a vector of m bits in the fewest words that hold them, the
 -- results mean what `Bits` and `Holding` say; proofs/HeldVectors has the laws.
 --     vectorWords, vectorBits     a vector's words and bits            HeldVector     a vector of m bits held by value
---     edgeCodes     "every byte value 0 to 255 is an edge code"
+--     edgeCodes     one code for each byte value, 0 to 255
 --     lastBitPlace, carryInto, grownWord, grownWords     the held vector grown by one edge, word by word
 --     Occurrences     the occurrence vectors of a ring's edge codes, in one table
 -- `first_bits` returns `firstBits` and `no_bit` returns `noBit`, both of `Bits`; `vector_of` returns `vectorAt` of `Holding`.
@@ -32,7 +32,7 @@ pub record HeldVector (m : ℕ) (ws : List ℕ) : Type 0 where
   pub words : Vector ws
   pub within : WithinBits m ws
 
--- How many edge codes there are.
+-- How many codes a table has a vector for: "every byte value 0 to 255". (By document 02, ticket 2, 255 is a mark; an accepted ring holds none, so its vector is empty.)
 abbrev pub edgeCodes : ℕ
 edgeCodes = 256
 
