@@ -46,7 +46,7 @@ module _ (ring line : List ℕ) (k : ℕ) (no-mark : holdsMark ring ≡ false) (
       ap₂ (λ (refusal : Option Refusal) (fs : List Finding). answerBy {A = Counts} refusal (record { found = length fs; looks = looks }))
       (rows-unmarked ring k (length line) room no-mark) (findings-before ring line k unmarked-line)
 
-  -- Its lent words at exit are as before, too.
+  -- For a ring and a line without marks the lent words after a search are as before.
   pub words-unmarked : (words : List ℕ)
       → searchedWords ring line k words
       ≡ areaBy (firstGiven (rowsBefore (length ring) k (length line) (length words))) (written (wordsOf (findingsBefore ring line k)) words) words

@@ -49,7 +49,7 @@ module _ (ring line : List ℕ) (k cell ringNumber : ℕ) (book : List ℕ) (no-
       counts : List Finding → ℕ → ReportCounts
       counts fs looks = record { found = length fs; hidden = length (hidden (silencesRead book) cell ringNumber fs); looks = looks }
 
-  -- Its lent words at exit are as before, too.
+  -- For a ring and a line without marks the lent words after a report are as before.
   pub report-words-unmarked : (words : List ℕ)
       → reportedWords ring line k cell ringNumber book words
       ≡ areaBy (refusalBefore (length words)) (written (wordsOf (shown (silencesRead book) cell ringNumber (findingsBefore ring line k))) words) words
