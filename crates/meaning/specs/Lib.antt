@@ -42,8 +42,9 @@
 -- | (helpers)                    | `count`, `lowest`, `someBelow`             | Counting    |
 --
 -- The table leaves out the parts of these definitions: `oneIf` (Counting); `unequal`, `reaches`, `rotationsReaching` (Meanings); `Finding`, `findingAt`,
--- `foundAt`, `findingsBelow`, `wordsEach`, `findingWords` (Findings); `begins` (Stretch); `unread`, `markRead`, `grownRead`, `brokenRead`, `readLeft`, `windowsFrom`, `candidatesOf` (Rules); `verifyLooks`,
--- `surveyLooksBelow` (Looks); `Sample`, `finding`, `answered`, `marked` (Samples); those of BeforeMarks.
+-- `foundAt`, `findingsBelow`, `wordsEach`, `findingWords` (Findings); `begins` (Stretch); `unread`, `markRead`, `grownRead`, `brokenRead`, `readLeft`,
+-- `windowsFrom`, `candidatesOf` (Rules); `verifyLooks`, `surveyLooksBelow` (Looks); `Sample`, `finding`, `answered`, `marked` (Samples); those of
+-- BeforeMarks.
 --
 -- Where a window, a tally or a sweep has a `start`, this is the place where its window begins; since document 02, ticket 2, that place need not be a start.
 --

@@ -27,7 +27,7 @@ pub record IsPastLine (ring line : List ℕ) (i : ℕ) : Type 0 where
 abbrev pub fitsInLine : List ℕ → List ℕ → ℕ → Bool
 fitsInLine ring line i = leb (i + length ring) (length line)
 
--- The window of start i: "Its window is the m edges from i."
+-- The window at place i: "Its window is the m edges from i."
 unfoldable pub window : ℕ → List ℕ → ℕ → List ℕ
 window m line i = take m (drop i line)
 

@@ -1,5 +1,5 @@
--- Document 01, "Rules of the quick scan", rules 1 to 4, and what document 02, ticket 2, says of marks. Rule 5 decides no finding: what verifying costs is in Looks, and what a tally holds is in
--- crates/tally. Each window begins with an empty stretch and no breaks.
+-- Document 01, "Rules of the quick scan", rules 1 to 4, and what document 02, ticket 2, says of marks. Rule 5 decides no finding: what verifying costs is
+-- in Looks, and what a tally holds is in crates/tally. Each window begins with an empty stretch and no breaks.
 -- `windowsFrom` takes a number that only bounds its recursion. To read the rules without it, take the two equations of proofs/WindowSteps for
 -- `windowsAt i`, the windows from place i on: `windows-step` (a window that fits in the line is read, then come the windows from the next start on)
 -- and `windows-end` (where no window fits, none is read).

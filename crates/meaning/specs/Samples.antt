@@ -1,7 +1,7 @@
--- Document 01, "Sample rings": P1 to P12 as one table under one claim, which antt computes. A second table of the same form pins what no row of the
--- first does: rule 5's choice between a fresh count and steps, the break edge, the last verified start, steps across a stopped window, the plain
--- survey's looks, the codes 0 and 254, and ties. A third has boundary marks. Looks and numbers of candidates that the document leaves out of a row are left out here. Every finding
--- has its ties: document 02 gives those of P6, the others follow from the meaning.
+-- Document 01, "Sample rings": P1 to P12 as one table under one claim, which antt computes. A second table of the same form pins what no row of the first
+-- does: rule 5's choice between a fresh count and steps, the break edge, the last verified start, steps across a stopped window, the plain survey's
+-- looks, the codes 0 and 254, and ties. A third has boundary marks. Looks and numbers of candidates that the document leaves out of a row are left out
+-- here. Every finding has its ties: document 02 gives those of P6, the others follow from the meaning.
 use Prim.Native.Nat.{ℕ}
 use Prim.Native.String.{String}
 use mathlib.Core.Path.{_≡_, refl}
