@@ -4,18 +4,18 @@
  * Terms. A ring has m edges, one byte each; a line has n bytes, edges and boundary marks. The bytes 0 to 254 are ordinary edge codes. Byte 255
  * (OUTLINES_MARK) is a mark: it stands in a line where one boundary ends and the next begins. It counts as one of the n bytes. A ring must not hold one
  * (refusal 12). Turning the ring by r, 0 <= r < m, brings its edge (r + q) mod m to place q; r is called a rotation. If i + m <= n, the line's places i
- * to i + m - 1 are the window at i, and i is a start if that window holds no mark. The distance of a start under a rotation counts the places at which
- * the window and the turned ring have different edges. A start is a finding if its distance is at most k, the allowance, for at least one rotation. A
- * finding has four numbers: the start, the lowest rotation with the least distance, that distance, and the ties: how many rotations have that
- * distance, itself included, 1 to m (equal turns of a periodic ring each count). Places and rotations count from 0.
+ * to i + m - 1 are the window at i, and i is a start if that window holds no mark. The distance of such a place i under a rotation counts the places at
+ * which the window and the turned ring differ; a mark differs from every ring edge. A start is a finding if its distance is at most k, the allowance, for
+ * at least one rotation. A finding has four numbers: the start, the lowest rotation with the least distance, that distance, and the ties: how many
+ * rotations have that distance, itself included, 1 to m (equal turns of a periodic ring each count). Places and rotations count from 0.
  *
  * Marks are new. Up to change request 1 byte 255 was an edge code like any other: a line in which it means an edge is searched differently now, and a
- * ring with that edge is refused. Books are as before; a silence whose start is no start any more hides nothing.
+ * ring with that edge is refused. Books are as before; a silence that names a place which is no start any more hides nothing.
  *
  * One stored copy can be several findings. If an exact copy of the ring stands at start i, a window that begins s edges before or after it has a distance
  * of at most s. So every start from i - k to i + k is a finding, and the copy gives at least 2 k + 1 findings, fewer only near the line's ends and near
- * marks: with a mark on either side of it the copy gives one. A reviewer who accepts that copy needs as many silences: 5 at k = 2, so that a book of
- * 1,000 silences is full after some 200 separate copies.
+ * marks: with a mark just before it and another just behind it the copy gives one. A reviewer who accepts that copy needs as many silences: 5 at k = 2,
+ * so that a book of 1,000 silences is full after some 200 separate copies.
  *
  * Calls. Every call takes every input. It is accepted or refused, and returns a struct outlines_answer by value. A refused call has written nothing
  * and returns zero in every count. A length counts elements: bytes of a ring, a line or a book, 32-bit words of an area of words. A pointer may be
@@ -60,8 +60,8 @@ enum outlines_refusal {
     OUTLINES_RING_MARK = 12     /* the ring holds 255, a boundary mark; place 0 */
 };
 
-/* What every call returns. A look is one line edge read by the quick scan, or one comparison of a line edge with a ring edge in computing distances; to
- * test whether edges read so far fit the ring costs none (SPEC, section 3). */
+/* What every call returns. A look is one byte of the line read by the quick scan, a mark too, or one comparison of a byte of the line with a ring edge in
+ * computing distances; to test whether edges read so far fit the ring costs none (SPEC, section 3). */
 struct outlines_answer {
     uint32_t refusal; /* 0 if the call is accepted, else a number of enum outlines_refusal */
     uint32_t place;   /* the place of the refusal; 0 if the call is accepted */
