@@ -126,7 +126,8 @@ NeverNamed start = ⊥
 pub record Demand2 (Named : ℕ → Type 0) (ring line : List ℕ) (k : ℕ) (words : List ℕ) (r : AnswerStruct) (out : List ℕ) : Type 0 where
   pub shown : List Finding
   pub hidden : List Finding
-  -- A start ("a window holding" a mark "isn't a start", document 02, ticket 2) is among the shown exactly when some rotation differs from its window in at most k places and the book does not name it.
+  -- A start ("a window holding" a mark "isn't a start", document 02, ticket 2) is among the shown exactly when some rotation differs from its window in at most
+  -- k places and the book does not name it.
   pub start-iff : (i : ℕ)
       → ((f : Finding) × (f .start ≡ i) × List·Memᴰ f shown)
       ↔ ((IsStart ring line i × ((q : ℕ) × (q < length ring) × (distance ring line i q ≤ k))) × (Named i → ⊥))

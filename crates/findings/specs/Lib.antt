@@ -5,7 +5,7 @@
 --   Searching     the answer of survey and scan, and the lent words at exit: their contract `IsSearched`
 --   SearchRows    these rows once more, in plain comparisons over an answer's number, place and counts
 --   Putting       what the lent words hold after one finding is put
---   BeforeMarks   the rows of a search before there were marks, for one law
+--   BeforeMarks   the rows of a search before there were marks, for the law that nothing else has changed
 pub mod Marks
 pub mod Admitting
 pub mod Searching

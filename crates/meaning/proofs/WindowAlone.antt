@@ -2,15 +2,15 @@
 -- depend on its m edges only.
 use Prim.Native.Nat.{ℕ, zero, suc, _≤_, _<_}
 use mathlib.Core.Path.{_≡_, refl, ap, ap₂}
-use mathlib.Core.Bool.{Bool, true, false, not, cond, _||_, true≢false, false≢true}
+use mathlib.Core.Bool.{Bool, true, false, not, cond, true≢false, false≢true}
 use mathlib.Core.List.{List, _∷_}
 use native.Mathlib.Nat.{zero-add}
 use native.Mathlib.Omega.{arith}
-use lib.Dec.{ltb, eqb}
+use lib.Dec.{eqb}
 use lib.ListN.{length}
 use Rattle.meaning.specs.Meanings.{window, windowEdge, rotationEdge, isMark, differs, distance}
 use Rattle.meaning.specs.Stretch.{fits}
-use Rattle.meaning.specs.Rules.{Reading, unread, markRead, grownRead, brokenRead, readEdge, readLeft, readWindow}
+use Rattle.meaning.specs.Rules.{Reading, unread, markRead, grownRead, brokenRead, readEdge, stopsAt, readLeft, readWindow}
 use Rattle.meaning.proofs.Count.{count-same}
 use Rattle.meaning.proofs.Windows.{window-edge-is}
 
@@ -59,7 +59,7 @@ module _ (ring line : List ℕ) (i : ℕ) where
   unfolding readLeft
   same-left k zero v w l s = s
   same-left k (suc left) v w l s =
-      same-cond _ _ (ap₂ (λ (b : ℕ) (t : Bool). ltb k b || t) (s .breaks-is) (s .mark-is)) s
+      same-cond _ _ (ap₂ (stopsAt k) (s .breaks-is) (s .mark-is)) s
       (rw (alone-edge left (omega arith)) (same-left k left _ _ (omega arith) (same-edge (windowEdge line i left) v w s)))
 
   -- The window taken out is read as the line's window at i.

@@ -42,9 +42,14 @@ readEdge ring x w =
     let edge : Reading = cond (fits ring (x ∷ w .held)) (grownRead x w) (brokenRead w) in
     cond (isMark x) (markRead w) edge
 
--- Rule 3, "Stop at break k+1", and document 02, ticket 2: "On reading a mark the quick scan leaves the window". Whether the window is stopped there.
+-- Rule 3, "Stop at break k+1", and document 02, ticket 2: "On reading a mark the quick scan leaves the window". Whether reading stops, with so many breaks and
+-- with a mark as the last edge read or not.
+abbrev pub stopsAt : ℕ → ℕ → Bool → Bool
+stopsAt k breaks marked = ltb k breaks || marked
+
+-- Whether the window is stopped there.
 abbrev pub isStopped : ℕ → Reading → Bool
-isStopped k w = ltb k (w .breaks) || w .at-mark
+isStopped k w = stopsAt k (w .breaks) (w .at-mark)
 
 -- Rules 1 and 3. "read its edges from the last towards the first"; "Stop at break k+1, or when all m edges are read", and at a mark. The number before
 -- w is how many edges of the window at i are still unread.

@@ -1,6 +1,6 @@
--- Document 01, the plain survey: it "verifies every start, the first afresh and each next by one step, at m = 1 too: 2·m·n − m·m looks for n ≥ m, else 0.
--- It gives the same findings." Places whose window holds a mark are verified too: "same findings, and its looks stay" (document 02, ticket 2). Refusals, found and words are those of every search (specs/Searching.antt of crates/findings). Only the looks are its own:
--- `surveyLooks` of crates/meaning.
+-- Document 01, the plain survey: it "verifies every start, the first afresh and each next by one step, at m = 1 too: 2·m·n − m·m looks for n ≥ m, else 0. It
+-- gives the same findings." Places whose window holds a mark are verified too: "same findings, and its looks stay" (document 02, ticket 2). Refusals, found and
+-- words are those of every search (specs/Searching.antt of crates/findings). Only the looks are its own: `surveyLooks` of crates/meaning.
 --
 --   IsSurveyed                   the contract of `survey`
 --   edgesSeen, isFound           how many edges are seen before a place is verified; whether a verified place is a finding
@@ -48,8 +48,8 @@ pub record CanVerifyOn (ring doubled line : List ℕ) (k i : ℕ) (counts : List
   pub before : 0 < i → Tallied ring line (i - 1) counts
 
 -- Contract of `verify_on`: the places from i to the one reached are verified. The counts are the tally of the place reached, r has their least, and the places
--- passed have a least distance above k. The looks are the survey's for these places, "the first afresh and each next by one step". `past` is the place just past the last mark
--- among the edges first seen now; 0 if none of them is a mark.
+-- passed have a least distance above k. The looks are the survey's for these places, "the first afresh and each next by one step". `past` is the place just
+-- past the last mark among the edges first seen now; 0 if none of them is a mark.
 pub record IsVerifiedOn (ring line : List ℕ) (k i : ℕ) (counts : List ℕ) (r : Reached) : Type 0 where
   pub start-ge : i ≤ r .start .0
   pub in-line : FitsInLine ring line (r .start .0)

@@ -3,15 +3,14 @@
 -- stopped, and the next one starts later; or it is the candidate; or it does not fit in the line.
 use Prim.Native.Nat.{ℕ, zero, suc, _+_, _-_, _≤_}
 use mathlib.Core.Path.{_≡_, refl, sym, ap, ap₂, _∙_}
-use mathlib.Core.Bool.{Bool, true, false, _||_, true≢false}
+use mathlib.Core.Bool.{true, false, true≢false}
 use mathlib.Core.List.{List}
 use native.Mathlib.Omega.{arith}
-use lib.Dec.{ltb}
 use lib.ListN.{length}
 use Rattle.lists.proofs.Cases.{by-test}
 use Rattle.meaning.specs.Meanings.{FitsInLine, IsPastLine, window, fitsInLine}
 use Rattle.meaning.proofs.Starts.{fits-line-iff, past-line-iff}
-use Rattle.meaning.specs.Rules.{isStopped, readWindow}
+use Rattle.meaning.specs.Rules.{stopsAt, isStopped, readWindow}
 use Rattle.meaning.proofs.WindowAlone.{alone-reading}
 use Rattle.tally.specs.Windows.{windowAt}
 use Rattle.tally.proofs.WindowEdges.{fitting-window, fitting-length}
@@ -56,7 +55,7 @@ module _ (ring table line : List ℕ) (k from : ℕ) (own : OwnVectors ring tabl
       stops-are =
           let marks-are : read i .marked ≡ readWindow ring line k i .at-mark =
           by-rules .mark-is ∙ ap (λ (w : List ℕ). readWindow ring w k 0 .at-mark) alone ∙ alone-reading ring line i k .mark-is in
-          ap₂ (λ (b : ℕ) (t : Bool). ltb k b || t) breaks-are marks-are
+          ap₂ (stopsAt k) breaks-are marks-are
 
       next-is : i + read i .left + 1 ≡ sweptStart ring line k i
       next-is = omega (arith, reads-are, by-rules .left-is)

@@ -9,11 +9,12 @@
 --   windowsOn, windowsBy           window after window, to the next candidate: at most a given number of them; all from a given start
 --   CanReadWindows                 the precondition of `read_windows`
 use Prim.Native.Nat.{ℕ, zero, suc, _+_, _-_, _*_, _≤_, _<_}
-use mathlib.Core.Bool.{Bool, true, false, cond, _||_}
+use mathlib.Core.Bool.{Bool, true, false, cond}
 use mathlib.Core.List.{List}
 use lib.Dec.{ltb}
 use lib.ListN.{length, getD}
 use Rattle.meaning.specs.Meanings.{fitsInLine, isMark}
+use Rattle.meaning.specs.Rules.{stopsAt}
 use Rattle.vectors.specs.Bits.{wordCount, firstBits, noBit}
 use Rattle.vectors.specs.Holding.{vectorAt}
 use Rattle.vectors.specs.ByValue.{vectorWords, grownWords}
@@ -53,9 +54,9 @@ readWith table window k words = readOn table window k words (length window) (fir
 abbrev pub readBy : List ℕ → List ℕ → ℕ → WindowRead
 readBy table window k = readWith table window k (wordCount (length window))
 
--- Whether the window was stopped. Rule 3: "Stop at break k+1"; document 02, ticket 2: "On reading a mark the quick scan leaves the window".
+-- Whether the window was stopped, at break k + 1 or at a mark.
 abbrev pub stoppedBy : ℕ → WindowRead → Bool
-stoppedBy k r = ltb k (r .breaks) || r .marked
+stoppedBy k r = stopsAt k (r .breaks) (r .marked)
 
 -- The result if no window fits in the line at place i: no candidate, and both places are i.
 abbrev pub noneLeft : ℕ → ℕ → WindowsRead

@@ -1,5 +1,6 @@
--- When counts are the tally of a start, that is of a place where a window fits in the line, whether it holds a mark or not. The count of rotation r is kept under the number r. What is rotation r at start i is rotation r + 1 at start i + 1 (the
--- last rotation becomes rotation 0), so a step along the line renumbers the counts (crates/moves).
+-- When counts are the tally of a start, that is of a place where a window fits in the line, whether it holds a mark or not. The count of rotation r is kept
+-- under the number r. What is rotation r at start i is rotation r + 1 at start i + 1 (the last rotation becomes rotation 0), so a step along the line renumbers
+-- the counts (crates/moves).
 --
 --   Tallied     the counts are "the tally of one count per rotation" at a start
 --   CanTally    256 counts, and a ring of 1 to 256 edges
