@@ -1,6 +1,6 @@
 -- The sweep of the quick scan goes from window to window (rules 1 to 3) up to the next candidate and verifies it (rules 4 and 5). It has two definitions: one as the
--- code computes, on every input, whatever vectors, doubled ring and counts are lent; one as the rules say. If the ring's own vectors and double are lent, and the
--- counts are the tally of the last verified start, the two are the same. A law joins them at each level:
+-- code computes, on every input, whatever vectors, doubled ring and counts are lent; one as the rules say. If the ring holds no mark, its own vectors and double are
+-- lent, and the counts are the tally of the last verified start, the two are the same. A law joins them at each level:
 --
 -- |                           | computed, on every input        | by the rules                                   | joined by                           |
 -- |---------------------------|---------------------------------|------------------------------------------------|-------------------------------------|

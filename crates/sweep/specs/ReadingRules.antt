@@ -1,5 +1,5 @@
 -- Rules 1 to 3 for one window. The code reads a window as a line of its own, at start 0; by `alone-reading` of crates/meaning this is the same as reading it in the
--- line. `readBy` of Reads is what the code computes with any table. `read-by-rules` in proofs/ReadByRules.antt proves that with the ring's own vectors it is what the
+-- line. `readBy` of Reads is what the code computes with any table. `read-by-rules` in proofs/ReadByRules.antt proves that with the own vectors of a ring without marks it is what the
 -- rules give.
 use Prim.Native.Nat.{ℕ, _+_, _≤_, _<_}
 use mathlib.Core.Path.{_≡_}

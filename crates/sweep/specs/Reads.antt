@@ -1,5 +1,5 @@
 -- What reading windows computes, on every input and with any table. The code holds a vector of one bit for each rotation in place of the stretch (source document
--- 003). With the ring's own vectors the result is what rules 1 to 3 give, `IsWindowRead` of ReadingRules and `IsWindowsRead` of SweepRules, by `read-by-rules` and
+-- 003). With the own vectors of a ring without marks the result is what rules 1 to 3 give, `IsWindowRead` of ReadingRules and `IsWindowsRead` of SweepRules, by `read-by-rules` and
 -- `windows-by-rules` of proofs/.
 --
 --   heldWith                       the held vector after one more edge

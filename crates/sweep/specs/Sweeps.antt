@@ -1,4 +1,4 @@
--- What `sweep_on` computes, on every input, whatever vectors, doubled ring and counts it is lent. If they are the ring's own and the tally of the last verified start,
+-- What `sweep_on` computes, on every input, whatever vectors, doubled ring and counts it is lent. If they are the own of a ring without marks and the tally of the last verified start,
 -- this is what the rules give, `IsSweptOn` of SweepRules, by `swept-by-rules` of proofs/SweptByRules.antt.
 --
 --   movedTo                  the tally moved a number of steps

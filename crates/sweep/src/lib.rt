@@ -2,8 +2,8 @@
 //
 // `sweep_on` takes the sweep from where it stands to the next candidate and verifies it. Its contract is in
 // specs/Sweeps.antt: what it returns on every input, whatever tables and counts it is lent. `swept-by-rules` in
-// proofs/SweptByRules.antt proves that this is what the rules give if the tables are the ring's own and the counts are
-// the tally of the last verified start. The function has no `requires`.
+// proofs/SweptByRules.antt proves that this is what the rules give if the ring holds no mark, the tables are its own and
+// the counts are the tally of the last verified start. The function has no `requires`.
 mod reading;
 mod sweeping;
 mod verifying;
