@@ -1,5 +1,5 @@
--- Proofs that each exported call meets its demands (SearchDemands, BookDemands, ReportDemands, from RowsAgree) and has one answer only (OneAnswer); laws that the
--- functions' proofs cite (BookPlaces, ReportPlaces, PassedOn).
+-- Proofs that each exported call meets its demands (SearchDemands, BookDemands, ReportDemands, ClosedDemands, from RowsAgree) and has one answer only
+-- (OneAnswer); laws that the functions' proofs cite (BookPlaces, ReportPlaces, PassedOn).
 pub mod RowsAgree
 pub mod SearchDemands
 pub mod BookDemands

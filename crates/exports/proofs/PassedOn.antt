@@ -10,7 +10,9 @@ use Rattle.book.specs.declared.answering.BookAnswer.{BookAnswer}
 use Rattle.book.specs.Calls.{paperOf as bookPaperOf, IsUnpacked}
 use Rattle.packing.specs.Calls.{IsPacked}
 use Rattle.findings.specs.declared.searching.Searched.{Searched}
+use Rattle.findings.specs.Admitting.{admitRows}
 use Rattle.findings.specs.Searching.{paperOf as searchPaperOf, IsSearched}
+use Rattle.findings.proofs.AdmitRows.{row-places}
 use Rattle.findings.proofs.RowsOfSearching.{rows-of-search}
 use Rattle.outlines.specs.declared.reporting.Reported.{Reported}
 use Rattle.outlines.specs.Report.{ReportCounts, paperOf as reportPaperOf, IsReported}
@@ -24,14 +26,17 @@ place-is : {C : Type 0} {p q : Paper C} → p ≡ q → p .place ≡ q .place
 place-is e = ap (λ p. p .place) e
 
 -- A place of `survey` or `scan` fits 32 bits: it is 0.
-pub search-place : {ring line : List ℕ} {k asked : ℕ} {words out : List ℕ} {r : Searched} → IsSearched ring line k asked words r out → searchPaperOf r .place < 2 ^ 32
+pub search-place : {ring line : List ℕ} {k looks : ℕ} {words out : List ℕ} {r : Searched}
+    → IsSearched (admitRows ring k (length line) (length words)) ring line k looks words r out → searchPaperOf r .place < 2 ^ 32
 search-place h = omega (arith, rows-of-search h .place-is)
 
 -- A place of `report` fits 32 bits.
 pub report-place : {cell ringNumber : ℕ} {ring line : List ℕ} {k : ℕ} {book words out : List ℕ} {r : Reported}
     → IsReported cell ringNumber ring line k book words r out → reportPaperOf r .place < 2 ^ 32
 report-place {cell} {ringNumber} {ring} {line} {k} {book} {words} h =
-    omega (arith, place-is (h .paper), report-place-le ring line k (length words) cell ringNumber book)
+    let n = length line in
+    let room = length words in
+    omega (arith, place-is (h .paper), report-place-le (admitRows ring k n room) (row-places ring k n room) ring line k cell ringNumber book)
 
 -- A place of `pack` fits 32 bits.
 pub pack-place : {words area out : List ℕ} {r : BookAnswer} → IsPacked words area r out → bookPaperOf r .place < 2 ^ 32

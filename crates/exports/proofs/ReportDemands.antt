@@ -1,14 +1,15 @@
 -- `outlines_report` meets the demands. It answers by the rows of a report, so demand 1 follows as for every call (RowsAgree). Where it is accepted, the book is the
 -- layout of the silences read (`accepted-iff` of crates/silences), so a finding is shown exactly when the book's bytes do not name it. Its looks are the scan's.
-use Prim.Native.Nat.{ℕ, _+_, _<_}
-use mathlib.Core.Path.{_≡_, refl, sym, ap, subst, _∙_}
+use Prim.Native.Nat.{ℕ, _<_}
+use mathlib.Core.Path.{_≡_, refl, ap, subst}
 use mathlib.Core.Logic.{_↔_, Iff·trans, Iff·and, Iff·rfl}
-use mathlib.Core.List.{List, List·Memᴰ}
+use mathlib.Core.List.{List, _++_, List·Memᴰ}
 use mathlib.Core.Option.{Option, none}
 use native.Mathlib.Omega.{arith}
 use lib.ListN.{length}
 use Rattle.lists.specs.Areas.{written}
 use Rattle.meaning.specs.Findings.{Finding, IsFinding, findings, wordsOf}
+use Rattle.meaning.specs.Looks.{quickLooks}
 use Rattle.answers.specs.declared.refusals.Refusal.{Refusal}
 use Rattle.answers.specs.Paper.{accepted}
 use Rattle.answers.specs.Rows.{firstGiven}
@@ -18,16 +19,16 @@ use Rattle.lists.specs.Bounds.{IsBytes}
 use Rattle.silences.specs.Silences.{Silence, Names}
 use Rattle.silences.specs.Reading.{silencesRead, bookRows, readBook}
 use Rattle.silences.proofs.BookRows.{book-accepted-iff}
-use Rattle.findings.specs.Admitting.{admitRows, admitRefusal}
-use Rattle.findings.proofs.AdmitRows.{no-row-iff}
+use Rattle.findings.specs.Admitting.{admitRows}
+use Rattle.findings.proofs.AdmitRows.{accepted-edge}
 use Rattle.silences.proofs.AcceptedIsLayout.{book-accepted, accepted-iff}
 use Rattle.outlines.specs.Report.{shown, hidden, ReportCounts, reportCounts, reportRows, reportAnswer, reportedWords}
 use Rattle.outlines.proofs.ShownExactly.{shown-iff, hidden-iff}
 use Rattle.outlines.proofs.ShownAndHidden.{shown-hidden-length}
 use Rattle.outlines.proofs.ShownRising.{shown-rising, hidden-rising}
 use Rattle.exports.specs.declared.answering.Answer.{Answer as AnswerStruct}
-use Rattle.exports.specs.Exported.{IsReportExported}
-use Rattle.exports.specs.Demands.{searchTable, bookTable, reportTable, BookNames, Demand2, ReportMeets}
+use Rattle.exports.specs.Exported.{IsReportExportedBy, IsReportExported}
+use Rattle.exports.specs.Demands.{Row, searchTable, bookTable, BookNames, Demand2, ReportMeets}
 use Rattle.exports.proofs.RowsAgree.{AllAgree, agree-append, GoesByRows, Accepts, demand-1-met, accepts}
 use Rattle.exports.proofs.BookDemands.{book-agrees}
 use Rattle.exports.proofs.SearchDemands.{search-agrees, start-shown-iff, looks-demand-3}
@@ -66,49 +67,58 @@ module _ (cell ringNumber : ℕ) (ring line : List ℕ) (k : ℕ) where
         words-are = words-are;
       }
 
-module _ (cell ringNumber : ℕ) (ring line : List ℕ) (k : ℕ) (book words : List ℕ) {r : AnswerStruct} {out : List ℕ} (bytes : IsBytes book)
-    (e : IsReportExported cell ringNumber ring line k book words r out) where
-  abbrev rows : List (Option Refusal)
-  rows = reportRows ring k (length line) (length words) book
+-- If the rows of a search agree with a table, the rows of the report agree with that table and the book's.
+pub report-agrees : (rows : List (Option Refusal)) (table : List Row) {book : List ℕ} → IsBytes book → AllAgree rows table
+    → AllAgree (reportRows rows book) (table ++ bookTable book)
+unfolding reportRows
+report-agrees rows table {book} bytes agree = agree-append rows table (bookRows book) (bookTable book) agree (λ _. book-agrees book bytes)
 
-  -- a report answers by its rows
-  reported-by-rows : GoesByRows rows (reportCounts ring line k cell ringNumber (silencesRead book))
+-- A report with the rows of any search. Of these only that they accept no empty ring is used.
+module _ (rows : List (Option Refusal)) (cell ringNumber : ℕ) (ring line : List ℕ) (k : ℕ) (book words : List ℕ) {r : AnswerStruct} {out : List ℕ} (bytes : IsBytes book)
+    (e : IsReportExportedBy rows cell ringNumber ring line k book words r out) where
+  -- A report answers by its rows.
+  pub reported-by-rows : GoesByRows (reportRows rows book) (reportCounts ring line k cell ringNumber (silencesRead book))
       (written (wordsOf (shown (silencesRead book) cell ringNumber (findings ring line k))) words) words r out
   unfolding reportAnswer reportedWords
   reported-by-rows = record { paper = e .paper; written = e .written }
 
-  -- and these agree with the rows of the page
-  report-agrees : AllAgree rows (reportTable ring k (length line) (length words) book)
-  unfolding reportRows
-  report-agrees =
-      agree-append (admitRows ring k (length line) (length words)) (searchTable ring k (length line) (length words)) (bookRows book) (bookTable book)
-      (search-agrees ring k (length line) (length words)) (λ _. book-agrees book bytes)
-
-  module _ (zero-is : r .refusal ≡ 0) where
+  module _ (some-edge : firstGiven rows ≡ none → 0 < length ring) (zero-is : r .refusal ≡ 0) where
     -- what an accepted report gives: no row is given, and its counts and words are those of the silences read
-    taken : Accepts rows (reportCounts ring line k cell ringNumber (silencesRead book))
+    taken : Accepts (reportRows rows book) (reportCounts ring line k cell ringNumber (silencesRead book))
         (written (wordsOf (shown (silencesRead book) cell ringNumber (findings ring line k))) words) r out
     taken = accepts reported-by-rows zero-is
 
     -- no row is given, neither of the search nor of the book
-    none-of-either : (admitRefusal ring k (length line) (length words) ≡ none) × (firstGiven (bookRows book) ≡ none)
+    none-of-either : (firstGiven rows ≡ none) × (firstGiven (bookRows book) ≡ none)
     unfolding reportRows
-    none-of-either = none-append-iff (admitRows ring k (length line) (length words)) (bookRows book) .0 (taken .none-given)
+    none-of-either = none-append-iff rows (bookRows book) .0 (taken .none-given)
 
-    -- the ring has at least one edge
-    some-edge : 0 < length ring
-    some-edge = no-row-iff ring k (length line) (length words) .0 (none-of-either .0) .some-edge
+    -- The ring of an accepted report is not empty.
+    pub report-edge : 0 < length ring
+    report-edge = some-edge (none-of-either .0)
 
-    -- an accepted report meets demand 2
-    accepted-demand-2 : Demand2 (BookNames book cell ringNumber) ring line k words r out
+    -- The looks of an accepted report are the quick scan's.
+    pub report-looks-are : r .looks ≡ quickLooks ring line k
+    report-looks-are = ap (λ (c : ReportCounts). c .looks) (taken .counts-are)
+
+    -- An accepted report meets demand 2.
+    pub accepted-demand-2 : Demand2 (BookNames book cell ringNumber) ring line k words r out
     accepted-demand-2 =
-        report-demand-2 cell ringNumber ring line k bytes (book-accepted-iff book (silencesRead book) .1 (none-of-either .1, refl)) some-edge
+        report-demand-2 cell ringNumber ring line k bytes (book-accepted-iff book (silencesRead book) .1 (none-of-either .1, refl)) report-edge
         (ap (λ (c : ReportCounts). c .found) (taken .counts-are)) (ap (λ (c : ReportCounts). c .hidden) (taken .counts-are)) (taken .written)
 
-  -- `outlines_report` meets the demands, for a book of bytes.
-  pub report-meets : ReportMeets cell ringNumber ring line k book words r out
-  report-meets = record {
-    demand-1 = demand-1-met report-agrees reported-by-rows;
-    demand-2 = accepted-demand-2;
-    demand-3 = λ zero-is. looks-demand-3 (some-edge zero-is) (ap (λ (c : ReportCounts). c .looks) (taken zero-is .counts-are));
-  }
+-- `outlines_report` meets the demands, for a book of bytes.
+pub report-meets : (cell ringNumber : ℕ) (ring line : List ℕ) (k : ℕ) (book words : List ℕ) {r : AnswerStruct} {out : List ℕ} → IsBytes book
+    → IsReportExported cell ringNumber ring line k book words r out → ReportMeets cell ringNumber ring line k book words r out
+report-meets cell ringNumber ring line k book words bytes e =
+    let rows : List (Option Refusal) = admitRows ring k (length line) (length words) in
+    let some-edge = accepted-edge ring k (length line) (length words) in
+    record {
+      demand-1 =
+          demand-1-met (report-agrees rows (searchTable ring k (length line) (length words)) bytes (search-agrees ring k (length line) (length words)))
+          (reported-by-rows rows cell ringNumber ring line k book words bytes e);
+      demand-2 = accepted-demand-2 rows cell ringNumber ring line k book words bytes e some-edge;
+      demand-3 = λ zero-is.
+          looks-demand-3 (report-edge rows cell ringNumber ring line k book words bytes e some-edge zero-is)
+          (report-looks-are rows cell ringNumber ring line k book words bytes e some-edge zero-is);
+    }

@@ -1,10 +1,10 @@
 -- `outlines_survey` and `outlines_scan` meet the demands. Both answer by the rows of a search (`searched-by-rows`), so demand 1 follows as for every call
 -- (RowsAgree). Where they are accepted, they write the findings, which are exactly those of `IsFinding` (`findings-iff` of crates/meaning). Their looks are
 -- `surveyLooks` and `quickLooks`, whose value and bound crates/meaning proves.
-use Prim.Native.Nat.{ℕ, _+_, _-_, _*_, _≤_, _<_}
+use Prim.Native.Nat.{ℕ, _≤_, _<_}
 use mathlib.Core.Path.{_≡_, refl, sym, ap, subst, _∙_}
 use mathlib.Core.Logic.{_↔_}
-use mathlib.Core.List.{List, [], _∷_, List·Memᴰ, List·Memᴰ·not-nil}
+use mathlib.Core.List.{List, [], List·Memᴰ, List·Memᴰ·not-nil}
 use mathlib.Core.Option.{Option, none, some}
 use native.Mathlib.Omega.{arith}
 use lib.ListN.{length}
@@ -18,26 +18,30 @@ use Rattle.meaning.proofs.LookBound.{quickLooks-le, quickLooks-most, quickLooks
 use Rattle.meaning.proofs.SurveyLooks.{surveyLooks-is, surveyLooks-short}
 use Rattle.answers.specs.declared.refusals.Refusal.{Refusal}
 use Rattle.answers.specs.Paper.{Paper, answerPaper}
-use Rattle.answers.specs.Rows.{answerBy}
-use Rattle.findings.specs.Admitting.{admitRows, admitRefusal, Admitted}
-use Rattle.findings.specs.Searching.{Counts, noCounts, searched, searchPaper, searchedWords}
-use Rattle.findings.proofs.AdmitRows.{is-row-1, is-row-12, is-row-2, is-row-3, is-row-4, no-row-iff}
+use Rattle.answers.specs.Rows.{firstGiven, answerBy}
+use Rattle.findings.specs.Admitting.{limitRows, admitRows}
+use Rattle.findings.specs.Searching.{Counts, noCounts, searched, searchedWords}
+use Rattle.findings.proofs.LimitRows.{is-row-1, is-row-12, is-row-2, is-row-3}
+use Rattle.findings.proofs.AdmitRows.{is-row-4, accepted-edge}
 use Rattle.outlines.specs.Report.{ReportCounts, noReportCounts}
 use Rattle.exports.specs.declared.answering.Answer.{Answer as AnswerStruct}
-use Rattle.exports.specs.Exported.{paperOf, paperInStruct, searchInStruct, IsExported, IsSurveyExported, IsScanExported}
-use Rattle.exports.specs.Demands.{searchTable, NeverNamed, Demand1, Demand2, Demand3, SurveyMeets, ScanMeets, SurveyScanSame}
-use Rattle.exports.proofs.RowsAgree.{AllAgree, row-agrees, GoesByRows, Accepts, demand-1-met, accepts}
+use Rattle.exports.specs.Exported.{paperOf, paperInStruct, searchInStruct, IsSearchExported, IsSurveyExported, IsScanExported}
+use Rattle.exports.specs.Demands.{limitTable, searchTable, NeverNamed, Demand2, Demand3, SurveyMeets, ScanMeets, SurveyScanSame}
+use Rattle.exports.proofs.RowsAgree.{AllAgree, agree-append, row-agrees, GoesByRows, Accepts, demand-1-met, accepts}
+
+-- The rows that every search has, 1, 12, 2, 3, agree with those of the page of demands.
+pub limits-agree : (ring : List ℕ) (k n : ℕ) → AllAgree (limitRows ring k n) (limitTable ring k n)
+unfolding limitRows
+limits-agree ring k n = (
+  row-agrees (is-row-1 ring k n) refl,
+  λ _. (row-agrees (is-row-12 ring k n) refl, λ _. (row-agrees (is-row-2 ring k n) refl, λ _. (row-agrees (is-row-3 ring k n) refl, λ _. tt))),
+)
 
 -- The rows of a search agree with those of the page of demands, 1, 12, 2, 3, 4.
 pub search-agrees : (ring : List ℕ) (k n room : ℕ) → AllAgree (admitRows ring k n room) (searchTable ring k n room)
 unfolding admitRows
-search-agrees ring k n room = (
-  row-agrees (is-row-1 ring k n room) refl,
-  λ _. (
-    row-agrees (is-row-12 ring k n room) refl,
-    λ _. (row-agrees (is-row-2 ring k n room) refl, λ _. (row-agrees (is-row-3 ring k n room) refl, λ _. (row-agrees (is-row-4 ring k n room) refl, λ _. tt))),
-  ),
-)
+search-agrees ring k n room =
+    agree-append (limitRows ring k n) (limitTable ring k n) _ _ (limits-agree ring k n) (λ _. (row-agrees (is-row-4 ring k n room) refl, λ _. tt))
 
 -- For a ring that is not empty: if the shown findings are exactly those not named, then a start is among them exactly when some rotation differs in at most k places and
 -- it is not named.
@@ -52,8 +56,8 @@ start-shown-iff Named {ring} {line} {k} pos shown-iff i = (
       (w .0, w .1, shown-iff (w .0) .1 (findings-iff ring line k pos (w .0) .0 (w .2), subst (λ (j : ℕ). Named j → ⊥) (sym (w .1)) (h .1))),
 )
 
--- the counts of a search as the struct holds them
-abbrev countsInStruct : List ℕ → List ℕ → ℕ → ℕ → ReportCounts
+-- The counts of a search as the struct holds them.
+abbrev pub countsInStruct : List ℕ → List ℕ → ℕ → ℕ → ReportCounts
 countsInStruct ring line k looks = record { found = length (findings ring line k); hidden = 0; looks = looks }
 
 -- the paper of a search in the struct, by the first row that is given
@@ -62,43 +66,39 @@ in-struct-by : (o : Option Refusal) (c : Counts)
 in-struct-by none c = refl
 in-struct-by (some q) c = refl
 
-module _ (ring line : List ℕ) (k looks : ℕ) (words : List ℕ) {r : AnswerStruct} {out : List ℕ}
-    (exported : IsExported (paperInStruct searchInStruct (searchPaper ring line k (length words) looks)) (searchedWords ring line k words) r out) where
-  -- a search answers by its rows
-  searched-by-rows : GoesByRows (admitRows ring k (length line) (length words)) (countsInStruct ring line k looks) (written (wordsOf (findings ring line k)) words) words r out
+-- A search with any rows. Of these only that they accept no empty ring is used.
+module _ (rows : List (Option Refusal)) (ring line : List ℕ) (k looks : ℕ) (words : List ℕ) {r : AnswerStruct} {out : List ℕ}
+    (exported : IsSearchExported rows ring line k looks words r out) where
+  -- A search answers by its rows.
+  pub searched-by-rows : GoesByRows rows (countsInStruct ring line k looks) (written (wordsOf (findings ring line k)) words) words r out
   unfolding searched searchedWords
   searched-by-rows = record {
-    paper = exported .paper
-        ∙ in-struct-by (admitRefusal ring k (length line) (length words)) (record { found = length (findings ring line k); looks = looks });
+    paper = exported .paper ∙ in-struct-by (firstGiven rows) (record { found = length (findings ring line k); looks = looks });
     written = exported .written;
   }
 
-  -- it meets demand 1
-  search-demand-1 : Demand1 (searchTable ring k (length line) (length words)) r words out
-  search-demand-1 = demand-1-met (search-agrees ring k (length line) (length words)) searched-by-rows
-
-  module _ (zero-is : r .refusal ≡ 0) where
+  module _ (some-edge : firstGiven rows ≡ none → 0 < length ring) (zero-is : r .refusal ≡ 0) where
     -- what an accepted search gives: no row is given, and it counts and writes all findings
-    taken : Accepts (admitRows ring k (length line) (length words)) (countsInStruct ring line k looks) (written (wordsOf (findings ring line k)) words) r out
+    taken : Accepts rows (countsInStruct ring line k looks) (written (wordsOf (findings ring line k)) words) r out
     taken = accepts searched-by-rows zero-is
 
-    -- the call is within the limits and has room
-    admitted : Admitted ring k (length line) (length words)
-    admitted = no-row-iff ring k (length line) (length words) .0 (taken .none-given)
+    -- The ring of an accepted search is not empty.
+    pub ring-edge : 0 < length ring
+    ring-edge = some-edge (taken .none-given)
 
-    -- the answer's looks are the search's
-    looks-are : r .looks ≡ looks
+    -- The looks of an accepted search are the search's.
+    pub looks-are : r .looks ≡ looks
     looks-are = ap (λ (c : ReportCounts). c .looks) (taken .counts-are)
 
-    -- it meets demand 2: all findings are shown, and none is hidden
-    search-demand-2 : Demand2 NeverNamed ring line k words r out
+    -- An accepted search meets demand 2: all findings are shown, and none is hidden.
+    pub search-demand-2 : Demand2 NeverNamed ring line k words r out
     search-demand-2 =
         let shown-iff : (f : Finding) → List·Memᴰ f (findings ring line k) ↔ (IsFinding ring line k f × (⊥ → ⊥)) =
-        λ f. (λ m. (findings-iff ring line k (admitted .some-edge) f .0 m, λ never. never), λ h. findings-iff ring line k (admitted .some-edge) f .1 (h .0)) in
+        λ f. (λ m. (findings-iff ring line k ring-edge f .0 m, λ never. never), λ h. findings-iff ring line k ring-edge f .1 (h .0)) in
         record {
           shown = findings ring line k;
           hidden = [];
-          start-iff = start-shown-iff NeverNamed (admitted .some-edge) shown-iff;
+          start-iff = start-shown-iff NeverNamed ring-edge shown-iff;
           shown-iff = shown-iff;
           hidden-iff = λ f. (λ m. absurd (List·Memᴰ·not-nil m), λ h. absurd (h .1));
           shown-rising = findings-rising ring line k;
@@ -118,15 +118,23 @@ looks-demand-3 {ring} {line} {k} pos are = record {
 }
 
 module _ (ring line : List ℕ) (k : ℕ) (words : List ℕ) where
+  abbrev own-rows : List (Option Refusal)
+  own-rows = admitRows ring k (length line) (length words)
+
+  -- an accepted call has a ring that is not empty
+  some-edge : firstGiven own-rows ≡ none → 0 < length ring
+  some-edge = accepted-edge ring k (length line) (length words)
+
   -- `outlines_survey` meets the demands.
   pub survey-meets : {r : AnswerStruct} {out : List ℕ} → IsSurveyExported ring line k words r out → SurveyMeets ring line k words r out
   survey-meets e =
       let looks : ℕ = surveyLooks ring line in
       record {
-        demand-1 = search-demand-1 ring line k looks words e;
-        demand-2 = search-demand-2 ring line k looks words e;
-        looks-are = λ zero-is fits. looks-are ring line k looks words e zero-is ∙ surveyLooks-is ring line (admitted ring line k looks words e zero-is .some-edge) fits;
-        no-looks = λ zero-is short. looks-are ring line k looks words e zero-is ∙ surveyLooks-short ring line short;
+        demand-1 = demand-1-met (search-agrees ring k (length line) (length words)) (searched-by-rows own-rows ring line k looks words e);
+        demand-2 = search-demand-2 own-rows ring line k looks words e some-edge;
+        looks-are = λ zero-is fits.
+            looks-are own-rows ring line k looks words e some-edge zero-is ∙ surveyLooks-is ring line (ring-edge own-rows ring line k looks words e some-edge zero-is) fits;
+        no-looks = λ zero-is short. looks-are own-rows ring line k looks words e some-edge zero-is ∙ surveyLooks-short ring line short;
       }
 
   -- `outlines_scan` meets the demands.
@@ -134,13 +142,14 @@ module _ (ring line : List ℕ) (k : ℕ) (words : List ℕ) where
   scan-meets e =
       let looks : ℕ = quickLooks ring line k in
       record {
-        demand-1 = search-demand-1 ring line k looks words e;
-        demand-2 = search-demand-2 ring line k looks words e;
-        demand-3 = λ zero-is. looks-demand-3 (admitted ring line k looks words e zero-is .some-edge) (looks-are ring line k looks words e zero-is);
+        demand-1 = demand-1-met (search-agrees ring k (length line) (length words)) (searched-by-rows own-rows ring line k looks words e);
+        demand-2 = search-demand-2 own-rows ring line k looks words e some-edge;
+        demand-3 = λ zero-is.
+            looks-demand-3 (ring-edge own-rows ring line k looks words e some-edge zero-is) (looks-are own-rows ring line k looks words e some-edge zero-is);
       }
 
--- two answers by the same first row, with the same found, agree in all but their looks
-same-but-looks : (o : Option Refusal) (found looks looks′ : ℕ) {r r′ : AnswerStruct} {out out′ : List ℕ}
+-- Two answers by the same first row, with the same found, agree in all but their looks.
+pub same-but-looks : (o : Option Refusal) (found looks looks′ : ℕ) {r r′ : AnswerStruct} {out out′ : List ℕ}
     → paperOf r ≡ answerPaper noReportCounts (answerBy o (record { found = found; hidden = 0; looks = looks }))
     → paperOf r′ ≡ answerPaper noReportCounts (answerBy o (record { found = found; hidden = 0; looks = looks′ }))
     → out′ ≡ out → SurveyScanSame r r′ out out′
@@ -161,5 +170,7 @@ same-but-looks (some q) found looks looks′ p p′ same = record {
 pub survey-scan-same : (ring line : List ℕ) (k : ℕ) (words : List ℕ) {r r′ : AnswerStruct} {out out′ : List ℕ}
     → IsSurveyExported ring line k words r out → IsScanExported ring line k words r′ out′ → SurveyScanSame r r′ out out′
 survey-scan-same ring line k words e e′ =
-    same-but-looks (admitRefusal ring k (length line) (length words)) (length (findings ring line k)) (surveyLooks ring line) (quickLooks ring line k)
-    (searched-by-rows ring line k (surveyLooks ring line) words e .paper) (searched-by-rows ring line k (quickLooks ring line k) words e′ .paper) (e′ .written ∙ sym (e .written))
+    let rows : List (Option Refusal) = admitRows ring k (length line) (length words) in
+    same-but-looks (firstGiven rows) (length (findings ring line k)) (surveyLooks ring line) (quickLooks ring line k)
+    (searched-by-rows rows ring line k (surveyLooks ring line) words e .paper) (searched-by-rows rows ring line k (quickLooks ring line k) words e′ .paper)
+    (e′ .written ∙ sym (e .written))

@@ -1,17 +1,23 @@
--- The three demands on the calls, stated for what a C caller gets: the struct of five numbers and the lent area at exit. Read this page beside document 01 and
--- tickets 1 and 2 of document 02. Nothing here says how a call works. proofs/SearchDemands.antt (survey and scan), proofs/ReportDemands.antt and
--- proofs/BookDemands.antt prove that each call meets its demands.
+-- The three demands on the calls, stated for what a C caller gets: the struct of five numbers and the lent areas at exit. Read this page beside document 01 and
+-- tickets 1 to 3 of document 02. Nothing here says how a call works. proofs/SearchDemands.antt (survey and scan), proofs/ReportDemands.antt,
+-- proofs/ClosedDemands.antt (the three on a closed line) and proofs/BookDemands.antt prove that each call meets its demands.
 --
 --   Row, rowOf, FirstRow, NoRow              a row of the table of refusals; the first row that is given; no row is given
+--   limitTable                               the rows that every search has
 --   searchTable, bookTable, reportTable,     the rows of each call in its order, "Given exactly when"
+--   closedSearchTable, closedReportTable,
 --   unpackTable, packTable
 --   Demand1                                  accepted, or refused by the first row that is given; a refusal has 0 in every count and writes nothing
 --   BookNames, NeverNamed                    which starts a book names
 --   Demand2                                  which findings are written, and which are hidden
 --   UnpackDemand2, PackDemand2, GivesBack    books: what is accepted, what is written, and that each call gives back what the other was given
 --   Demand3                                  the looks of scan and report
+--   JoinDemand, ClosedDemand2,               a closed line: the join area at exit, and demands 2 and 3
+--   ClosedDemand3
 --   SurveyMeets, ScanMeets, ReportMeets,     the demands on each call
---   UnpackMeets, PackMeets
+--   SurveyClosedMeets, ScanClosedMeets,
+--   ReportClosedMeets, UnpackMeets,
+--   PackMeets
 --   SurveyScanSame                           survey and scan give the same findings
 --
 -- The theorems require that a book's numbers are below 256 and that words are below 2^32. A C caller's types guarantee both.
@@ -19,7 +25,7 @@ use Prim.Native.Nat.{ℕ, _+_, _-_, _*_, _%_, _≤_, _<_}
 use mathlib.Core.Path.{_≡_}
 use mathlib.Core.Logic.{_↔_, _⊎_}
 use mathlib.Core.List.{List, [], _∷_, _++_, List·Memᴰ}
-use lib.ListN.{length, take}
+use lib.ListN.{length, take, drop}
 use Rattle.lists.specs.Areas.{written}
 use Rattle.meaning.specs.Meanings.{HoldsMark, IsStart, distance}
 use Rattle.meaning.specs.Findings.{Finding, IsFinding, Rising, wordsOf}
@@ -49,10 +55,9 @@ unfoldable pub NoRow : List Row → Type 0
 NoRow [] = Unit {0}
 NoRow (r ∷ rows) = ((n p : ℕ) → r n p → ⊥) × NoRow rows
 
--- "Order: survey and scan 1 to 4", with 12 "after 1 and before 2" (document 02, ticket 2). The ring, m edges long, allowance k, n edges of the line, `room` words
--- lent for findings.
-abbrev pub searchTable : List ℕ → ℕ → ℕ → ℕ → List Row
-searchTable ring k n room =
+-- The rows that every search has: 1, 2, 3, and 12 "after 1 and before 2" (document 02, ticket 2). The ring, m edges long, allowance k, n edges of the line.
+abbrev pub limitTable : List ℕ → ℕ → ℕ → List Row
+limitTable ring k n =
     -- "m = 0 or m > 256"
     rowOf 1 ((length ring ≡ 0) ⊎ (256 < length ring))
     -- "a ring holding 255" (document 02, ticket 2)
@@ -61,8 +66,14 @@ searchTable ring k n room =
     ∷ rowOf 2 (length ring ≤ k)
     -- "n > 65,536"
     ∷ rowOf 3 (65536 < n)
+    ∷ []
+
+-- "Order: survey and scan 1 to 4": with `room` words lent for findings.
+abbrev pub searchTable : List ℕ → ℕ → ℕ → ℕ → List Row
+searchTable ring k n room =
+    limitTable ring k n
     -- "n ≥ m and fewer than" 4·(n − m + 1) "words are lent for findings"; document 01 has 3·(n − m + 1), and document 02, ticket 1, makes it 4
-    ∷ rowOf 4 ((length ring ≤ n) × (room < 4 * (n - length ring + 1)))
+    ++ rowOf 4 ((length ring ≤ n) × (room < 4 * (n - length ring + 1)))
     ∷ []
 
 -- Rows 5, 6 and 7 of a book that is read. "Within a book the first faulty field decides, 6 before 7": a fault requires that all fields before it are right.

@@ -5,21 +5,31 @@
 --   searchInStruct                       "found and looks"; a search counts nothing hidden
 --   recordsInStruct                      "the number of records", as found
 --   paperInStruct                        a paper with its counts as the struct holds them
---   IsExported                           the contract that all five calls share: the struct's paper, and the lent area at exit
+--   IsExported                           the contract that the five calls with one lent area share: the struct's paper, and the area at exit
+--   IsSearchExported                     the same for a search, for its rows and its looks
+--   IsReportExportedBy                   the same for a report, for its rows of a search
+--   IsClosedExported                     the contract that the three calls on a closed line share: the join area at exit too
+--   IsSearchClosedExported               the same for a search on a closed line, for its looks
 --   IsSurveyExported, IsScanExported,    the contract of each call
 --   IsReportExported, IsPackExported,
 --   IsUnpackExported
+--   IsSurveyClosedExported,              the contract of each call on a closed line
+--   IsScanClosedExported,
+--   IsReportClosedExported
 use Prim.Native.Nat.{ℕ}
 use mathlib.Core.Path.{_≡_}
 use mathlib.Core.List.{List}
+use mathlib.Core.Option.{Option}
 use lib.ListN.{length}
 use Rattle.meaning.specs.Looks.{quickLooks, surveyLooks}
+use Rattle.answers.specs.declared.refusals.Refusal.{Refusal}
 use Rattle.answers.specs.Paper.{Paper, answerPaper}
 use Rattle.silences.specs.Layout.{layout}
 use Rattle.silences.specs.Packing.{wordsOfSilences, packed, unpacked, areaAtExit}
 use Rattle.book.specs.Calls.{recordsPaper}
+use Rattle.findings.specs.Admitting.{admitRows}
 use Rattle.findings.specs.Searching.{Counts, searchPaper, searchedWords}
-use Rattle.outlines.specs.Report.{ReportCounts, noReportCounts, reportAnswer, reportedWords}
+use Rattle.outlines.specs.Report.{ReportCounts, noReportCounts, reportRows, reportAnswer, reportedWords}
 use Rattle.exports.specs.declared.answering.Answer.{Answer as AnswerStruct}
 
 -- The paper of a struct. "A refusal carries its number and place, zero in every count"; an accepted answer has number 0, which no refusal has.
@@ -43,20 +53,27 @@ pub record IsExported (paper-given : Paper ReportCounts) (area-given : List ℕ)
   pub paper : paperOf r ≡ paper-given
   pub written : out ≡ area-given
 
--- The contract of `outlines_survey`. `words` are the lent words at entry, `out` the same at exit.
+-- The contract of an exported search with these rows and looks. `words` are the lent words at entry, `out` the same at exit.
+abbrev pub IsSearchExported : List (Option Refusal) → List ℕ → List ℕ → ℕ → ℕ → List ℕ → AnswerStruct → List ℕ → Type 0
+IsSearchExported rows ring line k looks words r out =
+    IsExported (paperInStruct searchInStruct (searchPaper rows ring line k looks)) (searchedWords rows ring line k words) r out
+
+-- The contract of an exported report with these rows of a search.
+abbrev pub IsReportExportedBy : List (Option Refusal) → ℕ → ℕ → List ℕ → List ℕ → ℕ → List ℕ → List ℕ → AnswerStruct → List ℕ → Type 0
+IsReportExportedBy rows cell ringNumber ring line k book words r out =
+    IsExported (answerPaper noReportCounts (reportAnswer rows ring line k cell ringNumber book)) (reportedWords rows ring line k cell ringNumber book words) r out
+
+-- The contract of `outlines_survey`.
 abbrev pub IsSurveyExported : List ℕ → List ℕ → ℕ → List ℕ → AnswerStruct → List ℕ → Type 0
-IsSurveyExported ring line k words r out =
-    IsExported (paperInStruct searchInStruct (searchPaper ring line k (length words) (surveyLooks ring line))) (searchedWords ring line k words) r out
+IsSurveyExported ring line k words r out = IsSearchExported (admitRows ring k (length line) (length words)) ring line k (surveyLooks ring line) words r out
 
 -- The contract of `outlines_scan`: that of the survey, with the looks of the quick scan.
 abbrev pub IsScanExported : List ℕ → List ℕ → ℕ → List ℕ → AnswerStruct → List ℕ → Type 0
-IsScanExported ring line k words r out =
-    IsExported (paperInStruct searchInStruct (searchPaper ring line k (length words) (quickLooks ring line k))) (searchedWords ring line k words) r out
+IsScanExported ring line k words r out = IsSearchExported (admitRows ring k (length line) (length words)) ring line k (quickLooks ring line k) words r out
 
 -- The contract of `outlines_report`.
 abbrev pub IsReportExported : ℕ → ℕ → List ℕ → List ℕ → ℕ → List ℕ → List ℕ → AnswerStruct → List ℕ → Type 0
-IsReportExported cell ringNumber ring line k book words r out =
-    IsExported (answerPaper noReportCounts (reportAnswer ring line k cell ringNumber book (length words))) (reportedWords ring line k cell ringNumber book words) r out
+IsReportExported cell ringNumber ring line k book words r out = IsReportExportedBy (admitRows ring k (length line) (length words)) cell ringNumber ring line k book words r out
 
 -- The contract of `outlines_pack`. `area` is the area lent for the book, `out` the same at exit.
 abbrev pub IsPackExported : List ℕ → List ℕ → AnswerStruct → List ℕ → Type 0

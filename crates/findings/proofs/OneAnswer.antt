@@ -32,9 +32,9 @@ verdict-back : (r : Verdict) → verdictBack (verdictOf r) ≡ r
 verdict-back Accepted = refl
 verdict-back (RefusedBy refusal) = refl
 
--- Any two verdicts that meet the contract of `admit` are equal.
-pub one-verdict : (ring : List ℕ) (k n room : ℕ) (r r′ : Verdict) → IsVerdict ring k n room r → IsVerdict ring k n room r′ → r ≡ r′
-one-verdict ring k n room r r′ a b = sym (verdict-back r) ∙ ap verdictBack (a .is ∙ sym (b .is)) ∙ verdict-back r′
+-- Any two verdicts that meet the contract of `admit` or `admit_closed` are equal, whatever the rows.
+pub one-verdict : (rows : List (Option Refusal)) (r r′ : Verdict) → IsVerdict rows r → IsVerdict rows r′ → r ≡ r′
+one-verdict rows r r′ a b = sym (verdict-back r) ∙ ap verdictBack (a .is ∙ sym (b .is)) ∙ verdict-back r′
 
 -- Any two lists of words at exit that meet the contract of `put_finding` are equal.
 pub one-put : (words : List ℕ) (before : ℕ) (f : Finding) (out out′ : List ℕ) → IsFindingPut words before f out → IsFindingPut words before f out′ → out ≡ out′
@@ -55,6 +55,6 @@ pub paper-unique : (r r′ : Searched) → paperOf r ≡ paperOf r′ → r ≡ 
 paper-unique r r′ e = sym (answer-back r) ∙ ap answerBack (answer-unique noCounts (answerOf r) (answerOf r′) e) ∙ answer-back r′
 
 -- Any two answers that meet the contract of a search are equal, and so are the words at exit.
-pub search-unique : {ring line : List ℕ} {k expected : ℕ} {words : List ℕ} {r r′ : Searched} {out out′ : List ℕ} → IsSearched ring line k expected words r out
-    → IsSearched ring line k expected words r′ out′ → (r ≡ r′) × (out ≡ out′)
+pub search-unique : {rows : List (Option Refusal)} {ring line : List ℕ} {k expected : ℕ} {words : List ℕ} {r r′ : Searched} {out out′ : List ℕ}
+    → IsSearched rows ring line k expected words r out → IsSearched rows ring line k expected words r′ out′ → (r ≡ r′) × (out ≡ out′)
 search-unique {r = r} {r′ = r′} p p′ = (paper-unique r r′ (p .paper ∙ sym (p′ .paper)), p .written ∙ sym (p′ .written))

@@ -10,18 +10,18 @@ use Rattle.meaning.specs.Findings.{Finding, IsFinding, findingWords, wordsEach,
 use Rattle.meaning.proofs.Ties.{ties-most}
 use Rattle.lists.specs.Areas.{written}
 use Rattle.lists.proofs.Bounds.{below-none, below-more}
-use Rattle.findings.specs.Admitting.{Admitted}
+use Rattle.findings.specs.Limits.{CanSearch}
 use Rattle.findings.specs.Putting.{wordsPut, CanPut, IsFindingPut}
 use Rattle.findings.proofs.WordsPut.{put-more, put-none, put-length}
 use Rattle.findings.proofs.PutCases.{words-are-put}
 
--- In an accepted call, the words of a finding are 32-bit words.
-pub admitted-words : (ring line : List ℕ) {k room : ℕ} {f : Finding} → Admitted ring k (length line) room → IsFinding ring line k f → IsWords (findingWords f)
-admitted-words ring line {k} {room} {f} admitted is =
-    below-more (omega (arith, is .is-start .fits-in-line, admitted .most-line))
-    (below-more (omega (arith, is .is-rotation, admitted .most-ring))
-    (below-more (omega (arith, is .at-most-k, admitted .allowed, admitted .most-ring))
-    (below-more (omega (arith, ties-most ring line k f is, admitted .most-ring)) (below-none (omega arith)))))
+-- Within the limits of a search, the words of a finding are 32-bit words.
+pub search-words : (ring line : List ℕ) {k room : ℕ} {f : Finding} → CanSearch ring k (length line) room → IsFinding ring line k f → IsWords (findingWords f)
+search-words ring line {k} {room} {f} within is =
+    below-more (omega (arith, is .is-start .fits-in-line, within .most-places))
+    (below-more (omega (arith, is .is-rotation, within .most-ring))
+    (below-more (omega (arith, is .at-most-k, within .allowed, within .most-ring))
+    (below-more (omega (arith, ties-most ring line k f is, within .most-ring)) (below-none (omega arith)))))
 
 -- The findings so far are fs, `count` of them, and `words` is the lent area with their words at its front.
 pub record WordsSoFar (area : List ℕ) (fs : List Finding) (count : ℕ) (words : List ℕ) : Type 0 where

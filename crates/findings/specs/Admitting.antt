@@ -1,20 +1,21 @@
 -- Document 01, "What each call returns", rows 1 to 4 of the table: the refusals that lengths, k and room decide. Row 4 asks for four words for each
--- of the n − m + 1 windows, marked or not (document 02, ticket 1). And row 12 of ticket 2, which the ring's edges decide. These are the rows of every search.
+-- of the n − m + 1 windows, marked or not (document 02, ticket 1). And row 12 of ticket 2, which the ring's edges decide. Rows 1, 12, 2 and 3 are those
+-- of every search; row 4 is that of a search on an open line (specs/ClosedRows.antt has the other).
 --
 --   mostRing, mostLine    the document's limits
 --   roomRequired          the words that row 4 requires
 --   isRow1 to isRow4,     the tests: whether each row is given
 --   isRow12
---   admitRows             the rows in their order: 1, 12, 2, 3, 4
---   admitRefusal          the refusal of the first of these rows that is given, if one is
+--   limitRows             rows 1, 12, 2, 3, which every search has
+--   admitRows             the rows of survey and scan in their order: 1, 12, 2, 3, 4
 --   IsRingLength          row 1 is not given
 --   Admitted              none of these rows is given
 --   verdictOf             the refusal that a verdict holds, if it holds one
---   IsVerdict             the contract of `admit`
+--   IsVerdict             the contract of `admit` and `admit_closed`, for the rows that they test
 use Prim.Native.Nat.{ℕ, _+_, _-_, _*_, _≤_, _<_}
 use mathlib.Core.Path.{_≡_}
 use mathlib.Core.Bool.{Bool, _&&_, _||_}
-use mathlib.Core.List.{List, [], _∷_}
+use mathlib.Core.List.{List, [], _∷_, _++_}
 use mathlib.Core.Option.{Option, none, some}
 use lib.Dec.{ltb, leb, eqb}
 use lib.ListN.{length}
@@ -58,20 +59,19 @@ isRow3 n = ltb mostLine n
 abbrev pub isRow4 : ℕ → ℕ → ℕ → Bool
 isRow4 m n room = leb m n && ltb room (roomRequired m n)
 
--- "Order: survey and scan 1 to 4", and 12 "after 1 and before 2" (document 02, ticket 2): the rows for the ring, k, n and the number of words lent, each with its
--- refusal if it is given.
-unfoldable pub admitRows : List ℕ → ℕ → ℕ → ℕ → List (Option Refusal)
-admitRows ring k n room =
+-- The rows that the document's limits and the ring's edges decide, for the ring, k and n, each with its refusal if it is given: 1, 2, 3, and 12 "after 1 and
+-- before 2" (document 02, ticket 2).
+unfoldable pub limitRows : List ℕ → ℕ → ℕ → List (Option Refusal)
+limitRows ring k n =
     row (isRow1 (length ring)) Ring
     ∷ row (isRow12 ring) RingMark
     ∷ row (isRow2 (length ring) k) Allowance
     ∷ row (isRow3 n) Line
-    ∷ row (isRow4 (length ring) n room) FindingsRoom
     ∷ []
 
--- The refusal of the first of these rows that is given; none if no row is.
-abbrev pub admitRefusal : List ℕ → ℕ → ℕ → ℕ → Option Refusal
-admitRefusal ring k n room = firstGiven (admitRows ring k n room)
+-- "Order: survey and scan 1 to 4": the rows above, then row 4 for the number of words lent.
+unfoldable pub admitRows : List ℕ → ℕ → ℕ → ℕ → List (Option Refusal)
+admitRows ring k n room = limitRows ring k n ++ row (isRow4 (length ring) n room) FindingsRoom ∷ []
 
 -- "Ring: m edges, 1 to 256": row 1 is not given.
 pub record IsRingLength (m : ℕ) : Type 0 where
@@ -92,7 +92,7 @@ abbrev pub verdictOf : Verdict → Option Refusal
 verdictOf Accepted = none
 verdictOf (Refused refusal) = some refusal
 
--- The contract of `admit`, which returns the verdict r: r holds the refusal of the first row that is given, and accepts if no row is. n is the line's length,
--- `room` the number of words lent for findings.
-pub record IsVerdict (ring : List ℕ) (k n room : ℕ) (r : Verdict) : Type 0 where
-  pub is : verdictOf r ≡ admitRefusal ring k n room
+-- The contract of `admit`, of `admit_closed` and of the private `within_limits`, each for the rows that it tests: the verdict r holds the refusal of the first
+-- row that is given, and accepts if no row is. `admit` tests `admitRows`, where n is the line's length and `room` the number of words lent for findings.
+pub record IsVerdict (rows : List (Option Refusal)) (r : Verdict) : Type 0 where
+  pub is : verdictOf r ≡ firstGiven rows

@@ -1,7 +1,7 @@
--- Document 01, "What each call returns": rows 1 to 4 of the table as they read for survey and scan, with "Given exactly when", number and place written out, in
--- their order; and row 12 of document 02, ticket 2, "after 1 and before 2". The contracts use `admitRefusal` of specs/Admitting.antt. This is the same table in
--- plain comparisons, and proofs/RowsOfSearching.antt proves it for every answer that meets the contract. The number is 0, one of 1 to 4, or 12, so exactly one of
--- the six conditions holds.
+-- Document 01, "What each call returns": rows 1 to 4 of the table as they read for survey and scan, with "Given exactly when", number and place written out,
+-- in their order; and row 12 of document 02, ticket 2, "after 1 and before 2". The contracts use `admitRows` of specs/Admitting.antt. This is the same table
+-- in plain comparisons, and proofs/RowsOfSearching.antt proves it for every answer that meets the contract. The number is 0, one of 1 to 4, or 12, so exactly
+-- one of the six conditions holds.
 --
 --   SearchRows    the table, for an answer's paper and the words at exit
 use Prim.Native.Nat.{ℕ, _+_, _-_, _*_, _≤_, _<_}

@@ -2,7 +2,7 @@
 // ring's edges decide.
 use crate::marks::holds_mark;
 use answers::Refusal;
-ghost use Rattle.findings.specs.Admitting.{IsVerdict};
+ghost use Rattle.findings.specs.Admitting.{limitRows, admitRows, IsVerdict};
 
 // "Ring: m edges, 1 to 256."
 pub const MOST_RING: usize = 256;
@@ -17,10 +17,9 @@ pub enum Verdict {
     Refused(Refusal),
 }
 
-// Tests rows 1, 12, 2, 3, 4 in this order and returns the first that is given. n is the line's length, `room` the number
-// of words lent for findings.
-pub fn admit(ring: &[u8], k: usize, n: usize, room: usize) -> Verdict
-    ensures { λ r. ⌜ IsVerdict (now (ring .entry)) k n room r ⌝ }
+// Tests rows 1, 12, 2, 3, which every search has, in this order and returns the first that is given. n is the line's length.
+pub fn within_limits(ring: &[u8], k: usize, n: usize) -> Verdict
+    ensures { λ r. ⌜ IsVerdict (limitRows (now (ring .entry)) k n) r ⌝ }
 {
     let m = ring.len();
     if m == 0 {
@@ -40,6 +39,19 @@ pub fn admit(ring: &[u8], k: usize, n: usize, room: usize) -> Verdict
     if MOST_LINE < n {
         return Verdict::Refused(Refusal::Line);
     }
+    Verdict::Accepted
+}
+
+// Tests rows 1, 12, 2, 3, 4 in this order and returns the first that is given. n is the line's length, `room` the number
+// of words lent for findings.
+pub fn admit(ring: &[u8], k: usize, n: usize, room: usize) -> Verdict
+    ensures { λ r. ⌜ IsVerdict (admitRows (now (ring .entry)) k n room) r ⌝ }
+{
+    let limits = within_limits(ring, k, n);
+    let Verdict::Accepted = limits else {
+        return limits;
+    };
+    let m = ring.len();
     if n < m {
         return Verdict::Accepted;
     }

@@ -28,6 +28,7 @@ pub mod FindingsBelow
 pub mod FoundExactly
 pub mod Ties
 pub mod Rising
+pub mod SameWindow
 pub mod FitDecided
 pub mod Alignment
 -- the rules: one window, the windows one after the other, that a jump loses nothing, and that all findings are reported

@@ -1,10 +1,10 @@
 -- The findings are listed by strictly rising start, so each start has at most one. A list that rises from lo to mid and a list that rises from mid to hi,
 -- joined, rise from lo to hi; and each place adds at most its own start.
-use Prim.Native.Nat.{ℕ, zero, suc, _≤_}
-use mathlib.Core.Path.{_≡_, ap, _∙_, sym}
+use Prim.Native.Nat.{ℕ, zero, suc, _≤_, _<_}
+use mathlib.Core.Path.{_≡_, refl, ap, _∙_, sym}
 use mathlib.Core.Bool.{_&&_}
 use mathlib.Core.Logic.{⊎-elim}
-use mathlib.Core.List.{List, [], _∷_, _++_, List·Memᴰ, List·Memᴰ·not-nil, List·Memᴰ·cases-cons}
+use mathlib.Core.List.{List, [], _∷_, _++_, List·Memᴰ, List·Memᴰ·head, List·Memᴰ·tail, List·Memᴰ·not-nil, List·Memᴰ·cases-cons}
 use native.Mathlib.Omega.{arith}
 use lib.Dec.{leb}
 use lib.ListN.{length}
@@ -29,8 +29,8 @@ module _ (ring line : List ℕ) (k : ℕ) where
   at-rising i =
       by-test (Rising i (suc i)) (isStart ring line i && leb (leastDistance ring line i) k) (λ _. (omega arith, omega arith)) (λ _. omega arith)
 
-  -- So the findings below i rise.
-  below-rising : (i : ℕ) → Rising 0 i (findingsBelow ring line k i)
+  -- The starts of the findings below place i rise strictly, and all are below i.
+  pub below-rising : (i : ℕ) → Rising 0 i (findingsBelow ring line k i)
   unfolding findingsBelow
   below-rising zero = omega arith
   below-rising (suc i) = rising-join 0 i (suc i) (findingsBelow ring line k i) (foundAt ring line k i) (below-rising i) (at-rising i)
@@ -47,6 +47,14 @@ rising-from lo hi (g ∷ l) r f h =
     (λ e. omega (arith, r .0, ap (λ (x : Finding). x .start) e))
     (λ m. omega (arith, r .0, rising-from (suc (g .start)) hi l (r .1) f m))
     (List·Memᴰ·cases-cons h)
+
+-- A list that rises, and whose starts are all below hi′, rises to hi′.
+pub rising-below : (lo hi hi′ : ℕ) (l : List Finding) → Rising lo hi l → lo ≤ hi′ → ((f : Finding) → List·Memᴰ f l → f .start < hi′) → Rising lo hi′ l
+rising-below lo hi hi′ [] r le below = le
+rising-below lo hi hi′ (g ∷ l) r le below = (
+  r .0,
+  rising-below (suc (g .start)) hi hi′ l (r .1) (omega (arith, below g (List·Memᴰ·head refl))) (λ f m. below f (List·Memᴰ·tail m)),
+)
 
 -- Each start has at most one finding in a list that rises.
 rising-unique : (lo hi : ℕ) (l : List Finding) → Rising lo hi l

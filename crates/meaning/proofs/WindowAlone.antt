@@ -2,17 +2,16 @@
 -- depend on its m edges only.
 use Prim.Native.Nat.{ℕ, zero, suc, _≤_, _<_}
 use mathlib.Core.Path.{_≡_, refl, ap, ap₂}
-use mathlib.Core.Bool.{Bool, true, false, not, cond, true≢false, false≢true}
+use mathlib.Core.Bool.{Bool, true, false, cond, true≢false, false≢true}
 use mathlib.Core.List.{List, _∷_}
 use native.Mathlib.Nat.{zero-add}
 use native.Mathlib.Omega.{arith}
-use lib.Dec.{eqb}
 use lib.ListN.{length}
-use Rattle.meaning.specs.Meanings.{window, windowEdge, rotationEdge, isMark, differs, distance}
+use Rattle.meaning.specs.Meanings.{window, windowEdge, isMark, distance}
 use Rattle.meaning.specs.Stretch.{fits}
 use Rattle.meaning.specs.Rules.{Reading, unread, markRead, grownRead, brokenRead, readEdge, stopsAt, readLeft, readWindow}
-use Rattle.meaning.proofs.Count.{count-same}
 use Rattle.meaning.proofs.Windows.{window-edge-is}
+use Rattle.meaning.proofs.SameWindow.{same-distance}
 
 -- Two readings that agree in all but their starts.
 pub record SameReading (v w : Reading) : Type 0 where
@@ -38,10 +37,7 @@ module _ (ring line : List ℕ) (i : ℕ) where
 
   -- The distances of the window taken out are those of its start in the line.
   pub alone-distance : (r : ℕ) → distance ring (window m line i) 0 r ≡ distance ring line i r
-  unfolding distance differs
-  alone-distance r =
-      count-same (differs ring (window m line i) 0 r) (differs ring line i r) 0 m
-      (λ q _ l. ap (λ (x : ℕ). not (eqb x (rotationEdge ring r q))) (alone-edge q (omega arith)))
+  alone-distance = same-distance ring (window m line i) 0 line i (record { edge-is = alone-edge })
 
   -- Two readings that agree still do after one edge more: the held stretches are equal, so both fit or neither does.
   same-edge : (x : ℕ) (v w : Reading) → SameReading v w → SameReading (readEdge ring x v) (readEdge ring x w)

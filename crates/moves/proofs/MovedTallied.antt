@@ -1,6 +1,6 @@
--- The tally of a start, moved along the line, is the tally of the start reached. By induction on the steps left: after each step the counts are the tally of the
--- start there (`tallied-step`), and its least count is its least distance. The move goes on only from starts whose least count is not below the bound. Each edge
--- that enters is asked whether it is a mark (`past-next` of crates/tally).
+-- The tally of a start, moved along the whole line with a join area that is right, is the tally of the start reached. By induction on the steps left: after each
+-- step the counts are the tally of the start there (`tallied-step`), and its least count is its least distance. The move goes on only from starts whose least count
+-- is not below the bound. Each edge that enters is asked whether it is a mark (`past-next` of crates/tally).
 use Prim.Native.Nat.{ℕ, zero, suc, _+_, _-_, _*_, _≤_, _<_}
 use mathlib.Core.Path.{_≡_, refl, sym, _∙_}
 use mathlib.Core.Bool.{true}
@@ -10,13 +10,16 @@ use native.Mathlib.Nat.{add-mul}
 use native.Mathlib.Decide.{decLt, ℕ-discrete}
 use native.Mathlib.Omega.{arith}
 use lib.ListN.{length}
-use Rattle.meaning.specs.Meanings.{FitsInLine, leastDistance}
+use Rattle.meaning.specs.Meanings.{FitsInLine, windowEdge, leastDistance}
 use Rattle.meaning.specs.Looks.{stepLooks}
 use Rattle.moves.specs.declared.steps.Reached.{Reached}
 use Rattle.tally.specs.Marks.{pastMark}
+use Rattle.findings.specs.Limits.{mostPlaces}
+use Rattle.tally.specs.Windows.{Parts, wholeLine, Joined}
 use Rattle.tally.specs.Counts.{mostCounts, IsLeast}
-use Rattle.moves.specs.Moves.{CountsAt, unmoved, reachedWith, stepOn, moveOn, canMove, mostPlaces, IsMoved, IsReached}
+use Rattle.moves.specs.Moves.{leavingEdge, enteringEdge, CountsAt, unmoved, reachedWith, stepOn, moveOn, canMove, IsMoved, IsReached}
 use Rattle.tally.specs.Tallied.{Tallied}
+use Rattle.tally.proofs.WindowEdges.{whole-edge}
 use Rattle.tally.proofs.PastMark.{past-none, past-next}
 use Rattle.tally.proofs.LeastIsOne.{leastOf-is}
 use Rattle.moves.proofs.MoveLoop.{move-none, move-stops, move-goes-on}
@@ -24,13 +27,17 @@ use Rattle.moves.proofs.MoveCases.{can-move-iff}
 use Rattle.moves.proofs.StepTallied.{tallied-step}
 use Rattle.tally.proofs.TallyFinding.{least-is}
 
-module _ (ring line : List ℕ) (below : ℕ) (some : 0 < length ring) (most : length ring ≤ mostCounts) where
+module _ (ring : List ℕ) (p : Parts) (below : ℕ) (some : 0 < length ring) (most : length ring ≤ mostCounts) (joined : Joined (length ring) p) where
   abbrev m : ℕ
   m = length ring
 
-  -- On a move from start `from` to point p, the edges from place from + m on entered, one for each step: p has the place just past their last mark.
+  -- the whole line, whose windows the parts hold
+  abbrev line : List ℕ
+  line = wholeLine m p
+
+  -- On a move from start `from` to point c, the edges from place from + m on entered, one for each step: c has the place just past their last mark.
   abbrev Noted : ℕ → CountsAt → Type 0
-  Noted from p = p .past ≡ pastMark line (from + m) (p .start - from)
+  Noted from c = c .past ≡ pastMark line (from + m) (c .start - from)
 
   -- The tally at point `at` is moved to point `to`, by at least one step and at most `left`.
   record CameTo (at : CountsAt) (left : ℕ) (to : CountsAt) : Type 0 where
@@ -43,9 +50,15 @@ module _ (ring line : List ℕ) (below : ℕ) (some : 0 < length ring) (most : l
     pub stopped : to .start < at .start + left → to .least < below
     pub noted : (from : ℕ) → from ≤ at .start → Noted from at → Noted from to
 
-  module _ (at : CountsAt) (tallied : Tallied ring line (at .start) (at .counts)) where
+  module _ (at : CountsAt) (fits : at .start + 1 + m ≤ length line) (tallied : Tallied ring line (at .start) (at .counts)) where
     abbrev next : CountsAt
-    next = stepOn ring line at
+    next = stepOn ring p at
+
+    leaves : leavingEdge m p (at .start) ≡ windowEdge line (at .start) 0
+    leaves = whole-edge m p some (at .start) (omega arith) joined 0 some
+
+    enters : enteringEdge m p (at .start) ≡ windowEdge line (at .start + 1) (m - 1)
+    enters = whole-edge m p some (at .start + 1) fits joined (m - 1) (omega arith)
 
     next-start : next .start ≡ at .start + 1
     unfolding stepOn
@@ -57,7 +70,7 @@ module _ (ring line : List ℕ) (below : ℕ) (some : 0 < length ring) (most : l
 
     next-tallied : Tallied ring line (next .start) (next .counts)
     unfolding stepOn
-    next-tallied = tallied-step ring line (at .start) (at .counts) most tallied
+    next-tallied = rw (leaves, enters) (tallied-step ring line (at .start) (at .counts) most tallied)
 
     next-least : IsLeast m (next .counts) (next .least)
     unfolding stepOn
@@ -69,7 +82,7 @@ module _ (ring line : List ℕ) (below : ℕ) (some : 0 < length ring) (most : l
         let place : at .start + 1 + (m - 1) ≡ at .start + m = omega arith in
         let end : at .start + 1 + m ≡ at .start + m + 1 = omega arith in
         let steps : at .start + 1 - from ≡ suc (at .start - from) = omega arith in
-        rw (place, end, so-far, steps) (past-next line (from + m) (at .start - from) (at .start + m) (omega arith))
+        rw (enters, place, end, so-far, steps) (past-next line (from + m) (at .start - from) (at .start + m) (omega arith))
 
     -- One step that is the last, or whose least count is below the bound.
     came-one : (left : ℕ) → (0 < left → next .least < below) → CameTo at (suc left) next
@@ -104,18 +117,18 @@ module _ (ring line : List ℕ) (below : ℕ) (some : 0 < length ring) (most : l
         }
 
   -- A move of at least one and at most `left` + 1 steps.
-  came : (left : ℕ) (at : CountsAt) → Tallied ring line (at .start) (at .counts) → CameTo at (suc left) (moveOn ring line below (suc left) at)
-  came zero at tallied = dite (decLt (stepOn ring line at .least) below)
-      (λ near. rw (move-stops ring line below 0 at near) (came-one at tallied 0 (λ _. near)))
+  came : (left : ℕ) (at : CountsAt) → at .start + suc left + m ≤ length line → Tallied ring line (at .start) (at .counts) → CameTo at (suc left) (moveOn ring p below (suc left) at)
+  came zero at ends tallied = dite (decLt (stepOn ring p at .least) below)
+      (λ near. rw (move-stops ring p below 0 at near) (came-one at (omega arith) tallied 0 (λ _. near)))
       (λ far.
-      rw (move-goes-on ring line below 0 at (omega (arith, far)), move-none ring line below (stepOn ring line at))
-      (came-one at tallied 0 (λ l. absurd (omega arith))))
-  came (suc left) at tallied = dite (decLt (stepOn ring line at .least) below)
-      (λ near. rw (move-stops ring line below (suc left) at near) (came-one at tallied (suc left) (λ _. near)))
+      rw (move-goes-on ring p below 0 at (omega (arith, far)), move-none ring p below (stepOn ring p at))
+      (came-one at (omega arith) tallied 0 (λ l. absurd (omega arith))))
+  came (suc left) at ends tallied = dite (decLt (stepOn ring p at .least) below)
+      (λ near. rw (move-stops ring p below (suc left) at near) (came-one at (omega arith) tallied (suc left) (λ _. near)))
       (λ far.
-      rw (move-goes-on ring line below (suc left) at (omega (arith, far)))
-      (came-on at tallied (suc left) (moveOn ring line below (suc left) (stepOn ring line at)) (omega (arith, far))
-      (came left (stepOn ring line at) (next-tallied at tallied))))
+      rw (move-goes-on ring p below (suc left) at (omega (arith, far)))
+      (came-on at (omega arith) tallied (suc left) (moveOn ring p below (suc left) (stepOn ring p at)) (omega (arith, far))
+      (came left (stepOn ring p at) (omega (arith, next-start at (omega arith) tallied)) (next-tallied at (omega arith) tallied))))
 
   module _ (from steps : ℕ) (old : List ℕ) (tallied : Tallied ring line from old) (some-step : 0 < steps) (ends : FitsInLine ring line (from + steps))
       (most-line : length line ≤ mostPlaces) where
@@ -125,13 +138,13 @@ module _ (ring line : List ℕ) (below : ℕ) (some : 0 < length ring) (most : l
         can-move-iff m (length old) (length line) from steps .1
         (record { has-counts = record { some-edge = some; most = most; room = omega (arith, tallied .size) }; most-line = most-line; in-line = ends .in-line })
 
-    -- For a ring of 1 to 256 edges, a line of at most 2^32 edges and 1 step or more: if the counts are the tally of start `from` and a window fits in the line
-    -- at from + steps, then `move_counts` gives the tally of the start reached (`IsReached`).
-    pub moved-tallied : (new : List ℕ) (r : Reached) → IsMoved ring line from steps below old new r → IsReached ring line from steps below new r
+    -- For a ring of 1 to 256 edges, a whole line of at most 2^32 edges, a join area that is right and 1 step or more: if the counts are the tally of start
+    -- `from` and a window fits in the whole line at from + steps, then `move_counts` gives the tally of the start reached (`IsReached`).
+    pub moved-tallied : (new : List ℕ) (r : Reached) → IsMoved ring p from steps below old new r → IsReached ring line from steps below new r
     moved-tallied new r moved =
-        let is : reachedWith r new ≡ moveOn ring line below steps (unmoved from old) = rw can-be at (moved .is) in
+        let is : reachedWith r new ≡ moveOn ring p below steps (unmoved from old) = rw can-be at (moved .is) in
         let whole : steps ≡ suc (steps - 1) = omega arith in
-        let to : CameTo (unmoved from old) steps (reachedWith r new) = rw (is, whole) (came (steps - 1) (unmoved from old) tallied) in
+        let to : CameTo (unmoved from old) steps (reachedWith r new) = rw (is, whole) (came (steps - 1) (unmoved from old) (omega (arith, ends .in-line)) tallied) in
         record {
           after = to .after;
           start-le = to .start-le;

@@ -2,19 +2,20 @@
 use Prim.Native.Nat.{ℕ}
 use mathlib.Core.Path.{_≡_, sym, ap, _∙_}
 use mathlib.Core.List.{List}
+use Rattle.tally.specs.Windows.{Parts}
 use Rattle.moves.specs.declared.steps.Reached.{Reached}
 use Rattle.moves.specs.Moves.{CountsAt, reachedWith, IsMoved}
 
 -- Any two answers that meet the contract of `move_counts` are equal, and so are the counts at exit.
-pub one-move : (ring line : List ℕ) (from steps below : ℕ) (old new new′ : List ℕ) (r r′ : Reached) → IsMoved ring line from steps below old new r
-    → IsMoved ring line from steps below old new′ r′ → (r ≡ r′) × (new ≡ new′)
-one-move ring line from steps below old new new′ r r′ a b =
+pub one-move : (ring : List ℕ) (p : Parts) (from steps below : ℕ) (old new new′ : List ℕ) (r r′ : Reached) → IsMoved ring p from steps below old new r
+    → IsMoved ring p from steps below old new′ r′ → (r ≡ r′) × (new ≡ new′)
+one-move ring p from steps below old new new′ r r′ a b =
     let same : reachedWith r new ≡ reachedWith r′ new′ = a .is ∙ sym (b .is) in (
       λ i. record {
-        start = record { 0 = ap (λ (p : CountsAt). p .start) same i };
-        least = ap (λ (p : CountsAt). p .least) same i;
-        looks = ap (λ (p : CountsAt). p .looks) same i;
-        past = ap (λ (p : CountsAt). p .past) same i;
+        start = record { 0 = ap (λ (c : CountsAt). c .start) same i };
+        least = ap (λ (c : CountsAt). c .least) same i;
+        looks = ap (λ (c : CountsAt). c .looks) same i;
+        past = ap (λ (c : CountsAt). c .past) same i;
       },
-      ap (λ (p : CountsAt). p .counts) same,
+      ap (λ (c : CountsAt). c .counts) same,
     )

@@ -1,5 +1,6 @@
--- What the hand walks of `move_tally` and `moved_tally` share. Their callees, `move_along` and `move_tally`, take six parameters: a reference, the ring, the line, a
--- line place and two numbers. A walk carries the ownership of the reference, the ring and the line. What a place or a number owns is made anew when a call needs it.
+-- What the hand walks of `move_tally` and `moved_tally` share. Their callees, `move_along` and `move_tally`, take seven parameters: a reference, the ring, the line,
+-- the join area, a line place and two numbers. A walk carries the ownership of the reference, the ring, the line and the join area. What a place or a number owns is
+-- made anew when a call needs it.
 use Prim.Native.Nat.{ℕ, _<_, _^_}
 use mathlib.Core.Path.{refl}
 use mathlib.Core.List.{[], _∷_, List}
@@ -32,13 +33,13 @@ abbrev Number : ℕ → Fml
 Number n = usize .own n (vint w64 n ∷ [])
 
 module _ {M : Type 1} {𝓤 : URA M} {H : Heap 𝓤} {A : Atoms 𝓤} {K : Type 0} {W : Given 𝓤 H A} {Γ : List (Item 𝓤)} {G : Goal 𝓤 H} where
-  -- A step of a walk: from the ownership of the reference, the ring and the line it makes the ownership of all six parameters, in their order.
-  pub six-owned : K → {reference ring line : Fml} (start : LinePlace) (steps below : ℕ) → Is Place.the-row start (placeVal start ∷ []) → steps < 2 ^ 64 → below < 2 ^ 64
-      → Step K W (‵ (fsep reference (fsep ring (fsep line (fsep (OwnPlace start) (fsep (Number steps) (fsep (Number below) ftrue)))))) ∷ Γ) G
-      (‵ reference ∷ (‵ ring ⊛ ‵ line) ∷ Γ) G
-  six-owned t start steps below is-start steps-lt below-lt = step (λ s.
-      move t (1 ∷ []) $ split t $
+  -- A step of a walk: from the ownership of the reference, the ring, the line and the join area it makes the ownership of all seven parameters, in their order.
+  pub seven-owned : K → {reference ring line area : Fml} (start : LinePlace) (steps below : ℕ) → Is Place.the-row start (placeVal start ∷ []) → steps < 2 ^ 64 → below < 2 ^ 64
+      → Step K W (‵ (fsep reference (fsep ring (fsep line (fsep area (fsep (OwnPlace start) (fsep (Number steps) (fsep (Number below) ftrue))))))) ∷ Γ) G
+      (‵ reference ∷ (‵ ring ⊛ (‵ line ⊛ ‵ area)) ∷ Γ) G
+  seven-owned t start steps below is-start steps-lt below-lt = step (λ s.
+      move t (1 ∷ []) $ split t $ move t (1 ∷ []) $ split t $
       nothing t $ owned t usize (Is usize) (uint-makes 𝓤 H A W w64) below _ (refl, below-lt) $ fjoin t $
       owned t usize (Is usize) (uint-makes 𝓤 H A W w64) steps _ (refl, steps-lt) $ fjoin t $
       owned t Place.the-row (Is Place.the-row) (laws.makes Place.the-type Place′.the-plain 𝓤 H A) start _ is-start $ fjoin t $
-      move t (2 ∷ 0 ∷ []) $ fjoin t $ move t (1 ∷ 0 ∷ []) $ fjoin t $ move t (1 ∷ 0 ∷ []) $ fjoin t $ s)
+      move t (2 ∷ 0 ∷ []) $ fjoin t $ move t (1 ∷ 0 ∷ []) $ fjoin t $ move t (1 ∷ 0 ∷ []) $ fjoin t $ move t (1 ∷ 0 ∷ []) $ fjoin t $ s)

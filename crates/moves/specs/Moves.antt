@@ -1,14 +1,15 @@
 -- The counts moved along the line, a step at a time, whatever they hold. Rule 5: "it moves s steps, each 2·m looks (the leaving and the entering edge,
 -- each against m ring edges)". A move may also end early, at the first start whose least count is below a given bound: the survey moves on to the next
--- place whose least count is at most k.
+-- place whose least count is at most k. Windows come from the line and its join area, the parts p; n is the length of the whole line (specs/Windows.antt of
+-- crates/tally).
 --
 --   sixteenBits               2^16, the number of values of a count
 --   changedCount, changedAt   count − (leaving edge differs) + (entering edge differs), mod 2^16
 --   earlier                   the rotation before a rotation
 --   steppedCounts             the counts after a step
+--   leavingEdge, enteringEdge the first edge of a window, and the last edge of the window after it
 --   CountsAt, unmoved         one point of a move: start, counts, their least, looks, the place just past the last mark; the point before the first step
 --   stepOn, moveOn            one step; at most a given number of steps
---   mostPlaces                2^32, the most places of a line
 --   canMove, CanMove          whether counts can be moved: the test, and the same as facts
 --   movedFrom                 the counts moved, or unchanged if they cannot be moved
 --   reachedWith               the returned struct and the final counts, as one point of a move
@@ -23,10 +24,12 @@ use lib.Dec.{ltb, leb, eqb}
 use lib.ListN.{length, getD}
 use Rattle.lists.specs.ByPlace.{storedFirst}
 use Rattle.meaning.specs.Counting.{oneIf}
-use Rattle.meaning.specs.Meanings.{unequal, windowEdge, leastDistance}
+use Rattle.meaning.specs.Meanings.{unequal, leastDistance}
 use Rattle.meaning.specs.Looks.{stepLooks}
+use Rattle.findings.specs.Limits.{mostPlaces}
 use Rattle.tally.specs.declared.counts.Least.{Least}
 use Rattle.tally.specs.Marks.{pastAfter, pastMark}
+use Rattle.tally.specs.Windows.{Parts, windowOf, wholeLine}
 use Rattle.tally.specs.Counts.{mostCounts, leastOf, HasCounts}
 use Rattle.tally.specs.Tallied.{Verified}
 use Rattle.moves.specs.declared.steps.Reached.{Reached}
@@ -65,43 +68,48 @@ pub record CountsAt : Type 0 where
 abbrev pub unmoved : ℕ → List ℕ → CountsAt
 unmoved from counts = record { start = from; counts = counts; least = 0; looks = 0; past = 0 }
 
--- One step: the first edge of the window leaves, the last edge of the next window enters. If that edge is a mark, the place just past it is the next window's end.
-unfoldable pub stepOn : List ℕ → List ℕ → CountsAt → CountsAt
-stepOn ring line at =
-    let entering : ℕ = windowEdge line (at .start + 1) (length ring - 1) in
-    let new : List ℕ = steppedCounts ring (windowEdge line (at .start) 0) entering (at .counts) in
+-- "the leaving" edge of a step from start i: the first edge of the window at i.
+abbrev pub leavingEdge : ℕ → Parts → ℕ → ℕ
+leavingEdge m p i = getD (windowOf m p i) 0 0
+
+-- "the entering edge" of that step: the last edge of the window at i + 1.
+abbrev pub enteringEdge : ℕ → Parts → ℕ → ℕ
+enteringEdge m p i = getD (windowOf m p (i + 1)) (m - 1) 0
+
+-- One step along the line, whose windows come from the parts p. If the entering edge is a mark, the place just past it is the next window's end.
+unfoldable pub stepOn : List ℕ → Parts → CountsAt → CountsAt
+stepOn ring p at =
+    let entering : ℕ = enteringEdge (length ring) p (at .start) in
+    let new : List ℕ = steppedCounts ring (leavingEdge (length ring) p (at .start)) entering (at .counts) in
     let past : ℕ = pastAfter entering (at .past) (at .start + 1 + length ring) in
     record { start = at .start + 1; counts = new; least = leastOf (length ring) new; looks = at .looks + stepLooks (length ring); past = past }
 
 -- At most the given number of steps: the move ends at the first start reached whose least count is below `below`, else after the last step.
-unfoldable pub moveOn : List ℕ → List ℕ → ℕ → ℕ → CountsAt → CountsAt
-moveOn ring line below zero at = at
-moveOn ring line below (suc left) at =
-    let next : CountsAt = stepOn ring line at in
-    let later : CountsAt = moveOn ring line below left next in
+unfoldable pub moveOn : List ℕ → Parts → ℕ → ℕ → CountsAt → CountsAt
+moveOn ring p below zero at = at
+moveOn ring p below (suc left) at =
+    let next : CountsAt = stepOn ring p at in
+    let later : CountsAt = moveOn ring p below left next in
     cond (ltb (next .least) below) next later
 
--- The most places that a line may have: a finding's start is written as one 32-bit word.
-abbrev pub mostPlaces : ℕ
-mostPlaces = 2 ^ 32
-
--- Whether `room` counts of a ring of m edges can be moved `steps` steps from start `from` along a line of n edges: m is 1 to 256, there is a count for each
--- rotation, n is at most 2^32, and the window after the last step still fits in the line.
+-- Whether `room` counts of a ring of m edges can be moved `steps` steps from start `from` along a whole line of n edges: m is 1 to 256, there is a count for
+-- each rotation, n is at most 2^32, and the window after the last step still fits in the line.
 unfoldable pub canMove : ℕ → ℕ → ℕ → ℕ → ℕ → Bool
 canMove m room n from steps = (ltb 0 m && (leb m mostCounts && leb m room)) && (leb n mostPlaces && leb (from + steps + m) n)
 
 -- The counts moved from start `from` by at most `steps` steps. If they cannot be moved, no count changes, and the other numbers are 0.
-abbrev pub movedFrom : List ℕ → List ℕ → ℕ → ℕ → ℕ → List ℕ → CountsAt
-movedFrom ring line from steps below old =
-    cond (canMove (length ring) (length old) (length line) from steps) (moveOn ring line below steps (unmoved from old)) (unmoved from old)
+abbrev pub movedFrom : List ℕ → Parts → ℕ → ℕ → ℕ → List ℕ → CountsAt
+movedFrom ring p from steps below old =
+    let n : ℕ = length (wholeLine (length ring) p) in
+    cond (canMove (length ring) (length old) n from steps) (moveOn ring p below steps (unmoved from old)) (unmoved from old)
 
 -- The returned struct and the final counts, as one record.
 abbrev pub reachedWith : Reached → List ℕ → CountsAt
 reachedWith r counts = record { start = r .start .0; counts = counts; least = r .least; looks = r .looks; past = r .past }
 
 -- The contract of `move_counts`. `from` is the number of the line place to move from, `old` are the counts at entry, `new` those at exit, r is the returned struct.
-pub record IsMoved (ring line : List ℕ) (from steps below : ℕ) (old new : List ℕ) (r : Reached) : Type 0 where
-  pub is : reachedWith r new ≡ movedFrom ring line from steps below old
+pub record IsMoved (ring : List ℕ) (p : Parts) (from steps below : ℕ) (old new : List ℕ) (r : Reached) : Type 0 where
+  pub is : reachedWith r new ≡ movedFrom ring p from steps below old
 
 -- The result of moving the tally of start `from`. The start reached is 1 to `steps` steps on. The counts are its tally, r has their least, and each step took 2·m
 -- looks. No start that was passed has a least distance below `below`. If the move ended early, the start reached has a least count below `below`. The edges that
@@ -129,5 +137,5 @@ pub record CanMove (m room n from steps : ℕ) : Type 0 where
   pub in-line : from + steps + m ≤ n
 
 -- The contract of `move_along`, `move_tally` and `moved_tally`: the counts are moved by at most `steps` steps.
-pub record IsMovedOn (ring line : List ℕ) (from steps below : ℕ) (old new : List ℕ) (r : Reached) : Type 0 where
-  pub is : reachedWith r new ≡ moveOn ring line below steps (unmoved from old)
+pub record IsMovedOn (ring : List ℕ) (p : Parts) (from steps below : ℕ) (old new : List ℕ) (r : Reached) : Type 0 where
+  pub is : reachedWith r new ≡ moveOn ring p below steps (unmoved from old)

@@ -3,11 +3,13 @@ use crate::steps::Reached;
 use crate::steps::move_along;
 use answers::LinePlace;
 use tally::MOST_COUNTS;
+use tally::whole_length;
 ghost use mathlib.Core.Path.{_≡_};
 ghost use lib.ListN.{length};
+ghost use Rattle.tally.specs.Windows.{parts, wholeLength};
 ghost use Rattle.moves.specs.Moves.{canMove, CanMove, IsMovedOn, IsMoved};
 
-// The most places that a line may have: a finding's start is written as one 32-bit word.
+// 2^32: a whole line that counts are moved along has at most this many places.
 pub const MOST_PLACES: usize = 1 << 32;
 
 // One count for each rotation.
@@ -22,34 +24,36 @@ pub struct Moved {
 }
 
 // Moves a lent tally along the line: lends its counts to `move_along`.
-fn move_tally(
+fn move_tally<'a>(
     tally: &mut Tally,
     ring: &[u8],
-    line: &[u8],
+    line: &'a [u8],
+    join: &'a [u8],
     from: LinePlace,
     steps: usize,
     below: usize,
 ) -> Reached
-    requires { ⌜ CanMove (length (now ring)) (length (now tally .counts)) (length (now line)) (from .0) steps ⌝ }
-    ensures { λ z. ⌜ IsMovedOn (now (ring .entry)) (now (line .entry)) (from .0) steps below (now (tally .entry) .counts) (now (tally .exit) .counts) z ⌝ }
+    requires { ⌜ CanMove (length (now ring)) (length (now tally .counts)) (wholeLength (length (now ring)) (now line) (now join)) (from .0) steps ⌝ }
+    ensures { λ z. ⌜ IsMovedOn (now (ring .entry)) (parts (now (line .entry)) (now (join .entry))) (from .0) steps below (now (tally .entry) .counts) (now (tally .exit) .counts) z ⌝ }
 {
-    move_along(&mut tally.counts, ring, line, from, steps, below)
+    move_along(&mut tally.counts, ring, line, join, from, steps, below)
 }
 
 // Takes the tally by value and lends it to `move_tally`, so that callers hold no reference to it.
-fn moved_tally(
+fn moved_tally<'a>(
     tally: Tally,
     ring: &[u8],
-    line: &[u8],
+    line: &'a [u8],
+    join: &'a [u8],
     from: LinePlace,
     steps: usize,
     below: usize,
 ) -> Moved
-    requires { ⌜ CanMove (length (now ring)) (length (tally .counts)) (length (now line)) (from .0) steps ⌝ }
-    ensures { λ z. ⌜ IsMovedOn (now (ring .entry)) (now (line .entry)) (from .0) steps below (tally .counts) (z .tally .counts) (z .reached) ⌝ }
+    requires { ⌜ CanMove (length (now ring)) (length (tally .counts)) (wholeLength (length (now ring)) (now line) (now join)) (from .0) steps ⌝ }
+    ensures { λ z. ⌜ IsMovedOn (now (ring .entry)) (parts (now (line .entry)) (now (join .entry))) (from .0) steps below (tally .counts) (z .tally .counts) (z .reached) ⌝ }
 {
     let mut kept = tally;
-    let reached = move_tally(&mut kept, ring, line, from, steps, below);
+    let reached = move_tally(&mut kept, ring, line, join, from, steps, below);
     Moved {
         tally: kept,
         reached,
@@ -88,18 +92,20 @@ fn can_move(m: usize, room: usize, n: usize, from: LinePlace, steps: usize) -> b
 // Moves the counts of a search along the line by at most `steps` steps; stops at the first start reached whose least
 // count is below `below`. If they cannot be moved, they stay as they are, and `from` and zeros are returned.
 // They are copied into a tally and back once, 512 bytes each way, whatever the number of steps.
-pub fn move_counts(
+pub fn move_counts<'a>(
     counts: &mut [u16; MOST_COUNTS],
     ring: &[u8],
-    line: &[u8],
+    line: &'a [u8],
+    join: &'a [u8],
     from: LinePlace,
     steps: usize,
     below: usize,
 ) -> Reached
-    ensures { λ z. ⌜ IsMoved (now (ring .entry)) (now (line .entry)) (from .0) steps below (now (counts .entry)) (now (counts .exit)) z ⌝ }
+    ensures { λ z. ⌜ IsMoved (now (ring .entry)) (parts (now (line .entry)) (now (join .entry))) (from .0) steps below (now (counts .entry)) (now (counts .exit)) z ⌝ }
 {
     let all = &counts[..];
-    if !can_move(ring.len(), all.len(), line.len(), from, steps) {
+    let m = ring.len();
+    if !can_move(m, all.len(), whole_length(line, join, m), from, steps) {
         return Reached {
             start: from,
             least: 0,
@@ -108,7 +114,7 @@ pub fn move_counts(
         };
     }
     let tally = Tally { counts: *counts };
-    let there = moved_tally(tally, ring, line, from, steps, below);
+    let there = moved_tally(tally, ring, line, join, from, steps, below);
     let kept = there.tally;
     let after = kept.counts;
     *counts = after;

@@ -10,6 +10,7 @@ ghost use mathlib.Core.Path.{_≡_};
 ghost use lib.ListN.{length, getD};
 ghost use Rattle.meaning.specs.Looks.{stepLooks};
 ghost use Rattle.lists.specs.ByPlace.{StoredFirst};
+ghost use Rattle.tally.specs.Windows.{parts, wholeLength};
 ghost use Rattle.tally.specs.Counts.{HasCounts, IsLeast};
 ghost use Rattle.moves.specs.Moves.{changedCount, changedAt, earlier, IsStepped, CanMove, IsMovedOn};
 
@@ -93,16 +94,17 @@ pub struct Reached {
 // Moves the counts along the line: `steps` steps, or fewer if a start reached on the way has a least count below
 // `below`. The leaving edge is the first of the window at i, the entering edge the last of the window at i + 1. Whether
 // it is a mark is asked as it enters; the place just past it is where the window at i + 1 ends.
-pub fn move_along(
+pub fn move_along<'a>(
     counts: &mut [u16; MOST_COUNTS],
     ring: &[u8],
-    line: &[u8],
+    line: &'a [u8],
+    join: &'a [u8],
     from: LinePlace,
     steps: usize,
     below: usize,
 ) -> Reached
-    requires { ⌜ CanMove (length (now ring)) (length (now counts)) (length (now line)) (from .0) steps ⌝ }
-    ensures { λ z. ⌜ IsMovedOn (now (ring .entry)) (now (line .entry)) (from .0) steps below (now (counts .entry)) (now (counts .exit)) z ⌝ }
+    requires { ⌜ CanMove (length (now ring)) (length (now counts)) (wholeLength (length (now ring)) (now line) (now join)) (from .0) steps ⌝ }
+    ensures { λ z. ⌜ IsMovedOn (now (ring .entry)) (parts (now (line .entry)) (now (join .entry))) (from .0) steps below (now (counts .entry)) (now (counts .exit)) z ⌝ }
 {
     let m = ring.len();
     let mut least: usize = 0;
@@ -111,8 +113,8 @@ pub fn move_along(
     let end = from.0 + steps;
     let mut i = from.0;
     while i < end {
-        let here = window(line, LinePlace(i), m);
-        let next = window(line, LinePlace(i + 1), m);
+        let here = window(line, join, LinePlace(i), m);
+        let next = window(line, join, LinePlace(i + 1), m);
         let entering = next[m - 1];
         let stepped = step(counts, ring, here[0], entering);
         least = stepped.least;

@@ -15,10 +15,13 @@ pub mod AskCases
 pub mod HeldFrom
 pub mod SweepKeeps
 pub mod QuickLoop
+-- What a call lends to the scan, on an open line and on a closed one.
+pub mod LentScan
 -- The report's rows, and the ways in which it meets its contract.
 pub mod FirstOfReport
 pub mod ReportAnswers
 -- What follows for every answer of a report.
+pub mod ReportByRows
 pub mod RowsOfReport
 pub mod ReportOneAnswer
 pub mod ReportGives
@@ -26,5 +29,6 @@ pub mod ShownRising
 pub mod SilencesAlike
 pub mod OneSilenceMore
 pub mod EmptyBookIsScan
+-- Scan and report on a closed line.
 -- Rings and lines without marks.
 pub mod ReportUnmarked

@@ -1,20 +1,23 @@
--- One silence more in a book. It names one address more, and each start has at most one finding, so it hides at most one finding more. A silence that names no finding
--- changes nothing. Neither does one of another cell or ring number.
-use Prim.Native.Nat.{ℕ, suc, _+_, _≤_}
+-- One silence more in a book. It names one address more, and each start has at most one finding, so it hides at most one finding more. A silence that names
+-- no finding changes nothing. Neither does one of another cell or ring number. The laws hold for the rows of any search that accept no empty ring.
+use Prim.Native.Nat.{ℕ, suc, _+_, _≤_, _<_}
 use mathlib.Core.Path.{_≡_, refl, ap, _∙_}
 use mathlib.Core.Bool.{Bool, true, false, cond, _||_}
 use mathlib.Core.List.{List, [], _∷_, _++_}
+use mathlib.Core.Option.{Option, none}
 use native.Mathlib.Omega.{arith}
 use lib.ListN.{length}
 use Rattle.meaning.specs.Findings.{Finding, IsFinding, findings}
 use Rattle.meaning.specs.Findings.{Rising}
 use Rattle.meaning.proofs.Rising.{rising-from, findings-rising}
+use Rattle.answers.specs.declared.refusals.Refusal.{Refusal}
 use Rattle.answers.specs.Paper.{accepted}
+use Rattle.answers.specs.Rows.{firstGiven}
 use Rattle.silences.specs.Silences.{Silence, silence, isSame, names}
 use Rattle.silences.specs.Reading.{readBook}
 use Rattle.silences.proofs.SilenceOrder.{isSame-iff}
 use Rattle.outlines.specs.declared.reporting.Reported.{Reported}
-use Rattle.outlines.specs.Report.{isHidden, takenBy, hidden, IsReported}
+use Rattle.outlines.specs.Report.{isHidden, takenBy, hidden, IsReportedBy}
 use Rattle.outlines.proofs.SilencesAlike.{NamesAlike, hidden-same, reports-same}
 
 -- the first two of three tests joined by "or" can be exchanged
@@ -85,13 +88,14 @@ module _ (cell ringNumber : ℕ) (s : Silence) (xs ys : List Silence) where
     pub silence-hides-one-le : length (hidden (xs ++ s ∷ ys) cell ringNumber (findings ring line k)) ≤ length (hidden (xs ++ ys) cell ringNumber (findings ring line k)) + 1
     silence-hides-one-le = one-more 0 (length line) (findings ring line k) (findings-rising ring line k)
 
-    module _ (book book′ words : List ℕ) (is : readBook book ≡ accepted (xs ++ s ∷ ys)) (is′ : readBook book′ ≡ accepted (xs ++ ys))
-        (r r′ : Reported) (out out′ : List ℕ) (p : IsReported cell ringNumber ring line k book words r out)
-        (p′ : IsReported cell ringNumber ring line k book′ words r′ out′) where
+    module _ (rows : List (Option Refusal)) (some-edge : firstGiven rows ≡ none → 0 < length ring) (book book′ words : List ℕ)
+        (is : readBook book ≡ accepted (xs ++ s ∷ ys)) (is′ : readBook book′ ≡ accepted (xs ++ ys))
+        (r r′ : Reported) (out out′ : List ℕ) (p : IsReportedBy rows cell ringNumber ring line k book words r out)
+        (p′ : IsReportedBy rows cell ringNumber ring line k book′ words r′ out′) where
       -- if s names the address of no finding, the report without s is the same
       without : ((f : Finding) → IsFinding ring line k f → isSame s (silence cell ringNumber (f .start)) ≡ false) → (r ≡ r′) × (out ≡ out′)
       without idle =
-          reports-same (xs ++ s ∷ ys) (xs ++ ys) cell ringNumber ring line k book book′ words is is′ (λ f h. named-same f (idle f h)) r r′ out out′ p p′
+          reports-same (xs ++ s ∷ ys) (xs ++ ys) cell ringNumber rows ring line some-edge k book book′ words is is′ (λ f h. named-same f (idle f h)) r r′ out out′ p p′
 
       -- "A silence that names no finding hides nothing": without it the report is the same.
       pub idle-silence-same : ((f : Finding) → IsFinding ring line k f → s ≡ silence cell ringNumber (f .start) → ⊥) → (r ≡ r′) × (out ≡ out′)

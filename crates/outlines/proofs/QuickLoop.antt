@@ -19,7 +19,8 @@ use Rattle.silences.specs.Silences.{Silence, silence}
 use Rattle.silences.specs.Reading.{silencesRead}
 use Rattle.silences.specs.Addresses.{silenceOf, soughtOf}
 use Rattle.book.specs.Calls.{IsSought}
-use Rattle.findings.specs.Admitting.{mostLine, Admitted}
+use Rattle.tally.specs.Windows.{Parts, wholeLine}
+use Rattle.findings.specs.Limits.{mostPlaces, CanSearch}
 use Rattle.findings.proofs.WordsSoFar.{WordsSoFar, so-far-none, so-far-length, so-far-more}
 use Rattle.sweep.specs.declared.sweeping.Sweep.{Sweep}
 use Rattle.sweep.specs.declared.sweeping.Swept.{Swept}
@@ -36,28 +37,29 @@ use Rattle.outlines.proofs.HeldFrom.{HeldFrom, held-start, held-later, 
 use Rattle.outlines.proofs.SweepKeeps.{SweepKeeps, SweepTurn, sweep-start, sweep-turn}
 
 -- The invariant of the loop of `scan_windows`.
-pub record QuickLoop (cell ringNumber : ℕ) (ring doubled table line : List ℕ) (k : ℕ) (book counts₀ area : List ℕ) (at : Sweep) (asked : BookAsked) (counts words : List ℕ) : Type 0 where
-  pub can : CanScan ring doubled table line k book counts₀ area
+pub record QuickLoop (cell ringNumber : ℕ) (ring doubled table : List ℕ) (p : Parts) (k : ℕ) (book counts₀ area : List ℕ) (at : Sweep) (asked : BookAsked)
+    (counts words : List ℕ) : Type 0 where
+  pub can : CanScan ring doubled table p k book counts₀ area
   pub so-far : List Finding
-  pub sweep : SweepKeeps ring line k so-far at counts
+  pub sweep : SweepKeeps ring (wholeLine (length ring) p) k so-far at counts
   pub in-words : WordsSoFar area (shown (silencesRead book) cell ringNumber so-far) (asked .shown) words
   pub hidden-is : asked .hidden ≡ length (hidden (silencesRead book) cell ringNumber so-far)
   pub held-from : HeldFrom cell ringNumber book (at .start .0) (asked .held)
 
--- an accepted call has room for the words of all findings
-room-for-all : (ring line : List ℕ) (k : ℕ) {room : ℕ} → Admitted ring k (length line) room → wordsEach * length (findings ring line k) ≤ room
-room-for-all ring line k admitted =
+-- within the limits there is room for the words of all findings
+room-for-all : (ring line : List ℕ) (k : ℕ) {room : ℕ} → CanSearch ring k (length line) room → wordsEach * length (findings ring line k) ≤ room
+room-for-all ring line k within =
     ⊎-elim
-    (λ long. omega (arith, admitted .room-for long, findings-length-le ring line k (admitted .some-edge) long))
+    (λ long. omega (arith, within .room-for long, findings-length-le ring line k (within .some-edge) long))
     (λ short. omega (arith, ap (λ (l : List Finding). length l) (findings-short ring line k short)))
     (le-or-lt (length ring) (length line))
 
-module _ {cell ringNumber : ℕ} {ring doubled table line : List ℕ} {k : ℕ} {book counts₀ area : List ℕ} where
+module _ {cell ringNumber : ℕ} {ring doubled table : List ℕ} {p : Parts} {k : ℕ} {book counts₀ area : List ℕ} where
   -- The invariant holds before the first window, with nothing found and the field that the book gives for start 0.
-  pub quick-start : (can : CanScan ring doubled table line k book counts₀ area) {at : Sweep} {asked : BookAsked} {first : Address}
+  pub quick-start : (can : CanScan ring doubled table p k book counts₀ area) {at : Sweep} {asked : BookAsked} {first : Address}
       → at .start .0 ≡ 0 → lastStart (at .last) ≡ none → at .looks ≡ 0
       → asked .shown ≡ 0 → asked .hidden ≡ 0 → silenceOf first ≡ silence cell ringNumber 0 → IsSought book 0 first (asked .held)
-      → QuickLoop cell ringNumber ring doubled table line k book counts₀ area at asked counts₀ area
+      → QuickLoop cell ringNumber ring doubled table p k book counts₀ area at asked counts₀ area
   unfolding takenBy
   quick-start can {at} s l o no-shown no-hidden zero sought = record {
     can = can;
@@ -68,7 +70,11 @@ module _ {cell ringNumber : ℕ} {ring doubled table line : List ℕ} {k : ℕ} 
     held-from = held-start (at .start .0) zero sought;
   }
 
-  module _ {at : Sweep} {asked : BookAsked} {counts words : List ℕ} (h : QuickLoop cell ringNumber ring doubled table line k book counts₀ area at asked counts words) where
+  module _ {at : Sweep} {asked : BookAsked} {counts words : List ℕ} (h : QuickLoop cell ringNumber ring doubled table p k book counts₀ area at asked counts words) where
+    -- the whole line, whose windows the parts hold
+    abbrev line : List ℕ
+    line = wholeLine (length ring) p
+
     abbrev ss : List Silence
     ss = silencesRead book
 
@@ -76,13 +82,13 @@ module _ {cell ringNumber : ℕ} {ring doubled table line : List ℕ} {k : ℕ} 
     counts-add : asked .shown + asked .hidden ≡ length (h .so-far)
     counts-add = omega (arith, h .in-words .count-is, h .hidden-is, shown-hidden-length ss cell ringNumber (h .so-far))
 
-    -- The numbers of shown and of hidden findings so far add up to at most 65,536.
-    pub quick-found-le : asked .shown + asked .hidden ≤ mostLine
-    quick-found-le = omega (arith, counts-add, scan-found-le ring line k _ _ _ _ (h .sweep .scanning), below-length-le ring line k (length line), h .can .admitted .most-line)
+    -- The numbers of shown and of hidden findings so far add up to at most 2^32.
+    pub quick-found-le : asked .shown + asked .hidden ≤ mostPlaces
+    quick-found-le = omega (arith, counts-add, scan-found-le ring line k _ _ _ _ (h .sweep .scanning), below-length-le ring line k (length line), h .can .can-scan .can-search .most-places)
 
     -- The lent words keep their length.
     pub quick-length : length words ≡ length area
-    quick-length = so-far-length (h .in-words) (omega (arith, counts-add, scan-found-le ring line k _ _ _ _ (h .sweep .scanning), room-for-all ring line k (h .can .admitted)))
+    quick-length = so-far-length (h .in-words) (omega (arith, counts-add, scan-found-le ring line k _ _ _ _ (h .sweep .scanning), room-for-all ring line k (h .can .can-scan .can-search)))
 
     -- If no window fits in the line any more, the contract of `scan_windows` is met.
     pub quick-end : IsPastLine ring line (at .start .0)
@@ -90,15 +96,13 @@ module _ {cell ringNumber : ℕ} {ring doubled table line : List ℕ} {k : ℕ} 
     quick-end past =
         let e = scan-end ring line k _ _ _ _ (h .sweep .scanning) past in
         record {
-          admitted = h .can .admitted;
-          book-read = h .can .book-read;
           found-is = counts-add ∙ ap (λ (l : List Finding). length l) (e .0);
           hidden-is = h .hidden-is ∙ ap (λ (l : List Finding). length (hidden ss cell ringNumber l)) (e .0);
           looks-are = e .1;
           words-are = h .in-words .words-are ∙ ap (λ (l : List Finding). written (wordsOf (shown ss cell ringNumber l)) area) (e .0);
         }
 
-    module _ {r : Swept} {next : Sweep} {counts′ : List ℕ} (swept : IsSweptBy ring doubled table line k at counts counts′ r) (is-next : stateOf r ≡ next) where
+    module _ {r : Swept} {next : Sweep} {counts′ : List ℕ} (swept : IsSweptBy ring doubled table p k at counts counts′ r) (is-next : stateOf r ≡ next) where
       -- what the turn gives for the sweep's part of the invariant
       turn : SweepTurn ring line k (h .so-far) at r counts′
       turn = sweep-turn (h .can) (h .sweep) swept
@@ -108,7 +112,7 @@ module _ {cell ringNumber : ℕ} {ring doubled table line : List ℕ} {k : ℕ} 
       quick-less in-line = rw is-next at (turn .less in-line)
 
       -- If the turn reports no finding, the invariant holds with the same words; nothing more is shown or hidden.
-      pub quick-none : foundOf r ≡ [] → QuickLoop cell ringNumber ring doubled table line k book counts₀ area next asked counts′ words
+      pub quick-none : foundOf r ≡ [] → QuickLoop cell ringNumber ring doubled table p k book counts₀ area next asked counts′ words
       quick-none e = record {
         can = h .can;
         so-far = h .so-far;
@@ -133,16 +137,16 @@ module _ {cell ringNumber : ℕ} {ring doubled table line : List ℕ} {k : ℕ} 
           -- there is room for its words
           room-behind : wordsEach * asked .shown + wordsEach ≤ length area
           room-behind =
-              omega (arith, counts-add, scan-found-le ring line k _ _ _ _ (sweep-next .scanning), length-append (h .so-far) (f ∷ []), room-for-all ring line k (h .can .admitted))
+              omega (arith, counts-add, scan-found-le ring line k _ _ _ _ (sweep-next .scanning), length-append (h .so-far) (f ∷ []), room-for-all ring line k (h .can .can-scan .can-search))
 
           -- If the turn reports a finding f, the invariant holds after `ask` and `put_shown`.
-          pub quick-found : QuickLoop cell ringNumber ring doubled table line k book counts₀ area next asked′ counts′ out
+          pub quick-found : QuickLoop cell ringNumber ring doubled table p k book counts₀ area next asked′ counts′ out
           quick-found =
-              go (isHidden ss cell ringNumber f) refl (held-hides (h .held-from) f (turn .found f e .from-le) (h .can .book-read))
+              go (isHidden ss cell ringNumber f) refl (held-hides (h .held-from) f (turn .found f e .from-le) (h .can .can-scan .book-read))
             where
               next-loop : WordsSoFar area (shown ss cell ringNumber (h .so-far ++ f ∷ [])) (asked′ .shown) out
                   → asked′ .hidden ≡ length (hidden ss cell ringNumber (h .so-far ++ f ∷ []))
-                  → QuickLoop cell ringNumber ring doubled table line k book counts₀ area next asked′ counts′ out
+                  → QuickLoop cell ringNumber ring doubled table p k book counts₀ area next asked′ counts′ out
               next-loop in-words hidden-is = record {
                 can = h .can;
                 so-far = h .so-far ++ f ∷ [];
@@ -153,7 +157,7 @@ module _ {cell ringNumber : ℕ} {ring doubled table line : List ℕ} {k : ℕ} 
               }
 
               go : (t : Bool) → isHidden ss cell ringNumber f ≡ t → hides cell ringNumber book f (soughtOf (asked .held)) ≡ t
-                  → QuickLoop cell ringNumber ring doubled table line k book counts₀ area next asked′ counts′ out
+                  → QuickLoop cell ringNumber ring doubled table p k book counts₀ area next asked′ counts′ out
               go true named same =
                   let shown-is : asked′ .shown ≡ asked .shown = rw same at (asks .shown-is) in
                   next-loop

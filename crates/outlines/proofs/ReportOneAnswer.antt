@@ -3,11 +3,13 @@
 use Prim.Native.Nat.{ℕ}
 use mathlib.Core.Path.{_≡_, refl, sym, ap, _∙_}
 use mathlib.Core.List.{List}
+use mathlib.Core.Option.{Option}
+use Rattle.answers.specs.declared.refusals.Refusal.{Refusal}
 use Rattle.answers.specs.Paper.{Answer, accepted, refused}
 use Rattle.answers.proofs.OneAnswer.{answer-unique}
 use Rattle.outlines.specs.declared.reporting.Reported.{Reported}
 use Rattle.outlines.specs.declared.reporting.Reported.the-variants.{Counts as CountsCase, Refused}
-use Rattle.outlines.specs.Report.{ReportCounts, noReportCounts, answerOf, paperOf, IsReported}
+use Rattle.outlines.specs.Report.{ReportCounts, noReportCounts, answerOf, paperOf, IsReportedBy, IsReported}
 
 -- the enum's case for an answer
 abbrev answerBack : Answer ReportCounts → Reported
@@ -27,10 +29,12 @@ report-answer-unique r r′ e = sym (answer-back r) ∙ ap answerBack e ∙ answ
 pub report-paper-unique : (r r′ : Reported) → paperOf r ≡ paperOf r′ → r ≡ r′
 report-paper-unique r r′ e = report-answer-unique r r′ (answer-unique noReportCounts (answerOf r) (answerOf r′) e)
 
+-- Any two answers that meet the contract of a report are equal, and so are the words at exit, whatever its rows of a search are.
+pub reported-by-unique : {rows : List (Option Refusal)} {cell ringNumber : ℕ} {ring line : List ℕ} {k : ℕ} {book words : List ℕ} {r r′ : Reported} {out out′ : List ℕ}
+    → IsReportedBy rows cell ringNumber ring line k book words r out → IsReportedBy rows cell ringNumber ring line k book words r′ out′ → (r ≡ r′) × (out ≡ out′)
+reported-by-unique {r = r} {r′ = r′} p p′ = (report-paper-unique r r′ (p .paper ∙ sym (p′ .paper)), p .written ∙ sym (p′ .written))
+
 -- Any two answers that meet the contract of `report` are equal, and so are the words at exit.
 pub report-unique : (cell ringNumber : ℕ) (ring line : List ℕ) (k : ℕ) (book words : List ℕ) (r r′ : Reported) (out out′ : List ℕ)
     → IsReported cell ringNumber ring line k book words r out → IsReported cell ringNumber ring line k book words r′ out′ → (r ≡ r′) × (out ≡ out′)
-report-unique cell ringNumber ring line k book words r r′ out out′ p p′ = (
-  report-paper-unique r r′ (p .paper ∙ sym (p′ .paper)),
-  p .written ∙ sym (p′ .written),
-)
+report-unique cell ringNumber ring line k book words r r′ out out′ p p′ = reported-by-unique p p′

@@ -15,24 +15,28 @@ use Rattle.meaning.proofs.WithoutMarks.{findings-before, quick-looks-before}
 use Rattle.answers.specs.declared.refusals.Refusal.{Refusal}
 use Rattle.answers.specs.Rows.{firstGiven, answerBy, areaBy}
 use Rattle.silences.specs.Reading.{bookRows, silencesRead}
-use Rattle.findings.specs.Admitting.{admitRows}
+use Rattle.findings.specs.Admitting.{limitRows, admitRows}
 use Rattle.findings.specs.BeforeMarks.{rowsBefore}
 use Rattle.findings.proofs.RowsUnmarked.{second-left-out}
 use Rattle.outlines.specs.Report.{shown, hidden, reportRows, reportRefusal, ReportCounts, reportAnswer, reportedWords}
 
 module _ (ring line : List ℕ) (k cell ringNumber : ℕ) (book : List ℕ) (no-mark : holdsMark ring ≡ false) (unmarked-line : holdsMark line ≡ false) where
-  -- The rows of a report as they were.
+  -- The rows of a search as they are.
+  abbrev rows : ℕ → List (Option Refusal)
+  rows room = admitRows ring k (length line) room
+
+  -- The refusal of a report as it was.
   abbrev refusalBefore : ℕ → Option Refusal
   refusalBefore room = firstGiven (rowsBefore (length ring) k (length line) room ++ bookRows book)
 
   -- For a ring without marks the first row that is given is the first of those that were there before.
-  pub report-rows-unmarked : (room : ℕ) → reportRefusal ring k (length line) room book ≡ refusalBefore room
-  unfolding reportRows admitRows rowsBefore
+  pub report-rows-unmarked : (room : ℕ) → reportRefusal (rows room) book ≡ refusalBefore room
+  unfolding reportRows limitRows admitRows rowsBefore
   report-rows-unmarked room = rw no-mark (second-left-out _ _)
 
   -- For a ring and a line without marks a report answers as before.
   pub report-unmarked : (room : ℕ)
-      → reportAnswer ring line k cell ringNumber book room
+      → reportAnswer (rows room) ring line k cell ringNumber book
       ≡ answerBy (refusalBefore room) (record {
         found = length (findingsBefore ring line k);
         hidden = length (hidden (silencesRead book) cell ringNumber (findingsBefore ring line k));
@@ -51,7 +55,7 @@ module _ (ring line : List ℕ) (k cell ringNumber : ℕ) (book : List ℕ) (no-
 
   -- For a ring and a line without marks the lent words after a report are as before.
   pub report-words-unmarked : (words : List ℕ)
-      → reportedWords ring line k cell ringNumber book words
+      → reportedWords (rows (length words)) ring line k cell ringNumber book words
       ≡ areaBy (refusalBefore (length words)) (written (wordsOf (shown (silencesRead book) cell ringNumber (findingsBefore ring line k))) words) words
   unfolding reportedWords
   report-words-unmarked words =

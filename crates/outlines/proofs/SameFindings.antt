@@ -6,13 +6,11 @@ use mathlib.Core.List.{List}
 use mathlib.Core.Option.{Option, none, some}
 use lib.ListN.{length}
 use Rattle.meaning.specs.Findings.{findings}
-use Rattle.meaning.specs.Looks.{quickLooks, surveyLooks}
 use Rattle.answers.specs.declared.refusals.Refusal.{Refusal}
 use Rattle.answers.specs.Paper.{Paper, answerPaper}
 use Rattle.findings.specs.declared.searching.Searched.{Searched}
-use Rattle.findings.specs.Admitting.{admitRefusal}
-use Rattle.answers.specs.Rows.{answerBy}
-use Rattle.findings.specs.Searching.{Counts, noCounts, searched, paperOf, searchPaper}
+use Rattle.answers.specs.Rows.{firstGiven, answerBy}
+use Rattle.findings.specs.Searching.{Counts, noCounts, searched, paperOf, IsSearched}
 use Rattle.outlines.specs.Scan.{IsScanned}
 use Rattle.survey.specs.Survey.{IsSurveyed}
 
@@ -28,15 +26,16 @@ row-same : (o : Option Refusal) (found looks looks′ : ℕ)
 row-same none found looks looks′ = record { number-is = refl; place-is = refl; found-is = refl }
 row-same (some refusal) found looks looks′ = record { number-is = refl; place-is = refl; found-is = refl }
 
--- The papers of two searches that differ only in their looks are equal but for the looks.
-search-same : (ring line : List ℕ) (k room looks looks′ : ℕ) → SameButLooks (searchPaper ring line k room looks) (searchPaper ring line k room looks′)
+-- Two searches that differ only in their looks give the same number, place and found, and the same words.
+pub search-same : {rows : List (Option Refusal)} {ring line : List ℕ} {k looks looks′ : ℕ} {words : List ℕ} {r r′ : Searched} {out out′ : List ℕ}
+    → IsSearched rows ring line k looks words r out → IsSearched rows ring line k looks′ words r′ out′ → SameButLooks (paperOf r) (paperOf r′) × (out ≡ out′)
 unfolding searched
-search-same ring line k room looks looks′ = row-same (admitRefusal ring k (length line) room) (length (findings ring line k)) looks looks′
+search-same {rows} {ring} {line} {k} {looks} {looks′} p p′ = (
+  rw (p .paper, p′ .paper) (row-same (firstGiven rows) (length (findings ring line k)) looks looks′),
+  p .written ∙ sym (p′ .written),
+)
 
 -- Survey and scan give the same number, place and found, and the same words, on every input.
 pub survey-scan-same : (ring line : List ℕ) (k : ℕ) (words : List ℕ) (surveyed scanned : Searched) (out out′ : List ℕ)
     → IsSurveyed ring line k words surveyed out → IsScanned ring line k words scanned out′ → SameButLooks (paperOf surveyed) (paperOf scanned) × (out ≡ out′)
-survey-scan-same ring line k words surveyed scanned out out′ p p′ = (
-  rw (p .paper, p′ .paper) (search-same ring line k (length words) (surveyLooks ring line) (quickLooks ring line k)),
-  p .written ∙ sym (p′ .written),
-)
+survey-scan-same ring line k words surveyed scanned out out′ p p′ = search-same p p′

@@ -12,6 +12,7 @@ use Rattle.meaning.proofs.LookBound.{quickLooks-le, quickLooks-most, quickLooks
 use Rattle.findings.specs.declared.searching.Searched.{Searched}
 use Rattle.findings.specs.Searching.{paperOf}
 use Rattle.findings.specs.SearchRows.{SearchRows}
+use Rattle.findings.proofs.AdmitRows.{accepted-edge}
 use Rattle.findings.proofs.RowsOfSearching.{rows-of-search}
 use Rattle.findings.proofs.SearchGives.{accepted-gives, looks-of-search}
 use Rattle.outlines.specs.Scan.{IsScanned}
@@ -37,8 +38,9 @@ module _ (ring line : List ℕ) (k : ℕ) (words : List ℕ) (r : Searched) (out
   -- The looks of `scan` are at most 3·m·n on every input, accepted or refused.
   pub scan-looks-most : paperOf r .counts .looks ≤ 3 * length ring * length line
   scan-looks-most =
-      looks-of-search meets (λ (looks : ℕ). looks ≤ 3 * length ring * length line) (omega arith) (λ some-edge. quickLooks-most ring line k some-edge)
+      looks-of-search meets (λ (looks : ℕ). looks ≤ 3 * length ring * length line) (omega arith)
+      (λ none-given. quickLooks-most ring line k (accepted-edge ring k (length line) (length words) none-given))
 
   -- On a line shorter than the ring `scan` takes "no look", accepted or refused.
   pub scan-no-looks : length line < length ring → paperOf r .counts .looks ≡ 0
-  scan-no-looks short = looks-of-search meets (λ (looks : ℕ). looks ≡ 0) refl (λ some-edge. quickLooks-short ring line k short)
+  scan-no-looks short = looks-of-search meets (λ (looks : ℕ). looks ≡ 0) refl (λ none-given. quickLooks-short ring line k short)

@@ -1,4 +1,5 @@
--- Two lists of silences that name the same findings show and hide the same findings. So two reports whose books name the same findings give the same answer.
+-- Two lists of silences that name the same findings show and hide the same findings. So two reports whose books name the same findings give the same answer,
+-- whatever their rows of a search are, if these accept no empty ring (for `report`, `accepted-edge` of crates/findings).
 use Prim.Native.Nat.{ℕ, _<_}
 use mathlib.Core.Path.{_≡_, refl, sym, ap, _∙_}
 use mathlib.Core.Bool.{not}
@@ -10,14 +11,12 @@ use Rattle.meaning.specs.Findings.{Finding, IsFinding, findings, wordsOf}
 use Rattle.meaning.proofs.FoundExactly.{findings-iff}
 use Rattle.answers.specs.declared.refusals.Refusal.{Refusal}
 use Rattle.answers.specs.Paper.{accepted, answerPaper}
-use Rattle.answers.specs.Rows.{answerBy, areaBy}
+use Rattle.answers.specs.Rows.{firstGiven, answerBy, areaBy}
 use Rattle.silences.specs.Silences.{Silence}
 use Rattle.silences.specs.Reading.{readBook, silencesRead}
 use Rattle.silences.proofs.BookRows.{book-accepted-iff}
-use Rattle.findings.specs.Admitting.{admitRefusal}
-use Rattle.findings.proofs.AdmitRows.{no-row-iff}
 use Rattle.outlines.specs.declared.reporting.Reported.{Reported}
-use Rattle.outlines.specs.Report.{isHidden, isShown, shown, hidden, reportRefusal, noReportCounts, reportCounts, reportAnswer, reportedWords, IsReported}
+use Rattle.outlines.specs.Report.{isHidden, isShown, shown, hidden, reportRefusal, noReportCounts, reportCounts, reportAnswer, reportedWords, IsReportedBy}
 use Rattle.outlines.proofs.TakenByTest.{taken-same}
 use Rattle.outlines.proofs.FirstOfReport.{accepted-book-row}
 use Rattle.outlines.proofs.ReportOneAnswer.{report-paper-unique}
@@ -35,39 +34,30 @@ module _ (ss ts : List Silence) (cell ringNumber : ℕ) where
   pub hidden-same : (fs : List Finding) → NamesAlike fs → hidden ss cell ringNumber fs ≡ hidden ts cell ringNumber fs
   hidden-same fs h = taken-same (isHidden ss cell ringNumber) (isHidden ts cell ringNumber) fs h
 
-  module _ (ring line : List ℕ) (k : ℕ) (book book′ words : List ℕ) (is : readBook book ≡ accepted ss) (is′ : readBook book′ ≡ accepted ts)
+  module _ (rows : List (Option Refusal)) (ring line : List ℕ) (some-edge : firstGiven rows ≡ none → 0 < length ring) (k : ℕ) (book book′ words : List ℕ)
+      (is : readBook book ≡ accepted ss) (is′ : readBook book′ ≡ accepted ts)
       (alike : (f : Finding) → IsFinding ring line k f → isHidden ss cell ringNumber f ≡ isHidden ts cell ringNumber f) where
-    abbrev first-refusal : Option Refusal
-    first-refusal = admitRefusal ring k (length line) (length words)
-
     -- Both books are accepted, so the refusal of the search's rows decides what a report returns and writes. If there is none, the silences decide. So any value
     -- `by` that is the same for each refusal, and for equal shown and hidden findings, is the same for the two reports.
     given : {A : Type 0} (by : Option Refusal → List Silence → A)
         → ((q : Refusal) → by (some q) ss ≡ by (some q) ts)
         → (shown ss cell ringNumber (findings ring line k) ≡ shown ts cell ringNumber (findings ring line k)
         → hidden ss cell ringNumber (findings ring line k) ≡ hidden ts cell ringNumber (findings ring line k) → by none ss ≡ by none ts)
-        → by (reportRefusal ring k (length line) (length words) book) (silencesRead book)
-        ≡ by (reportRefusal ring k (length line) (length words) book′) (silencesRead book′)
+        → by (reportRefusal rows book) (silencesRead book) ≡ by (reportRefusal rows book′) (silencesRead book′)
     given by refused-same accepted-same =
         let read = book-accepted-iff book ss .0 is in
         let read′ = book-accepted-iff book′ ts .0 is′ in
-        rw (
-          accepted-book-row ring k (length line) (length words) book (read .0),
-          read .1,
-          accepted-book-row ring k (length line) (length words) book′ (read′ .0),
-          read′ .1,
-        ) (go first-refusal refl)
+        rw (accepted-book-row rows book (read .0), read .1, accepted-book-row rows book′ (read′ .0), read′ .1) (go (firstGiven rows) refl)
       where
-        go : (o : Option Refusal) → first-refusal ≡ o → by o ss ≡ by o ts
+        go : (o : Option Refusal) → firstGiven rows ≡ o → by o ss ≡ by o ts
         go (some refusal) e = refused-same refusal
         go none e =
-            let pos : 0 < length ring = no-row-iff ring k (length line) (length words) .0 e .some-edge in
-            let named : NamesAlike (findings ring line k) = λ f m. alike f (findings-iff ring line k pos f .0 m) in
+            let named : NamesAlike (findings ring line k) = λ f m. alike f (findings-iff ring line k (some-edge e) f .0 m) in
             accepted-same (shown-same (findings ring line k) named) (hidden-same (findings ring line k) named)
 
     -- Two reports that differ only in their books give the same answer and leave the same words, if both books are accepted and name the same findings.
-    pub reports-same : (r r′ : Reported) (out out′ : List ℕ) → IsReported cell ringNumber ring line k book words r out
-        → IsReported cell ringNumber ring line k book′ words r′ out′ → (r ≡ r′) × (out ≡ out′)
+    pub reports-same : (r r′ : Reported) (out out′ : List ℕ) → IsReportedBy rows cell ringNumber ring line k book words r out
+        → IsReportedBy rows cell ringNumber ring line k book′ words r′ out′ → (r ≡ r′) × (out ≡ out′)
     unfolding reportAnswer reportedWords
     reports-same r r′ out out′ p p′ = (
       report-paper-unique r r′

@@ -17,9 +17,11 @@ use Rattle.meaning.proofs.LookBound.{quickLooks-most}
 use Rattle.meaning.proofs.Places.{found-start}
 use Rattle.meaning.proofs.FoundExactly.{found-is}
 use Rattle.meaning.proofs.ScanLoop.{ScanLoop, scan-start, scan-so-far-le, scan-verified}
+use Rattle.tally.specs.Windows.{Parts, wholeLine}
 use Rattle.tally.specs.Counts.{mostCounts}
+use Rattle.findings.specs.Limits.{mostPlaces, CanSearch}
 use Rattle.lists.specs.Bounds.{IsWords}
-use Rattle.findings.proofs.WordsSoFar.{admitted-words}
+use Rattle.findings.proofs.WordsSoFar.{search-words}
 use Rattle.sweep.specs.declared.sweeping.Sweep.{Sweep}
 use Rattle.sweep.specs.declared.sweeping.Swept.{Swept}
 use Rattle.sweep.specs.declared.sweeping.Swept.the-variants.{Ended, NoFinding, Found}
@@ -51,9 +53,17 @@ pub record SweepTurn (ring line : List ℕ) (k : ℕ) (so-far : List Finding) (a
   pub less : FitsInLine ring line (at .start .0) → length line + 1 - stateOf r .start .0 < length line + 1 - at .start .0
   pub found : (f : Finding) → foundOf r ≡ f ∷ [] → FoundBetween (at .start .0) (stateOf r .start .0) f
 
-module _ {ring doubled table line : List ℕ} {k : ℕ} {book counts₀ area : List ℕ} (can : CanScan ring doubled table line k book counts₀ area) where
+module _ {ring doubled table : List ℕ} {p : Parts} {k : ℕ} {book counts₀ area : List ℕ} (can : CanScan ring doubled table p k book counts₀ area) where
   abbrev m : ℕ
   m = length ring
+
+  -- the whole line, whose windows the parts hold
+  abbrev line : List ℕ
+  line = wholeLine m p
+
+  -- the search is within the limits
+  within : CanSearch ring k (length line) (length area)
+  within = can .can-scan .can-search
 
   abbrev n : ℕ
   n = length line
@@ -61,7 +71,7 @@ module _ {ring doubled table line : List ℕ} {k : ℕ} {book counts₀ area : L
   -- The invariant holds before the first window, with nothing found.
   pub sweep-start : {at : Sweep} → at .start .0 ≡ 0 → lastStart (at .last) ≡ none → at .looks ≡ 0 → SweepKeeps ring line k [] at counts₀
   sweep-start s l o = record {
-    scanning = rw (s, l, o) (scan-start ring line k (can .admitted .some-edge));
+    scanning = rw (s, l, o) (scan-start ring line k (within .some-edge));
     before = rw l tt;
     size = can .size;
     start-le = omega arith;
@@ -70,27 +80,29 @@ module _ {ring doubled table line : List ℕ} {k : ℕ} {book counts₀ area : L
   module _ {so-far : List Finding} {at : Sweep} {counts : List ℕ} (h : SweepKeeps ring line k so-far at counts) where
     -- the sweep can go on by the rules
     can-sweep : CanSweepOn ring doubled table line counts at
-    can-sweep = record {
-      can-sweep = record {
-        can-read = record {
-          some-edge = can .admitted .some-edge;
-          most = can .admitted .most-ring;
-          most-line = omega (arith, can .admitted .most-line);
-          start-le = h .start-le;
-        };
-        looks-le = omega (
-          arith,
-          scan-so-far-le ring line k _ _ _ _ (h .scanning),
-          quickLooks-most ring line k (can .admitted .some-edge),
-          mul-le-mul (can .admitted .most-ring) (can .admitted .most-line),
-        );
-      };
-      no-mark = sym (test-fails (holds-iff ring) (can .admitted .no-mark));
-      size = h .size;
-      occurs = can .occurs;
-      twice = can .twice;
-      before = h .before;
-    }
+    can-sweep =
+        let most-line : n ≤ mostPlaces = omega (arith, within .most-places) in
+        record {
+          can-sweep = record {
+            can-read = record {
+              some-edge = within .some-edge;
+              most = within .most-ring;
+              most-line = within .most-places;
+              start-le = h .start-le;
+            };
+            looks-le = omega (
+              arith,
+              scan-so-far-le ring line k _ _ _ _ (h .scanning),
+              quickLooks-most ring line k (within .some-edge),
+              mul-le-mul (within .most-ring) (most-line),
+            );
+          };
+          no-mark = sym (test-fails (holds-iff ring) (within .no-mark));
+          size = h .size;
+          occurs = can .occurs;
+          twice = can .twice;
+          before = h .before;
+        }
 
     module _ {counts′ : List ℕ} where
       -- a turn after which no window fits in the line any more
@@ -134,13 +146,13 @@ module _ {ring doubled table line : List ℕ} {k : ℕ} {book counts₀ area : L
                 record {
                   from-le = omega arith;
                   to-le = omega (arith, c .start-is);
-                  are-words = admitted-words ring line (can .admitted) (found-is ring line k (can .admitted .some-edge) (on .stop) f here);
+                  are-words = search-words ring line within (found-is ring line k (within .some-edge) (on .stop) f here);
                 };
           }
 
       -- Every answer that meets the contract of `sweep_on` makes a turn.
-      pub sweep-turn : {r : Swept} → IsSweptBy ring doubled table line k at counts counts′ r → SweepTurn ring line k so-far at r counts′
-      sweep-turn {r} by = go r (swept-by-rules ring doubled table line k counts at can-sweep counts′ r by)
+      pub sweep-turn : {r : Swept} → IsSweptBy ring doubled table p k at counts counts′ r → SweepTurn ring line k so-far at r counts′
+      sweep-turn {r} by = go r (swept-by-rules ring doubled table p k counts at (can .can-scan .joined) can-sweep counts′ r by)
         where
           go : (r′ : Swept) → IsSweptOn ring line k at r′ counts′ → SweepTurn ring line k so-far at r′ counts′
           go (Ended next) on = turn-ended next on

@@ -16,7 +16,7 @@ use Rattle.silences.specs.Silences.{Silence, silence}
 use Rattle.silences.specs.Reading.{FieldAt}
 use Rattle.silences.specs.Addresses.{soughtOf}
 use Rattle.book.specs.Seeking.{seekField, seekFrom, isFor}
-use Rattle.findings.specs.Admitting.{mostLine}
+use Rattle.findings.specs.Limits.{mostPlaces}
 use Rattle.findings.specs.Putting.{IsFindingPut}
 use Rattle.outlines.specs.declared.asking.BookAsked.{BookAsked}
 
@@ -33,11 +33,11 @@ heldFor cell ringNumber book f held = seekField (addressOf cell ringNumber f) he
 abbrev pub hides : ℕ → ℕ → List ℕ → Finding → FieldAt → Bool
 hides cell ringNumber book f held = isFor (addressOf cell ringNumber f) (heldFor cell ringNumber book f held)
 
--- The precondition of `ask`: the start is below 2^32, both counters are at most 65,536.
+-- The precondition of `ask`: the start is below 2^32, both counters are at most 2^32.
 pub record CanAsk (so-far : BookAsked) (f : Finding) : Type 0 where
-  pub start-lt : f .start < 2 ^ 32
-  pub shown-le : so-far .shown ≤ mostLine
-  pub hidden-le : so-far .hidden ≤ mostLine
+  pub start-lt : f .start < mostPlaces
+  pub shown-le : so-far .shown ≤ mostPlaces
+  pub hidden-le : so-far .hidden ≤ mostPlaces
 
 -- The contract of `ask`, which returns r: the field for the finding is held, and one finding more is counted as hidden or as shown.
 pub record IsHiddenOrShown (cell ringNumber : ℕ) (book : List ℕ) (so-far : BookAsked) (f : Finding) (r : BookAsked) : Type 0 where

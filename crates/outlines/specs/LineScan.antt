@@ -13,29 +13,27 @@ use Rattle.meaning.specs.Findings.{findings, wordsOf}
 use Rattle.meaning.specs.Looks.{quickLooks}
 use Rattle.silences.specs.Reading.{bookRefusal, silencesRead}
 use Rattle.vectors.specs.ByValue.{Occurrences}
+use Rattle.tally.specs.Windows.{Parts, wholeLine, Joined}
 use Rattle.tally.specs.Counts.{mostCounts, IsDoubled}
-use Rattle.findings.specs.Admitting.{Admitted}
+use Rattle.findings.specs.Limits.{CanSearch}
 use Rattle.outlines.specs.Report.{shown, hidden}
 
--- The precondition of `scan_line`: none of refusals 1 to 7 and 12 is given.
-pub record CanScanLine (ring line : List ℕ) (k : ℕ) (book words : List ℕ) : Type 0 where
-  pub admitted : Admitted ring k (length line) (length words)
+-- The precondition of `scan_line`: ring, allowance, whole line and words are within the limits, the join area is right, and the book is accepted.
+pub record CanScanLine (ring : List ℕ) (p : Parts) (k : ℕ) (book words : List ℕ) : Type 0 where
+  pub can-search : CanSearch ring k (length (wholeLine (length ring) p)) (length words)
+  pub joined : Joined (length ring) p
   pub book-read : bookRefusal book ≡ none
 
--- The precondition of `scan_windows`: none of refusals 1 to 7 and 12 is given, and the ring's vectors, its double and 256 counts are lent. The counts may hold
--- anything.
-pub record CanScan (ring doubled table line : List ℕ) (k : ℕ) (book counts words : List ℕ) : Type 0 where
-  pub admitted : Admitted ring k (length line) (length words)
-  pub book-read : bookRefusal book ≡ none
+-- The precondition of `scan_windows`: that of `scan_line`, and the ring's vectors, its double and 256 counts are lent. The counts may hold anything.
+pub record CanScan (ring doubled table : List ℕ) (p : Parts) (k : ℕ) (book counts words : List ℕ) : Type 0 where
+  pub can-scan : CanScanLine ring p k book words
   pub occurs : Occurrences ring table
   pub twice : IsDoubled ring doubled
   pub size : length counts ≡ mostCounts
 
--- The contract of `scan_line` and `scan_windows`: no refusal is given; found is the number of findings, `hid` the number of those that the book's silences hide, the
--- looks are the quick scan's, and the words of the shown findings are written.
+-- The contract of `scan_line` and `scan_windows`: found is the number of findings, `hid` the number of those that the book's silences hide, the looks are the
+-- quick scan's, and the words of the shown findings are written.
 pub record LineScanned (cell ringNumber : ℕ) (ring line : List ℕ) (k : ℕ) (book words : List ℕ) (found hid looks : ℕ) (out : List ℕ) : Type 0 where
-  pub admitted : Admitted ring k (length line) (length words)
-  pub book-read : bookRefusal book ≡ none
   pub found-is : found ≡ length (findings ring line k)
   pub hidden-is : hid ≡ length (hidden (silencesRead book) cell ringNumber (findings ring line k))
   pub looks-are : looks ≡ quickLooks ring line k

@@ -15,8 +15,11 @@ use sweep::Swept;
 use sweep::sweep_on;
 use tally::MOST_COUNTS;
 use tally::double;
+use tally::whole_length;
 use vectors::TABLE_WORDS;
 use vectors::occurrences;
+ghost use lib.ListN.{length};
+ghost use Rattle.tally.specs.Windows.{parts, wholeLine};
 ghost use Rattle.outlines.specs.Scan.{IsScanned};
 ghost use Rattle.outlines.specs.LineScan.{CanScan, CanScanLine, LineScanned};
 
@@ -28,22 +31,24 @@ pub struct LineCounts {
 }
 
 // Goes from candidate to candidate while a window fits in the line. The book is first asked for start 0.
-fn scan_windows(
+fn scan_windows<'a>(
     cell: u32,
     ring_number: u16,
     ring: &[u8],
     doubled: &[u8],
     table: &[u64; TABLE_WORDS],
-    line: &[u8],
+    line: &'a [u8],
+    join: &'a [u8],
     k: usize,
     book: &[u8],
     counts: &mut [u16; MOST_COUNTS],
     words: &mut [u32],
 ) -> LineCounts
-    requires { ⌜ CanScan (now ring) (now doubled) (now table) (now line) k (now book) (now counts) (now words) ⌝ }
-    ensures { λ z. ⌜ LineScanned cell «ring_number» (now (ring .entry)) (now (line .entry)) k (now (book .entry)) (now (words .entry)) (z .found) (z .hidden) (z .looks) (now (words .exit)) ⌝ }
+    requires { ⌜ CanScan (now ring) (now doubled) (now table) (parts (now line) (now join)) k (now book) (now counts) (now words) ⌝ }
+    ensures { λ z. ⌜ LineScanned cell «ring_number» (now (ring .entry)) (wholeLine (length (now (ring .entry))) (parts (now (line .entry)) (now (join .entry)))) k (now (book .entry)) (now (words .entry)) (z .found) (z .hidden) (z .looks) (now (words .exit)) ⌝ }
 {
     let m = ring.len();
+    let n = whole_length(line, join, m);
     let mut at = Sweep {
         start: LinePlace(0),
         last: LastVerified::Nothing,
@@ -55,8 +60,8 @@ fn scan_windows(
         hidden: 0,
         held,
     };
-    while at.start.0 + m <= line.len() {
-        match sweep_on(at, ring, doubled, table, line, k, counts) {
+    while at.start.0 + m <= n {
+        match sweep_on(at, ring, doubled, table, line, join, k, counts) {
             Swept::Ended(next) | Swept::NoFinding(next) => {
                 at = next;
             }
@@ -78,17 +83,18 @@ fn scan_windows(
 
 // Makes the ring's occurrence vectors, its double and the counts, once for each call, and scans the line. Making them
 // reads no line edge.
-pub fn scan_line(
+pub fn scan_line<'a>(
     cell: u32,
     ring_number: u16,
     ring: &[u8],
-    line: &[u8],
+    line: &'a [u8],
+    join: &'a [u8],
     k: usize,
     book: &[u8],
     words: &mut [u32],
 ) -> LineCounts
-    requires { ⌜ CanScanLine (now ring) (now line) k (now book) (now words) ⌝ }
-    ensures { λ z. ⌜ LineScanned cell «ring_number» (now (ring .entry)) (now (line .entry)) k (now (book .entry)) (now (words .entry)) (z .found) (z .hidden) (z .looks) (now (words .exit)) ⌝ }
+    requires { ⌜ CanScanLine (now ring) (parts (now line) (now join)) k (now book) (now words) ⌝ }
+    ensures { λ z. ⌜ LineScanned cell «ring_number» (now (ring .entry)) (wholeLine (length (now (ring .entry))) (parts (now (line .entry)) (now (join .entry)))) k (now (book .entry)) (now (words .entry)) (z .found) (z .hidden) (z .looks) (now (words .exit)) ⌝ }
 {
     let mut table = [0u64; TABLE_WORDS];
     occurrences(ring, &mut table);
@@ -101,6 +107,7 @@ pub fn scan_line(
         &doubled,
         &table,
         line,
+        join,
         k,
         book,
         &mut counts,
@@ -108,14 +115,15 @@ pub fn scan_line(
     )
 }
 
-// The quick scan. With an empty book all findings are shown, whatever the cell and the ring number, so both are 0 here.
+// The quick scan of an open line: no window crosses its end, so an empty part of it is lent as the join area. With an
+// empty book all findings are shown, whatever the cell and the ring number, so both are 0 here.
 pub fn scan(ring: &[u8], line: &[u8], k: usize, words: &mut [u32]) -> Searched
     ensures { λ r. ⌜ IsScanned (now (ring .entry)) (now (line .entry)) k (now (words .entry)) r (now (words .exit)) ⌝ }
 {
     match admit(ring, k, line.len(), words.len()) {
         Verdict::Refused(refusal) => Searched::Refused(refusal),
         Verdict::Accepted => {
-            let counted = scan_line(0, 0, ring, line, k, b"", words);
+            let counted = scan_line(0, 0, ring, line, &line[..0], k, b"", words);
             Searched::Counts {
                 found: counted.found,
                 looks: counted.looks,

@@ -35,7 +35,7 @@ pub fn report(
         Verdict::Accepted => match read(book) {
             BookAnswer::Refused(refusal) => Reported::Refused(refusal),
             BookAnswer::Records(_) => {
-                let counted = scan_line(cell, ring_number, ring, line, k, book, words);
+                let counted = scan_line(cell, ring_number, ring, line, &line[..0], k, book, words);
                 Reported::Counts {
                     found: counted.found,
                     hidden: counted.hidden,

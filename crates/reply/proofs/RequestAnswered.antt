@@ -11,11 +11,13 @@ use Rattle.meaning.proofs.Words.{words-length}
 use Rattle.answers.specs.declared.refusals.Refusal.{Refusal}
 use Rattle.answers.proofs.AnswerByRows.{row-place-iff}
 use Rattle.silences.specs.Reading.{silencesRead}
+use Rattle.findings.specs.Admitting.{admitRows}
+use Rattle.findings.proofs.AdmitRows.{no-row-iff}
 use Rattle.outlines.specs.declared.reporting.Reported.{Reported}
 use Rattle.outlines.specs.declared.reporting.Reported.the-variants.{Counts as CountsCase, Refused}
 use Rattle.outlines.specs.Report.{shown, hidden, reportRefusal, ReportCounts, noReportCounts, reportCounts, reportAnswer, paperOf, IsReported}
 use Rattle.outlines.specs.LineScan.{LineScanned}
-use Rattle.outlines.proofs.ReportGives.{report-gives}
+use Rattle.outlines.proofs.ReportGives.{report-none-given, report-gives}
 use Rattle.outlines.proofs.FirstOfReport.{none-row-iff}
 use Rattle.outlines.proofs.ShownAndHidden.{shown-hidden-length}
 use Rattle.request.specs.Fields.{lineField}
@@ -39,7 +41,7 @@ pub record Answered (q : Request) (found hid looks : ℕ) (words : List ℕ) : T
 
 -- the text of a request, by the report's first row, with the words that the program lends
 text-by : (q : Request) (room : ℕ) {o : Option Refusal} → length (q .line) ≤ lineField .most → mostFindingWords ≤ room
-    → reportRefusal (q .ring) (q .allowance) (length (q .line)) room (q .book) ≡ o → requestText q ≡ linesBy q o
+    → reportRefusal (admitRows (q .ring) (q .allowance) (length (q .line)) room) (q .book) ≡ o → requestText q ≡ linesBy q o
 unfolding requestText
 text-by q room line-le enough e =
     ap (linesBy q) (sym (refusal-same (q .ring) (q .allowance) (length (q .line)) room (q .book) (λ some-edge fits. omega arith)) ∙ e)
@@ -52,7 +54,7 @@ module _ {cell ringNumber k : ℕ} {ring line book words out : List ℕ} {r : Re
   refused-text refusal e =
       sym
       (text-by (request cell ringNumber k ring line book) (length words) line-le enough
-      (row-place-iff noReportCounts (reportCounts ring line k cell ringNumber (silencesRead book)) (reportRefusal ring k (length line) (length words) book)
+      (row-place-iff noReportCounts (reportCounts ring line k cell ringNumber (silencesRead book)) (reportRefusal (admitRows ring k (length line) (length words)) book)
       (sym (ap paperOf e) ∙ meets .paper) refusal .0 (refl, refl)))
 
   -- An accepted report's counts and words give the request's text, in three pieces.
@@ -61,7 +63,9 @@ module _ {cell ringNumber k : ℕ} {ring line book words out : List ℕ} {r : Re
   unfolding reportLines
   counted-text {found} {hid} {looks} cell-lt ring-number-lt e =
       let q : Request = request cell ringNumber k ring line book in
-      let given : LineScanned cell ringNumber ring line k book words found hid looks out = report-gives (rw e at meets) in
+      let is : IsReported cell ringNumber ring line k book words (CountsCase found hid looks) out = rw e at meets in
+      let given : LineScanned cell ringNumber ring line k book words found hid looks out = report-gives is in
+      let none-given = report-none-given is in
       let all : List Finding = findings ring line k in
       let seen : List Finding = shown (silencesRead book) cell ringNumber all in
       let lengths : length seen + length (hidden (silencesRead book) cell ringNumber all) ≡ length all = shown-hidden-length (silencesRead book) cell ringNumber all in
@@ -70,7 +74,7 @@ module _ {cell ringNumber k : ℕ} {ring line book words out : List ℕ} {r : Re
       let words-are : length (wordsOf seen) ≡ wordsEach * (found - hid) = omega (arith, words-length seen) in
       let front : take (wordsEach * (found - hid)) out ≡ wordsOf seen = written-front (wordsOf seen) words (given .words-are) (wordsEach * (found - hid)) words-are in
       let text : requestText q ≡ reportLines q (silencesRead book) =
-      text-by q (length words) line-le enough (none-row-iff ring k (length line) (length words) book .1 (given .admitted, given .book-read)) in
+      text-by q (length words) line-le enough (none-row-iff (admitRows ring k (length line) (length words)) book .1 none-given) in
       let counts : countsOf found hid looks ≡ reportCounts ring line k cell ringNumber (silencesRead book) =
       λ j. countsOf (found-is j) (hidden-is j) (given .looks-are j) in
       record {
@@ -80,5 +84,5 @@ module _ {cell ringNumber k : ℕ} {ring line book words out : List ℕ} {r : Re
             ap₂ (λ (lines : List ℕ) (c : ReportCounts). firstLine cell ringNumber (length ring) k ++ (lines ++ lastLine c))
             (ap linesOfWords front ∙ lines-of-findings seen) counts
             ∙ sym text;
-        length-le = rw text (report-lines-le q (length words) (given .admitted) line-le (silencesRead book) cell-lt ring-number-lt);
+        length-le = rw text (report-lines-le q (length words) (no-row-iff ring k (length line) (length words) .0 (none-given .0)) line-le (silencesRead book) cell-lt ring-number-lt);
       }

@@ -7,8 +7,9 @@ use native.Mathlib.Omega.{arith}
 use lib.ListN.{length}
 use Rattle.answers.specs.declared.refusals.Refusal.{Refusal}
 use Rattle.answers.specs.Refusals.{numberOf}
+use Rattle.answers.specs.Rows.{firstGiven}
 use Rattle.silences.proofs.BookRows.{refusal-has}
-use Rattle.findings.specs.Admitting.{roomRequired, admitRefusal}
+use Rattle.findings.specs.Admitting.{roomRequired, admitRows}
 use Rattle.findings.proofs.AdmitRows.{by-row}
 use Rattle.outlines.specs.Report.{reportRefusal}
 use Rattle.outlines.proofs.FirstOfReport.{report-row-has}
@@ -27,14 +28,14 @@ module _ (q : Request) (line-le : length (q .line) ≤ lineField .most) where
   NotThreeNorFour refusal = (numberOf refusal ≡ 3 → ⊥) × (numberOf refusal ≡ 4 → ⊥)
 
   -- of a search's rows, 3 and 4 are never given
-  search-rows : (refusal : Refusal) → admitRefusal (q .ring) (q .allowance) n (roomRequired m n) ≡ some refusal → NotThreeNorFour refusal
+  search-rows : (refusal : Refusal) → firstGiven (admitRows (q .ring) (q .allowance) n (roomRequired m n)) ≡ some refusal → NotThreeNorFour refusal
   search-rows =
       by-row (q .ring) (q .allowance) n (roomRequired m n) NotThreeNorFour (λ _. (λ e. omega arith, λ e. omega arith)) (λ _. (λ e. omega arith, λ e. omega arith))
       (λ _. (λ e. omega arith, λ e. omega arith)) (λ long. absurd (omega arith)) (λ short. absurd (omega arith))
 
   -- A request whose line has at most 4,096 edges is refused neither by 3 nor by 4.
-  pub rows-3-4-never : (refusal : Refusal) → reportRefusal (q .ring) (q .allowance) n (roomRequired m n) (q .book) ≡ some refusal
+  pub rows-3-4-never : (refusal : Refusal) → reportRefusal (admitRows (q .ring) (q .allowance) n (roomRequired m n)) (q .book) ≡ some refusal
       → (numberOf refusal ≡ 3 → ⊥) × (numberOf refusal ≡ 4 → ⊥)
   rows-3-4-never =
-      report-row-has (q .ring) (q .allowance) n (roomRequired m n) (q .book) NotThreeNorFour search-rows
+      report-row-has (admitRows (q .ring) (q .allowance) n (roomRequired m n)) (q .book) NotThreeNorFour search-rows
       (refusal-has (q .book) NotThreeNorFour (λ e. omega arith, λ e. omega arith) (λ at. (λ e. omega arith, λ e. omega arith)) (λ at. (λ e. omega arith, λ e. omega arith)))

@@ -20,7 +20,7 @@ use Rattle.answers.specs.declared.refusals.Refusal.{Refusal}
 use Rattle.answers.specs.Paper.{Answer, accepted, refused}
 use Rattle.silences.specs.Silences.{Silence}
 use Rattle.silences.specs.Reading.{silencesRead}
-use Rattle.findings.specs.Admitting.{roomRequired}
+use Rattle.findings.specs.Admitting.{roomRequired, admitRows}
 use Rattle.outlines.specs.Report.{shown, reportRefusal, reportCounts}
 use Rattle.request.specs.Input.{Request, requestOf}
 use Rattle.reply.specs.Lines.{firstLine, findingLines, lastLine, refusalLine}
@@ -40,7 +40,7 @@ linesBy q (some refusal) = refusalLine refusal
 -- The output for a request, with exactly the room that row 4 requires.
 unfoldable pub requestText : Request → List ℕ
 requestText q =
-    linesBy q (reportRefusal (q .ring) (q .allowance) (length (q .line)) (roomRequired (length (q .ring)) (length (q .line))) (q .book))
+    linesBy q (reportRefusal (admitRows (q .ring) (q .allowance) (length (q .line)) (roomRequired (length (q .ring)) (length (q .line)))) (q .book))
 
 -- The output by what was read: the text of the request, or the line of refusal 11.
 abbrev pub textBy : Answer Request → List ℕ

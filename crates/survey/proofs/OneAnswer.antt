@@ -1,5 +1,5 @@
--- Any two answers that meet the contract of `survey` are equal, and so are the words at exit. A survey is a search, and `search-unique` of crates/findings proves
--- this for every search.
+-- Any two answers that meet the contract of `survey` are equal, and so are the words at exit. A survey is a search, and `search-unique` of crates/findings
+-- proves this for every search.
 use Prim.Native.Nat.{ℕ}
 use mathlib.Core.Path.{_≡_}
 use mathlib.Core.List.{List}

@@ -14,18 +14,24 @@ use Rattle.tally.specs.declared.afresh.Fresh.{Fresh}
 use Rattle.moves.specs.declared.steps.Reached.{Reached}
 use Rattle.tally.proofs.AfreshTallied.{counted-verified, counted-past}
 use Rattle.moves.proofs.MovedTallied.{moved-tallied}
-use Rattle.tally.specs.Windows.{IsWindow}
+use Rattle.tally.specs.Windows.{Parts, wholeLine, IsWindow, IsWholeLength}
+use Rattle.tally.proofs.WindowEdges.{fitting-window}
 use Rattle.tally.specs.Counts.{IsCounted}
 use Rattle.moves.specs.Moves.{IsMoved, IsReached}
 use Rattle.survey.specs.Survey.{CanVerifyOn, IsVerifiedOn}
 
-module _ {ring doubled line : List ℕ} {k i : ℕ} {old : List ℕ} (can : CanVerifyOn ring doubled line k i old) where
+module _ {ring doubled : List ℕ} {p : Parts} {k i : ℕ} {old : List ℕ} (can : CanVerifyOn ring doubled p k i old) where
+  -- the whole line, whose windows the parts hold
+  abbrev line : List ℕ
+  line = wholeLine (length ring) p
+
   -- If i is 0 and its window is counted afresh, the contract of `verify_on` is met.
-  pub first-verified : {edges counts : List ℕ} {z : Fresh} → i ≡ 0 → IsWindow line i (length ring) edges → IsCounted doubled edges old counts z
+  pub first-verified : {edges counts : List ℕ} {z : Fresh} → i ≡ 0 → IsWindow p i (length ring) edges → IsCounted doubled edges old counts z
       → IsVerifiedOn ring line k i counts (record { start = record { 0 = i }; least = z .least; looks = z .looks; past = z .past })
   unfolding surveyLooksBelow
   first-verified {edges} {counts} {z} first handed counted =
-      let v = counted-verified ring line i doubled old counts edges z (can .can-tally .size) (can .can-tally .some-edge) (can .can-tally .most) (can .twice) (can .in-line) handed counted in
+      let is-window = fitting-window (can .can-tally .some-edge) handed (can .in-line) (can .joined) in
+      let v = counted-verified ring line i doubled old counts edges z (can .can-tally .size) (can .can-tally .some-edge) (can .can-tally .most) (can .twice) (can .in-line) is-window counted in
       record {
         start-ge = omega arith;
         in-line = can .in-line;
@@ -37,7 +43,7 @@ module _ {ring doubled line : List ℕ} {k i : ℕ} {old : List ℕ} (can : CanV
             let all : 0 + length ring - 0 ≡ length ring = omega arith in
             rw (first, all)
             (counted-past ring line doubled old counts edges z (can .can-tally .size) (can .can-tally .some-edge) (can .can-tally .most) (can .twice)
-            (rw first at (can .in-line)) (rw first at handed) counted);
+            (rw first at (can .in-line)) (rw first at is-window) counted);
       }
 
   -- the survey's looks for the starts below i, and a step for each start from i to j, are its looks for the starts up to j
@@ -54,12 +60,13 @@ module _ {ring doubled line : List ℕ} {k i : ℕ} {old : List ℕ} (can : CanV
       )
 
   -- If i is above 0 and the tally of start i − 1 is moved, at most to the last start, the contract of `verify_on` is met.
-  pub moved-verified : {counts : List ℕ} {r : Reached} → 0 < i → IsMoved ring line (i - 1) (length line - length ring - (i - 1)) (k + 1) old counts r
-      → IsVerifiedOn ring line k i counts r
-  moved-verified {counts} {r} after moved =
+  pub moved-verified : {n : ℕ} {counts : List ℕ} {r : Reached} → 0 < i → IsWholeLength (length ring) p n
+      → IsMoved ring p (i - 1) (n - length ring - (i - 1)) (k + 1) old counts r → IsVerifiedOn ring line k i counts r
+  moved-verified {n} {counts} {r} after long by =
+      let moved : IsMoved ring p (i - 1) (length line - length ring - (i - 1)) (k + 1) old counts r = rw (long .is) at by in
       let reached : IsReached ring line (i - 1) (length line - length ring - (i - 1)) (k + 1) counts r =
-      moved-tallied ring line (k + 1) (can .can-tally .some-edge) (can .can-tally .most) (i - 1) (length line - length ring - (i - 1)) old (can .before after)
-      (omega (arith, can .in-line)) (omega (arith, can .in-line)) (omega (arith, can .most-line)) counts r moved in
+      moved-tallied ring p (k + 1) (can .can-tally .some-edge) (can .can-tally .most) (can .joined) (i - 1) (length line - length ring - (i - 1)) old (can .before after)
+      (omega (arith, can .in-line)) (omega (arith, can .in-line)) (omega (arith, can .most-places)) counts r moved in
       let in-line : FitsInLine ring line (r .start .0) = omega (arith, can .in-line, reached .start-le) in
       record {
         start-ge = omega (arith, reached .after);

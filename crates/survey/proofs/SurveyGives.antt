@@ -9,6 +9,7 @@ use Rattle.meaning.proofs.SurveyLooks.{surveyLooks-is, surveyLooks-short}
 use Rattle.findings.specs.declared.searching.Searched.{Searched}
 use Rattle.findings.specs.Searching.{paperOf}
 use Rattle.findings.specs.SearchRows.{SearchRows}
+use Rattle.findings.proofs.AdmitRows.{accepted-edge}
 use Rattle.findings.proofs.RowsOfSearching.{rows-of-search}
 use Rattle.findings.proofs.SearchGives.{accepted-gives, looks-of-search}
 use Rattle.survey.specs.Survey.{IsSurveyed}
@@ -25,8 +26,10 @@ module _ (ring line : List ℕ) (k : ℕ) (words : List ℕ) (r : Searched) (out
   -- An accepted survey takes "2·m·n − m·m looks for n ≥ m".
   pub survey-looks-are : paperOf r .number ≡ 0 → length ring ≤ length line
       → paperOf r .counts .looks ≡ 2 * length ring * length line - length ring * length ring
-  survey-looks-are zero-is h = accepted-gives meets zero-is .looks-are ∙ surveyLooks-is ring line (accepted-gives meets zero-is .admitted .some-edge) h
+  survey-looks-are zero-is h =
+      let accepted = accepted-gives meets zero-is in
+      accepted .looks-are ∙ surveyLooks-is ring line (accepted-edge ring k (length line) (length words) (accepted .none-given)) h
 
   -- On a line shorter than the ring the looks of `survey` are 0, accepted or refused.
   pub survey-looks-short : length line < length ring → paperOf r .counts .looks ≡ 0
-  survey-looks-short h = looks-of-search meets (λ (looks : ℕ). looks ≡ 0) refl (λ some-edge. surveyLooks-short ring line h)
+  survey-looks-short h = looks-of-search meets (λ (looks : ℕ). looks ≡ 0) refl (λ none-given. surveyLooks-short ring line h)

@@ -24,7 +24,8 @@ use Rattle.meaning.proofs.FoundExactly.{found-is}
 use Rattle.meaning.proofs.FindingsBelow.{below-same, below-length-le, findings-below}
 use Rattle.meaning.proofs.SurveyLooks.{surveyLooks-below, surveyLooks-end}
 use Rattle.moves.specs.declared.steps.Reached.{Reached}
-use Rattle.findings.specs.Admitting.{mostLine, Admitted}
+use Rattle.findings.specs.Limits.{mostPlaces, CanSearch}
+use Rattle.tally.specs.Windows.{Parts, wholeLine}
 use Rattle.tally.specs.Marks.{pastMark}
 use Rattle.tally.specs.Counts.{mostCounts, IsFindingAt}
 use Rattle.tally.specs.Tallied.{Tallied}
@@ -33,37 +34,41 @@ use Rattle.tally.proofs.TallyFinding.{least-no, least-yes}
 use Rattle.findings.specs.declared.searching.Finding.{Finding as FindingStruct}
 use Rattle.findings.specs.Putting.{findingOf, IsFindingPut}
 use Rattle.survey.specs.Survey.{edgesSeen, isFound, CanVerifyOn, IsVerifiedOn, CanSurvey, LineSurveyed}
-use Rattle.findings.proofs.WordsSoFar.{admitted-words, WordsSoFar, so-far-none, so-far-length, so-far-more}
+use Rattle.findings.proofs.WordsSoFar.{search-words, WordsSoFar, so-far-none, so-far-length, so-far-more}
 
 -- The invariant of the loop of `survey_starts`, before start i.
-pub record SurveyKeeps (ring doubled line : List ℕ) (k : ℕ) (area : List ℕ) (i found looks past : ℕ) (counts words : List ℕ) : Type 0 where
-  pub can : CanSurvey ring doubled line k counts area
-  pub start-le : i ≤ length line
-  pub put : WordsSoFar area (findingsBelow ring line k i) found words
+pub record SurveyKeeps (ring doubled : List ℕ) (p : Parts) (k : ℕ) (area : List ℕ) (i found looks past : ℕ) (counts words : List ℕ) : Type 0 where
+  pub can : CanSurvey ring doubled p k counts area
+  pub start-le : i ≤ length (wholeLine (length ring) p)
+  pub put : WordsSoFar area (findingsBelow ring (wholeLine (length ring) p) k i) found words
   pub length-is : length words ≡ length area
-  pub looks-are : looks ≡ surveyLooksBelow ring line i
-  pub before : 0 < i → Tallied ring line (i - 1) counts
-  pub past-is : past ≡ pastMark line 0 (edgesSeen (length ring) i)
+  pub looks-are : looks ≡ surveyLooksBelow ring (wholeLine (length ring) p) i
+  pub before : 0 < i → Tallied ring (wholeLine (length ring) p) (i - 1) counts
+  pub past-is : past ≡ pastMark (wholeLine (length ring) p) 0 (edgesSeen (length ring) i)
 
 -- The invariant holds before start 0: nothing is found, and the words are as they were lent.
-pub survey-start : {ring doubled line : List ℕ} {k : ℕ} {counts area : List ℕ} → CanSurvey ring doubled line k counts area
-    → SurveyKeeps ring doubled line k area 0 0 0 0 counts area
+pub survey-start : {ring doubled : List ℕ} {p : Parts} {k : ℕ} {counts area : List ℕ} → CanSurvey ring doubled p k counts area
+    → SurveyKeeps ring doubled p k area 0 0 0 0 counts area
 unfolding findingsBelow surveyLooksBelow
-survey-start {line = line} {area = area} can = record {
+survey-start {ring} {p = p} {area = area} can = record {
   can = can;
   start-le = omega arith;
   put = so-far-none area;
   length-is = refl;
   looks-are = refl;
   before = λ l. absurd (omega arith);
-  past-is = sym (past-none line 0);
+  past-is = sym (past-none (wholeLine (length ring) p) 0);
 }
 
-module _ {ring doubled line : List ℕ} {k : ℕ} {area : List ℕ} {i found looks past : ℕ} {counts words : List ℕ}
-    (keeps : SurveyKeeps ring doubled line k area i found looks past counts words) where
-  -- the call is accepted
-  admitted : Admitted ring k (length line) (length area)
-  admitted = keeps .can .admitted
+module _ {ring doubled : List ℕ} {p : Parts} {k : ℕ} {area : List ℕ} {i found looks past : ℕ} {counts words : List ℕ}
+    (keeps : SurveyKeeps ring doubled p k area i found looks past counts words) where
+  -- the whole line, whose windows the parts hold
+  abbrev line : List ℕ
+  line = wholeLine (length ring) p
+
+  -- the search is within the limits
+  within : CanSearch ring k (length line) (length area)
+  within = keeps .can .can-survey .can-search
 
   -- If no window fits in the line at i, the contract of `survey_starts` is met.
   pub survey-end : IsPastLine ring line i → LineSurveyed ring line k area found looks words
@@ -81,42 +86,43 @@ module _ {ring doubled line : List ℕ} {k : ℕ} {area : List ℕ} {i found loo
 
   module _ (in-line : FitsInLine ring line i) where
     -- If a window fits in the line at i, the precondition of `verify_on` holds.
-    pub survey-can-verify : CanVerifyOn ring doubled line k i counts
+    pub survey-can-verify : CanVerifyOn ring doubled p k i counts
     survey-can-verify = record {
-      can-tally = record { size = keeps .can .size; some-edge = admitted .some-edge; most = admitted .most-ring };
-      allowed = admitted .allowed;
+      can-tally = record { size = keeps .can .size; some-edge = within .some-edge; most = within .most-ring };
+      allowed = within .allowed;
       twice = keeps .can .twice;
+      joined = keeps .can .can-survey .joined;
       in-line = in-line;
-      most-line = admitted .most-line;
+      most-places = within .most-places;
       before = keeps .before;
     }
 
     -- there is room for one finding more
     room-behind : wordsEach * found + wordsEach ≤ length area
-    room-behind = omega (arith, survey-found-le, admitted .room-for (omega arith))
+    room-behind = omega (arith, survey-found-le, within .room-for (omega arith))
 
     -- A turn: the starts from i to the one reached are verified.
     module _ {counts′ : List ℕ} {reached : Reached} (verified : IsVerifiedOn ring line k i counts′ reached) where
       abbrev start : ℕ
       start = reached .start .0
 
-      -- The looks after the turn are at most 256·256 + 65,536·512, because m ≤ 256 and n ≤ 65,536.
-      pub survey-looks-le : looks + reached .looks ≤ afreshLooks mostCounts + mostLine * stepLooks mostCounts
+      -- The looks after the turn are at most 256·256 + 2^32·512, because m ≤ 256 and the whole line has fewer than 2^32 places.
+      pub survey-looks-le : looks + reached .looks ≤ afreshLooks mostCounts + mostPlaces * stepLooks mostCounts
       survey-looks-le =
-          let steps : stepLooks (length ring) ≤ stepLooks mostCounts = omega (arith, admitted .most-ring) in
-          let starts : start ≤ mostLine = omega (arith, verified .in-line, admitted .most-line) in
+          let steps : stepLooks (length ring) ≤ stepLooks mostCounts = omega (arith, within .most-ring) in
+          let starts : start ≤ mostPlaces = omega (arith, verified .in-line, within .most-places) in
           omega (
             arith,
             keeps .looks-are,
             verified .looks-are,
             ap (surveyLooksBelow ring line) (add-one start) ∙ surveyLooks-below ring line start (verified .in-line),
-            mul-le-mul (admitted .most-ring) (admitted .most-ring),
+            mul-le-mul (within .most-ring) (within .most-ring),
             mul-le-mul starts steps,
           )
 
       -- The place after the start reached is at most n.
       pub survey-next-le : start + 1 ≤ length line
-      survey-next-le = omega (arith, verified .in-line, admitted .some-edge)
+      survey-next-le = omega (arith, verified .in-line, within .some-edge)
 
       -- The turn makes the measure n + 1 - i smaller.
       pub survey-less : length line + 1 - (start + 1) < length line + 1 - i
@@ -133,13 +139,13 @@ module _ {ring doubled line : List ℕ} {k : ℕ} {area : List ℕ} {i found loo
           in
           rw (add-one start, passed)
 
-      module _ {past′ : ℕ} (joined : past′ ≡ max past (reached .past)) where
+      module _ {past′ : ℕ} (later-is : past′ ≡ max past (reached .past)) where
         -- the place just past the last mark among the edges seen up to the end of the window reached
         seen-is : past′ ≡ pastMark line 0 (start + length ring)
         seen-is =
             let seen : ℕ = edgesSeen (length ring) i in
             let all : seen + (start + length ring - seen) ≡ start + length ring = seen-all in
-            joined ∙ ap₂ max (keeps .past-is) (verified .past-is) ∙ past-join line seen (start + length ring - seen) ∙ ap (pastMark line 0) all
+            later-is ∙ ap₂ max (keeps .past-is) (verified .past-is) ∙ past-join line seen (start + length ring - seen) ∙ ap (pastMark line 0) all
           where
             seen-all : edgesSeen (length ring) i + (start + length ring - edgesSeen (length ring) i) ≡ start + length ring
             seen-all =
@@ -148,11 +154,11 @@ module _ {ring doubled line : List ℕ} {k : ℕ} {area : List ℕ} {i found loo
         -- the invariant after the turn, finding or not
         survey-turn : {fs : List Finding} {found′ : ℕ} {words′ : List ℕ} → foundAt ring line k start ≡ fs
             → WordsSoFar area (findingsBelow ring line k i ++ fs) found′ words′ → length words′ ≡ length area
-            → SurveyKeeps ring doubled line k area (start + 1) found′ (looks + reached .looks) past′ counts′ words′
+            → SurveyKeeps ring doubled p k area (start + 1) found′ (looks + reached .looks) past′ counts′ words′
         survey-turn here put length-is =
             let back : start + 1 - 1 ≡ start = omega arith in
             record {
-              can = record { admitted = admitted; twice = keeps .can .twice; size = verified .tallied .size };
+              can = record { can-survey = keeps .can .can-survey; twice = keeps .can .twice; size = verified .tallied .size };
               start-le = survey-next-le;
               put = rw (below-turn, here) put;
               length-is = length-is;
@@ -172,25 +178,25 @@ module _ {ring doubled line : List ℕ} {k : ℕ} {area : List ℕ} {i found loo
             (λ marked. found-no-start ring line k start
             (no-start ring line start (λ is-start. let clear = start-iff-past ring line start (verified .in-line) .0 is-start in omega (arith, seen-is))))
             (le-or-lt past′ start))
-            (λ far. least-no ring line k start counts′ (reached .least) (admitted .some-edge) (verified .tallied) (verified .least-is) far)
+            (λ far. least-no ring line k start counts′ (reached .least) (within .some-edge) (verified .tallied) (verified .least-is) far)
             (le-or-lt (reached .least) k)
 
         -- If the place reached is no finding, the invariant holds with the same words.
         pub survey-none : isFound k (reached .least) past′ start ≡ false
-            → SurveyKeeps ring doubled line k area (start + 1) found (looks + reached .looks) past′ counts′ words
+            → SurveyKeeps ring doubled p k area (start + 1) found (looks + reached .looks) past′ counts′ words
         survey-none not-found = survey-turn (none-here not-found) (rw append-nil (keeps .put)) (keeps .length-is)
 
         -- If the place reached is a finding, the invariant holds once its words are put.
         pub survey-found : {f : FindingStruct} {out : List ℕ} → isFound k (reached .least) past′ start ≡ true
             → IsFindingAt (length ring) counts′ (reached .start) (reached .least) f
-            → IsFindingPut words found (findingOf f) out → SurveyKeeps ring doubled line k area (start + 1) (found + 1) (looks + reached .looks) past′ counts′ out
+            → IsFindingPut words found (findingOf f) out → SurveyKeeps ring doubled p k area (start + 1) (found + 1) (looks + reached .looks) past′ counts′ out
         survey-found {f} found-here carried put =
             let both = and-true (leb (reached .least) k) (leb past′ start) found-here in
             let near : reached .least ≤ k = leb-true (reached .least) k (both .0) in
             let is-start = start-iff-past ring line start (verified .in-line) .1 (omega (arith, seen-is, leb-true past′ start (both .1))) in
             let here : foundAt ring line k start ≡ findingOf f ∷ [] =
-            least-yes ring line k start counts′ (reached .least) (admitted .some-edge) (verified .tallied) (verified .least-is) f (admitted .most-ring) carried is-start near in
+            least-yes ring line k start counts′ (reached .least) (within .some-edge) (verified .tallied) (verified .least-is) f (within .most-ring) carried is-start near in
             let are-words : IsWords (findingWords (findingOf f)) =
-            admitted-words ring line admitted (found-is ring line k (admitted .some-edge) start (findingOf f) here) in
+            search-words ring line within (found-is ring line k (within .some-edge) start (findingOf f) here) in
             let more = so-far-more (keeps .put) room-behind are-words put in
             survey-turn here more (so-far-length more (omega (arith, room-behind)))

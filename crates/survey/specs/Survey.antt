@@ -6,7 +6,8 @@
 --   edgesSeen, isFound           how many edges are seen before a place is verified; whether a verified place is a finding
 --   CanVerifyOn, IsVerifiedOn    precondition and contract of `verify_on`, which counts place 0 afresh, or moves the tally of the place before on to the next
 --                                place whose least count is at most k, or to the last window
---   CanSurvey, LineSurveyed      precondition and contract of `survey_starts`, which surveys the line of an accepted call; `survey_line` has the same contract
+--   CanSurvey, LineSurveyed      precondition and contract of `survey_starts`, which surveys the whole line of an accepted call
+--   CanSurveyLine                the precondition of `survey_line`, which has the same contract
 use Prim.Native.Nat.{ℕ, _+_, _-_, _≤_, _<_}
 use mathlib.Core.Path.{_≡_}
 use mathlib.Core.Bool.{Bool, cond, _&&_}
@@ -17,15 +18,17 @@ use Rattle.meaning.specs.Meanings.{FitsInLine, leastDistance}
 use Rattle.meaning.specs.Looks.{surveyLooksBelow, surveyLooks}
 use Rattle.moves.specs.declared.steps.Reached.{Reached}
 use Rattle.tally.specs.Marks.{pastMark}
+use Rattle.tally.specs.Windows.{Parts, wholeLine, Joined}
 use Rattle.tally.specs.Counts.{mostCounts, IsDoubled, IsLeast}
 use Rattle.tally.specs.Tallied.{Tallied, CanTally}
 use Rattle.findings.specs.declared.searching.Searched.{Searched}
-use Rattle.findings.specs.Admitting.{mostLine, Admitted}
+use Rattle.findings.specs.Admitting.{admitRows}
+use Rattle.findings.specs.Limits.{mostPlaces, CanSearch}
 use Rattle.findings.specs.Searching.{LineSearched, IsSearched}
 
 -- The contract of `survey`, for ring, line, allowance and lent words, the answer r and the words at exit: it is a search with the survey's looks.
 abbrev pub IsSurveyed : List ℕ → List ℕ → ℕ → List ℕ → Searched → List ℕ → Type 0
-IsSurveyed ring line k words r out = IsSearched ring line k (surveyLooks ring line) words r out
+IsSurveyed ring line k words r out = IsSearched (admitRows ring k (length line) (length words)) ring line k (surveyLooks ring line) words r out
 
 -- From here on: preconditions and contracts of private functions.
 
@@ -37,15 +40,16 @@ edgesSeen m i = cond (eqb i 0) 0 (i - 1 + m)
 abbrev pub isFound : ℕ → ℕ → ℕ → ℕ → Bool
 isFound k least past i = leb least k && leb past i
 
--- Precondition of `verify_on` at start i: there are 256 counts; ring, allowance and line are within the limits; the ring's double is lent; a window fits in the
--- line at i; and for i above 0 the counts are the tally of start i − 1.
-pub record CanVerifyOn (ring doubled line : List ℕ) (k i : ℕ) (counts : List ℕ) : Type 0 where
+-- Precondition of `verify_on` at start i: there are 256 counts; ring, allowance and whole line are within the limits; the ring's double is lent; the join area is
+-- right; a window fits in the whole line at i; and for i above 0 the counts are the tally of start i − 1.
+pub record CanVerifyOn (ring doubled : List ℕ) (p : Parts) (k i : ℕ) (counts : List ℕ) : Type 0 where
   pub can-tally : CanTally ring counts
   pub allowed : k < length ring
   pub twice : IsDoubled ring doubled
-  pub in-line : FitsInLine ring line i
-  pub most-line : length line ≤ mostLine
-  pub before : 0 < i → Tallied ring line (i - 1) counts
+  pub joined : Joined (length ring) p
+  pub in-line : FitsInLine ring (wholeLine (length ring) p) i
+  pub most-places : length (wholeLine (length ring) p) < mostPlaces
+  pub before : 0 < i → Tallied ring (wholeLine (length ring) p) (i - 1) counts
 
 -- Contract of `verify_on`: the places from i to the one reached are verified. The counts are the tally of the place reached, r has their least, and the places
 -- passed have a least distance above k. The looks are the survey's for these places, "the first afresh and each next by one step". `past` is the place just
@@ -59,9 +63,14 @@ pub record IsVerifiedOn (ring line : List ℕ) (k i : ℕ) (counts : List ℕ) (
   pub passed : (j : ℕ) → i ≤ j → j < r .start .0 → k < leastDistance ring line j
   pub past-is : r .past ≡ pastMark line (edgesSeen (length ring) i) (r .start .0 + length ring - edgesSeen (length ring) i)
 
--- Precondition of `survey_starts`: the call is accepted, and the ring's double and 256 counts are lent. The counts may hold anything.
-pub record CanSurvey (ring doubled line : List ℕ) (k : ℕ) (counts words : List ℕ) : Type 0 where
-  pub admitted : Admitted ring k (length line) (length words)
+-- Precondition of `survey_line`: ring, allowance, whole line and words are within the limits, and the join area is right.
+pub record CanSurveyLine (ring : List ℕ) (p : Parts) (k : ℕ) (words : List ℕ) : Type 0 where
+  pub can-search : CanSearch ring k (length (wholeLine (length ring) p)) (length words)
+  pub joined : Joined (length ring) p
+
+-- Precondition of `survey_starts`: that of `survey_line`, and the ring's double and 256 counts are lent. The counts may hold anything.
+pub record CanSurvey (ring doubled : List ℕ) (p : Parts) (k : ℕ) (counts words : List ℕ) : Type 0 where
+  pub can-survey : CanSurveyLine ring p k words
   pub twice : IsDoubled ring doubled
   pub size : length counts ≡ mostCounts
 

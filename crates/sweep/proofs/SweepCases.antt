@@ -1,15 +1,16 @@
 -- Whether a sweep can go on. The test `canSweep` is a conjunction of comparisons, and the record `CanSweep` states the same (`can-sweep-iff`). So a sweep that passes
 -- meets the precondition of `to_candidate`, and the two returns of `sweep_on` are the two cases of its contract.
 use Prim.Native.Nat.{ℕ, _+_}
-use mathlib.Core.Path.{_≡_, refl}
+use mathlib.Core.Path.{_≡_, refl, sym}
 use mathlib.Core.Bool.{Bool, true, false}
 use mathlib.Core.List.{List}
 use mathlib.Core.Logic.{_↔_}
 use lib.Dec.{leb}
 use lib.ListN.{length}
+use Rattle.tally.specs.Windows.{Parts, wholeLine, IsWholeLength}
 use Rattle.tally.specs.Counts.{mostCounts}
 use Rattle.lists.proofs.SizesTested.{lt-iff, le-iff, and-iff, test-same}
-use Rattle.moves.specs.Moves.{mostPlaces}
+use Rattle.findings.specs.Limits.{mostPlaces}
 use Rattle.sweep.specs.declared.sweeping.Sweep.{Sweep}
 use Rattle.sweep.specs.declared.sweeping.Swept.{Swept}
 use Rattle.sweep.specs.declared.sweeping.Swept.the-variants.{Ended}
@@ -31,14 +32,18 @@ pub can-sweep-last : (m n start looks : ℕ) → CanReadWindows m n start → le
 can-sweep-last m n start looks can-read =
     test-same (le-iff looks mostLooks) (can-sweep-iff m n start looks) (λ room. record { can-read = can-read; looks-le = room }, λ can. can .looks-le)
 
-module _ (ring doubled table line : List ℕ) (k : ℕ) (at : Sweep) (old : List ℕ) where
+-- If the test `canSweep` passes for the length that `whole_length` returned, the sweep can go on along the whole line.
+pub can-go-on : {m n start looks : ℕ} {p : Parts} → IsWholeLength m p n → canSweep m n start looks ≡ true → CanSweep m (length (wholeLine m p)) start looks
+can-go-on {m} {n} {start} {looks} long passed = rw (sym (long .is)) (can-sweep-iff m n start looks .0 passed)
+
+module _ (ring doubled table : List ℕ) (p : Parts) (k : ℕ) (at : Sweep) (old : List ℕ) {n : ℕ} (long : IsWholeLength (length ring) p n) where
   abbrev test : Bool
-  test = canSweep (length ring) (length line) (at .start .0) (at .looks)
+  test = canSweep (length ring) n (at .start .0) (at .looks)
 
   -- If the test `canSweep` passes and the sweep goes on to the next candidate, the contract of `sweep_on` is met.
-  pub swept-yes : (new : List ℕ) (r : Swept) → test ≡ true → IsSweptTo ring doubled table line k at old new r → IsSweptBy ring doubled table line k at old new r
-  swept-yes new r passed swept = record { is = rw passed (swept .is) }
+  pub swept-yes : (new : List ℕ) (r : Swept) → test ≡ true → IsSweptTo ring doubled table p k at old new r → IsSweptBy ring doubled table p k at old new r
+  swept-yes new r passed swept = record { is = rw (sym (long .is), passed) (swept .is) }
 
   -- If the test `canSweep` fails, ending where the sweep is and leaving the counts as they were meets the contract of `sweep_on`.
-  pub swept-no : test ≡ false → IsSweptBy ring doubled table line k at old old (Ended at)
-  swept-no failed = record { is = rw failed refl }
+  pub swept-no : test ≡ false → IsSweptBy ring doubled table p k at old old (Ended at)
+  swept-no failed = record { is = rw (sym (long .is), failed) refl }

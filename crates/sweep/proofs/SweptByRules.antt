@@ -1,6 +1,6 @@
--- With the ring's own vectors and double, and the tally of the last verified start, the answer of `sweep_on` is what rules 1 to 5 give. The windows before the
--- candidate are stopped (`windows-by-rules`), and the candidate is verified by rule 5 (`tally-by-rules`). Its tally decides whether it is a
--- finding, and which one (`TallyFinding` of crates/tally).
+-- With the ring's own vectors and double, the tally of the last verified start and a join area that is right, the answer of `sweep_on` is what rules 1 to 5 give for
+-- the whole line. The windows before the candidate are stopped (`windows-by-rules`), and the candidate is verified by rule 5 (`tally-by-rules`). Its tally decides
+-- whether it is a finding, and which one (`TallyFinding` of crates/tally).
 use Prim.Native.Nat.{ℕ, _+_, _≤_, _<_}
 use mathlib.Core.Path.{_≡_, refl, sym, ap, subst, _∙_}
 use mathlib.Core.Bool.{true, false, true≢false}
@@ -13,6 +13,7 @@ use Rattle.meaning.specs.Findings.{foundAt}
 use Rattle.meaning.specs.Looks.{tallyLooks}
 use Rattle.lists.proofs.Cases.{by-test}
 use Rattle.meaning.proofs.CandidateStart.{candidate-is-start}
+use Rattle.tally.specs.Windows.{Parts, wholeLine, Joined}
 use Rattle.tally.specs.Counts.{findingWith, TallyResult}
 use Rattle.tally.specs.Tallied.{Verified}
 use Rattle.tally.proofs.TallyFinding.{least-no, least-yes}
@@ -30,7 +31,12 @@ use Rattle.sweep.proofs.WindowsStopped.{stopped-from-le}
 use Rattle.sweep.proofs.WindowsByRules.{windows-by-rules}
 use Rattle.sweep.proofs.TallyByRules.{before-later, tally-by-rules}
 
-module _ (ring doubled table line : List ℕ) (k : ℕ) (old : List ℕ) (at : Sweep) (can : CanSweepOn ring doubled table line old at) where
+module _ (ring doubled table : List ℕ) (p : Parts) (k : ℕ) (old : List ℕ) (at : Sweep) (joined : Joined (length ring) p)
+    (can : CanSweepOn ring doubled table (wholeLine (length ring) p) old at) where
+  -- the whole line, whose windows the parts hold
+  abbrev line : List ℕ
+  line = wholeLine (length ring) p
+
   -- ring, line and start are within the limits
   can-read : CanReadWindows (length ring) (length line) (at .start .0)
   can-read = can .can-sweep .can-read
@@ -40,15 +46,15 @@ module _ (ring doubled table line : List ℕ) (k : ℕ) (old : List ℕ) (at : S
 
   -- The result of reading windows up to the candidate.
   abbrev read : WindowsRead
-  read = windowsBy ring table line k (at .start .0)
+  read = windowsBy ring table p k (at .start .0)
 
   abbrev i : ℕ
   i = read .start .0
 
   reads : IsWindowsRead ring line k (at .start .0) read
   reads =
-      windows-by-rules ring table line k (at .start .0)
-      (record { some-edge = can-read .some-edge; most = can-read .most; no-mark = can .no-mark; occurs = can .occurs }) (can-read .start-le)
+      windows-by-rules ring table p k (at .start .0)
+      (record { some-edge = can-read .some-edge; most = can-read .most; no-mark = can .no-mark; occurs = can .occurs }) joined (can-read .start-le)
 
   -- The counts are still the tally of the last verified start.
   tallied-here : TalliedBefore ring line i old (lastStart (at .last))
@@ -76,11 +82,11 @@ module _ (ring doubled table line : List ℕ) (k : ℕ) (old : List ℕ) (at : S
     read-is = reads .candidate-is stopped
 
     abbrev tally : TallyResult
-    tally = tallyBy ring doubled line i (at .last) old
+    tally = tallyBy ring doubled p i (at .last) old
 
     verified : Verified ring line i (tallyLooks m (lastStart (at .last)) i) (tally .counts) (tally .least) (tally .looks)
     verified =
-        tally-by-rules ring doubled line i old (at .last)
+        tally-by-rules ring doubled p i old joined (at .last)
         (record { can-tally = record { size = can .size; some-edge = can-read .some-edge; most = can-read .most }; twice = can .twice; in-line = read-is .in-line; most-line = can-read .most-line; before = tallied-here })
 
     abbrev next : Sweep
@@ -122,7 +128,7 @@ module _ (ring doubled table line : List ℕ) (k : ℕ) (old : List ℕ) (at : S
   abbrev SweptOn : SweepResult → Type 0
   SweptOn s = IsSweptOn ring line k at (s .swept) (s .counts)
 
-  sweep-by-rules : SweptOn (sweepBy ring doubled table line k at old)
+  sweep-by-rules : SweptOn (sweepBy ring doubled table p k at old)
   unfolding sweepBy
   sweep-by-rules =
       by-test SweptOn (read .candidate)
@@ -138,7 +144,7 @@ module _ (ring doubled table line : List ℕ) (k : ℕ) (old : List ℕ) (at : S
       can-sweep-iff m (length line) (at .start .0) (at .looks) .1 (can .can-sweep)
 
   -- Under `CanSweepOn`, every answer that meets the contract of `sweep_on` is what rules 1 to 5 give.
-  pub swept-by-rules : (new : List ℕ) (r : Swept) → IsSweptBy ring doubled table line k at old new r → IsSweptOn ring line k at r new
+  pub swept-by-rules : (new : List ℕ) (r : Swept) → IsSweptBy ring doubled table p k at old new r → IsSweptOn ring line k at r new
   swept-by-rules new r swept =
-      let is : record { swept = r; counts = new } ≡ sweepBy ring doubled table line k at old = rw can-be at (swept .is) in
+      let is : record { swept = r; counts = new } ≡ sweepBy ring doubled table p k at old = rw can-be at (swept .is) in
       subst SweptOn (sym is) sweep-by-rules

@@ -11,7 +11,8 @@ use lib.ListN.{length}
 use borrow.Author.Tests.{lt-ltb, le-ltb, lt-leb}
 use Rattle.meaning.specs.Looks.{afreshLooks, stepLooks, tallyLooks}
 use Rattle.lists.proofs.Cases.{le-or-lt}
-use Rattle.tally.specs.Windows.{windowAt}
+use Rattle.tally.specs.Windows.{Parts, windowOf, wholeLine, Joined}
+use Rattle.tally.proofs.WindowEdges.{fitting-window}
 use Rattle.tally.specs.Counts.{TallyResult, countedTo, countedPast}
 use Rattle.tally.specs.Tallied.{Verified}
 use Rattle.tally.proofs.AfreshTallied.{counted-verified}
@@ -28,31 +29,36 @@ pub before-later : (ring line counts : List ℕ) (i i′ : ℕ) (last : Option �
 before-later ring line counts i i′ none l h = tt
 before-later ring line counts i i′ (some last) l h = (omega arith, h .1)
 
-module _ (ring doubled line : List ℕ) (i : ℕ) (old : List ℕ) where
+module _ (ring doubled : List ℕ) (p : Parts) (i : ℕ) (old : List ℕ) (joined : Joined (length ring) p) where
   abbrev m : ℕ
   m = length ring
+
+  -- the whole line, whose windows the parts hold
+  abbrev line : List ℕ
+  line = wholeLine m p
 
   -- The result t verifies start i, at these looks.
   abbrev VerifiedAt : ℕ → TallyResult → Type 0
   VerifiedAt looks t = Verified ring line i looks (t .counts) (t .least) (t .looks)
 
   -- A fresh count verifies start i, at m·m looks.
-  afresh-by-rules : (last : Option ℕ) → CanVerify ring doubled line i old last → VerifiedAt (afreshLooks m) (countedTo doubled (windowAt m line i) old)
+  afresh-by-rules : (last : Option ℕ) → CanVerify ring doubled line i old last → VerifiedAt (afreshLooks m) (countedTo doubled (windowOf m p i) old)
   afresh-by-rules last can =
-      let t : TallyResult = countedTo doubled (windowAt m line i) old in
-      counted-verified ring line i doubled old (t .counts) (windowAt m line i) (record { least = t .least; looks = t .looks; past = countedPast doubled (windowAt m line i) old })
-      (can .can-tally .size) (can .can-tally .some-edge) (can .can-tally .most) (can .twice) (can .in-line) (record { is = refl })
+      let t : TallyResult = countedTo doubled (windowOf m p i) old in
+      counted-verified ring line i doubled old (t .counts) (windowOf m p i) (record { least = t .least; looks = t .looks; past = countedPast doubled (windowOf m p i) old })
+      (can .can-tally .size) (can .can-tally .some-edge) (can .can-tally .most) (can .twice) (can .in-line)
+      (fitting-window (can .can-tally .some-edge) (record { is = refl }) (can .in-line) joined)
       (record { written = refl; least-is = refl; looks-are = refl; past-is = refl })
 
   -- The tally moved from the last verified start verifies start i, at 2·m looks for each step.
-  moved-by-rules : (from : ℕ) → CanVerify ring doubled line i old (some from) → VerifiedAt ((i - from) * stepLooks m) (movedTo ring line from (i - from) old)
+  moved-by-rules : (from : ℕ) → CanVerify ring doubled line i old (some from) → VerifiedAt ((i - from) * stepLooks m) (movedTo ring p from (i - from) old)
   unfolding movedTo
   moved-by-rules from can =
       let before : from < i = can .before .0 in
-      let to : CountsAt = movedFrom ring line from (i - from) 0 old in
+      let to : CountsAt = movedFrom ring p from (i - from) 0 old in
       let r : Reached = record { start = record { 0 = to .start }; least = to .least; looks = to .looks; past = to .past } in
       let reached : IsReached ring line from (i - from) 0 (to .counts) r =
-      moved-tallied ring line 0 (can .can-tally .some-edge) (can .can-tally .most) from (i - from) old (can .before .1) (omega arith)
+      moved-tallied ring p 0 (can .can-tally .some-edge) (can .can-tally .most) joined from (i - from) old (can .before .1) (omega arith)
       (omega (arith, can .in-line)) (omega (arith, can .most-line)) (to .counts) r (record { is = refl }) in
       let there : to .start ≡ i =
       ⊎-elim (λ l. omega (arith, reached .start-le)) (λ l. absurd (omega (arith, reached .stopped l))) (le-or-lt (from + (i - from)) (to .start)) in
@@ -60,7 +66,7 @@ module _ (ring doubled line : List ℕ) (i : ℕ) (old : List ℕ) where
 
   -- Under `CanVerify`, `tallyBy` verifies start i, at the looks of rule 5.
   pub tally-by-rules : (last : LastVerified) → CanVerify ring doubled line i old (lastStart last)
-      → VerifiedAt (tallyLooks m (lastStart last) i) (tallyBy ring doubled line i last old)
+      → VerifiedAt (tallyLooks m (lastStart last) i) (tallyBy ring doubled p i last old)
   unfolding tallyBy tallyLooks
   tally-by-rules Nothing can = afresh-by-rules none can
   tally-by-rules (At from) can =

@@ -12,7 +12,7 @@ use Rattle.meaning.specs.Meanings.{FitsInLine, IsPastLine, window, fitsInLine}
 use Rattle.meaning.proofs.Starts.{fits-line-iff, past-line-iff}
 use Rattle.meaning.specs.Rules.{stopsAt, isStopped, readWindow}
 use Rattle.meaning.proofs.WindowAlone.{alone-reading}
-use Rattle.tally.specs.Windows.{windowAt}
+use Rattle.tally.specs.Windows.{Parts, windowOf, wholeLine, Joined}
 use Rattle.tally.proofs.WindowEdges.{fitting-window, fitting-length}
 use Rattle.sweep.specs.declared.reading.WindowRead.{WindowRead}
 use Rattle.sweep.specs.Reads.{readBy, stoppedBy, noneLeft, windowsOn, windowsBy}
@@ -20,16 +20,20 @@ use Rattle.sweep.specs.ReadingRules.{OwnVectors, IsWindowRead}
 use Rattle.sweep.specs.SweepRules.{sweptStart, StoppedTo, none-stopped, one-stopped, IsWindowsRead}
 use Rattle.sweep.proofs.ReadByRules.{read-by-rules}
 
-module _ (ring table line : List ℕ) (k from : ℕ) (own : OwnVectors ring table) where
+module _ (ring table : List ℕ) (p : Parts) (k from : ℕ) (own : OwnVectors ring table) (joined : Joined (length ring) p) where
   abbrev m : ℕ
   m = length ring
+
+  -- the whole line, whose windows the parts hold
+  abbrev line : List ℕ
+  line = wholeLine m p
 
   abbrev n : ℕ
   n = length line
 
   -- The result of reading the window at i.
   abbrev read : ℕ → WindowRead
-  read i = readBy table (windowAt m line i) k
+  read i = readBy table (windowOf m p i) k
 
   module _ (i looks : ℕ) (h : StoppedTo ring line k from i looks) where
     -- The case that no window fits in the line at i.
@@ -37,11 +41,11 @@ module _ (ring table line : List ℕ) (k from : ℕ) (own : OwnVectors ring tabl
     ended past = record { looks = looks; stopped-to = h; candidate-is = λ e. absurd (true≢false (sym e)); ended = λ _. (past, refl, refl) }
 
     module _ (in-line : FitsInLine ring line i) where
-      alone : windowAt m line i ≡ window m line i
-      alone = fitting-window (record { is = refl }) in-line
+      alone : windowOf m p i ≡ window m line i
+      alone = fitting-window (own .some-edge) (record { is = refl }) in-line joined
 
-      by-rules : IsWindowRead ring (windowAt m line i) k (read i)
-      by-rules = read-by-rules ring (windowAt m line i) table k own (fitting-length (record { is = refl }) in-line)
+      by-rules : IsWindowRead ring (windowOf m p i) k (read i)
+      by-rules = read-by-rules ring (windowOf m p i) table k own (fitting-length (own .some-edge) (record { is = refl }) in-line)
 
       -- The looks are the edges that the rules read of the window at i in the line.
       reads-are : read i .looks ≡ readWindow ring line k i .read
@@ -76,7 +80,7 @@ module _ (ring table line : List ℕ) (k from : ℕ) (own : OwnVectors ring tabl
 
   -- Reading windows from a start i before which every window was stopped follows the rules.
   windows-on : (left i looks : ℕ) → n + 1 ≤ i + left → StoppedTo ring line k from i looks
-      → IsWindowsRead ring line k from (windowsOn ring table line k left i looks)
+      → IsWindowsRead ring line k from (windowsOn ring table p k left i looks)
   unfolding windowsOn
   windows-on zero i looks enough h = ended i looks h (omega (arith, own .some-edge))
   windows-on (suc left) i looks enough h =
@@ -89,5 +93,5 @@ module _ (ring table line : List ℕ) (k from : ℕ) (own : OwnVectors ring tabl
       (λ out. ended i looks h (past-line-iff ring line i .0 out))
 
   -- Windows read with the ring's own vectors from a start of at most n + 1 on, up to the next candidate, are read by the rules.
-  pub windows-by-rules : from ≤ n + 1 → IsWindowsRead ring line k from (windowsBy ring table line k from)
+  pub windows-by-rules : from ≤ n + 1 → IsWindowsRead ring line k from (windowsBy ring table p k from)
   windows-by-rules start-le = windows-on (n + 1 - from) from 0 (omega arith) none-stopped

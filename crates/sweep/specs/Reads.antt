@@ -1,6 +1,7 @@
 -- What reading windows computes, on every input and with any table. The code holds a vector of one bit for each rotation in place of the stretch (source document
--- 003). With the own vectors of a ring without marks the result is what rules 1 to 3 give, `IsWindowRead` of ReadingRules and `IsWindowsRead` of SweepRules, by `read-by-rules` and
--- `windows-by-rules` of proofs/.
+-- 003). With the vectors of a ring without marks, and a join area that is right, the result is what rules 1 to 3 give, `IsWindowRead` of ReadingRules and
+-- `IsWindowsRead` of SweepRules, by `read-by-rules` and `windows-by-rules` of proofs/. Windows come from the line and its join area, the parts p; n is the length of
+-- the whole line (specs/Windows.antt of crates/tally).
 --
 --   heldWith                       the held vector after one more edge
 --   readOn, readWith, readBy       one window: from a given point; from its last edge with a given number of words; with as few words as m bits need
@@ -18,9 +19,9 @@ use Rattle.meaning.specs.Rules.{stopsAt}
 use Rattle.vectors.specs.Bits.{wordCount, firstBits, noBit}
 use Rattle.vectors.specs.Holding.{vectorAt}
 use Rattle.vectors.specs.ByValue.{vectorWords, grownWords}
-use Rattle.tally.specs.Windows.{windowAt}
+use Rattle.tally.specs.Windows.{Parts, windowOf, wholeLine}
 use Rattle.tally.specs.Counts.{mostCounts}
-use Rattle.moves.specs.Moves.{mostPlaces}
+use Rattle.findings.specs.Limits.{mostPlaces}
 use Rattle.sweep.specs.declared.reading.WindowRead.{WindowRead}
 use Rattle.sweep.specs.declared.sweeping.WindowsRead.{WindowsRead}
 
@@ -65,19 +66,19 @@ noneLeft i looks = record { start = record { 0 = i }; next = record { 0 = i }; l
 -- The result of reading at most `left` windows from start i on, up to the next candidate, with the looks so far. Rule 1: "While a window fits in the line". Rule 3:
 -- "With j edges read, the next window starts m − j + 1 further on." Rule 4: "A window with all m edges read and at most k breaks is a candidate." All edges of a
 -- window that was not stopped are read, so only this is tested.
-unfoldable pub windowsOn : List ℕ → List ℕ → List ℕ → ℕ → ℕ → ℕ → ℕ → WindowsRead
-windowsOn ring table line k zero i looks = noneLeft i looks
-windowsOn ring table line k (suc left) i looks =
-    let read : WindowRead = readBy table (windowAt (length ring) line i) k in
+unfoldable pub windowsOn : List ℕ → List ℕ → Parts → ℕ → ℕ → ℕ → ℕ → WindowsRead
+windowsOn ring table p k zero i looks = noneLeft i looks
+windowsOn ring table p k (suc left) i looks =
+    let read : WindowRead = readBy table (windowOf (length ring) p i) k in
     let found : WindowsRead = record { start = record { 0 = i }; next = record { 0 = i + read .left + 1 }; looks = looks + read .looks; candidate = true } in
-    let later : WindowsRead = windowsOn ring table line k left (i + read .left + 1) (looks + read .looks) in
+    let later : WindowsRead = windowsOn ring table p k left (i + read .left + 1) (looks + read .looks) in
     let tried : WindowsRead = cond (stoppedBy k read) later found in
     let none : WindowsRead = noneLeft i looks in
-    cond (fitsInLine ring line i) tried none
+    cond (fitsInLine ring (wholeLine (length ring) p) i) tried none
 
 -- The windows from start `from` on, up to the next candidate. Each window starts past the one before, so there are at most n + 1 − from of them.
-abbrev pub windowsBy : List ℕ → List ℕ → List ℕ → ℕ → ℕ → WindowsRead
-windowsBy ring table line k from = windowsOn ring table line k (length line + 1 - from) from 0
+abbrev pub windowsBy : List ℕ → List ℕ → Parts → ℕ → ℕ → WindowsRead
+windowsBy ring table p k from = windowsOn ring table p k (length (wholeLine (length ring) p) + 1 - from) from 0
 
 -- Precondition of `read_windows`: the ring has 1 to 256 edges, the line fewer than 2^32, and the start is at most n + 1.
 pub record CanReadWindows (m n from : ℕ) : Type 0 where

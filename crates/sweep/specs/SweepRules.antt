@@ -1,6 +1,6 @@
 -- The sweep to the next candidate as rules 1 to 5 say, in the terms of crates/meaning. The loop of scan and report uses these statements. `sweepBy` of Sweeps
--- is what `sweep_on` computes on every input; `swept-by-rules` in proofs/SweptByRules.antt proves that under `CanSweepOn` it satisfies `IsSweptOn`. `StoppedTo`
--- and `stoppedState` are named after windows that were left, at break k + 1 (rule 3) or at a mark (document 02, ticket 2).
+-- is what `sweep_on` computes on every input; `swept-by-rules` in proofs/SweptByRules.antt proves that under `CanSweepOn`, with a join area that is right, it
+-- satisfies `IsSweptOn`. `StoppedTo` and `stoppedState` are named after windows that were left, at break k + 1 (rule 3) or at a mark (document 02, ticket 2).
 --
 --   sweptStart                   where the next window starts
 --   stateOf, foundOf, hasEnded   the parts of an answer: the sweep after it, the finding reported, whether the sweep has ended

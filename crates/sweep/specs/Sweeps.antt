@@ -1,5 +1,6 @@
--- What `sweep_on` computes, on every input, whatever vectors, doubled ring and counts it is lent. If they are the own of a ring without marks and the tally of the last verified start,
--- this is what the rules give, `IsSweptOn` of SweepRules, by `swept-by-rules` of proofs/SweptByRules.antt.
+-- What `sweep_on` computes, on every input, whatever vectors, doubled ring, join area and counts it is lent. If vectors and double are those of a ring without
+-- marks, the counts are the tally of the last verified start, and the join area is right (`Joined` of crates/tally), this is what the rules give for the whole
+-- line, `IsSweptOn` of SweepRules, by `swept-by-rules` of proofs/SweptByRules.antt.
 --
 --   movedTo                  the tally moved a number of steps
 --   tallyBy                  a start verified: counted afresh, or the tally moved (rule 5)
@@ -15,9 +16,10 @@ use mathlib.Core.List.{List}
 use lib.Dec.{ltb, leb}
 use lib.ListN.{length}
 use Rattle.findings.specs.declared.searching.Finding.{Finding as FindingStruct}
-use Rattle.tally.specs.Windows.{windowAt}
+use Rattle.tally.specs.Windows.{Parts, windowOf, wholeLine}
 use Rattle.tally.specs.Counts.{mostCounts, findingWith, TallyResult, countedTo}
-use Rattle.moves.specs.Moves.{CountsAt, movedFrom, mostPlaces}
+use Rattle.findings.specs.Limits.{mostPlaces}
+use Rattle.moves.specs.Moves.{CountsAt, movedFrom}
 use Rattle.tally.specs.declared.counts.Least.{Least}
 use Rattle.sweep.specs.declared.verifying.LastVerified.{LastVerified}
 use Rattle.sweep.specs.declared.verifying.LastVerified.the-variants.{Nothing, At}
@@ -28,18 +30,18 @@ use Rattle.sweep.specs.declared.sweeping.WindowsRead.{WindowsRead}
 use Rattle.sweep.specs.Reads.{windowsBy, CanReadWindows}
 
 -- The tally moved s steps from start `from` by `move_counts`. The bound is 0, and no least count is below 0, so no move ends early.
-unfoldable pub movedTo : List ℕ → List ℕ → ℕ → ℕ → List ℕ → TallyResult
-movedTo ring line from s old =
-    let to : CountsAt = movedFrom ring line from s 0 old in
+unfoldable pub movedTo : List ℕ → Parts → ℕ → ℕ → List ℕ → TallyResult
+movedTo ring p from s old =
+    let to : CountsAt = movedFrom ring p from s 0 old in
     record { counts = to .counts; least = to .least; looks = to .looks }
 
 -- Start i verified, after the last verified start if there is one. Rule 5: "With no earlier tally, or if the new start is s beyond the last verified one and
 -- 2·s > m, it is counted afresh: m·m looks. Otherwise it moves s steps". The rules never go back; here a start that is not beyond the last one is counted afresh.
-unfoldable pub tallyBy : List ℕ → List ℕ → List ℕ → ℕ → LastVerified → List ℕ → TallyResult
-tallyBy ring doubled line i Nothing old = countedTo doubled (windowAt (length ring) line i) old
-tallyBy ring doubled line i (At from) old =
-    let afresh : TallyResult = countedTo doubled (windowAt (length ring) line i) old in
-    let moved : TallyResult = movedTo ring line (from .0) (i - from .0) old in
+unfoldable pub tallyBy : List ℕ → List ℕ → Parts → ℕ → LastVerified → List ℕ → TallyResult
+tallyBy ring doubled p i Nothing old = countedTo doubled (windowOf (length ring) p i) old
+tallyBy ring doubled p i (At from) old =
+    let afresh : TallyResult = countedTo doubled (windowOf (length ring) p i) old in
+    let moved : TallyResult = movedTo ring p (from .0) (i - from .0) old in
     let beyond : TallyResult = cond (ltb (length ring) (2 * (i - from .0))) afresh moved in
     cond (leb i (from .0)) afresh beyond
 
@@ -49,11 +51,11 @@ pub record SweepResult : Type 0 where
   pub counts : List ℕ
 
 -- The sweep from `at` to the next candidate. Rule 4: "Each candidate is verified, and reported if it is a finding." It is a finding if its least count is at most k.
-unfoldable pub sweepBy : List ℕ → List ℕ → List ℕ → List ℕ → ℕ → Sweep → List ℕ → SweepResult
-sweepBy ring doubled table line k at old =
-    let read : WindowsRead = windowsBy ring table line k (at .start .0) in
+unfoldable pub sweepBy : List ℕ → List ℕ → List ℕ → Parts → ℕ → Sweep → List ℕ → SweepResult
+sweepBy ring doubled table p k at old =
+    let read : WindowsRead = windowsBy ring table p k (at .start .0) in
     let looks : ℕ = at .looks + read .looks in
-    let tally : TallyResult = tallyBy ring doubled line (read .start .0) (at .last) old in
+    let tally : TallyResult = tallyBy ring doubled p (read .start .0) (at .last) old in
     let next : Sweep = record { start = read .next; last = At (read .start); looks = looks + tally .looks } in
     let finding : FindingStruct = findingWith (length ring) (tally .counts) (read .start) (tally .least) in
     let ended : SweepResult = record { swept = Ended (record { start = read .start; last = at .last; looks = looks }); counts = old } in
@@ -72,19 +74,19 @@ canSweep m n start looks = (ltb 0 m && leb m mostCounts) && (ltb n mostPlaces &&
 
 -- The contract of `sweep_on`. `at` is the sweep at entry, `old` and `new` are the counts at entry and exit, r is the answer. A sweep that cannot go on ends where it
 -- is, and no count changes.
-pub record IsSweptBy (ring doubled table line : List ℕ) (k : ℕ) (at : Sweep) (old new : List ℕ) (r : Swept) : Type 0 where
+pub record IsSweptBy (ring doubled table : List ℕ) (p : Parts) (k : ℕ) (at : Sweep) (old new : List ℕ) (r : Swept) : Type 0 where
   pub is : record { swept = r; counts = new }
-      ≡ cond (canSweep (length ring) (length line) (at .start .0) (at .looks)) (sweepBy ring doubled table line k at old) (record { swept = Ended at; counts = old })
+      ≡ cond (canSweep (length ring) (length (wholeLine (length ring) p)) (at .start .0) (at .looks)) (sweepBy ring doubled table p k at old) (record { swept = Ended at; counts = old })
 
 -- From here on: preconditions and contracts of private functions.
 
 -- The contract of `verify_afresh`: the counts at exit, their least and the looks are those of a fresh count of the window at i.
-pub record IsCountedTo (m : ℕ) (doubled line : List ℕ) (i : ℕ) (old new : List ℕ) (z : Least) : Type 0 where
-  pub is : record { counts = new; least = z .least; looks = z .looks } ≡ countedTo doubled (windowAt m line i) old
+pub record IsCountedTo (m : ℕ) (doubled : List ℕ) (p : Parts) (i : ℕ) (old new : List ℕ) (z : Least) : Type 0 where
+  pub is : record { counts = new; least = z .least; looks = z .looks } ≡ countedTo doubled (windowOf m p i) old
 
 -- The contract of `verify`: the counts at exit, their least and the looks are those of `tallyBy`.
-pub record IsTalliedBy (ring doubled line : List ℕ) (i : ℕ) (last : LastVerified) (old new : List ℕ) (z : Least) : Type 0 where
-  pub is : record { counts = new; least = z .least; looks = z .looks } ≡ tallyBy ring doubled line i last old
+pub record IsTalliedBy (ring doubled : List ℕ) (p : Parts) (i : ℕ) (last : LastVerified) (old new : List ℕ) (z : Least) : Type 0 where
+  pub is : record { counts = new; least = z .least; looks = z .looks } ≡ tallyBy ring doubled p i last old
 
 -- What `canSweep` tests, as facts; the precondition of `to_candidate`.
 pub record CanSweep (m n start looks : ℕ) : Type 0 where
@@ -92,5 +94,5 @@ pub record CanSweep (m n start looks : ℕ) : Type 0 where
   pub looks-le : looks ≤ mostLooks
 
 -- The contract of `to_candidate`: the answer and the counts at exit are those of `sweepBy`.
-pub record IsSweptTo (ring doubled table line : List ℕ) (k : ℕ) (at : Sweep) (old new : List ℕ) (r : Swept) : Type 0 where
-  pub is : record { swept = r; counts = new } ≡ sweepBy ring doubled table line k at old
+pub record IsSweptTo (ring doubled table : List ℕ) (p : Parts) (k : ℕ) (at : Sweep) (old new : List ℕ) (r : Swept) : Type 0 where
+  pub is : record { swept = r; counts = new } ≡ sweepBy ring doubled table p k at old

@@ -1,5 +1,6 @@
 -- The conditions under which verifying a start follows rule 5: the ring's own double is lent, and the counts are the tally of the last verified start. The rule's
--- looks are `tallyLooks` of crates/meaning. `tally-by-rules` in proofs/TallyByRules.antt proves that `tallyBy` of Sweeps then gives the start's tally at these looks.
+-- looks are `tallyLooks` of crates/meaning. `tally-by-rules` in proofs/TallyByRules.antt proves that `tallyBy` of Sweeps then gives the start's tally at these looks,
+-- if the join area is right (`Joined` of crates/tally).
 --
 --   lastStart        the last verified start, if there is one
 --   TalliedBefore    the counts are its tally, and it is before a given start
@@ -11,7 +12,7 @@ use lib.ListN.{length}
 use Rattle.meaning.specs.Meanings.{FitsInLine}
 use Rattle.tally.specs.Counts.{IsDoubled}
 use Rattle.tally.specs.Tallied.{Tallied, CanTally}
-use Rattle.moves.specs.Moves.{mostPlaces}
+use Rattle.findings.specs.Limits.{mostPlaces}
 use Rattle.sweep.specs.declared.verifying.LastVerified.{LastVerified}
 use Rattle.sweep.specs.declared.verifying.LastVerified.the-variants.{Nothing, At}
 

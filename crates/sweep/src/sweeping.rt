@@ -9,10 +9,12 @@ use findings::Finding;
 use moves::MOST_PLACES;
 use tally::MOST_COUNTS;
 use tally::finding_at;
+use tally::whole_length;
 use tally::window;
 use vectors::TABLE_WORDS;
 ghost use mathlib.Core.Path.{_≡_};
 ghost use lib.ListN.{length};
+ghost use Rattle.tally.specs.Windows.{parts, wholeLength};
 ghost use Rattle.sweep.specs.Reads.{CanReadWindows, windowsBy};
 ghost use Rattle.sweep.specs.Sweeps.{canSweep, CanSweep, IsSweptTo, IsSweptBy};
 
@@ -48,21 +50,32 @@ pub struct WindowsRead {
 // Rules 1 to 3, window after window, to the next candidate. The next window starts past the edge at which reading
 // stopped: at break k + 1 every start up to there differs in more than k places, and at a mark no place up to there is a
 // start. Most windows are stopped after a few reads, so nothing else is done between them.
-fn read_windows(
+fn read_windows<'a>(
     ring: &[u8],
     table: &[u64; TABLE_WORDS],
-    line: &[u8],
+    line: &'a [u8],
+    join: &'a [u8],
     k: usize,
     from: LinePlace,
 ) -> WindowsRead
-    requires { ⌜ CanReadWindows (length (now ring)) (length (now line)) (from .0) ⌝ }
-    ensures { λ z. ⌜ z ≡ windowsBy (now (ring .entry)) (now (table .entry)) (now (line .entry)) k (from .0) ⌝ }
+    requires { ⌜ CanReadWindows (length (now ring)) (wholeLength (length (now ring)) (now line) (now join)) (from .0) ⌝ }
+    ensures { λ z. ⌜ z ≡ windowsBy (now (ring .entry)) (now (table .entry)) (parts (now (line .entry)) (now (join .entry))) k (from .0) ⌝ }
 {
     let m = ring.len();
     let mut i = from.0;
     let mut looks: usize = 0;
-    while i + m <= line.len() {
-        let read = read_window(window(line, LinePlace(i), m), table, k);
+    loop {
+        // Whether a window fits is asked once, by `window`: it returns an empty part if none does.
+        let edges = window(line, join, LinePlace(i), m);
+        if edges.len() == 0 {
+            return WindowsRead {
+                start: LinePlace(i),
+                next: LinePlace(i),
+                looks,
+                candidate: false,
+            };
+        }
+        let read = read_window(edges, table, k);
         looks += read.looks;
         let next = i + read.left + 1;
         if !was_stopped(read, k) {
@@ -75,35 +88,30 @@ fn read_windows(
         }
         i = next;
     }
-    WindowsRead {
-        start: LinePlace(i),
-        next: LinePlace(i),
-        looks,
-        candidate: false,
-    }
 }
 
 // Sweeps to the next candidate and verifies it (rule 4).
-fn to_candidate(
+fn to_candidate<'a>(
     at: Sweep,
     ring: &[u8],
     doubled: &[u8],
     table: &[u64; TABLE_WORDS],
-    line: &[u8],
+    line: &'a [u8],
+    join: &'a [u8],
     k: usize,
     counts: &mut [u16; MOST_COUNTS],
 ) -> Swept
-    requires { ⌜ CanSweep (length (now ring)) (length (now line)) (at .start .0) (at .looks) ⌝ }
-    ensures { λ r. ⌜ IsSweptTo (now (ring .entry)) (now (doubled .entry)) (now (table .entry)) (now (line .entry)) k at (now (counts .entry)) (now (counts .exit)) r ⌝ }
+    requires { ⌜ CanSweep (length (now ring)) (wholeLength (length (now ring)) (now line) (now join)) (at .start .0) (at .looks) ⌝ }
+    ensures { λ r. ⌜ IsSweptTo (now (ring .entry)) (now (doubled .entry)) (now (table .entry)) (parts (now (line .entry)) (now (join .entry))) k at (now (counts .entry)) (now (counts .exit)) r ⌝ }
 {
     let last = at.last;
-    let read = read_windows(ring, table, line, k, at.start);
+    let read = read_windows(ring, table, line, join, k, at.start);
     let start = read.start;
     let looks = at.looks + read.looks;
     if !read.candidate {
         return Swept::Ended(Sweep { start, last, looks });
     }
-    let verified = verify(counts, ring, doubled, line, start, last);
+    let verified = verify(counts, ring, doubled, line, join, start, last);
     let after = read.next;
     let next = Sweep {
         start: after,
@@ -138,19 +146,21 @@ fn can_sweep(m: usize, n: usize, start: LinePlace, taken: usize) -> bool
 }
 
 // Sweeps to the next candidate, on every input. A sweep that cannot go on ends where it is, and no count changes.
-pub fn sweep_on(
+pub fn sweep_on<'a>(
     at: Sweep,
     ring: &[u8],
     doubled: &[u8],
     table: &[u64; TABLE_WORDS],
-    line: &[u8],
+    line: &'a [u8],
+    join: &'a [u8],
     k: usize,
     counts: &mut [u16; MOST_COUNTS],
 ) -> Swept
-    ensures { λ r. ⌜ IsSweptBy (now (ring .entry)) (now (doubled .entry)) (now (table .entry)) (now (line .entry)) k at (now (counts .entry)) (now (counts .exit)) r ⌝ }
+    ensures { λ r. ⌜ IsSweptBy (now (ring .entry)) (now (doubled .entry)) (now (table .entry)) (parts (now (line .entry)) (now (join .entry))) k at (now (counts .entry)) (now (counts .exit)) r ⌝ }
 {
-    if !can_sweep(ring.len(), line.len(), at.start, at.looks) {
+    let m = ring.len();
+    if !can_sweep(m, whole_length(line, join, m), at.start, at.looks) {
         return Swept::Ended(at);
     }
-    to_candidate(at, ring, doubled, table, line, k, counts)
+    to_candidate(at, ring, doubled, table, line, join, k, counts)
 }

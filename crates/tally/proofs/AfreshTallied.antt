@@ -9,16 +9,15 @@ use native.Mathlib.Nat.{zero-add, add-comm}
 use native.Mathlib.Omega.{arith}
 use lib.ListN.{length, getD}
 use Rattle.meaning.specs.Counting.{count}
-use Rattle.meaning.specs.Meanings.{FitsInLine, unequal, differs, distance}
+use Rattle.meaning.specs.Meanings.{FitsInLine, window as windowIn, unequal, differs, distance}
 use Rattle.meaning.specs.Looks.{afreshLooks}
 use Rattle.meaning.proofs.Count.{count-same}
+use Rattle.meaning.proofs.Windows.{window-edge-is, window-length}
 use Rattle.meaning.proofs.WindowAlone.{alone-distance}
 use Rattle.tally.specs.declared.afresh.Fresh.{Fresh}
-use Rattle.tally.specs.Windows.{IsWindow}
 use Rattle.tally.specs.Marks.{pastMark}
 use Rattle.tally.specs.Counts.{mostCounts, differsThere, afreshCount, afreshCounts, canCount, countedTo, countedPast, IsDoubled, IsCounted}
 use Rattle.tally.specs.Tallied.{Verified}
-use Rattle.tally.proofs.WindowEdges.{fitting-window, fitting-length, fitting-edge}
 use Rattle.tally.proofs.PastMark.{past-same}
 use Rattle.lists.proofs.StoreLoop.{storedFirst-length, storedFirst-at}
 use Rattle.tally.proofs.LeastIsOne.{leastOf-is}
@@ -69,15 +68,15 @@ module _ (ring doubled window : List ℕ) (some : 0 < length ring) (most : lengt
 
 -- If the window of start i is counted afresh over the ring's double, start i is verified: the counts are its tally, `least` is their least, and m·m looks are taken.
 pub counted-verified : (ring line : List ℕ) (i : ℕ) (doubled old new edges : List ℕ) (z : Fresh) → length old ≡ mostCounts → 0 < length ring
-    → length ring ≤ mostCounts → IsDoubled ring doubled → FitsInLine ring line i → IsWindow line i (length ring) edges
+    → length ring ≤ mostCounts → IsDoubled ring doubled → FitsInLine ring line i → edges ≡ windowIn (length ring) line i
     → IsCounted doubled edges old new z → Verified ring line i (afreshLooks (length ring)) new (z .least) (z .looks)
 counted-verified ring line i doubled old new edges z size some most twice in-line handed counted =
-    let alone = afresh-verified ring doubled edges some most twice (fitting-length handed in-line) old new z size counted in
+    let long : length edges ≡ length ring = ap length handed ∙ window-length ring line i in-line in
+    let alone = afresh-verified ring doubled edges some most twice long old new z size counted in
     record {
       tallied = record {
         size = alone .tallied .size;
-        each = λ r l. alone .tallied .each r l ∙ ap (λ (xs : List ℕ). distance ring xs 0 r) (fitting-window handed in-line)
-            ∙ alone-distance ring line i r;
+        each = λ r l. alone .tallied .each r l ∙ ap (λ (xs : List ℕ). distance ring xs 0 r) handed ∙ alone-distance ring line i r;
       };
       least-is = alone .least-is;
       looks-are = alone .looks-are;
@@ -85,10 +84,10 @@ counted-verified ring line i doubled old new edges z size some most twice in-lin
 
 -- If the window at place 0 of the line is counted afresh, the place just past its last mark is that of the line's first m edges.
 pub counted-past : (ring line doubled old new edges : List ℕ) (z : Fresh) → length old ≡ mostCounts → 0 < length ring → length ring ≤ mostCounts
-    → IsDoubled ring doubled → FitsInLine ring line 0 → IsWindow line 0 (length ring) edges → IsCounted doubled edges old new z → z .past ≡ pastMark line 0 (length ring)
+    → IsDoubled ring doubled → FitsInLine ring line 0 → edges ≡ windowIn (length ring) line 0 → IsCounted doubled edges old new z → z .past ≡ pastMark line 0 (length ring)
 unfolding countedPast
 counted-past ring line doubled old new edges z size some most twice in-line handed counted =
-    let long = fitting-length handed in-line in
+    let long : length edges ≡ length ring = ap length handed ∙ window-length ring line 0 in-line in
     rw (can-be ring doubled edges some most twice long old size) at (counted .past-is)
     ∙ ap (pastMark edges 0) long
-    ∙ past-same edges line (length ring) (λ p l. fitting-edge handed in-line p l ∙ ap (λ (q : ℕ). getD line q 0) (zero-add p))
+    ∙ past-same edges line (length ring) (λ p l. ap (λ (xs : List ℕ). getD xs p 0) handed ∙ window-edge-is (length ring) line 0 p l ∙ ap (λ (q : ℕ). getD line q 0) (zero-add p))

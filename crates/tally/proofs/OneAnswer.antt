@@ -5,7 +5,7 @@ use mathlib.Core.List.{List}
 use Rattle.answers.specs.declared.places.LinePlace.{LinePlace}
 use Rattle.findings.specs.declared.searching.Finding.{Finding as FindingStruct}
 use Rattle.tally.specs.declared.afresh.Fresh.{Fresh}
-use Rattle.tally.specs.Windows.{IsWindow}
+use Rattle.tally.specs.Windows.{Parts, IsWindow, IsWholeLength}
 use Rattle.tally.specs.Marks.{IsPastMark}
 use Rattle.tally.specs.Counts.{IsComparison, IsDoubled, IsCounted, IsFindingAt}
 
@@ -18,8 +18,12 @@ pub one-past : (edge past next r r′ : ℕ) → IsPastMark edge past next r →
 one-past edge past next r r′ x y = x .is ∙ sym (y .is)
 
 -- Any two windows that meet the contract of `window` are equal.
-pub one-window : (line : List ℕ) (i m : ℕ) (edges edges′ : List ℕ) → IsWindow line i m edges → IsWindow line i m edges′ → edges ≡ edges′
-one-window line i m edges edges′ a b = a .is ∙ sym (b .is)
+pub one-window : (p : Parts) (i m : ℕ) (edges edges′ : List ℕ) → IsWindow p i m edges → IsWindow p i m edges′ → edges ≡ edges′
+one-window p i m edges edges′ a b = a .is ∙ sym (b .is)
+
+-- Any two lengths that meet the contract of `whole_length` are equal.
+pub one-length : (m : ℕ) (p : Parts) (r r′ : ℕ) → IsWholeLength m p r → IsWholeLength m p r′ → r ≡ r′
+one-length m p r r′ a b = a .is ∙ sym (b .is)
 
 -- Any two doubled rings that meet the contract of `double` are equal.
 pub one-doubled : (ring doubled doubled′ : List ℕ) → IsDoubled ring doubled → IsDoubled ring doubled′ → doubled ≡ doubled′

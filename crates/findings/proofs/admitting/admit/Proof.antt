@@ -1,71 +1,71 @@
--- `findings::admitting::admit` meets its contract: at each return the tests so far decide which of rows 1, 12, 2, 3, 4 is the first, or that none is given
--- (`AdmitRows`).
-use mathlib.Core.Path.{sym}
-use mathlib.Core.Logic.{inl, inr}
+-- `findings::admitting::admit` meets its contract: one of rows 1, 12, 2, 3 is given and `within_limits` refuses; or none of them is, and the comparisons
+-- passed so far decide whether row 4 is given (`AdmitRows`).
+use mathlib.Core.Path.{sym, ap}
 use native.Mathlib.Omega.{arith}
 use borrow.Author.Needs.{needs}
-use Rattle.meaning.proofs.Marks.{holds-iff}
-use Rattle.findings.proofs.AdmitRows.{unmarked, row-1-iff, row-12-iff, row-2-iff, row-3-iff, row-4-iff, none-iff}
+use Rattle.findings.specs.Admitting.{admitRows, verdictOf}
+use Rattle.findings.proofs.LimitRows.{within-limits, refused-early}
+use Rattle.findings.proofs.AdmitRows.{row-4-iff, none-iff}
 use Rattle.findings.proofs.admitting.admit.Statement.{statement}
 use Rattle.findings.proofs.admitting.admit.Tie as tie
 
--- An empty ring.
+within-limits-requires : tie.Need-within-limits-requires
+within-limits-requires c κs = search needs
+
+enum-told : tie.Need-enum-told
+enum-told c = search needs
+
+enum-told-2 : tie.Need-enum-told-2
+enum-told-2 c = search needs
+
+-- One of rows 1, 12, 2, 3 is given.
 returns : tie.Need-returns
-returns c = record { is = sym (row-1-iff _ _ _ _ .1 (inl (omega arith))) }
-
--- A ring that is too long.
-returns-2 : tie.Need-returns-2
-returns-2 c = record { is = sym (row-1-iff _ _ _ _ .1 (inr (omega arith))) }
-
-holds-mark-requires : tie.Need-holds-mark-requires
-holds-mark-requires c κs = search needs
-
--- A ring that holds a mark, as `holds_mark` says; from here on it says that there is none.
-returns-3 : tie.Need-returns-3
-returns-3 c = record { is = sym (row-12-iff _ _ _ _ .1 (omega arith, holds-iff _ .0 (cc))) }
-
--- An allowance that is too large.
-returns-4 : tie.Need-returns-4
-returns-4 c =
-    let past-mark = c .before in
-    let no-mark = unmarked (past-mark .before .holds-mark .ensures .is) (past-mark .if3 .left) in
-    record { is = sym (row-2-iff _ _ _ _ .1 (omega arith, (no-mark, omega arith))) }
-
--- A line that is too long.
-returns-5 : tie.Need-returns-5
-returns-5 c =
-    let past-mark = c .before .before in
-    let no-mark = unmarked (past-mark .before .holds-mark .ensures .is) (past-mark .if3 .left) in
-    record { is = sym (row-3-iff _ _ _ _ .1 (omega arith, (no-mark, omega arith))) }
+unfolding admitRows
+returns c = refused-early _ (c .before .before .within-limits .ensures) (ap verdictOf (c .enum-told2 .given .1))
 
 -- A line shorter than the ring.
-returns-6 : tie.Need-returns-6
-returns-6 c =
-    let past-mark = c .before .before .before in
-    let no-mark = unmarked (past-mark .before .holds-mark .ensures .is) (past-mark .if3 .left) in
-    record { is = sym (none-iff _ _ _ _ .1 (omega arith, (no-mark, omega arith))) }
+returns-2 : tie.Need-returns-2
+returns-2 c =
+    let told = c .before in
+    let within = within-limits _ _ _ (told .before .before .within-limits .ensures) (told .enum-told .given .1) in
+    record { is = sym (none-iff _ _ _ _ .1 (within .0, (within .1 .0, omega arith))) }
 
-add-if7 : tie.Need-add-if7
-add-if7 c = search needs
+add-if2 : tie.Need-add-if2
+add-if2 c =
+    let told = c .before in
+    let within = within-limits _ _ _ (told .before .before .within-limits .ensures) (told .enum-told .given .1) in
+    omega arith
 
-mul-if7 : tie.Need-mul-if7
-mul-if7 c = search needs
+mul-if2 : tie.Need-mul-if2
+mul-if2 c =
+    let told = c .before in
+    let within = within-limits _ _ _ (told .before .before .within-limits .ensures) (told .enum-told .given .1) in
+    omega arith
 
 -- Too little room.
-returns-7 : tie.Need-returns-7
-returns-7 c =
-    let past-mark = c .before .before .before .before in
-    let no-mark = unmarked (past-mark .before .holds-mark .ensures .is) (past-mark .if3 .left) in
-    record { is = sym (row-4-iff _ _ _ _ .1 (omega arith, (no-mark, omega arith))) }
+returns-3 : tie.Need-returns-3
+returns-3 c =
+    let told = c .before .before in
+    let within = within-limits _ _ _ (told .before .before .within-limits .ensures) (told .enum-told .given .1) in
+    record { is = sym (row-4-iff _ _ _ _ .1 (within .0, (within .1 .0, omega arith))) }
 
 -- Room enough.
-returns-8 : tie.Need-returns-8
-returns-8 c =
-    let past-mark = c .before .before .before .before in
-    let no-mark = unmarked (past-mark .before .holds-mark .ensures .is) (past-mark .if3 .left) in
-    record { is = sym (none-iff _ _ _ _ .1 (omega arith, (no-mark, omega arith))) }
+returns-4 : tie.Need-returns-4
+returns-4 c =
+    let told = c .before .before in
+    let within = within-limits _ _ _ (told .before .before .within-limits .ensures) (told .enum-told .given .1) in
+    record { is = sym (none-iff _ _ _ _ .1 (within .0, (within .1 .0, omega arith))) }
 
 pub admit-spec : {M : Type 1} → statement M
 admit-spec =
     tie.close
-    (tie.spec returns returns-2 holds-mark-requires returns-3 returns-4 returns-5 returns-6 add-if7 mul-if7 returns-7 returns-8)
+    (tie.spec
+    within-limits-requires
+    enum-told
+    enum-told-2
+    returns
+    returns-2
+    add-if2
+    mul-if2
+    returns-3
+    returns-4)

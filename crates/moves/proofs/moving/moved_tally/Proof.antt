@@ -51,8 +51,9 @@ use Rattle.answers.proofs.places.LinePlace.Laws as Place′
 use Rattle.moves.specs.declared.moving.Tally.{Tally}
 use Rattle.moves.specs.declared.moving.Moved.{Moved}
 use Rattle.moves.specs.declared.steps.Reached.{Reached}
+use Rattle.tally.specs.Windows.{parts, wholeLength}
 use Rattle.moves.specs.Moves.{CanMove, IsMovedOn}
-use Rattle.moves.proofs.WalkArguments.{placeVal, six-owned}
+use Rattle.moves.proofs.WalkArguments.{placeVal, seven-owned}
 use Rattle.moves.proofs.moving.Tally as T
 use Rattle.moves.proofs.moving.Tally.Laws as T′
 use Rattle.moves.proofs.steps.Reached as To
@@ -76,7 +77,10 @@ stayed = (
     stay-none-slice (0 ∷ []) tt (plain (λ _. u8)) yes,
     (
       stay-none-slice (1 ∷ []) tt (plain (λ _. u8)) yes,
-      (stay-none (λ _. Place.the-row) yes, (stay-none (λ _. usize) yes, (stay-none (λ _. usize) yes, tt))),
+      (
+        stay-none-slice (1 ∷ []) tt (plain (λ _. u8)) yes,
+        (stay-none (λ _. Place.the-row) yes, (stay-none (λ _. usize) yes, (stay-none (λ _. usize) yes, tt))),
+      ),
     ),
   ),
 )
@@ -86,15 +90,15 @@ abbrev Called : {M : Type 1} (𝓤 : URA M) (H : Heap 𝓤) (A : Atoms 𝓤) (me
 Called 𝓤 H A mem run = tripleOf 𝓤 H A callee.signature (callee.spec 𝓤 H A mem run)
 
 module _ {M : Type 1} (𝓤 : URA M) (H : Heap 𝓤) (A : Atoms 𝓤) (W : Given 𝓤 H A) (at-mem : Memory → SProp 𝓤) (run : Routine → Fun 𝓤)
-    (κ κ′ : Lft) (q q′ : Share) (tally : Tally) (ring line : RefT (List ℕ)) (start : LinePlace) (steps below : ℕ)
+    (κ κ′ : Lft) (q q′ : Share) (tally : Tally) (ring line area : RefT (List ℕ)) (start : LinePlace) (steps below : ℕ)
     (is-start : Is Place.the-row start (placeVal start ∷ [])) (steps-lt : steps < 2 ^ 64) (below-lt : below < 2 ^ 64) where
   abbrev R : RattleType
   R = T.the-row
 
-  abbrev args : Tally × (RefT (List ℕ) × (RefT (List ℕ) × (LinePlace × (ℕ × (ℕ × Unit {0})))))
-  args = (tally, (ring, (line, (start, (steps, (below, tt))))))
+  abbrev args : Tally × (RefT (List ℕ) × (RefT (List ℕ) × (RefT (List ℕ) × (LinePlace × (ℕ × (ℕ × Unit {0}))))))
+  args = (tally, (ring, (line, (area, (start, (steps, (below, tt)))))))
 
-  -- The machine values of the tally, of the ring and of the line.
+  -- The machine values of the tally, of the ring, of the line and of the join area.
   abbrev tallyVal : Val
   tallyVal = only (laws.vals T.the-type T′.the-laws tally)
 
@@ -104,8 +108,11 @@ module _ {M : Type 1} (𝓤 : URA M) (H : Heap 𝓤) (A : Atoms 𝓤) (W : Given
   abbrev lineVal : Val
   lineVal = sliceVal (line .ptr) (length (line .now))
 
-  abbrev vals : List Val × (List Val × (List Val × (List Val × (List Val × (List Val × Unit {0})))))
-  vals = (tallyVal ∷ [], (ringVal ∷ [], (lineVal ∷ [], (placeVal start ∷ [], (vint w64 steps ∷ [], (vint w64 below ∷ [], tt))))))
+  abbrev areaVal : Val
+  areaVal = sliceVal (area .ptr) (length (area .now))
+
+  abbrev vals : List Val × (List Val × (List Val × (List Val × (List Val × (List Val × (List Val × Unit {0}))))))
+  vals = (tallyVal ∷ [], (ringVal ∷ [], (lineVal ∷ [], (areaVal ∷ [], (placeVal start ∷ [], (vint w64 steps ∷ [], (vint w64 below ∷ [], tt)))))))
 
   abbrev OwnRing : Fml
   OwnRing = ShrSlice (named 0) κ u8 .own ring (ringVal ∷ [])
@@ -113,7 +120,10 @@ module _ {M : Type 1} (𝓤 : URA M) (H : Heap 𝓤) (A : Atoms 𝓤) (W : Given
   abbrev OwnLine : Fml
   OwnLine = ShrSlice (named 1) κ′ u8 .own line (lineVal ∷ [])
 
-  -- The tokens of the ring's and the line's lifetimes.
+  abbrev OwnArea : Fml
+  OwnArea = ShrSlice (named 1) κ′ u8 .own area (areaVal ∷ [])
+
+  -- The tokens of two lifetimes: the ring's, and the one that the line and the join area share.
   abbrev Tokens : Item 𝓤
   Tokens = ‵ (flft κ q) ⊛ (‵ (flft κ′ q′) ⊛ ‵ ftrue)
 
@@ -134,25 +144,28 @@ module _ {M : Type 1} (𝓤 : URA M) (H : Heap 𝓤) (A : Atoms 𝓤) (W : Given
       (ν ∷ [], (κ, (κ′, tt))),
       (fullShare, (q, (q′, tt))),
       tt,
-      (lent l δ, (ring, (line, (start, (steps, (below, tt)))))),
-      (vptr l 0 ∷ [], (ringVal ∷ [], (lineVal ∷ [], (placeVal start ∷ [], (vint w64 steps ∷ [], (vint w64 below ∷ [], tt)))))),
+      (lent l δ, (ring, (line, (area, (start, (steps, (below, tt))))))),
+      (vptr l 0 ∷ [], (ringVal ∷ [], (lineVal ∷ [], (areaVal ∷ [], (placeVal start ∷ [], (vint w64 steps ∷ [], (vint w64 below ∷ [], tt))))))),
     ),
     tt,
   )
 
+  -- What the callee requires, which is also what this function requires.
+  abbrev Asked : Type 0
+  Asked = CanMove (length (ring .now)) (length (tally .counts)) (wholeLength (length (ring .now)) (line .now) (area .now)) (start .0) steps
+
   -- What the walk owns before the call; `goes`: this is the callee's precondition.
   abbrev had : ℕ → ℕ → GName → List (Item 𝓤)
-  had l ν δ = (‵ (flft (ν ∷ []) fullShare) ⊛ Tokens) ∷ ‵ (Lent l ν δ) ∷ (‵ OwnRing ⊛ ‵ OwnLine) ∷ []
+  had l ν δ = (‵ (flft (ν ∷ []) fullShare) ⊛ Tokens) ∷ ‵ (Lent l ν δ) ∷ (‵ OwnRing ⊛ (‵ OwnLine ⊛ ‵ OwnArea)) ∷ []
 
-  goes : (l ν : ℕ) (δ : GName) → CanMove (length (ring .now)) (length (tally .counts)) (length (line .now)) (start .0) steps
-      → ent 𝓤 (⋆ 𝓤 H A (had l ν δ)) (Called 𝓤 H A at-mem run .pre (to-callee l ν δ))
+  goes : (l ν : ℕ) (δ : GName) → Asked → ent 𝓤 (⋆ 𝓤 H A (had l ν δ)) (Called 𝓤 H A at-mem run .pre (to-callee l ν δ))
   goes l ν δ can =
       qed W (had l ν δ) ∵
-      says ! can $ frame ! $ six-owned ! start steps below is-start steps-lt below-lt $ done !
+      says ! can $ frame ! $ seven-owned ! start steps below is-start steps-lt below-lt $ done !
 
   -- What the callee ensures.
   abbrev Said : Reached → Tally → Type 0
-  Said r after = IsMovedOn (ring .now) (line .now) (start .0) steps below (tally .counts) (after .counts) r
+  Said r after = IsMovedOn (ring .now) (parts (line .now) (area .now)) (start .0) steps below (tally .counts) (after .counts) r
 
   abbrev made : Reached → Tally → Moved
   made r after = record { tally = after; reached = r }
@@ -163,83 +176,86 @@ module _ {M : Type 1} (𝓤 : URA M) (H : Heap 𝓤) (A : Atoms 𝓤) (W : Given
 
   -- What the walk owns at exit; `exits`: this is the function's postcondition.
   abbrev left : Reached → Tally → Val → List (Item 𝓤)
-  left r after w = ‵ (Out.the-row .own (made r after) (w ∷ [])) ∷ Tokens ∷ ‵ OwnLine ∷ ‵ OwnRing ∷ ‵ (R .own tally (tallyVal ∷ [])) ∷ []
+  left r after w = ‵ (Out.the-row .own (made r after) (w ∷ [])) ∷ Tokens ∷ ‵ OwnArea ∷ ‵ OwnLine ∷ ‵ OwnRing ∷ ‵ (R .own tally (tallyVal ∷ [])) ∷ []
 
   exits : (r : Reached) (after : Tally) (w : Val) → Said r after → ent 𝓤 (⋆ 𝓤 H A (left r after w)) (Post w)
   exits r after w e =
       qed W (left r after w) ∵
       suffices ! _
       (ends-at 𝓤 H A this.ended stayed (this.clauses 𝓤 H A at-mem run) W (((κ, (κ′, tt)), (q, (q′, tt)), tt, args, vals), tt) w (made r after)
-      (tt, (tt, (tt, (tt, (tt, (tt, tt)))))) (tt, (tt, (tt, (tt, (tt, (tt, tt)))))))
+      (tt, (tt, (tt, (tt, (tt, (tt, (tt, tt))))))) (tt, (tt, (tt, (tt, (tt, (tt, (tt, tt))))))))
       $ says ! e $
-      move ! (1 ∷ []) $ frame ! $ move ! (2 ∷ 1 ∷ []) $ join ! $ move ! (2 ∷ 0 ∷ []) $ six-owned ! start steps below is-start steps-lt below-lt $ frame ! $ done !
+      move ! (1 ∷ []) $ frame ! $ move ! (2 ∷ 1 ∷ []) $ join ! $ move ! (2 ∷ 0 ∷ []) $ join ! $ move ! (2 ∷ 0 ∷ []) $ seven-owned ! start steps below is-start steps-lt below-lt $ frame ! $ done !
 
   module _ (C : Calls 𝓤 H) (Λ : Loops 𝓤 H) (fm : FmC 𝓤 H (W .laws) C) (known : Triple 𝓤 (C #move-tally) (Called 𝓤 H A at-mem run)) where
     walk : Is R tally (tallyVal ∷ []) → Holds (hasTy T′.mir tallyVal) × WT tallyVal → Is (ShrSlice (named 0) κ u8) ring (ringVal ∷ [])
-        → Is (ShrSlice (named 1) κ′ u8) line (lineVal ∷ []) → CanMove (length (ring .now)) (length (tally .counts)) (length (line .now)) (start .0) steps
+        → Is (ShrSlice (named 1) κ′ u8) line (lineVal ∷ []) → Is (ShrSlice (named 1) κ′ u8) area (areaVal ∷ []) → Asked
         → ent 𝓤 (onEntry 𝓤 H A this.signature (κ, (κ′, tt)) (q, (q′, tt)) args vals)
-        (WpFn 𝓤 H C Λ code.function (tallyVal ∷ ringVal ∷ lineVal ∷ placeVal start ∷ vint w64 steps ∷ vint w64 below ∷ []) Post)
-    walk is-tally typed is-ring is-line can =
+        (WpFn 𝓤 H C Λ code.function (tallyVal ∷ ringVal ∷ lineVal ∷ areaVal ∷ placeVal start ∷ vint w64 steps ∷ vint w64 below ∷ []) Post)
+    walk is-tally typed is-ring is-line is-area can =
         qed W (Tokens
-        ∷ ‵ (owns (R ∷ ShrSlice (named 0) κ u8 ∷ ShrSlice (named 1) κ′ u8 ∷ Place.the-row ∷ usize ∷ usize ∷ []) args vals) ∷ []) ∵
-        enter ! C Λ code.function (tallyVal ∷ ringVal ∷ lineVal ∷ placeVal start ∷ vint w64 steps ∷ vint w64 below ∷ []) _ $
+        ∷ ‵ (owns (R ∷ ShrSlice (named 0) κ u8 ∷ ShrSlice (named 1) κ′ u8 ∷ ShrSlice (named 1) κ′ u8 ∷ Place.the-row ∷ usize ∷ usize ∷ []) args vals) ∷ []) ∵
+        enter ! C Λ code.function (tallyVal ∷ ringVal ∷ lineVal ∷ areaVal ∷ placeVal start ∷ vint w64 steps ∷ vint w64 below ∷ []) _ $
         alloc1 ! (λ l₀. alloc1 ! (λ l₁. alloc1 ! (λ l₂. alloc1 ! (λ l₃. alloc1 ! (λ l₄. alloc1 ! (λ l₅. alloc1 ! (λ l₆. alloc1 ! (λ l₇. alloc1 ! (λ l₈. alloc1 ! (λ l₉.
-        alloc1 ! (λ l₁₀. alloc0 ! $ params1 ! $
-        pass1 ! (init ! 18 refl typed) $
-        pass1 ! (init ! 16 refl (shr-slice-lawful 𝓤 H A W (named 0) κ u8 .typed ring (ringVal ∷ []) is-ring .0)) $
-        pass1 ! (init ! 14 refl (shr-slice-lawful 𝓤 H A W (named 1) κ′ u8 .typed line (lineVal ∷ []) is-line .0)) $
+        alloc1 ! (λ l₁₀. alloc1 ! (λ l₁₁. alloc0 ! $ params1 ! $
+        pass1 ! (init ! 20 refl typed) $
+        pass1 ! (init ! 18 refl (shr-slice-lawful 𝓤 H A W (named 0) κ u8 .typed ring (ringVal ∷ []) is-ring .0)) $
+        pass1 ! (init ! 16 refl (shr-slice-lawful 𝓤 H A W (named 1) κ′ u8 .typed line (lineVal ∷ []) is-line .0)) $
+        pass1 ! (init ! 14 refl (shr-slice-lawful 𝓤 H A W (named 1) κ′ u8 .typed area (areaVal ∷ []) is-area .0)) $
         pass1 ! (init ! 12 refl (laws.lawful Place.the-type Place′.the-laws 𝓤 H A W .typed start _ is-start .0)) $ pass1 ! (init ! 10 refl (tt, record { fits = steps-lt })) $
         pass1 ! (init ! 8 refl (tt, record { fits = below-lt })) $ pass0 ! $
         -- split the parameters, copy the slices
-        move ! (23 ∷ []) $ fsplit ! $ move ! (1 ∷ []) $ fsplit ! $
+        move ! (25 ∷ []) $ fsplit ! $ move ! (1 ∷ []) $ fsplit ! $
         use1 W (‵ OwnRing ⊛ ‵ OwnRing) (shr-slice-copy 𝓤 H A W (named 0) κ u8 .twice ring (ringVal ∷ [])) $ split ! $
         move ! (2 ∷ []) $ fsplit ! $ use1 W (‵ OwnLine ⊛ ‵ OwnLine) (shr-slice-copy 𝓤 H A W (named 1) κ′ u8 .twice line (lineVal ∷ [])) $ split ! $
-        -- [the line; the line; what is left; the ring; the ring; what the tally owns; _10; …; _9; …; _8; …; _7; …; … _1; …; room for _0; …; the tokens]
-        assigns ! (of-opd ! (load ! (from ! (stop !)) (look ! 24 refl))) (from ! (stop !)) (init ! 12 refl typed) $
-        assigns ! (addr ! (from ! (stop !))) (from ! (stop !)) (init ! 8 refl (tt, tt)) $
+        move ! (2 ∷ []) $ fsplit ! $ use1 W (‵ OwnArea ⊛ ‵ OwnArea) (shr-slice-copy 𝓤 H A W (named 1) κ′ u8 .twice area (areaVal ∷ [])) $ split ! $
+        -- [the join area; the join area; what is left; the line; the line; the ring; the ring; what the tally owns; _11; …; _10; …; _9; …; _8; …; … _1; …; room for _0; …; the tokens]
+        assigns ! (of-opd ! (load ! (from ! (stop !)) (look ! 28 refl))) (from ! (stop !)) (init ! 14 refl typed) $
+        assigns ! (addr ! (from ! (stop !))) (from ! (stop !)) (init ! 10 refl (tt, tt)) $
         -- lend the local for a lifetime ν of the call
-        move ! (12 ∷ []) $ owned ! R (Is R) (laws.makes T.the-type T′.the-plain 𝓤 H A) tally _ is-tally $ move ! (1 ∷ 0 ∷ []) $
-        use2 W (‵ (mem R .lies tally l₇ 0)) (part-in-at 𝓤 H A W R refl fullShare tally l₇ 0 T′.mir refl tallyVal) $
+        move ! (14 ∷ []) $ owned ! R (Is R) (laws.makes T.the-type T′.the-plain 𝓤 H A) tally _ is-tally $ move ! (1 ∷ 0 ∷ []) $
+        use2 W (‵ (mem R .lies tally l₈ 0)) (part-in-at 𝓤 H A W R refl fullShare tally l₈ 0 T′.mir refl tallyVal) $
         lft-new ! tt (λ ν. move ! (1 ∷ []) $
-        use1 W (later (some (λ (δ : GName). ‵ (Lent l₇ ν δ) ⊛ ‵ (flent (ν ∷ []) (Body (mem R) l₇ 0 δ)))))
-        (lends-ref 𝓤 H A W R (named 0) (ν ∷ []) tally l₇ 0) $ await ! tt $ pick ! (λ δ. split ! $
-        -- [the reference; the lender's part; the token ν; the line; the line; what is left; the ring; the ring; what the tally owns; _10; …; … of _7; …; the tokens]
-        move ! (2 ∷ 30 ∷ []) $ join ! $ move ! (6 ∷ 3 ∷ []) $ join ! $ move ! (1 ∷ 2 ∷ 0 ∷ []) $
-        use3 W (raw (Called 𝓤 H A at-mem run .pre (to-callee l₇ ν δ))) (goes l₇ ν δ can) $
-        -- [the callee's precondition; the lender's part; the line; what is left; the ring; what the tally owns; _10; …]
-        calls-at ! fm (Called 𝓤 H A at-mem run) known (to-callee l₇ ν δ)
-        (and-then ! (load ! (from ! (stop !)) (look ! 8 refl)) (and-then ! (load ! (from ! (stop !)) (look ! 21 refl))
-        (and-then ! (load ! (from ! (stop !)) (look ! 19 refl)) (and-then ! (load ! (from ! (stop !)) (look ! 17 refl))
-        (and-then ! (load ! (from ! (stop !)) (look ! 15 refl)) (and-then ! (load ! (from ! (stop !)) (look ! 13 refl)) (no-more !))))))) (λ w.
+        use1 W (later (some (λ (δ : GName). ‵ (Lent l₈ ν δ) ⊛ ‵ (flent (ν ∷ []) (Body (mem R) l₈ 0 δ)))))
+        (lends-ref 𝓤 H A W R (named 0) (ν ∷ []) tally l₈ 0) $ await ! tt $ pick ! (λ δ. split ! $
+        -- [the reference; the lender's part; the token ν; the join area; the join area; what is left; the line; the line; the ring; the ring; what the tally owns; _11; …; … of _8; …; the tokens]
+        move ! (2 ∷ 34 ∷ []) $ join ! $ move ! (6 ∷ 3 ∷ []) $ join ! $ move ! (7 ∷ 0 ∷ []) $ join ! $ move ! (1 ∷ 2 ∷ 0 ∷ []) $
+        use3 W (raw (Called 𝓤 H A at-mem run .pre (to-callee l₈ ν δ))) (goes l₈ ν δ can) $
+        -- [the callee's precondition; the lender's part; the join area; what is left; the line; the ring; what the tally owns; _11; …]
+        calls-at ! fm (Called 𝓤 H A at-mem run) known (to-callee l₈ ν δ)
+        (and-then ! (load ! (from ! (stop !)) (look ! 9 refl)) (and-then ! (load ! (from ! (stop !)) (look ! 24 refl))
+        (and-then ! (load ! (from ! (stop !)) (look ! 22 refl)) (and-then ! (load ! (from ! (stop !)) (look ! 20 refl))
+        (and-then ! (load ! (from ! (stop !)) (look ! 18 refl)) (and-then ! (load ! (from ! (stop !)) (look ! 16 refl))
+        (and-then ! (load ! (from ! (stop !)) (look ! 14 refl)) (no-more !)))))))) (λ w.
         use1 W (later (some (λ (r : Reached). ((‵ (flft (ν ∷ []) fullShare) ⊛ Tokens) ⊛ ‵ (To.the-row .own r (w ∷ [])))
-        ⊛ raw (ensured 𝓤 H A callee.ended (callee.clauses 𝓤 H A at-mem run) (ν ∷ [], (κ, (κ′, tt))) (lent l₇ δ, (ring, (line, (start, (steps, (below, tt)))))) tt r)))) (id⊢ 𝓤 _) $
+        ⊛ raw (ensured 𝓤 H A callee.ended (callee.clauses 𝓤 H A at-mem run) (ν ∷ [], (κ, (κ′, tt))) (lent l₈ δ, (ring, (line, (area, (start, (steps, (below, tt))))))) tt r)))) (id⊢ 𝓤 _) $
         await ! tt $ pick ! (λ r. split ! $ move ! (1 ∷ []) $
-        use1 W (some (λ (ends : Tally × (Unit {0} × (Unit {0} × (Unit {0} × (Unit {0} × (Unit {0} × Unit {0})))))).
-        ‵ (lasts callee.ended (ν ∷ [], (κ, (κ′, tt))) (lent l₇ δ, (ring, (line, (start, (steps, (below, tt)))))) ends) ⊛ raw (fact 𝓤 (Said r (ends .0))))) (id⊢ 𝓤 _) $ pick ! (λ ends.
+        use1 W (some (λ (ends : Tally × (Unit {0} × (Unit {0} × (Unit {0} × (Unit {0} × (Unit {0} × (Unit {0} × Unit {0}))))))).
+        ‵ (lasts callee.ended (ν ∷ [], (κ, (κ′, tt))) (lent l₈ δ, (ring, (line, (area, (start, (steps, (below, tt))))))) ends) ⊛ raw (fact 𝓤 (Said r (ends .0))))) (id⊢ 𝓤 _) $ pick ! (λ ends.
         split ! $ move ! (1 ∷ []) $ heard ! (Said r (ends .0)) (λ e. fsplit ! $
         move ! (2 ∷ []) $ split ! $ move ! (1 ∷ []) $ peeks ! To.the-row (Is To.the-row) (shows 𝓤 H A To.the-row) r (w ∷ []) (λ is.
-        -- [the result; the tokens; the last tally; true; the lender's part; the line; what is left; the ring; what the tally owns; _10; …]
-        land ! (from ! (stop !)) (init ! 13 refl (laws.lawful To.the-type To′.the-laws 𝓤 H A W .typed r _ is .0)) $
+        -- [the result; the tokens; the last tally; true; the lender's part; the join area; what is left; the line; the ring; what the tally owns; _11; …]
+        land ! (from ! (stop !)) (init ! 14 refl (laws.lawful To.the-type To′.the-laws 𝓤 H A W .typed r _ is .0)) $
         -- end the lifetime, take the local back
         move ! (1 ∷ []) $ split ! $ lft-end ! tt $ move ! (0 ∷ 5 ∷ 3 ∷ []) $
-        use3 W (later (‵ (mem R .lies (ends .0) l₇ 0))) (ref-back 𝓤 H A W R (ν ∷ []) δ (ends .0) l₇ 0) $ await ! tt $
-        use1 W (some (λ (u : Val). ‵ (fat fullShare T′.mir l₇ 0 u) ⊛ ‵ (R .own (ends .0) (u ∷ [])))) (part-out-at 𝓤 H A W R refl fullShare (ends .0) l₇ 0 T′.mir refl) $
+        use3 W (later (‵ (mem R .lies (ends .0) l₈ 0))) (ref-back 𝓤 H A W R (ν ∷ []) δ (ends .0) l₈ 0) $ await ! tt $
+        use1 W (some (λ (u : Val). ‵ (fat fullShare T′.mir l₈ 0 u) ⊛ ‵ (R .own (ends .0) (u ∷ [])))) (part-out-at 𝓤 H A W R refl fullShare (ends .0) l₈ 0 T′.mir refl) $
         pick ! (λ u. split ! $ move ! (1 ∷ []) $ peeks ! R (Is R) (shows 𝓤 H A R) (ends .0) (u ∷ []) (λ is′.
-        -- [what the last tally owns; _7's cell; the tokens; the result; true; the line; what is left; the ring; what the tally owns; _10; …]
-        assigns ! (of-opd ! (load ! (from ! (stop !)) (look ! 1 refl))) (from ! (stop !)) (init ! 9 refl (laws.lawful T.the-type T′.the-laws 𝓤 H A W .typed (ends .0) _ is′ .0)) $
+        -- [what the last tally owns; _8's cell; the tokens; the result; true; the join area; what is left; the line; the ring; what the tally owns; _11; …]
+        assigns ! (of-opd ! (load ! (from ! (stop !)) (look ! 1 refl))) (from ! (stop !)) (init ! 10 refl (laws.lawful T.the-type T′.the-laws 𝓤 H A W .typed (ends .0) _ is′ .0)) $
         nothing ! $ move ! (4 ∷ 0 ∷ []) $ fjoin ! $ move ! (1 ∷ 0 ∷ []) $ fjoin ! $ move ! (3 ∷ []) $ drop ! $
         use1 W (‵ (Out.the-row .own (made r (ends .0)) (vstruct (vcons u (vcons w vnil)) ∷ [])))
         (makes 𝓤 H A W (T.the-field .row ∷ To.the-field .row ∷ []) (fields r (ends .0)) (u ∷ [], (w ∷ [], tt))) $
         peeks ! Out.the-row (Is Out.the-row) (shows 𝓤 H A Out.the-row) (made r (ends .0)) (vstruct (vcons u (vcons w vnil)) ∷ []) (λ is″.
-        -- [what the result owns; _7's cell; the tokens; the line; what is left; the ring; what the tally owns; _10; …; _9; …; _8; …; … of _7; _6; …; _1; …; room for _0; …]
-        assigns ! (agg ! (and-then ! (load ! (from ! (stop !)) (look ! 7 refl)) (and-then ! (load ! (from ! (stop !)) (look ! 11 refl)) (no-more !)))) (from ! (stop !))
-        (init ! 26 refl (laws.lawful Out.the-type Out′.the-laws 𝓤 H A W .typed (made r (ends .0)) _ is″ .0)) $
-        returns ! (look ! 26 refl) $ forget ! 1 refl $ forget ! 7 refl $ forget ! 9 refl $ forget ! 11 refl $ forget ! 14 refl $ forget ! 16 refl $ forget ! 18 refl $ forget ! 20 refl $
-        forget ! 22 refl $ forget ! 24 refl $ forget ! 26 refl $
-        move ! (26 ∷ 27 ∷ []) $ free1 ! $ move ! (24 ∷ 25 ∷ []) $ free1 ! $ move ! (22 ∷ 23 ∷ []) $ free1 ! $ move ! (20 ∷ 21 ∷ []) $ free1 ! $ move ! (18 ∷ 19 ∷ []) $ free1 ! $
-        move ! (16 ∷ 17 ∷ []) $ free1 ! $ move ! (14 ∷ 15 ∷ []) $ free1 ! $ move ! (1 ∷ 13 ∷ []) $ free1 ! $ move ! (10 ∷ 11 ∷ []) $ free1 ! $ move ! (8 ∷ 9 ∷ []) $ free1 ! $
-        move ! (6 ∷ 7 ∷ []) $ free1 ! $ free0 ! $
-        keep ! (0 ∷ 1 ∷ 2 ∷ 4 ∷ 5 ∷ []) $ by ! (exits r (ends .0) _ e))))))))))))))))))))))
+        -- [what the result owns; _8's cell; the tokens; the join area; what is left; the line; the ring; what the tally owns; _11; …; _10; …; _9; …; … of _8; _7; …; _1; …; room for _0; …]
+        assigns ! (agg ! (and-then ! (load ! (from ! (stop !)) (look ! 8 refl)) (and-then ! (load ! (from ! (stop !)) (look ! 12 refl)) (no-more !)))) (from ! (stop !))
+        (init ! 29 refl (laws.lawful Out.the-type Out′.the-laws 𝓤 H A W .typed (made r (ends .0)) _ is″ .0)) $
+        returns ! (look ! 29 refl) $ forget ! 1 refl $ forget ! 8 refl $ forget ! 10 refl $ forget ! 12 refl $ forget ! 15 refl $ forget ! 17 refl $ forget ! 19 refl $ forget ! 21 refl $
+        forget ! 23 refl $ forget ! 25 refl $ forget ! 27 refl $ forget ! 29 refl $
+        move ! (29 ∷ 30 ∷ []) $ free1 ! $ move ! (27 ∷ 28 ∷ []) $ free1 ! $ move ! (25 ∷ 26 ∷ []) $ free1 ! $ move ! (23 ∷ 24 ∷ []) $ free1 ! $ move ! (21 ∷ 22 ∷ []) $ free1 ! $
+        move ! (19 ∷ 20 ∷ []) $ free1 ! $ move ! (17 ∷ 18 ∷ []) $ free1 ! $ move ! (15 ∷ 16 ∷ []) $ free1 ! $ move ! (1 ∷ 14 ∷ []) $ free1 ! $ move ! (11 ∷ 12 ∷ []) $ free1 ! $
+        move ! (9 ∷ 10 ∷ []) $ free1 ! $ move ! (7 ∷ 8 ∷ []) $ free1 ! $ free0 ! $
+        keep ! (0 ∷ 1 ∷ 2 ∷ 4 ∷ 5 ∷ 6 ∷ []) $ by ! (exits r (ends .0) _ e)))))))))))))))))))))))
 
 module _ {M : Type 1} (𝓤 : URA M) (H : Heap 𝓤) (A : Atoms 𝓤) (W : Given 𝓤 H A) (mem : Memory → SProp 𝓤) (run : Routine → Fun 𝓤) where
   -- The walk, for every choice of lifetimes, shares and arguments.
@@ -247,18 +263,22 @@ module _ {M : Type 1} (𝓤 : URA M) (H : Heap 𝓤) (A : Atoms 𝓤) (W : Given
       → Walks 𝓤 H A this.ended stayed (WpFn 𝓤 H C Λ code.function) (this.clauses 𝓤 H A mem run)
   walks C Λ fm known =
       walked 𝓤 H A this.ended stayed (this.clauses 𝓤 H A mem run) (WpFn 𝓤 H C Λ code.function)
-      (λ κs. (laws.vals T.the-type T′.the-laws, (slice-vals, (slice-vals, (laws.vals Place.the-type Place′.the-laws, (uint-vals w64, (uint-vals w64, tt)))))))
+      (λ κs. (laws.vals T.the-type T′.the-laws, (slice-vals, (slice-vals, (slice-vals, (laws.vals Place.the-type Place′.the-laws, (uint-vals w64, (uint-vals w64, tt))))))))
       (λ κs. (
         laws.tells T.the-type T′.the-laws,
         (
           shr-slice-tells (named 0) (κs .0) u8,
-          (shr-slice-tells (named 1) (κs .1 .0) u8, (laws.tells Place.the-type Place′.the-laws, (uint-tells w64, (uint-tells w64, tt)))),
+          (
+            shr-slice-tells (named 1) (κs .1 .0) u8,
+            (shr-slice-tells (named 1) (κs .1 .0) u8, (laws.tells Place.the-type Place′.the-laws, (uint-tells w64, (uint-tells w64, tt)))),
+          ),
         ),
       ))
-      (λ κs qs bounds a g are. needs 𝓤 (CanMove (length (a .1 .0 .now)) (length (a .0 .counts)) (length (a .1 .1 .0 .now)) (a .1 .1 .1 .0 .0) (a .1 .1 .1 .1 .0)) _
-      (walk 𝓤 H A W mem run (κs .0) (κs .1 .0) (qs .0) (qs .1 .0) (a .0) (a .1 .0) (a .1 .1 .0) (a .1 .1 .1 .0) (a .1 .1 .1 .1 .0) (a .1 .1 .1 .1 .1 .0)
-      (are .1 .1 .1 .0) (are .1 .1 .1 .1 .0 .1) (are .1 .1 .1 .1 .1 .0 .1) C Λ fm known
-      (are .0) (laws.lawful T.the-type T′.the-laws 𝓤 H A W .typed (a .0) _ (are .0) .0) (are .1 .0) (are .1 .1 .0)))
+      (λ κs qs bounds a g are. needs 𝓤 (CanMove (length (a .1 .0 .now)) (length (a .0 .counts))
+      (wholeLength (length (a .1 .0 .now)) (a .1 .1 .0 .now) (a .1 .1 .1 .0 .now)) (a .1 .1 .1 .1 .0 .0) (a .1 .1 .1 .1 .1 .0)) _
+      (walk 𝓤 H A W mem run (κs .0) (κs .1 .0) (qs .0) (qs .1 .0) (a .0) (a .1 .0) (a .1 .1 .0) (a .1 .1 .1 .0) (a .1 .1 .1 .1 .0) (a .1 .1 .1 .1 .1 .0) (a .1 .1 .1 .1 .1 .1 .0)
+      (are .1 .1 .1 .1 .0) (are .1 .1 .1 .1 .1 .0 .1) (are .1 .1 .1 .1 .1 .1 .0 .1) C Λ fm known
+      (are .0) (laws.lawful T.the-type T′.the-laws 𝓤 H A W .typed (a .0) _ (are .0) .0) (are .1 .0) (are .1 .1 .0) (are .1 .1 .1 .0)))
 
 -- From the walk to the contract.
 meets : {M : Type 1} (𝓤 : URA M) (H : Heap 𝓤) (A : Atoms 𝓤) → Given 𝓤 H A → (mem : Memory → SProp 𝓤) (run : Routine → Fun 𝓤) (𝓣 : Tables 𝓤 H)
@@ -271,8 +291,11 @@ meets 𝓤 H A W mem run 𝓣 known =
         (
           goes-none-slice 𝓤 H A W 2 (1 ∷ []) tt (plain (λ _. u8)) yes,
           (
-            goes-none 𝓤 H A W 2 (λ _. Place.the-row) yes (λ κs x f. refl),
-            (goes-none 𝓤 H A W 2 (λ _. usize) yes (λ κs x f. refl), (goes-none 𝓤 H A W 2 (λ _. usize) yes (λ κs x f. refl), tt)),
+            goes-none-slice 𝓤 H A W 2 (1 ∷ []) tt (plain (λ _. u8)) yes,
+            (
+              goes-none 𝓤 H A W 2 (λ _. Place.the-row) yes (λ κs x f. refl),
+              (goes-none 𝓤 H A W 2 (λ _. usize) yes (λ κs x f. refl), (goes-none 𝓤 H A W 2 (λ _. usize) yes (λ κs x f. refl), tt)),
+            ),
           ),
         ),
       ),

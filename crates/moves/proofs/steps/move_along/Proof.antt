@@ -2,22 +2,23 @@
 use Prim.Native.Nat.{_-_}
 use borrow.Author.Needs.{needs}
 use native.Mathlib.Omega.{arith}
+use Rattle.tally.specs.Windows.{parts}
 use Rattle.tally.proofs.WindowEdges.{fitting-length}
 use Rattle.moves.proofs.MoveLoop.{Moving, moving-start, moving-has-counts, moving-turn, moving-stops, moving-end}
 use Rattle.moves.proofs.steps.move_along.Statement.{statement}
 use Rattle.moves.proofs.steps.move_along.Tie as tie
 
 abbrev Inv-loop : tie.InvT-loop
-Inv-loop counts₀ ring line steps below m least₀ looks₀ past₀ end i₀ counts least looks past i = Moving ring line i₀ steps below counts₀ counts least looks past i
+Inv-loop counts₀ ring line join steps below m least₀ looks₀ past₀ end i₀ counts least looks past i = Moving ring (parts line join) i₀ steps below counts₀ counts least looks past i
 
 abbrev μ-loop : tie.MeasureT-loop
-μ-loop counts₀ ring line steps below m least₀ looks₀ past₀ end i₀ counts least looks past i = end - i
+μ-loop counts₀ ring line join steps below m least₀ looks₀ past₀ end i₀ counts least looks past i = end - i
 
 add-end : tie.Need-add-end Inv-loop μ-loop
 add-end c = search needs
 
 loop-holds : tie.Need-loop-holds Inv-loop μ-loop
-loop-holds c = moving-start _ _ _ _ _ _ (c .before .before .before .pre)
+loop-holds c = moving-start _ _ _ _ _ _ (c .before .before .before .before .pre)
 
 window-requires : tie.Need-window-requires Inv-loop μ-loop
 window-requires c κs = search needs
@@ -34,22 +35,22 @@ sub-entering c = search needs
 shared-slice-read-entering : tie.Need-shared-slice-read-entering Inv-loop μ-loop
 shared-slice-read-entering c =
     let next = c .before in
-    omega (arith, fitting-length {ring = next .before .before .before .before .before .before .before .args .ring .now} (next .window2 .ensures) (omega arith))
+    omega (arith, fitting-length {ring = next .before .before .before .before .before .before .before .before .args .ring .now} (next .before .before .before .before .before .before .before .before .pre .has-counts .some-edge) (next .window2 .ensures) (omega arith))
 
 shared-slice-read-step : tie.Need-shared-slice-read-step Inv-loop μ-loop
 shared-slice-read-step c =
     let here = c .before .before .before .before in
-    omega (arith, fitting-length {ring = here .before .before .before .before .before .before .args .ring .now} (here .window .ensures) (omega arith))
+    omega (arith, fitting-length {ring = here .before .before .before .before .before .before .before .args .ring .now} (here .before .before .before .before .before .before .before .pre .has-counts .some-edge) (here .window .ensures) (omega arith))
 
 step-requires : tie.Need-step-requires Inv-loop μ-loop
 step-requires c κs =
     let at-loop = c .before .before .before .before .before .before in
-    moving-has-counts _ _ _ _ _ _ (at-loop .before .before .before .before .pre) _ _ _ _ _ (at-loop .loop .inv)
+    moving-has-counts _ _ _ _ _ _ (at-loop .before .before .before .before .before .pre) _ _ _ _ _ (at-loop .loop .inv)
 
 add-looks : tie.Need-add-looks Inv-loop μ-loop
 add-looks c =
     let here = c .before .before .before .before .before .before in
-    omega (arith, here .before .before .loop .inv .looks-le, c .before .step .ensures .looks-are, here .before .before .before .before .before .before .pre .has-counts .most)
+    omega (arith, here .before .before .loop .inv .looks-le, c .before .step .ensures .looks-are, here .before .before .before .before .before .before .before .pre .has-counts .most)
 
 add-i : tie.Need-add-i Inv-loop μ-loop
 add-i c = search needs
@@ -67,7 +68,7 @@ returns c =
     let next = stepped .before .before .before .before in
     let here = next .before in
     let at-loop = here .before .before in
-    moving-stops _ _ _ _ _ _ (at-loop .before .before .before .before .pre) _ _ _ _ _ (at-loop .loop .inv) (here .before .loop-test .taken)
+    moving-stops _ _ _ _ _ _ (at-loop .before .before .before .before .before .pre) _ _ _ _ _ (at-loop .loop .inv) (here .before .loop-test .taken)
     _ _ _ _ (here .window .ensures) (next .window2 .ensures) (stepped .step .ensures) (c .before .past-mark .ensures) (c .if1 .taken)
 
 loop-less : tie.Need-loop-less Inv-loop μ-loop
@@ -79,12 +80,12 @@ loop-again c =
     let next = stepped .before .before .before .before in
     let here = next .before in
     let at-loop = here .before .before in
-    moving-turn _ _ _ _ _ _ (at-loop .before .before .before .before .pre) _ _ _ _ _ (at-loop .loop .inv) (here .before .loop-test .taken)
+    moving-turn _ _ _ _ _ _ (at-loop .before .before .before .before .before .pre) _ _ _ _ _ (at-loop .loop .inv) (here .before .loop-test .taken)
     _ _ _ _ (here .window .ensures) (next .window2 .ensures) (stepped .step .ensures) (c .before .past-mark .ensures) (c .if1 .left)
 
 -- All steps are taken.
 returns-2 : tie.Need-returns-2 Inv-loop μ-loop
-returns-2 c = moving-end _ _ _ _ _ _ (c .before .before .before .before .before .pre) _ _ _ _ _ (c .before .loop .inv) (c .loop-test .left)
+returns-2 c = moving-end _ _ _ _ _ _ (c .before .before .before .before .before .before .pre) _ _ _ _ _ (c .before .loop .inv) (c .loop-test .left)
 
 pub move-along-spec : {M : Type 1} → statement M
 move-along-spec =

@@ -1,10 +1,12 @@
 -- `outlines::quick::scan` meets its contract: a row is given and the call is refused, or the line is scanned with an empty book (`empty-book-searched`). These are the
 -- two ways in which a search meets its contract (`SearchAnswers` of crates/findings).
-use mathlib.Core.Path.{sym, ap, _∙_}
+use mathlib.Core.Path.{refl, sym, ap, _∙_}
 use borrow.Author.Needs.{needs}
+use Rattle.tally.proofs.LentParts.{open-lent}
 use Rattle.findings.specs.Admitting.{verdictOf}
 use Rattle.findings.proofs.AdmitRows.{no-row-iff}
 use Rattle.findings.proofs.SearchAnswers.{refused-search, accepted-search}
+use Rattle.outlines.proofs.LentScan.{can-scan-line, searched-scanned}
 use Rattle.outlines.proofs.EmptyBookIsScan.{empty-book-read, empty-book-searched}
 use Rattle.outlines.proofs.quick.scan.Statement.{statement}
 use Rattle.outlines.proofs.quick.scan.Tie as tie
@@ -21,13 +23,13 @@ enum-told c = search needs
 slice-aggregate-scan-line : tie.Need-slice-aggregate-scan-line
 slice-aggregate-scan-line c = search needs
 
+slice-aggregate-scan-line-2 : tie.Need-slice-aggregate-scan-line-2
+slice-aggregate-scan-line-2 c = search needs
+
 scan-line-requires : tie.Need-scan-line-requires
 scan-line-requires c κs =
-    let told = c .before .before in
-    record {
-      admitted = no-row-iff _ _ _ _ .0 (sym (told .before .before .admit .ensures .is) ∙ ap verdictOf (told .enum-told .given .1));
-      book-read = empty-book-read;
-    }
+    let told = c .before .before .before in
+    can-scan-line (open-lent (no-row-iff _ _ _ _ .0 (sym (told .before .before .admit .ensures .is) ∙ ap verdictOf (told .enum-told .given .1)))) empty-book-read refl
 
 -- Refused.
 returns : tie.Need-returns
@@ -42,9 +44,9 @@ same-length c = search needs
 returns-2 : tie.Need-returns-2
 returns-2 c =
     let scanned = c .before .before in
-    let told = scanned .before .before .before in
-    accepted-search (sym (ap verdictOf (told .enum-told .given .1)) ∙ told .before .before .admit .ensures .is)
-    (empty-book-searched 0 0 (scanned .scan-line .ensures))
+    let told = scanned .before .before .before .before in
+    let no-row = sym (ap verdictOf (told .enum-told .given .1)) ∙ told .before .before .admit .ensures .is in
+    accepted-search no-row (empty-book-searched 0 0 (searched-scanned (open-lent (no-row-iff _ _ _ _ .0 (sym no-row))) (scanned .scan-line .ensures)))
 
 pub scan-spec : {M : Type 1} → statement M
 scan-spec =
@@ -54,6 +56,7 @@ scan-spec =
     enum-known-refusal
     enum-told
     slice-aggregate-scan-line
+    slice-aggregate-scan-line-2
     scan-line-requires
     returns
     same-length

@@ -5,17 +5,23 @@ use mathlib.Core.Path.{_≡_, refl, ap}
 use native.Mathlib.Omega.{arith}
 use borrow.Author.Needs.{needs}
 use lib.ListN.{length}
+use Rattle.tally.specs.Windows.{parts, wholeLength, IsWholeLength}
+use Rattle.tally.proofs.WindowEdges.{fits-whole, past-whole}
 use Rattle.sweep.specs.SweepRules.{stateOf, foundOf}
 use Rattle.outlines.proofs.QuickLoop.{QuickLoop, quick-start, quick-found-le, quick-length, quick-end, quick-less, quick-none, quick-can-ask, quick-found}
 use Rattle.outlines.proofs.quick.scan_windows.Statement.{statement}
 use Rattle.outlines.proofs.quick.scan_windows.Tie as tie
 
 abbrev Inv-loop : tie.InvT-loop
-Inv-loop cell ring-number ring doubled table line k book counts₀ words₀ m at₀ asked₀ counts words at asked =
-    (m ≡ length ring) × QuickLoop cell ring-number ring doubled table line k book counts₀ words₀ at asked counts words
+Inv-loop cell ring-number ring doubled table line join k book counts₀ words₀ m n at₀ asked₀ counts words at asked =
+    (m ≡ length ring) × (IsWholeLength (length ring) (parts line join) n × QuickLoop cell ring-number ring doubled table (parts line join) k book counts₀ words₀ at asked counts words)
 
 abbrev μ-loop : tie.MeasureT-loop
-μ-loop cell ring-number ring doubled table line k book counts₀ words₀ m at₀ asked₀ counts words at asked = length line + 1 - at .start .0
+μ-loop cell ring-number ring doubled table line join k book counts₀ words₀ m n at₀ asked₀ counts words at asked =
+    wholeLength (length ring) line join + 1 - at .start .0
+
+whole-length-requires : tie.Need-whole-length-requires Inv-loop μ-loop
+whole-length-requires c κs = search needs
 
 address-of-requires : tie.Need-address-of-requires Inv-loop μ-loop
 address-of-requires c κs = omega arith
@@ -25,11 +31,12 @@ seek-requires c κs = tt
 
 loop-holds : tie.Need-loop-holds Inv-loop μ-loop
 loop-holds c =
-    let start = c .before .before .before .before .before .before .before in
-    (refl, quick-start (start .pre) refl refl refl refl refl (c .before .address-of .ensures) (c .seek .ensures))
+    let long = c .before .before in
+    let start = long .before .before .before .before .before .before .before in
+    (refl, (long .whole-length .ensures, quick-start (start .pre) refl refl refl refl refl (c .before .address-of .ensures) (c .seek .ensures)))
 
 add-if1 : tie.Need-add-if1 Inv-loop μ-loop
-add-if1 c = omega (arith, c .before .loop .inv .1 .sweep .start-le)
+add-if1 c = omega (arith, c .before .loop .inv .1 .1 .sweep .start-le)
 
 sweep-on-requires : tie.Need-sweep-on-requires Inv-loop μ-loop
 sweep-on-requires c κs = search needs
@@ -48,7 +55,7 @@ ask-requires : tie.Need-ask-requires Inv-loop μ-loop
 ask-requires c κs =
     let swept = c .before .before .before in
     let told = c .before .next3 .given .1 in
-    quick-can-ask (swept .before .before .before .before .loop .inv .1) (swept .sweep-on .ensures) (ap stateOf told) (ap foundOf told)
+    quick-can-ask (swept .before .before .before .before .loop .inv .1 .1) (swept .sweep-on .ensures) (ap stateOf told) (ap foundOf told)
 
 put-shown-requires : tie.Need-put-shown-requires Inv-loop μ-loop
 put-shown-requires c κs = tt
@@ -58,7 +65,7 @@ loop-less c =
     let is-told = c .before .before .before .before .before .before in
     let swept = is-told .before .before in
     let told = is-told .next3 .given .1 in
-    quick-less (swept .before .before .before .before .loop .inv .1) (swept .sweep-on .ensures) (ap stateOf told) (record { in-line = swept .before .before .if1 .taken })
+    quick-less (swept .before .before .before .before .loop .inv .1 .1) (swept .sweep-on .ensures) (ap stateOf told) (fits-whole (swept .before .before .before .before .loop .inv .1 .0) (swept .before .before .if1 .taken))
 
 loop-again : tie.Need-loop-again Inv-loop μ-loop
 loop-again c =
@@ -67,43 +74,43 @@ loop-again c =
     let is-told = asked .before .before in
     let swept = is-told .before .before in
     let told = is-told .next3 .given .1 in
-    (refl, quick-found (swept .before .before .before .before .loop .inv .1) (swept .sweep-on .ensures) (ap stateOf told) (ap foundOf told) (asked .ask .ensures) (put .put-shown .ensures))
+    (refl, (swept .before .before .before .before .loop .inv .1 .0, quick-found (swept .before .before .before .before .loop .inv .1 .1) (swept .sweep-on .ensures) (ap stateOf told) (ap foundOf told) (asked .ask .ensures) (put .put-shown .ensures)))
 
 -- No window fits in the line any more.
 loop-less-2 : tie.Need-loop-less-2 Inv-loop μ-loop
 loop-less-2 c =
     let swept = c .before .before .before in
     let told = c .before .next .given .1 in
-    quick-less (swept .before .before .before .before .loop .inv .1) (swept .sweep-on .ensures) (ap stateOf told) (record { in-line = swept .before .before .if1 .taken })
+    quick-less (swept .before .before .before .before .loop .inv .1 .1) (swept .sweep-on .ensures) (ap stateOf told) (fits-whole (swept .before .before .before .before .loop .inv .1 .0) (swept .before .before .if1 .taken))
 
 loop-again-2 : tie.Need-loop-again-2 Inv-loop μ-loop
 loop-again-2 c =
     let swept = c .before .before .before in
     let told = c .before .next .given .1 in
-    (refl, quick-none (swept .before .before .before .before .loop .inv .1) (swept .sweep-on .ensures) (ap stateOf told) (ap foundOf told))
+    (refl, (swept .before .before .before .before .loop .inv .1 .0, quick-none (swept .before .before .before .before .loop .inv .1 .1) (swept .sweep-on .ensures) (ap stateOf told) (ap foundOf told)))
 
 -- A candidate that is no finding.
 loop-less-3 : tie.Need-loop-less-3 Inv-loop μ-loop
 loop-less-3 c =
     let swept = c .before .before .before in
     let told = c .before .next2 .given .1 in
-    quick-less (swept .before .before .before .before .loop .inv .1) (swept .sweep-on .ensures) (ap stateOf told) (record { in-line = swept .before .before .if1 .taken })
+    quick-less (swept .before .before .before .before .loop .inv .1 .1) (swept .sweep-on .ensures) (ap stateOf told) (fits-whole (swept .before .before .before .before .loop .inv .1 .0) (swept .before .before .if1 .taken))
 
 loop-again-3 : tie.Need-loop-again-3 Inv-loop μ-loop
 loop-again-3 c =
     let swept = c .before .before .before in
     let told = c .before .next2 .given .1 in
-    (refl, quick-none (swept .before .before .before .before .loop .inv .1) (swept .sweep-on .ensures) (ap stateOf told) (ap foundOf told))
+    (refl, (swept .before .before .before .before .loop .inv .1 .0, quick-none (swept .before .before .before .before .loop .inv .1 .1) (swept .sweep-on .ensures) (ap stateOf told) (ap foundOf told)))
 
 -- Past the last window.
 add-found : tie.Need-add-found Inv-loop μ-loop
-add-found c = omega (arith, quick-found-le (c .before .before .before .loop .inv .1))
+add-found c = omega (arith, quick-found-le (c .before .before .before .loop .inv .1 .1))
 
 same-length : tie.Need-same-length Inv-loop μ-loop
-same-length c = quick-length (c .before .before .before .loop .inv .1)
+same-length c = quick-length (c .before .before .before .loop .inv .1 .1)
 
 returns : tie.Need-returns Inv-loop μ-loop
-returns c = quick-end (c .before .before .before .loop .inv .1) (record { past = c .before .if1 .left })
+returns c = quick-end (c .before .before .before .loop .inv .1 .1) (past-whole (c .before .before .before .loop .inv .1 .0) (c .before .if1 .left))
 
 pub scan-windows-spec : {M : Type 1} → statement M
 scan-windows-spec =
@@ -111,6 +118,7 @@ scan-windows-spec =
     (tie.spec
     Inv-loop
     μ-loop
+    whole-length-requires
     address-of-requires
     seek-requires
     loop-holds

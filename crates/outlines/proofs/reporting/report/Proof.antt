@@ -1,9 +1,11 @@
 -- `outlines::reporting::report` meets its contract: one of the search's rows is given; none of them is, and the book is refused; or the line is scanned with the
 -- book (`ReportAnswers`).
-use mathlib.Core.Path.{sym, ap, _∙_}
+use mathlib.Core.Path.{refl, sym, ap, _∙_}
 use borrow.Author.Needs.{needs}
+use Rattle.tally.proofs.LentParts.{open-lent}
 use Rattle.findings.specs.Admitting.{verdictOf}
 use Rattle.findings.proofs.AdmitRows.{no-row-iff}
+use Rattle.outlines.proofs.LentScan.{can-scan-line, searched-scanned}
 use Rattle.outlines.proofs.ReportAnswers.{read-accepted, read-refused, report-refused-row, report-refused-book, report-accepted}
 use Rattle.outlines.proofs.reporting.report.Statement.{statement}
 use Rattle.outlines.proofs.reporting.report.Tie as tie
@@ -26,14 +28,16 @@ enum-known-refusal-2 c = search needs
 enum-told-2 : tie.Need-enum-told-2
 enum-told-2 c = search needs
 
+slice-aggregate-scan-line : tie.Need-slice-aggregate-scan-line
+slice-aggregate-scan-line c = search needs
+
 scan-line-requires : tie.Need-scan-line-requires
 scan-line-requires c κs =
-    let read = c .before .before .before in
+    let accepted = c .before .before in
+    let read = accepted .before .before in
     let told = read .before in
-    record {
-      admitted = no-row-iff _ _ _ _ .0 (sym (told .before .before .admit .ensures .is) ∙ ap verdictOf (told .enum-told .given .1));
-      book-read = read-accepted (read .read .ensures) (c .before .enum-told2 .given .1);
-    }
+    can-scan-line (open-lent (no-row-iff _ _ _ _ .0 (sym (told .before .before .admit .ensures .is) ∙ ap verdictOf (told .enum-told .given .1))))
+    (read-accepted (read .read .ensures) (accepted .enum-told2 .given .1)) refl
 
 -- One of the search's rows is given.
 returns : tie.Need-returns
@@ -54,7 +58,14 @@ same-length c = search needs
 
 -- Accepted.
 returns-3 : tie.Need-returns-3
-returns-3 c = report-accepted (c .before .before .scan-line .ensures)
+returns-3 c =
+    let scanned = c .before .before in
+    let accepted = scanned .before .before .before in
+    let read = accepted .before .before in
+    let told = read .before in
+    let no-row = sym (ap verdictOf (told .enum-told .given .1)) ∙ told .before .before .admit .ensures .is in
+    report-accepted no-row (read-accepted (read .read .ensures) (accepted .enum-told2 .given .1))
+    (searched-scanned (open-lent (no-row-iff _ _ _ _ .0 (sym no-row))) (scanned .scan-line .ensures))
 
 pub report-spec : {M : Type 1} → statement M
 report-spec =
@@ -66,6 +77,7 @@ report-spec =
     read-requires
     enum-known-refusal-2
     enum-told-2
+    slice-aggregate-scan-line
     scan-line-requires
     returns
     returns-2

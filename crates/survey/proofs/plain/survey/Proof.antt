@@ -1,10 +1,12 @@
 -- `survey::plain::survey` meets its contract: a row is given and the call is refused, or the line is surveyed. These are the two ways in which a search meets its
 -- contract (`SearchAnswers` of crates/findings).
-use mathlib.Core.Path.{sym, ap, _∙_}
+use mathlib.Core.Path.{refl, sym, ap, _∙_}
 use borrow.Author.Needs.{needs}
+use Rattle.tally.proofs.LentParts.{open-lent}
 use Rattle.findings.specs.Admitting.{verdictOf}
 use Rattle.findings.proofs.AdmitRows.{no-row-iff}
 use Rattle.findings.proofs.SearchAnswers.{refused-search, accepted-search}
+use Rattle.survey.proofs.LentSurvey.{can-survey-line, searched-surveyed}
 use Rattle.survey.proofs.plain.survey.Statement.{statement}
 use Rattle.survey.proofs.plain.survey.Tie as tie
 
@@ -17,10 +19,13 @@ enum-known-refusal c = search needs
 enum-told : tie.Need-enum-told
 enum-told c = search needs
 
+slice-aggregate-survey-line : tie.Need-slice-aggregate-survey-line
+slice-aggregate-survey-line c = search needs
+
 survey-line-requires : tie.Need-survey-line-requires
 survey-line-requires c κs =
-    let admitted = c .before .before .before in
-    no-row-iff _ _ _ _ .0 (sym (admitted .admit .ensures .is) ∙ ap verdictOf (c .before .enum-told .given .1))
+    let told = c .before .before in
+    can-survey-line (open-lent (no-row-iff _ _ _ _ .0 (sym (told .before .before .admit .ensures .is) ∙ ap verdictOf (told .enum-told .given .1)))) refl
 
 -- Refused.
 returns : tie.Need-returns
@@ -35,8 +40,9 @@ same-length c = search needs
 returns-2 : tie.Need-returns-2
 returns-2 c =
     let surveyed = c .before .before in
-    let told = surveyed .before .before in
-    accepted-search (sym (ap verdictOf (told .enum-told .given .1)) ∙ told .before .before .admit .ensures .is) (surveyed .survey-line .ensures)
+    let told = surveyed .before .before .before in
+    let no-row = sym (ap verdictOf (told .enum-told .given .1)) ∙ told .before .before .admit .ensures .is in
+    accepted-search no-row (searched-surveyed (open-lent (no-row-iff _ _ _ _ .0 (sym no-row))) (surveyed .survey-line .ensures))
 
 pub survey-spec : {M : Type 1} → statement M
 survey-spec =
@@ -45,6 +51,7 @@ survey-spec =
     admit-requires
     enum-known-refusal
     enum-told
+    slice-aggregate-survey-line
     survey-line-requires
     returns
     same-length

@@ -14,6 +14,9 @@ count-afresh-requires c κs = search needs
 sub-from : tie.Need-sub-from
 sub-from c = search needs
 
+whole-length-requires : tie.Need-whole-length-requires
+whole-length-requires c κs = search needs
+
 sub-move-counts : tie.Need-sub-move-counts
 sub-move-counts c = search needs
 
@@ -28,7 +31,7 @@ move-counts-requires c κs = search needs
 
 -- the context at the function's entry, seen from the test whether this is start 0
 abbrev at-entry : tie.After-struct-known → tie.Start
-at-entry c = c .before .before .before .before
+at-entry c = c .before .before .before .before .before
 
 -- Start 0.
 returns : tie.Need-returns
@@ -40,8 +43,9 @@ returns c =
 -- A later start, and those after it.
 returns-2 : tie.Need-returns-2
 returns-2 c =
-    let tested = c .before .before .before in
-    moved-verified (at-entry (tested .before) .pre) (omega (arith, tested .if1 .left)) (c .move-counts .ensures)
+    let long = c .before in
+    let tested = long .before .before .before in
+    moved-verified (at-entry (tested .before) .pre) (omega (arith, tested .if1 .left)) (long .whole-length .ensures) (c .move-counts .ensures)
 
 pub verify-on-spec : {M : Type 1} → statement M
 verify-on-spec =
@@ -50,6 +54,7 @@ verify-on-spec =
     window-requires
     count-afresh-requires
     sub-from
+    whole-length-requires
     sub-move-counts
     sub-move-counts-2
     add-move-counts

@@ -2,25 +2,26 @@
 use native.Mathlib.Omega.{arith}
 use borrow.Author.Needs.{needs}
 use borrow.Author.Tests.{not-true, not-false}
+use Rattle.tally.specs.Windows.{parts}
 use Rattle.sweep.proofs.SweepWays.{sweep-looks-le, sweep-start-le, way-ended, sweep-all-looks-le, way-none, way-found}
 use Rattle.sweep.proofs.sweeping.to_candidate.Statement.{statement}
 use Rattle.sweep.proofs.sweeping.to_candidate.Tie as tie
 
 read-windows-requires : tie.Need-read-windows-requires
-read-windows-requires c κs = c .before .before .before .pre .can-read
+read-windows-requires c κs = c .before .before .before .before .pre .can-read
 
 -- the context after `read_windows`, seen from the test whether there is a candidate; and the function's entry, seen from there
 abbrev at-read : tie.After-struct-known3 → tie.After-read-windows
 at-read c = c .before .before .before .before
 
 abbrev at-entry : tie.After-read-windows → tie.Start
-at-entry c = c .before .before .before .before
+at-entry c = c .before .before .before .before .before
 
 add-looks : tie.Need-add-looks
 add-looks c =
     let read = c .before .before .before in
     let start = at-entry read in
-    omega (arith, sweep-looks-le _ (start .args .table .now) (start .args .line .now) (start .args .k) (start .args .at) (start .pre) _ (read .read-windows .ensures))
+    omega (arith, sweep-looks-le _ (start .args .table .now) (parts (start .args .line .now) (start .args .join .now)) (start .args .k) (start .args .at) (start .pre) _ (read .read-windows .ensures))
 
 -- No candidate.
 returns : tie.Need-returns
@@ -30,7 +31,7 @@ verify-requires : tie.Need-verify-requires
 verify-requires c κs =
     let read = at-read (c .before .before) in
     let start = at-entry read in
-    sweep-start-le _ (start .args .table .now) (start .args .line .now) (start .args .k) (start .args .at) (start .pre) _ (read .read-windows .ensures)
+    sweep-start-le _ (start .args .table .now) (parts (start .args .line .now) (start .args .join .now)) (start .args .k) (start .args .at) (start .pre) _ (read .read-windows .ensures)
 
 add-finding-at : tie.Need-add-finding-at
 add-finding-at c =

@@ -1,7 +1,9 @@
--- `tally::windows::window` meets its contract: the two tests decide whether m edges from i on fit in the line, and the returns are these two cases (`WindowEdges`).
+-- `tally::windows::window` meets its contract: the tests decide whether the window begins behind the line, lies in it, or crosses its end; `part` takes a window
+-- that crosses out of the join area (`WindowEdges`).
 use native.Mathlib.Omega.{arith}
+use mathlib.Core.Path.{_∙_}
 use borrow.Author.Needs.{needs}
-use Rattle.tally.proofs.WindowEdges.{no-window, part-window}
+use Rattle.tally.proofs.WindowEdges.{none-behind, none-short, window-in-line, window-in-join}
 use Rattle.tally.proofs.windows.window.Statement.{statement}
 use Rattle.tally.proofs.windows.window.Tie as tie
 
@@ -14,12 +16,12 @@ part-result-start c = search needs
 part-result-end : tie.Need-part-result-end
 part-result-end c = search needs
 
--- The line has fewer than m edges.
+-- The place is behind the line.
 returns : tie.Need-returns
-returns c = no-window _ _ _ (omega (arith, c .before .if1 .taken))
+returns c = record { is = none-behind _ _ _ (c .before .if1 .taken) }
 
-sub-if2 : tie.Need-sub-if2
-sub-if2 c = search needs
+sub-rest : tie.Need-sub-rest
+sub-rest c = search needs
 
 sub-result-2 : tie.Need-sub-result-2
 sub-result-2 c = search needs
@@ -30,9 +32,24 @@ part-result-start-2 c = search needs
 part-result-end-2 : tie.Need-part-result-end-2
 part-result-end-2 c = search needs
 
--- A window at i would end past the line.
+-- The line has fewer than m edges.
 returns-2 : tie.Need-returns-2
-returns-2 c = no-window _ _ _ (omega (arith, c .before .if2 .taken, c .before .before .if1 .left))
+returns-2 c = record { is = none-short _ _ _ (c .before .if3 .taken) }
+
+sub-part : tie.Need-sub-part
+sub-part c = search needs
+
+sub-part-2 : tie.Need-sub-part-2
+sub-part-2 c = search needs
+
+part-requires : tie.Need-part-requires
+part-requires c κs = search needs
+
+-- The window crosses the line's end.
+returns-3 : tie.Need-returns-3
+returns-3 c =
+    let tested = c .before in
+    record { is = c .part .ensures .is ∙ window-in-join _ _ _ (tested .if3 .left) (tested .before .before .if1 .left) (tested .before .if2 .taken) }
 
 add-result : tie.Need-add-result
 add-result c = search needs
@@ -46,9 +63,9 @@ part-result-start-3 c = search needs
 part-result-end-3 : tie.Need-part-result-end-3
 part-result-end-3 c = search needs
 
--- The window fits in the line.
-returns-3 : tie.Need-returns-3
-returns-3 c = part-window _ _ _ (omega (arith, c .before .if2 .left, c .before .before .if1 .left))
+-- The window lies in the line.
+returns-4 : tie.Need-returns-4
+returns-4 c = record { is = window-in-line _ _ _ (omega (arith, c .before .if2 .left, c .before .before .if1 .left)) }
 
 pub window-spec : {M : Type 1} → statement M
 window-spec =
@@ -58,13 +75,17 @@ window-spec =
     part-result-start
     part-result-end
     returns
-    sub-if2
+    sub-rest
     sub-result-2
     part-result-start-2
     part-result-end-2
     returns-2
+    sub-part
+    sub-part-2
+    part-requires
+    returns-3
     add-result
     sub-result-3
     part-result-start-3
     part-result-end-3
-    returns-3)
+    returns-4)
