@@ -1,4 +1,4 @@
--- Theorems about the meanings and rules. Other crates cite them as Rattle.meaning.proofs.NAME. Read the statements of these ten modules first:
+-- Theorems about the meanings and rules. Other crates cite them as Rattle.meaning.proofs.NAME. Read the statements of these thirteen modules first:
 --
 --   FoundExactly    `findings-iff`, `found-iff`            the list `findings` has exactly the findings
 --   Ties            `ties-most`, `another-iff`             a finding has 1 to m ties, above 1 exactly when another rotation is as near
@@ -12,6 +12,10 @@
 --                   `alone-between`                        between two marks a copy stands alone
 --   WithoutMarks    `findings-before`,                     on a line without marks findings and looks are those of document 01 before marks
 --                   `quick-looks-before`
+--   ClosedFindings  `closed-findings-iff`                  the list `findings` of the closed line has exactly the findings of a line whose edges continue
+--                                                          from the beginning after the last
+--   OpenInClosed    `open-finding-iff`                     closing a line keeps its findings, and adds only those that cross its end
+--   ClosedLooks     `closed-quickLooks-le`                 for n ≥ m the look bound of the closed line has n + m − 1 in place of n
 --
 -- The other modules are their lemmas, and what the proofs of code cite. Each group below uses only itself and the groups above it.
 
@@ -19,7 +23,8 @@
 pub mod Count
 pub mod Lowest
 pub mod Some
--- the meanings: marks, windows, starts, what a place gives, the list of findings, their ties, the stretch that fits, and a start under a rotation as an alignment
+-- the meanings: marks, windows, starts, what a place gives, the list of findings, their ties, windows with the same edges, the stretch that fits, and a start
+-- under a rotation as an alignment
 pub mod Marks
 pub mod Windows
 pub mod Starts
@@ -52,3 +57,9 @@ pub mod ScanLoop
 pub mod AroundCopy
 -- a line without marks has the answers that it had before there were marks
 pub mod WithoutMarks
+-- the closed line: its edges, its findings, those of the open line among them, its looks, and the join area
+pub mod ClosedLine
+pub mod ClosedFindings
+pub mod OpenInClosed
+pub mod ClosedLooks
+pub mod JoinArea

@@ -1,5 +1,5 @@
--- The meanings and rules of document 01, in its order and its words, with the ties and the boundary marks of document 02, tickets 1 and 2. Read the modules in
--- the order of the list at the end.
+-- The meanings and rules of document 01, in its order and its words, with the ties, the boundary marks and the closed line of document 02, tickets 1 to 3. Read
+-- the modules in the order of the list at the end.
 -- Nothing here is code. A ring and a stretch are lists of edge codes, and a line may also hold marks; places, starts, rotations, distances and looks are numbers.
 -- Document 01 says "Here every byte value 0 to 255 is an edge code like any other". Since document 02, ticket 2, this holds for 0 to 254, and 255 is a boundary
 -- mark. Beyond that the definitions only ask whether two edge codes are equal.
@@ -34,17 +34,22 @@
 -- | looks of verifying (rule 5)  | `tallyLooks`, `afreshLooks`, `stepLooks`   | Looks       |
 -- | looks (rules 1 and 5)        | `quickLooks`                               | Looks       |
 -- | looks of the plain survey    | `surveyLooks`                              | Looks       |
+-- | closed line (document 02)    | `closedLine`; window edges `closedEdge`    | Closed      |
+-- | start, distance on it        | `IsClosedStart`, `closedDistance`          | Closed      |
+-- | finding on it                | `IsClosedFinding`                          | Closed      |
+-- | join area                    | `joinOf`, `joinedWith`                     | Closed      |
 -- | samples P1 to P12            | `samples`, `samples-right`                 | Samples     |
 -- | samples of our own           | `own-samples`, `own-samples-right`         | Samples     |
 -- | samples with marks           | `mark-samples`, `mark-samples-right`       | Samples     |
+-- | samples of closed lines      | `closed-samples`, `closed-samples-right`   | Samples     |
 -- | readings that look right     | each refuted                               | Misread     |
 -- | document 01 before marks     | `findingsBefore`, `quickLooksBefore`       | BeforeMarks |
 -- | (helpers)                    | `count`, `lowest`, `someBelow`             | Counting    |
 --
 -- The table leaves out the parts of these definitions: `oneIf` (Counting); `unequal`, `reaches`, `rotationsReaching` (Meanings); `Finding`, `findingAt`,
 -- `foundAt`, `findingsBelow`, `wordsEach`, `findingWords` (Findings); `begins` (Stretch); `unread`, `markRead`, `grownRead`, `brokenRead`, `readLeft`,
--- `windowsFrom`, `candidatesOf` (Rules); `verifyLooks`, `surveyLooksBelow` (Looks); `Sample`, `finding`, `answered`, `marked` (Samples); those of
--- BeforeMarks.
+-- `windowsFrom`, `candidatesOf` (Rules); `verifyLooks`, `surveyLooksBelow` (Looks); `closedReaching` (Closed); `Sample`, `finding`, `answered`, `marked`,
+-- `join-samples-right` (Samples); those of BeforeMarks.
 --
 -- Where a window, a tally or a sweep has a `start`, this is the place where its window begins; since document 02, ticket 2, that place need not be a start.
 --
@@ -56,6 +61,7 @@ pub mod Findings
 pub mod Stretch
 pub mod Rules
 pub mod Looks
+pub mod Closed
 pub mod Samples
 pub mod Misread
 pub mod BeforeMarks

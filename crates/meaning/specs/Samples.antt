@@ -1,7 +1,7 @@
 -- Document 01, "Sample rings": P1 to P12 as one table under one claim, which antt computes. A second table of the same form pins what no row of the first
 -- does: rule 5's choice between a fresh count and steps, the break edge, the last verified start, steps across a stopped window, the plain survey's
--- looks, the codes 0 and 254, and ties. A third has boundary marks. Looks and numbers of candidates that the document leaves out of a row are left out
--- here. Every finding has its ties: document 02 gives those of P6, the others follow from the meaning.
+-- looks, the codes 0 and 254, and ties. A third has boundary marks, a fourth closed lines. Looks and numbers of candidates that the document leaves out of a
+-- row are left out here. Every finding has its ties: document 02 gives those of P6, the others follow from the meaning.
 use Prim.Native.Nat.{ℕ}
 use Prim.Native.String.{String}
 use mathlib.Core.Path.{_≡_, refl}
@@ -10,6 +10,7 @@ use mathlib.Core.List.{List, [], _∷_, map}
 use mathlib.Core.Option.{Option, none, some}
 use lib.Dec.{eqb}
 use lib.ListN.{length}
+use Rattle.lists.specs.Areas.{written}
 use Rattle.lists.specs.Texts.{ascii}
 use Rattle.meaning.specs.Counting.{count, lowest, someBelow}
 use Rattle.meaning.specs.Meanings.{window, mark, holdsMark, differs, distance, lowestRotation, rotationsReaching}
@@ -17,6 +18,7 @@ use Rattle.meaning.specs.Findings.{Finding, foundAt, findingsBelow, find
 use Rattle.meaning.specs.Stretch.{begins, fits}
 use Rattle.meaning.specs.Rules.{readEdge, readLeft, readWindow, windowsFrom, candidatesOf, candidates, reported, quickFindings}
 use Rattle.meaning.specs.Looks.{readLooks, tallyLooks, verifyLooks, quickLooks, surveyLooksBelow, surveyLooks}
+use Rattle.meaning.specs.Closed.{closedLine, joinOf, joinedWith}
 
 -- "findings as (start, rotation, distance)", and the ties of document 02, ticket 1: "in P6 ties is 2".
 abbrev pub finding : ℕ → ℕ → ℕ → ℕ → Finding
@@ -149,3 +151,39 @@ mark-samples =
 pub mark-samples-right : map answered mark-samples ≡ mark-samples
 unfolding mark-samples marked ascii window holdsMark count lowest someBelow differs distance lowestRotation rotationsReaching foundAt findingsBelow begins fits readEdge readLeft readWindow windowsFrom candidatesOf reported readLooks tallyLooks verifyLooks surveyLooksBelow
 mark-samples-right = refl
+
+-- A row for a line that is closed: its answers are those of `closedLine`.
+abbrev closedRow : String → List ℕ → List ℕ → ℕ → List Finding → Option ℕ → Option ℕ → Option ℕ → Sample
+closedRow name ring line = sampleRow name ring (closedLine (length ring) line)
+
+-- Document 02, ticket 3: "a match across its own first vertex is lost today". The line bca is the ring abc from another vertex: open it has one finding,
+-- closed it has one at each place. Then a copy across the line's end, open and closed; a mark beside such a copy; a mark as the last edge, so that no start
+-- crosses the end; n = m with ties; a ring of one edge, where open and closed give the same; and a line shorter than the ring. Two closed rows reach the look
+-- bound, 3·m·(n + m − 1) − 2·m·m + m = 30.
+unfoldable pub closed-samples : List Sample
+closed-samples =
+    sampleRow "another vertex first, open" (ascii "abc") (ascii "bca") 0 (finding 0 1 0 1 ∷ []) (some 12) (some 1) (some 9)
+    ∷ closedRow "another vertex first, closed" (ascii "abc") (ascii "bca") 0 (finding 0 1 0 1 ∷ finding 1 2 0 1 ∷ finding 2 0 0 1 ∷ []) (some 30) (some 3) (some 21)
+    ∷ sampleRow "a copy across the end, open" (ascii "abcd") (ascii "dzzzabc") 1 (finding 3 3 1 1 ∷ []) (some 22) (some 1) (some 40)
+    ∷ closedRow "a copy across the end, closed" (ascii "abcd") (ascii "dzzzabc") 1 (finding 3 3 1 1 ∷ finding 4 0 0 1 ∷ finding 5 1 1 1 ∷ []) (some 48) (some 3) (some 64)
+    ∷ closedRow "a mark beside a copy across the end" (ascii "abc") (marked "c|ab") 0 (finding 2 0 0 1 ∷ []) (some 15) (some 1) (some 27)
+    ∷ closedRow "a mark last, closed" (ascii "abc") (marked "bca|") 1 (finding 0 1 0 1 ∷ []) (some 13) (some 1) (some 27)
+    ∷ closedRow "n = m, closed" (ascii "aaa") (ascii "aaa") 0 (finding 0 0 0 3 ∷ finding 1 0 0 3 ∷ finding 2 0 0 3 ∷ []) (some 30) (some 3) (some 21)
+    ∷ closedRow "one edge, closed" (ascii "a") (ascii "aba") 0 (finding 0 0 0 1 ∷ finding 2 0 0 1 ∷ []) (some 5) (some 2) (some 5)
+    ∷ closedRow "a line shorter than the ring, closed" (ascii "abc") (ascii "ab") 0 [] (some 0) (some 0) (some 0)
+    ∷ []
+
+-- Computed from the meanings and rules, the rows of closed lines are right too.
+pub closed-samples-right : map answered closed-samples ≡ closed-samples
+unfolding closed-samples closedLine marked ascii window holdsMark count lowest someBelow differs distance lowestRotation rotationsReaching foundAt findingsBelow begins fits readEdge readLeft readWindow windowsFrom candidatesOf reported readLooks tallyLooks verifyLooks surveyLooksBelow
+closed-samples-right = refl
+
+-- The closed line and the join area of the line bca for m = 3: the line's last two edges, then its first two; bytes behind them keep their values. For m = 1
+-- and for n < m all bytes do.
+pub join-samples-right :
+    (closedLine 3 (ascii "bca") ≡ ascii "bcabc")
+    × (joinedWith 3 (ascii "bca") (ascii "zzzzyy") ≡ ascii "cabcyy")
+    × (joinedWith 1 (ascii "bca") (ascii "zz") ≡ ascii "zz")
+    × (joinedWith 4 (ascii "bca") (ascii "zzzzzz") ≡ ascii "zzzzzz")
+unfolding closedLine joinOf joinedWith written ascii
+join-samples-right = (refl, refl, refl, refl)
