@@ -1,4 +1,5 @@
-// The quick scan, the plain survey and the report. The headers have the parts and say what each does.
+// The quick scan, the plain survey and the report; scan and survey of closed lines. The headers have the parts and say what
+// each does.
 #include "rules.h"
 
 #include "book.h"
@@ -26,8 +27,19 @@ struct finding {
     size_t ties;
 };
 
-// Refusals 1, 12, 2, 3 and 4, in this order, or 0.
-static size_t admit(const uint8_t *ring, size_t m, size_t k, size_t n, size_t room)
+// How many windows a line has, and how many it has closed.
+static size_t open_windows(size_t m, size_t n)
+{
+    return n >= m ? n - m + 1 : 0;
+}
+
+static size_t closed_windows(size_t m, size_t n)
+{
+    return n >= m ? n : 0;
+}
+
+// Refusals 1, 12, 2, 3 and 4, in this order, or 0. Each window may be a finding.
+static size_t admit(const uint8_t *ring, size_t m, size_t k, size_t n, size_t windows, size_t room)
 {
     if (m == 0 || m > MOST_RING)
         return 1;
@@ -37,7 +49,7 @@ static size_t admit(const uint8_t *ring, size_t m, size_t k, size_t n, size_t ro
         return 2;
     if (n > MOST_LINE)
         return 3;
-    if (n >= m && room < WORDS_EACH * (n - m + 1))
+    if (room < WORDS_EACH * windows)
         return 4;
     return 0;
 }
@@ -104,12 +116,9 @@ static void prepare(struct search *search, const uint8_t *ring, size_t m, const 
     double_ring(search->doubled, ring, m);
 }
 
-struct rules_answer rules_scan(const uint8_t *ring, size_t m, const uint8_t *line, size_t n, size_t k,
-                               uint32_t *words, size_t room)
+static struct rules_answer scan(const uint8_t *ring, size_t m, const uint8_t *line, size_t n, size_t k, uint32_t *words)
 {
-    struct rules_answer answer = {admit(ring, m, k, n, room), 0, 0, 0, 0};
-    if (answer.refusal != 0)
-        return answer;
+    struct rules_answer answer = {0};
     struct search search;
     prepare(&search, ring, m, line, n, k);
     occurrences(&search.table, ring, m);
@@ -132,12 +141,9 @@ static struct reached verify_on(struct search *search, size_t i)
     return move_along(&search->tally, search->ring, search->m, search->line, from, steps, search->k + 1);
 }
 
-struct rules_answer rules_survey(const uint8_t *ring, size_t m, const uint8_t *line, size_t n, size_t k,
-                                 uint32_t *words, size_t room)
+static struct rules_answer survey(const uint8_t *ring, size_t m, const uint8_t *line, size_t n, size_t k, uint32_t *words)
 {
-    struct rules_answer answer = {admit(ring, m, k, n, room), 0, 0, 0, 0};
-    if (answer.refusal != 0)
-        return answer;
+    struct rules_answer answer = {0};
     struct search search;
     prepare(&search, ring, m, line, n, k);
     for (size_t i = 0; i + m <= n;) {
@@ -150,11 +156,65 @@ struct rules_answer rules_survey(const uint8_t *ring, size_t m, const uint8_t *l
     return answer;
 }
 
+struct rules_answer rules_scan(const uint8_t *ring, size_t m, const uint8_t *line, size_t n, size_t k,
+                               uint32_t *words, size_t room)
+{
+    size_t refusal = admit(ring, m, k, n, open_windows(m, n), room);
+    if (refusal != 0)
+        return (struct rules_answer){refusal, 0, 0, 0, 0};
+    return scan(ring, m, line, n, k, words);
+}
+
+struct rules_answer rules_survey(const uint8_t *ring, size_t m, const uint8_t *line, size_t n, size_t k,
+                                 uint32_t *words, size_t room)
+{
+    size_t refusal = admit(ring, m, k, n, open_windows(m, n), room);
+    if (refusal != 0)
+        return (struct rules_answer){refusal, 0, 0, 0, 0};
+    return survey(ring, m, line, n, k, words);
+}
+
+// The line followed by its first m - 1 edges. A line shorter than the ring has no window and stays as it is.
+struct longer {
+    size_t n;
+    uint8_t line[MOST_LINE + MOST_RING - 1];
+};
+
+static void lengthen(struct longer *longer, const uint8_t *line, size_t n, size_t m)
+{
+    size_t more = n >= m ? m - 1 : 0;
+    memcpy(longer->line, line, n);
+    memcpy(longer->line + n, line, more);
+    longer->n = n + more;
+}
+
+struct rules_answer rules_scan_closed(const uint8_t *ring, size_t m, const uint8_t *line, size_t n, size_t k,
+                                      uint32_t *words, size_t room)
+{
+    size_t refusal = admit(ring, m, k, n, closed_windows(m, n), room);
+    if (refusal != 0)
+        return (struct rules_answer){refusal, 0, 0, 0, 0};
+    struct longer longer;
+    lengthen(&longer, line, n, m);
+    return scan(ring, m, longer.line, longer.n, k, words);
+}
+
+struct rules_answer rules_survey_closed(const uint8_t *ring, size_t m, const uint8_t *line, size_t n, size_t k,
+                                        uint32_t *words, size_t room)
+{
+    size_t refusal = admit(ring, m, k, n, closed_windows(m, n), room);
+    if (refusal != 0)
+        return (struct rules_answer){refusal, 0, 0, 0, 0};
+    struct longer longer;
+    lengthen(&longer, line, n, m);
+    return survey(ring, m, longer.line, longer.n, k, words);
+}
+
 struct rules_answer rules_report(uint32_t cell, uint16_t ring_number, const uint8_t *ring, size_t m,
                                  const uint8_t *line, size_t n, size_t k, const uint8_t *bytes, size_t length,
                                  uint32_t *words, size_t room)
 {
-    struct rules_answer answer = {admit(ring, m, k, n, room), 0, 0, 0, 0};
+    struct rules_answer answer = {admit(ring, m, k, n, open_windows(m, n), room), 0, 0, 0, 0};
     struct book book = {bytes, length};
     if (answer.refusal == 0)
         answer.refusal = read_book(book, &answer.place);

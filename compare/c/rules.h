@@ -23,6 +23,13 @@ struct rules_answer rules_scan(const uint8_t *ring, size_t m, const uint8_t *lin
 struct rules_answer rules_survey(const uint8_t *ring, size_t m, const uint8_t *line, size_t n, size_t k,
                                  uint32_t *words, size_t room);
 
+// Both in closed mode: behind its last edge the line goes on with its first one, and every place is a start if n >= m. They
+// copy the line with its first m - 1 edges behind it and search that, so they are lent no join area. `room` is 4 n words.
+struct rules_answer rules_scan_closed(const uint8_t *ring, size_t m, const uint8_t *line, size_t n, size_t k,
+                                      uint32_t *words, size_t room);
+struct rules_answer rules_survey_closed(const uint8_t *ring, size_t m, const uint8_t *line, size_t n, size_t k,
+                                        uint32_t *words, size_t room);
+
 // The quick scan; each finding is looked up in the silence book before it is written.
 struct rules_answer rules_report(uint32_t cell, uint16_t ring_number, const uint8_t *ring, size_t m,
                                  const uint8_t *line, size_t n, size_t k, const uint8_t *book, size_t length,

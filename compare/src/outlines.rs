@@ -52,6 +52,43 @@ extern "C" {
         words: *mut u32,
         words_length: usize,
     ) -> Answer;
+    fn outlines_survey_closed(
+        ring: *const u8,
+        ring_length: usize,
+        line: *const u8,
+        line_length: usize,
+        k: usize,
+        join: *mut u8,
+        join_length: usize,
+        words: *mut u32,
+        words_length: usize,
+    ) -> Answer;
+    fn outlines_scan_closed(
+        ring: *const u8,
+        ring_length: usize,
+        line: *const u8,
+        line_length: usize,
+        k: usize,
+        join: *mut u8,
+        join_length: usize,
+        words: *mut u32,
+        words_length: usize,
+    ) -> Answer;
+    fn outlines_report_closed(
+        cell: u32,
+        ring_number: u16,
+        ring: *const u8,
+        ring_length: usize,
+        line: *const u8,
+        line_length: usize,
+        k: usize,
+        book: *const u8,
+        book_length: usize,
+        join: *mut u8,
+        join_length: usize,
+        words: *mut u32,
+        words_length: usize,
+    ) -> Answer;
     fn outlines_pack(words: *const u32, words_length: usize, bytes: *mut u8, bytes_length: usize) -> Answer;
     fn outlines_unpack(book: *const u8, book_length: usize, words: *mut u32, words_length: usize) -> Answer;
 }
@@ -137,6 +174,10 @@ pub enum Request<'a> {
     Survey(Search<'a>, &'a mut [u32]),
     Scan(Search<'a>, &'a mut [u32]),
     Report(u32, u16, Search<'a>, &'a [u8], &'a mut [u32]),
+    /// The closed calls are lent the join area as well, before the words.
+    SurveyClosed(Search<'a>, &'a mut [u8], &'a mut [u32]),
+    ScanClosed(Search<'a>, &'a mut [u8], &'a mut [u32]),
+    ReportClosed(u32, u16, Search<'a>, &'a [u8], &'a mut [u8], &'a mut [u32]),
     Pack(&'a [u32], &'a mut [u8]),
     Unpack(&'a [u8], &'a mut [u32]),
 }
@@ -185,6 +226,20 @@ pub fn ask(request: Request, empty: Empty) -> Answer {
             let (rs, ls, bs, ws) = (ring.len(), line.len(), book.len(), words.len());
             outlines_report(cell, number, r, rs, l, ls, allowance, b, bs, w, ws)
         },
+        Request::SurveyClosed(Search { ring, line, allowance }, join, words) => unsafe {
+            let (r, l, j, w) = (empty.read(ring), empty.read(line), empty.write(join), empty.write(words));
+            outlines_survey_closed(r, ring.len(), l, line.len(), allowance, j, join.len(), w, words.len())
+        },
+        Request::ScanClosed(Search { ring, line, allowance }, join, words) => unsafe {
+            let (r, l, j, w) = (empty.read(ring), empty.read(line), empty.write(join), empty.write(words));
+            outlines_scan_closed(r, ring.len(), l, line.len(), allowance, j, join.len(), w, words.len())
+        },
+        Request::ReportClosed(cell, number, Search { ring, line, allowance }, book, join, words) => unsafe {
+            let (r, l, b, j, w) =
+                (empty.read(ring), empty.read(line), empty.read(book), empty.write(join), empty.write(words));
+            let (rs, ls, bs, js, ws) = (ring.len(), line.len(), book.len(), join.len(), words.len());
+            outlines_report_closed(cell, number, r, rs, l, ls, allowance, b, bs, j, js, w, ws)
+        },
         Request::Pack(words, bytes) => unsafe {
             outlines_pack(empty.read(words), words.len(), empty.write(bytes), bytes.len())
         },
@@ -214,6 +269,31 @@ pub fn report(
     words: &mut [u32],
 ) -> Result<Counts, Refused> {
     ask(Request::Report(cell, ring_number, search, book, words), Empty::AsLent).result()
+}
+
+/// The survey of a closed line: behind its last edge the line goes on with its first one. Every place is a start, if the line
+/// is not shorter than the ring and no mark stands in the window. The words lent must hold n findings. The join area must have
+/// 2·m − 2 bytes, none for m = 1. There the call writes the line's last m − 1 edges and its first m − 1, and no byte behind
+/// them. For a line shorter than the ring neither area needs room, and the join area keeps its values.
+pub fn survey_closed(search: Search, join: &mut [u8], words: &mut [u32]) -> Result<Counts, Refused> {
+    ask(Request::SurveyClosed(search, join, words), Empty::AsLent).result()
+}
+
+/// Writes the words and the join area of `survey_closed`.
+pub fn scan_closed(search: Search, join: &mut [u8], words: &mut [u32]) -> Result<Counts, Refused> {
+    ask(Request::ScanClosed(search, join, words), Empty::AsLent).result()
+}
+
+/// Writes the words of `survey_closed` for the findings that the book does not hide, and its join area. A silence names a
+/// place from 0 to n − 1.
+pub fn report_closed(
+    (cell, ring_number): (u32, u16),
+    search: Search,
+    book: &[u8],
+    join: &mut [u8],
+    words: &mut [u32],
+) -> Result<Counts, Refused> {
+    ask(Request::ReportClosed(cell, ring_number, search, book, join, words), Empty::AsLent).result()
 }
 
 /// Packs silences of `SILENCE_WORDS` words each.

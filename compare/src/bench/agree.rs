@@ -14,7 +14,7 @@ fn shown(findings: &[u32], book: &[u8]) -> Vec<u32> {
 }
 
 /// Runs one contender. An error if its answer or the words after the call differ from what is wanted.
-fn compare(
+pub(super) fn compare(
     contender: &Contender,
     input: &Input,
     words: &mut [u32],

@@ -3,15 +3,19 @@ use super::inputs::Input;
 use super::ours::OURS;
 use crate::peers::{c_rules, rules, Answer, Peer, Rules, PEERS};
 
-/// A call of the rules. The report is timed with an empty book and with one of 1,000 silences.
+/// A call of the rules. The report is timed with an empty book and with one of 1,000 silences. The closed calls are timed on
+/// inputs of their own.
 #[derive(Clone, Copy, PartialEq, Eq, Debug)]
 pub enum Call {
     Scan,
     Survey,
     Report,
     Hiding,
+    ScanClosed,
+    SurveyClosed,
 }
 
+/// The calls that every input has.
 pub const CALLS: [Call; 4] = [Call::Scan, Call::Survey, Call::Report, Call::Hiding];
 
 impl Call {
@@ -21,6 +25,8 @@ impl Call {
             Call::Survey => "survey",
             Call::Report => "report",
             Call::Hiding => "report, 1,000 silences",
+            Call::ScanClosed => "closed scan",
+            Call::SurveyClosed => "closed survey",
         }
     }
 }
@@ -93,6 +99,8 @@ impl Contender {
                 Call::Survey => (version.rules().survey)(&input.ring, &input.line, input.k, words),
                 Call::Report => (version.rules().report)(&input.question(&[]), words),
                 Call::Hiding => (version.rules().report)(&input.question(&input.book), words),
+                Call::ScanClosed => (version.rules().scan_closed)(&input.ring, &input.line, input.k, words),
+                Call::SurveyClosed => (version.rules().survey_closed)(&input.ring, &input.line, input.k, words),
             },
             Contender::Peer(peer) => {
                 let found = (peer.search)(&input.ring, &input.line, input.k, words);

@@ -19,6 +19,8 @@ pub enum Kind {
     GrowingRing,
     /// Every start is a finding: for the report against the scan.
     AllFound,
+    /// For closed calls against open ones.
+    Closed,
 }
 
 /// A part of the main rows, with a mean of its own.
@@ -112,7 +114,7 @@ fn planted(kind: Kind, codes: usize, n: usize, m: usize, k: usize) -> Input {
         cut(&mut numbers, &mut line, &copies, m);
     }
     let name = match kind {
-        Kind::GrowingLine => format!("n {n}"),
+        Kind::GrowingLine | Kind::Closed => format!("n {n}"),
         Kind::GrowingRing => format!("m {m}"),
         Kind::Main(Part::Cut) => format!("{codes}, cut / {m} / {k}"),
         _ => format!("{codes} / {m} / {k}"),
@@ -159,6 +161,16 @@ fn main_rows() -> Vec<Input> {
     rows.extend(ALPHABETS.map(|codes| planted(Kind::Main(Part::Cut), codes, MOST_LINE, 40, 2)));
     rows.push(constant("constant / 60 / 2", Kind::Main(Part::Constant), 60, 2));
     rows.push(outlined(128, 5));
+    rows
+}
+
+/// Two lines to be searched open and closed, with one copy more across the seam.
+pub fn closed() -> Vec<Input> {
+    let mut rows: Vec<Input> = [1 << 10, MOST_LINE].map(|n| planted(Kind::Closed, 26, n, 60, 2)).into();
+    for Input { ring, line, .. } in &mut rows {
+        let (m, n) = (ring.len(), line.len());
+        (0..m).for_each(|q| line[(n - m / 2 + q) % n] = ring[q]);
+    }
     rows
 }
 

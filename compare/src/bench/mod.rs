@@ -2,6 +2,7 @@
 pub mod agree;
 mod boundaries;
 mod clock;
+pub mod closed;
 pub mod contenders;
 pub mod inputs;
 pub mod machine;

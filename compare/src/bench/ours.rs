@@ -1,8 +1,11 @@
-//! The library's three calls as contenders. No other file of the benchmark names the library.
+//! The library's calls as contenders. No other file of the benchmark names the library.
 use crate::outlines::{self, ask, Empty, Request, Search};
 use crate::peers::{Answer, Question, Rules};
 
-pub const OURS: Rules = Rules { scan, survey, report };
+pub const OURS: Rules = Rules { scan, survey, report, scan_closed, survey_closed };
+
+/// The join bytes of the longest ring.
+const MOST_JOIN: usize = 2 * 256 - 2;
 
 fn answer(given: outlines::Answer) -> Answer {
     Answer {
@@ -20,6 +23,16 @@ fn scan(ring: &[u8], line: &[u8], allowance: usize, words: &mut [u32]) -> Answer
 
 fn survey(ring: &[u8], line: &[u8], allowance: usize, words: &mut [u32]) -> Answer {
     answer(ask(Request::Survey(Search { ring, line, allowance }, words), Empty::AsLent))
+}
+
+fn scan_closed(ring: &[u8], line: &[u8], allowance: usize, words: &mut [u32]) -> Answer {
+    let mut join = [0; MOST_JOIN];
+    answer(ask(Request::ScanClosed(Search { ring, line, allowance }, &mut join, words), Empty::AsLent))
+}
+
+fn survey_closed(ring: &[u8], line: &[u8], allowance: usize, words: &mut [u32]) -> Answer {
+    let mut join = [0; MOST_JOIN];
+    answer(ask(Request::SurveyClosed(Search { ring, line, allowance }, &mut join, words), Empty::AsLent))
 }
 
 fn report(q: &Question, words: &mut [u32]) -> Answer {

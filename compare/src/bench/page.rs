@@ -1,4 +1,5 @@
 //! The page of results: ratios first, then the times they come from.
+use super::closed;
 use super::contenders::{Call, Version, VERSIONS};
 use super::inputs::{Kind, Part};
 use super::machine;
@@ -108,6 +109,7 @@ pub fn page(results: &Results, loads: [&str; 2], picture: &str) -> String {
     let _ = writeln!(page, "![ratios to the same rules in C]({picture})\n");
     ratios(&mut page, results);
     hiding(&mut page, results);
+    closed::section(&mut page, &results.closed);
     second_runs(&mut page, results);
     times(&mut page, results);
     growth(&mut page, results);

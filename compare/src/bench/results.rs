@@ -1,4 +1,5 @@
 //! What was measured, and the ratios and means of it.
+use super::closed::ClosedRow;
 use super::contenders::{Call, Contender, Version};
 use super::inputs::{Input, Kind, Part};
 
@@ -49,6 +50,7 @@ pub struct Results {
     pub contenders: Vec<Contender>,
     pub rows: Vec<Row>,
     pub seconds: Vec<Second>,
+    pub closed: Vec<ClosedRow>,
     /// How many answers were compared before anything was timed.
     pub compared: usize,
 }

@@ -1,5 +1,6 @@
 //! Compares every answer, then times every contender, and writes the page and the picture to the two paths given.
 use compare::bench::agree::agree;
+use compare::bench::closed::{self, ClosedRow};
 use compare::bench::contenders::Contender;
 use compare::bench::inputs::{self, Input, MOST_LINE};
 use compare::bench::machine::load;
@@ -44,11 +45,13 @@ fn measure() -> Result<Results, String> {
     let mut inputs = inputs::all();
     let mut words = vec![0; WORDS];
     let answers = agree_on_all(&contenders, &mut inputs, &mut words)?;
-    let compared = contenders.len() * inputs.len();
+    let closed_inputs = inputs::closed();
+    let compared = contenders.len() * inputs.len() + closed::agree(&closed_inputs, &mut words)?;
     eprintln!("{compared} answers compared, all equal");
     let mut rows = time_all(&contenders, &inputs, &answers, &mut words);
     let seconds = time_again(&contenders, &inputs, &mut rows, &mut words);
-    Ok(Results { contenders, rows, seconds, compared })
+    let closed: Vec<ClosedRow> = closed_inputs.iter().map(|input| ClosedRow::timed(input, &mut words)).collect();
+    Ok(Results { contenders, rows, seconds, closed, compared })
 }
 
 fn run(page_path: &str, picture_path: &str) -> Result<(), String> {
@@ -61,6 +64,7 @@ fn run(page_path: &str, picture_path: &str) -> Result<(), String> {
         let mean = geometric_mean(&results.ratios(at, |_| true));
         println!("{:40} {mean:9.2} times C's {}", contender.name(), contender.against().name());
     }
+    results.closed.iter().for_each(ClosedRow::print);
     Ok(())
 }
 

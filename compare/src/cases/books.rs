@@ -5,6 +5,7 @@ use super::draw::Draw;
 use super::marks::strew;
 use super::searches::ring_and_line;
 use crate::second::book::{Silence, FIELD, SILENCE_WORDS};
+use crate::second::line::Line;
 use crate::second::meaning::{findings, holds_mark};
 
 const SMALL_BOOK: usize = 4;
@@ -88,7 +89,7 @@ pub fn hiding(_: u64, draw: &mut Draw) -> Call {
     let allowance = draw.allowance(m);
     let (cell, ring_number) = cell_and_ring(draw);
     let mut named = Vec::new();
-    for finding in findings(&ring, &line, allowance) {
+    for finding in findings(&ring, Line::open(&line), allowance) {
         let start = finding.start as u32;
         let (no_cell, no_ring) = (cell ^ 1 << draw.below(32), ring_number ^ 1 << draw.below(16));
         match draw.below(6) {

@@ -2,6 +2,7 @@
 
 use super::draw::Draw;
 use crate::second::book::Silence;
+use crate::second::line::Line;
 use crate::second::meaning::FINDING_WORDS;
 
 #[derive(Clone, Debug)]
@@ -11,6 +12,8 @@ pub struct Search {
     pub allowance: usize,
     /// Words lent for findings.
     pub room: usize,
+    /// What the join area holds before the call; a search without one is open.
+    pub join: Option<Vec<u8>>,
 }
 
 #[derive(Clone, Debug)]
@@ -36,7 +39,32 @@ impl Search {
     /// A search with exactly the room that refusal 4 requires.
     pub fn new(ring: Vec<u8>, line: Vec<u8>, allowance: usize) -> Search {
         let room = room(ring.len(), line.len());
-        Search { ring, line, allowance, room }
+        Search { ring, line, allowance, room, join: None }
+    }
+
+    /// The same search in closed mode, with exactly the room that refusal 4 requires there, and this join area.
+    pub fn closed(self, join: Vec<u8>) -> Search {
+        let room = closed_room(self.ring.len(), self.line.len());
+        Search { room, join: Some(join), ..self }
+    }
+
+    pub fn is_closed(&self) -> bool {
+        self.join.is_some()
+    }
+
+    /// The line as the second program reads it.
+    pub fn line(&self) -> Line<'_> {
+        Line { edges: &self.line, closed: self.is_closed() }
+    }
+
+    /// How many edges the windows lie in: n, and in closed mode n + m − 1 where there is a window.
+    pub fn whole(&self) -> usize {
+        let (m, n) = (self.ring.len(), self.line.len());
+        if self.is_closed() && m > 0 && n >= m {
+            n + m - 1
+        } else {
+            n
+        }
     }
 }
 
@@ -47,6 +75,20 @@ pub fn room(m: usize, n: usize) -> usize {
     } else {
         0
     }
+}
+
+/// The same for a closed line: a finding for each place.
+pub fn closed_room(m: usize, n: usize) -> usize {
+    if n >= m {
+        FINDING_WORDS * n
+    } else {
+        0
+    }
+}
+
+/// The bytes of the join area that a closed search of a line not shorter than the ring requires.
+pub fn join_bytes(m: usize) -> usize {
+    (2 * m).saturating_sub(2)
 }
 
 /// The book of these silences in rising order, each once.
@@ -90,7 +132,7 @@ pub fn in_turn_as_it_is(index: u64, draw: &mut Draw, search: Search) -> Call {
         1 => Call::Scan(search),
         _ => {
             let (cell, ring_number) = cell_and_ring(draw);
-            let starts = (search.line.len() + 1).saturating_sub(search.ring.len());
+            let starts = search.line().windows(search.ring.len());
             let count = draw.one(&[0, 1, 3, 10, 40]);
             let book = book_of(silences(draw, cell, ring_number, starts, count));
             Call::Report { cell, ring_number, search, book }

@@ -18,8 +18,9 @@ fn words(words: &[u32]) -> String {
 
 impl Display for Search {
     fn fmt(&self, f: &mut Formatter) -> Result {
-        let Search { ring, line, allowance, room } = self;
-        write!(f, "ring {} line {} k {allowance} room {room}", hex(ring), hex(line))
+        let Search { ring, line, allowance, room, join } = self;
+        write!(f, "ring {} line {} k {allowance} room {room}", hex(ring), hex(line))?;
+        join.as_ref().map_or(Ok(()), |join| write!(f, " closed, join area {}", hex(join)))
     }
 }
 
@@ -44,7 +45,7 @@ impl Display for Case {
             Case::Three(calls, placement) => write!(f, "survey, scan, {} placed {placement:?}", calls[2]),
             Case::RoundTrip(given) => write!(f, "round trip {}", words(given)),
             Case::Input(input) => write!(f, "input {} {:?}", hex(&input.bytes), input.manner),
-            Case::Sample(index) => write!(f, "sample {index} of document 01"),
+            Case::Sample(_, index) => write!(f, "sample {index}"),
         }
     }
 }

@@ -19,7 +19,7 @@ pub fn pair(numbers: &[u32], index: u64) -> [u32; 2] {
     [numbers[(index % count) as usize], numbers[(index / count % count) as usize]]
 }
 
-fn faulty_search(draw: &mut Draw, faults: [u32; 2]) -> Search {
+pub fn faulty_search(draw: &mut Draw, faults: [u32; 2]) -> Search {
     let m = if faults.contains(&1) { draw.one(&[0, 257, 258, 300, 1_000]) } else { draw.between(1, 20) };
     let near = draw.below(60);
     let n = if faults.contains(&3) { draw.one(&[65_537, 65_538, 70_000]) } else { m + near };

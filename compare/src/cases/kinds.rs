@@ -2,12 +2,14 @@
 
 use super::call::{in_turn, Call, Search};
 use super::draw::Draw;
-use super::{books, bounds, faults, input_faults, inputs, long, mark_places, marks, nulls, packing, searches, ties};
-use super::{Kind, Make};
+use super::{
+    books, bounds, closed_kinds, closed_limits, faults, input_faults, inputs, long, mark_places, marks, nulls, packing,
+};
+use super::{searches, ties, Kind, Make};
 use crate::second::samples::{self, Sample, SAMPLES, SILENCED, THE_SILENCE};
 
 pub static CALLS: &[Kind] = &[
-    kind("samples printed in document 01, second program", samples::COUNT as u64, Make::Sample),
+    kind("samples printed in document 01, second program", samples::COUNT as u64, Make::Sample(samples::holds)),
     kind("samples printed in document 01, library", LIBRARY_SAMPLES, Make::Call(sample)),
     kind("limits that document 01 names", bounds::LIMITS, Make::Call(bounds::limits)),
     kind("lines of 65,535 to 65,537 edges", 72, Make::Call(searches::longest_lines)),
@@ -47,7 +49,10 @@ pub static CALLS: &[Kind] = &[
     kind("long rings and lines", 200, Make::Three(long::long)),
 ];
 
-pub static LONG: &[Kind] = &[kind("long rings and lines", 20_000, Make::Three(long::long))];
+pub static LONG: &[Kind] = &[
+    kind("long rings and lines", 20_000, Make::Three(long::long)),
+    kind(closed_kinds::LONG, 2_000, Make::Three(closed_limits::long)),
+];
 
 pub static INPUTS: &[Kind] = &[
     kind("inputs: right ones", 4_000, Make::Input(inputs::right)),
@@ -66,7 +71,7 @@ pub static INPUTS: &[Kind] = &[
     kind("inputs: none, descriptor 0 closed or a folder", 60, Make::Input(inputs::none)),
 ];
 
-const fn kind(name: &'static str, count: u64, make: Make) -> Kind {
+pub const fn kind(name: &'static str, count: u64, make: Make) -> Kind {
     Kind { name, count, make }
 }
 

@@ -5,24 +5,28 @@ use super::draw::Draw;
 use super::searches::{repeated, ring_and_line, two_letters};
 use crate::second::meaning::MARK;
 
-const SMALL_RING: u32 = 3;
-const SMALL_LINE: u32 = 7;
-/// Lines of 0 to 7 edges over three codes.
-const SMALL_LINES: u64 = (3u64.pow(SMALL_LINE + 1) - 1) / 2;
+/// Lines of 0 to `longest` edges over three codes.
+pub const fn small_lines(longest: u32) -> u64 {
+    (3u64.pow(longest + 1) - 1) / 2
+}
 
 /// Rings of m edges over two letters that begin with the first letter, each with the allowances 0 to m − 1.
-const fn small_rings(m: u32) -> u64 {
+const fn rings_of(m: u32) -> u64 {
     (1 << (m - 1)) * m as u64
 }
 
-pub const EVERY_SMALL: u64 = {
+/// The same of 1 to `longest` edges.
+pub const fn small_rings(longest: u32) -> u64 {
     let (mut rings, mut m) = (0, 1);
-    while m <= SMALL_RING {
-        rings += small_rings(m);
+    while m <= longest {
+        rings += rings_of(m);
         m += 1;
     }
-    3 * SMALL_LINES * rings
-};
+    rings
+}
+
+const SMALL_LINES: u64 = small_lines(7);
+pub const EVERY_SMALL: u64 = 3 * SMALL_LINES * small_rings(3);
 
 /// The line of this number over the codes: first the empty one, then those of one edge, of two, and so on.
 fn line_of(mut number: u64, codes: [u8; 3]) -> Vec<u8> {
@@ -34,18 +38,24 @@ fn line_of(mut number: u64, codes: [u8; 3]) -> Vec<u8> {
     (0..n).map(|place| codes[(number / 3u64.pow(place) % 3) as usize]).collect()
 }
 
-/// Every line over two letters and the mark. Either letter is drawn as the first, so every ring may begin with it.
-pub fn every_small(index: u64, draw: &mut Draw) -> Call {
+/// A line over two letters and the mark, out of the first `lines`, with a ring and an allowance. Either letter is drawn as the
+/// first, so every ring may begin with it.
+pub fn small_search(draw: &mut Draw, number: u64, lines: u64) -> Search {
     let [a, b] = draw.one(&[[b'a', b'b'], [b'b', b'a'], [0, 254], [254, 0], [254, 253], [1, 0]]);
-    let line = line_of(index / 3 % SMALL_LINES, [a, b, MARK]);
-    let (mut number, mut m) = (index / 3 / SMALL_LINES, 1);
-    while number >= small_rings(m) {
-        number -= small_rings(m);
+    let line = line_of(number % lines, [a, b, MARK]);
+    let (mut number, mut m) = (number / lines, 1);
+    while number >= rings_of(m) {
+        number -= rings_of(m);
         m += 1;
     }
     let allowance = (number % u64::from(m)) as usize;
     let ring = two_letters(2 * (number / u64::from(m)), m as usize, [a, b]);
-    in_turn(index, draw, Search::new(ring, line, allowance))
+    Search::new(ring, line, allowance)
+}
+
+pub fn every_small(index: u64, draw: &mut Draw) -> Call {
+    let search = small_search(draw, index / 3, SMALL_LINES);
+    in_turn(index, draw, search)
 }
 
 /// How many places the rings have, each ring `times` times.

@@ -6,7 +6,7 @@ use super::searches::{repeated, ABOUT_WORDS};
 use crate::second::meaning::MARK;
 
 /// Puts marks at those of the places that the line has.
-fn put(line: &mut [u8], places: impl IntoIterator<Item = usize>) {
+pub fn put(line: &mut [u8], places: impl IntoIterator<Item = usize>) {
     let n = line.len();
     places.into_iter().filter(|&place| place < n).for_each(|place| line[place] = MARK);
 }

@@ -3,6 +3,11 @@
 mod books;
 mod bounds;
 pub mod call;
+mod closed;
+mod closed_faults;
+mod closed_kinds;
+mod closed_limits;
+mod closed_places;
 mod describe;
 pub mod draw;
 mod faults;
@@ -30,8 +35,8 @@ pub enum Case {
     /// Words packed by the library and unpacked by it again.
     RoundTrip(Vec<u32>),
     Input(Input),
-    /// What document 01 prints, compared with the second program.
-    Sample(usize),
+    /// Whether the second program gives what document 01 prints, or what was counted by hand; and the sample's number.
+    Sample(fn(usize) -> bool, usize),
 }
 
 impl Case {
@@ -42,7 +47,7 @@ impl Case {
             Case::Three(..) => (3, 0),
             Case::RoundTrip(_) => (2, 0),
             Case::Input(_) => (0, 1),
-            Case::Sample(_) => (0, 0),
+            Case::Sample(..) => (0, 0),
         }
     }
 }
@@ -53,7 +58,7 @@ enum Make {
     Three(fn(u64, &mut Draw) -> [Call; 3]),
     RoundTrip(fn(u64, &mut Draw) -> Vec<u32>),
     Input(fn(u64, &mut Draw) -> Input),
-    Sample,
+    Sample(fn(usize) -> bool),
 }
 
 pub struct Kind {
@@ -75,8 +80,8 @@ pub enum Choice {
 
 pub fn kinds(choice: Choice) -> Vec<&'static Kind> {
     match choice {
-        Choice::All => kinds::CALLS.iter().chain(kinds::INPUTS).collect(),
-        Choice::Calls => kinds::CALLS.iter().collect(),
+        Choice::All => kinds::CALLS.iter().chain(closed_kinds::CLOSED).chain(kinds::INPUTS).collect(),
+        Choice::Calls => kinds::CALLS.iter().chain(closed_kinds::CLOSED).collect(),
         Choice::Long => kinds::LONG.iter().collect(),
     }
 }
@@ -117,7 +122,7 @@ impl Kind {
             Make::NullCall(make) => Case::Call(make(index, &mut draw), Placement::Null),
             Make::RoundTrip(make) => Case::RoundTrip(make(index, &mut draw)),
             Make::Input(make) => Case::Input(make(index, &mut draw)),
-            Make::Sample => Case::Sample(index as usize),
+            Make::Sample(holds) => Case::Sample(holds, index as usize),
         }
     }
 }

@@ -21,7 +21,7 @@ pub fn each_choice(index: u64, draw: &mut Draw) -> Call {
     let n = draw.between(1, 20);
     let (ring, line) = (vec![4; full(0, m)], vec![4; full(1, n)]);
     let needed = room(ring.len(), line.len()).max(1);
-    let search = Search { room: full(2, needed), ring, line, allowance: draw.below(m) };
+    let search = Search { room: full(2, needed), ring, line, allowance: draw.below(m), join: None };
     let book = Silence { cell: 7, ring_number: 2, start: 1 }.field();
     match which {
         0 => Call::Survey(search),

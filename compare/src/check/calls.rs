@@ -1,13 +1,15 @@
 //! One call of the library compared with the second program.
 
-use super::compared::{Compared, Left};
+use super::compared::{Compared, Left, Lent, Side};
 use crate::cases::call::{Call, Search};
 use crate::memory::{bytes_of, Area, Placement, WORD};
 use crate::outlines::{self, ask, Answer, Empty, Request};
 use crate::second::book::SILENCE_WORDS;
-use crate::second::calls::{self, Outcome};
+use crate::second::calls::{self, Answered, Outcome};
 use crate::second::meaning::{FINDING_WORDS, MARK};
+use crate::second::refusals::LONGEST_LINE;
 use crate::second::rules::Marks;
+use crate::second::seam::Seam;
 
 // The numbers that outlines.rs names to its users are those of the second program.
 const _: () = assert!(outlines::FINDING_WORDS == FINDING_WORDS && outlines::SILENCE_WORDS == SILENCE_WORDS);
@@ -19,6 +21,7 @@ const MOST_LINE: usize = 75_000;
 const MOST_BOOK: usize = 60_000;
 /// A finding for each edge of a line.
 const MOST_LENT: usize = WORD * FINDING_WORDS * MOST_LINE;
+const MOST_JOIN: usize = 2 * MOST_RING;
 
 /// Memory for one worker's calls.
 pub struct Areas {
@@ -26,12 +29,13 @@ pub struct Areas {
     line: Area,
     book: Area,
     lent: Area,
+    join: Area,
 }
 
 impl Areas {
     pub fn new() -> Areas {
-        let [ring, line, book, lent] = [MOST_RING, MOST_LINE, MOST_BOOK, MOST_LENT].map(Area::new);
-        Areas { ring, line, book, lent }
+        let [ring, line, book, lent, join] = [MOST_RING, MOST_LINE, MOST_BOOK, MOST_LENT, MOST_JOIN].map(Area::new);
+        Areas { ring, line, book, lent, join }
     }
 
     fn inputs(&self) -> [&Area; 3] {
@@ -42,7 +46,8 @@ impl Areas {
         self.inputs().map(|area| area.surrounded().to_vec())
     }
 
-    /// Puts the inputs and the lent area in place: open bytes at changing alignments, words at multiples of 4.
+    /// Puts the inputs and the lent areas in place: open bytes at changing alignments, words at multiples of 4. A call that is
+    /// lent no join area has an empty one here.
     fn lay(&mut self, call: &Call, placement: Placement) {
         let (ring, line, book, room) = parts(call);
         let packing = matches!(call, Call::Pack { .. });
@@ -51,6 +56,14 @@ impl Areas {
         self.line.lay(placement, 7 - shift, line);
         self.book.lay(placement, if packing { 0 } else { shift }, &book);
         self.lent.lay(placement, if packing { shift } else { 0 }, &unlike(room));
+        let join = call.search().and_then(|search| search.join.as_deref());
+        self.join.lay(placement, (shift + 3) % 8, join.unwrap_or_default());
+    }
+
+    /// The lent areas with their canaries.
+    fn written(&self) -> Lent {
+        let side = |area: &Area| Side { bytes: area.surrounded().to_vec(), front: area.front() };
+        Lent { words: side(&self.lent), join: side(&self.join) }
     }
 }
 
@@ -76,10 +89,20 @@ fn unlike(length: usize) -> Vec<u8> {
 }
 
 fn request<'a>(call: &Call, areas: &'a mut Areas) -> Request<'a> {
-    let Areas { ring, line, book, lent } = areas;
+    let Areas { ring, line, book, lent, join } = areas;
     let search =
         |search: &Search| outlines::Search { ring: ring.bytes(), line: line.bytes(), allowance: search.allowance };
     match call {
+        Call::Survey(given) if given.is_closed() => {
+            Request::SurveyClosed(search(given), join.bytes_mut(), lent.words_mut())
+        }
+        Call::Scan(given) if given.is_closed() => {
+            Request::ScanClosed(search(given), join.bytes_mut(), lent.words_mut())
+        }
+        Call::Report { cell, ring_number, search: given, .. } if given.is_closed() => {
+            let (join, words) = (join.bytes_mut(), lent.words_mut());
+            Request::ReportClosed(*cell, *ring_number, search(given), book.bytes(), join, words)
+        }
         Call::Survey(given) => Request::Survey(search(given), lent.words_mut()),
         Call::Scan(given) => Request::Scan(search(given), lent.words_mut()),
         Call::Report { cell, ring_number, search: given, .. } => {
@@ -90,9 +113,10 @@ fn request<'a>(call: &Call, areas: &'a mut Areas) -> Request<'a> {
     }
 }
 
-fn ask_library(call: &Call, placement: Placement, areas: &mut Areas) -> (Left, Vec<u8>) {
+/// What the call left behind, and the lent areas before it.
+fn ask_library(call: &Call, placement: Placement, areas: &mut Areas) -> (Left, Lent) {
     areas.lay(call, placement);
-    let (inputs, before) = (areas.inputs_with_canaries(), areas.lent.surrounded().to_vec());
+    let (inputs, before) = (areas.inputs_with_canaries(), areas.written());
     let empty = if placement == Placement::Null { Empty::Null } else { Empty::AsLent };
     if placement.guarded() {
         areas.inputs().into_iter().for_each(|area| area.writable(false));
@@ -102,7 +126,24 @@ fn ask_library(call: &Call, placement: Placement, areas: &mut Areas) -> (Left, V
         areas.inputs().into_iter().for_each(|area| area.writable(true));
     }
     let inputs_kept = areas.inputs_with_canaries() == inputs;
-    (Left { answer, lent: areas.lent.surrounded().to_vec(), inputs_kept }, before)
+    (Left { answer, lent: areas.written(), inputs_kept }, before)
+}
+
+/// The open call on "the line followed by its first m−1 edges" that a closed call must agree with, where the open call accepts
+/// that line. For n < m the line stays as it is.
+fn opened(call: &Call) -> Option<Call> {
+    let closed = call.search().filter(|search| search.is_closed() && search.whole() <= LONGEST_LINE)?;
+    let mut search = closed.clone();
+    search.line.extend_from_within(..closed.whole() - closed.line.len());
+    search.join = None;
+    Some(match call {
+        Call::Survey(_) => Call::Survey(search),
+        Call::Scan(_) => Call::Scan(search),
+        Call::Report { cell, ring_number, book, .. } => {
+            Call::Report { cell: *cell, ring_number: *ring_number, search, book: book.clone() }
+        }
+        Call::Pack { .. } | Call::Unpack { .. } => return None,
+    })
 }
 
 fn answer_of<T>(outcome: &Outcome<T>) -> Answer {
@@ -117,12 +158,23 @@ fn answer_of<T>(outcome: &Outcome<T>) -> Answer {
     }
 }
 
-/// The second program's answer, the bytes it writes at the lent area's beginning, and what it met of marks.
-type Second = (Answer, Vec<u8>, Marks);
+/// The second program's answer, the bytes that it writes at the beginning of the lent area and of the join area, and what it
+/// met of marks and at the seam.
+#[derive(Default)]
+struct Second {
+    answer: Answer,
+    written: Vec<u8>,
+    joined: Vec<u8>,
+    marks: Marks,
+    seam: Seam,
+}
 
 fn of_outcome<T>(outcome: Outcome<T>, bytes: impl Fn(Vec<T>) -> Vec<u8>) -> Second {
     let answer = answer_of(&outcome);
-    outcome.map_or((answer, Vec::new(), Marks::default()), |given| (answer, bytes(given.written), given.marks))
+    let Ok(Answered { written, joined, marks, seam, .. }) = outcome else {
+        return Second { answer, ..Second::default() };
+    };
+    Second { answer, written: bytes(written), joined, marks, seam }
 }
 
 fn of_words(outcome: Outcome<u32>) -> Second {
@@ -130,8 +182,11 @@ fn of_words(outcome: Outcome<u32>) -> Second {
 }
 
 fn search(call: &Call) -> Option<calls::Search<'_>> {
-    let given = call.search()?;
-    Some(calls::Search::new(&given.ring, &given.line, given.allowance, given.room))
+    let Search { ring, line, allowance, room, join } = call.search()?;
+    Some(match join {
+        Some(join) => calls::Search::closed(ring, line, *allowance, *room, join.len()),
+        None => calls::Search::new(ring, line, *allowance, *room),
+    })
 }
 
 fn ask_second(call: &Call, search: Option<&calls::Search>) -> Second {
@@ -149,11 +204,14 @@ fn ask_second(call: &Call, search: Option<&calls::Search>) -> Second {
 
 fn compare_with(search: Option<&calls::Search>, call: &Call, placement: Placement, areas: &mut Areas) -> Compared {
     let (given, before) = ask_library(call, placement, areas);
-    let front = areas.lent.front();
-    let (answer, written, marks) = ask_second(call, search);
+    let Second { answer, written, joined, marks, seam } = ask_second(call, search);
     let mut lent = before.clone();
-    lent[front..front + written.len()].copy_from_slice(&written);
-    Compared { expected: Left { answer, lent, inputs_kept: true }, given, before, front, marks }
+    lent.words.write(&written);
+    lent.join.write(&joined);
+    // Only an accepted call is compared with the open one, whose refusals are others.
+    let open = if answer.refusal == 0 { opened(call) } else { None };
+    let opened = open.map(|open| ask_library(&open, placement, areas).0);
+    Compared { expected: Left { answer, lent, inputs_kept: true }, given, before, opened, marks, seam }
 }
 
 pub fn compare(call: &Call, placement: Placement, areas: &mut Areas) -> Compared {

@@ -1,5 +1,6 @@
 //! What was compared: counts for each kind, and the first differences in words.
 
+use super::closed_ledger::Closed;
 use super::compared::Compared;
 use crate::cases::call::Call;
 use crate::cases::{Case, Kind};
@@ -91,15 +92,16 @@ pub struct Ledger {
     /// For each kind, by its place.
     kinds: BTreeMap<usize, Counts>,
     sums: [u64; SUMS.len()],
+    closed: Closed,
     answers: Answers,
     outputs: Answers,
     told: Vec<String>,
 }
 
-fn at_bound(call: &Call, answer: &Answer) -> bool {
+pub(super) fn at_bound(call: &Call, answer: &Answer) -> bool {
     let (Call::Scan(search) | Call::Report { search, .. }) = call else { return false };
-    let (m, n) = (search.ring.len() as u64, search.line.len() as u64);
-    answer.refusal == 0 && n >= m && answer.looks == bound(m, n)
+    let (m, whole) = (search.ring.len() as u64, search.whole() as u64);
+    answer.refusal == 0 && whole >= m && answer.looks == bound(m, whole)
 }
 
 /// The longest ring in the longest line.
@@ -120,6 +122,7 @@ impl Ledger {
         self.add(Sum::Null, u64::from(placement == Placement::Null));
         self.add(Sum::AtBound, u64::from(at_bound(call, answer)));
         self.add(Sum::Longest, u64::from(longest(call) && answer.refusal == 0));
+        self.closed.add_call(call, compared);
         if let Some(search) = call.search() {
             self.add(Sum::Found, answer.found);
             self.add(Sum::Hidden, answer.hidden);
@@ -164,6 +167,7 @@ impl Ledger {
     pub fn join(&mut self, other: Ledger) {
         other.kinds.into_iter().for_each(|(kind, counts)| self.join_kind(kind, counts));
         self.sums.iter_mut().zip(other.sums).for_each(|(sum, more)| *sum += more);
+        self.closed.join(other.closed);
         for (mine, others) in [(&mut self.answers, other.answers), (&mut self.outputs, other.outputs)] {
             others.into_iter().for_each(|(number, count)| *mine.entry(number).or_default() += count);
         }
@@ -214,6 +218,7 @@ impl Ledger {
             "windows left at a mark: {left}, of them after k > 0 breaks: {after_breaks}, at j = m > 1: {at_first}"
         );
         println!("windows with a mark that surveys moved through: {passed}");
+        self.closed.print();
     }
 
     /// What no case led to, hence what was not compared: refusals of the library and of the program, and sums that are 0.
@@ -224,6 +229,7 @@ impl Ledger {
         let sums = SUMS.iter().zip(self.sums).filter(|(_, sum)| *sum == 0);
         let refusals = library.map(|number| format!("refusal {number}"));
         let of_program = program.map(|number| format!("refusal {number} of the program"));
-        refusals.chain(of_program).chain(sums.map(|(name, _)| name.to_string())).collect()
+        let sums = sums.map(|(name, _)| name.to_string());
+        refusals.chain(of_program).chain(sums).chain(self.closed.missing()).collect()
     }
 }

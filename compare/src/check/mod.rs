@@ -1,6 +1,7 @@
 //! The comparison: the library and the program on one side, the second program on the other.
 
 pub mod calls;
+mod closed_ledger;
 pub mod compared;
 pub mod crash;
 pub mod ledger;
@@ -8,5 +9,6 @@ mod misread;
 pub mod program;
 pub mod run;
 pub mod spoil;
+mod spoil_closed;
 mod spoil_marks;
 pub mod trial;

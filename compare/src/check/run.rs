@@ -94,9 +94,8 @@ impl<'a> Worker<'a> {
                 self.ledger.add_output(given.as_deref().unwrap_or_default());
                 program::difference(&given, &program::expected(input))
             }
-            Case::Sample(index) => {
-                let holds = crate::second::samples::holds(*index);
-                (!holds).then(|| "the second program does not give what the page prints".to_string())
+            Case::Sample(holds, index) => {
+                (!holds(*index)).then(|| "the second program does not give what the sample says".to_string())
             }
         }
     }

@@ -1,6 +1,6 @@
 //! Ways to spoil a copy of what the library returned and wrote. The comparison must notice each.
 
-use super::compared::{Compared, DISTANCE, ROTATION, TIES};
+use super::compared::{Compared, Left, DISTANCE, ROTATION, TIES};
 use crate::cases::call::Call;
 use crate::memory::WORD;
 use crate::second::book::{FIELD, SILENCE_WORDS};
@@ -51,10 +51,11 @@ fn shown_words(call: &Call, spoilt: &Compared) -> usize {
 }
 
 pub(super) fn set_word(spoilt: &mut Compared, place: usize, value: u32) -> bool {
-    let at = spoilt.front + WORD * place;
-    let fits = at + WORD <= spoilt.given.lent.len();
+    let words = &mut spoilt.given.lent.words;
+    let at = words.front + WORD * place;
+    let fits = at + WORD <= words.bytes.len();
     if fits {
-        spoilt.given.lent[at..at + WORD].copy_from_slice(&value.to_ne_bytes());
+        words.bytes[at..at + WORD].copy_from_slice(&value.to_ne_bytes());
     }
     fits
 }
@@ -65,11 +66,11 @@ fn finding_dropped(call: &Call, spoilt: &mut Compared) -> bool {
     if words == 0 {
         return false;
     }
-    let (from, to) = (spoilt.front, spoilt.front + WORD * words);
-    spoilt.given.lent.copy_within(from + FINDING..to, from);
-    let before = spoilt.before[to - FINDING..to].to_vec();
-    spoilt.given.lent[to - FINDING..to].copy_from_slice(&before);
-    spoilt.given.answer.found -= 1;
+    let Compared { given, before, .. } = spoilt;
+    let (from, to) = (before.words.front, before.words.front + WORD * words);
+    given.lent.words.bytes.copy_within(from + FINDING..to, from);
+    given.lent.words.bytes[to - FINDING..to].copy_from_slice(&before.words.bytes[to - FINDING..to]);
+    given.answer.found -= 1;
     true
 }
 
@@ -82,7 +83,7 @@ fn of_last(call: &Call, spoilt: &Compared, which: usize) -> Option<usize> {
 /// Changes a word of the last shown finding to what `other` makes of it, if it makes anything of it.
 fn change_last(call: &Call, spoilt: &mut Compared, which: usize, other: impl Fn(u32) -> Option<u32>) -> bool {
     let Some(place) = of_last(call, spoilt, which) else { return false };
-    other(spoilt.word(place)).is_some_and(|value| set_word(spoilt, place, value))
+    other(spoilt.given.lent.words.word(place)).is_some_and(|value| set_word(spoilt, place, value))
 }
 
 fn rotation_too_high(call: &Call, spoilt: &mut Compared) -> bool {
@@ -104,7 +105,7 @@ fn ties_of_every_rotation(call: &Call, spoilt: &mut Compared) -> bool {
 
 fn ties_not_written(call: &Call, spoilt: &mut Compared) -> bool {
     let Some(place) = of_last(call, spoilt, TIES) else { return false };
-    set_word(spoilt, place, spoilt.word_before(place))
+    set_word(spoilt, place, spoilt.before.words.word(place))
 }
 
 fn looks_too_few(_: &Call, spoilt: &mut Compared) -> bool {
@@ -147,13 +148,13 @@ fn byte_behind_area(call: &Call, spoilt: &mut Compared) -> bool {
         Call::Pack { room, .. } => *room,
         Call::Unpack { room, .. } => WORD * room,
     };
-    let behind = spoilt.front + length;
-    spoilt.given.lent.get_mut(behind).map(|byte| *byte ^= 1).is_some()
+    let words = &mut spoilt.given.lent.words;
+    words.bytes.get_mut(words.front + length).map(|byte| *byte ^= 1).is_some()
 }
 
 fn byte_before_area(_: &Call, spoilt: &mut Compared) -> bool {
-    let before = spoilt.front.checked_sub(1);
-    before.map(|place| spoilt.given.lent[place] ^= 0x80).is_some()
+    let words = &mut spoilt.given.lent.words;
+    words.front.checked_sub(1).map(|place| words.bytes[place] ^= 0x80).is_some()
 }
 
 /// Applies to a refusal only.
@@ -178,8 +179,8 @@ fn refusal_count(_: &Call, spoilt: &mut Compared) -> bool {
 }
 
 fn refusal_writes(_: &Call, spoilt: &mut Compared) -> bool {
-    let at = spoilt.front;
-    spoilt.given.answer.refusal != 0 && spoilt.given.lent.get_mut(at).map(|byte| *byte ^= 0x10).is_some()
+    let Left { answer, lent, .. } = &mut spoilt.given;
+    answer.refusal != 0 && lent.words.bytes.get_mut(lent.words.front).map(|byte| *byte ^= 0x10).is_some()
 }
 
 fn refusal_accepted(_: &Call, spoilt: &mut Compared) -> bool {
@@ -188,9 +189,9 @@ fn refusal_accepted(_: &Call, spoilt: &mut Compared) -> bool {
 
 fn packed_byte(call: &Call, spoilt: &mut Compared) -> bool {
     let packed = matches!(call, Call::Pack { .. }) && spoilt.given.answer.found > 0;
-    let last = spoilt.front + FIELD * spoilt.given.answer.found as usize;
     if packed {
-        spoilt.given.lent[last - 1] ^= 1;
+        let Left { answer, lent, .. } = &mut spoilt.given;
+        lent.words.bytes[lent.words.front + FIELD * answer.found as usize - 1] ^= 1;
     }
     packed
 }

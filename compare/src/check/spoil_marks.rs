@@ -2,12 +2,12 @@
 //! something to spoil only where that differs from the right answer.
 
 use super::compared::Compared;
-use super::misread::{scan, survey, AtMark};
+use super::misread::{AtMark, Misread};
 use super::spoil::{set_word, way, Way};
 use crate::cases::call::{Call, Search};
 use crate::outlines::{Answer, Refusal};
 use crate::second::meaning::{holds_mark, Finding, MARK};
-use crate::second::refusals;
+use crate::second::refusals::{self, Refused};
 use crate::second::rules::{plain_survey, quick_scan, Searched};
 
 pub static OF_MARKS: &[Way] = &[
@@ -20,12 +20,12 @@ pub static OF_MARKS: &[Way] = &[
     way("a ring with a mark let through", let_through),
 ];
 
-/// Puts another answer in the place of the library's; returns whether it is another.
-fn put(spoilt: &mut Compared, searched: Searched) -> bool {
+/// Puts another answer in the place of the library's, with the words that go with it; returns whether it is another.
+pub(super) fn put(spoilt: &mut Compared, searched: Searched) -> bool {
     let right = spoilt.given.clone();
     let Searched { findings, looks, .. } = searched;
     spoilt.given.answer = Answer { found: findings.len() as u64, looks, ..Answer::default() };
-    spoilt.given.lent = spoilt.before.clone();
+    spoilt.given.lent.words = spoilt.before.words.clone();
     let words = findings.iter().flat_map(Finding::words);
     words.enumerate().for_each(|(place, word)| assert!(set_word(spoilt, place, word), "room for every finding"));
     spoilt.given != right
@@ -33,22 +33,23 @@ fn put(spoilt: &mut Compared, searched: Searched) -> bool {
 
 fn scanned(call: &Call, spoilt: &mut Compared, at_mark: AtMark) -> bool {
     let Call::Scan(search) = call else { return false };
-    spoilt.given.answer.refusal == 0 && put(spoilt, scan(search, at_mark))
+    spoilt.given.answer.refusal == 0 && put(spoilt, Misread::new(search).scan(at_mark))
 }
 
 fn surveyed(call: &Call, spoilt: &mut Compared) -> bool {
     let Call::Survey(search) = call else { return false };
-    spoilt.given.answer.refusal == 0 && put(spoilt, survey(search))
+    spoilt.given.answer.refusal == 0 && put(spoilt, Misread::new(search).survey(true))
 }
 
 /// A step less for each window with a mark behind the first.
 fn survey_looks(call: &Call, spoilt: &mut Compared) -> bool {
-    let Call::Survey(Search { ring, line, .. }) = call else { return false };
+    let Call::Survey(search) = call else { return false };
     if spoilt.given.answer.refusal != 0 {
         return false;
     }
-    let marked = line.windows(ring.len()).skip(1).filter(|window| holds_mark(window)).count();
-    spoilt.given.answer.looks -= (2 * ring.len() * marked) as u64;
+    let (m, line) = (search.ring.len(), search.line());
+    let marked = (1..line.windows(m)).filter(|&start| holds_mark(&line.window(start, m))).count();
+    spoilt.given.answer.looks -= (2 * m * marked) as u64;
     marked > 0
 }
 
@@ -65,18 +66,26 @@ fn twelve_after_two(call: &Call, spoilt: &mut Compared) -> bool {
     search.is_some()
 }
 
+/// The refusals of this search with another ring.
+fn refused(search: &Search, ring: &[u8]) -> Result<(), Refused> {
+    let Search { line, allowance, room, join, .. } = search;
+    match join {
+        Some(join) => refusals::closed_search(ring, line, *allowance, *room, join.len()),
+        None => refusals::search(ring, line, *allowance, *room),
+    }
+}
+
 /// The answer without refusal 12: another refusal, or what survey and scan find.
 fn let_through(call: &Call, spoilt: &mut Compared) -> bool {
     let Some(search) = refused_by_twelve(call, spoilt) else { return false };
-    let Search { ring, line, allowance, room } = search;
-    let unmarked: Vec<u8> = ring.iter().map(|&edge| edge.min(MARK - 1)).collect();
-    if let Err(refused) = refusals::search(&unmarked, line, *allowance, *room) {
+    let unmarked: Vec<u8> = search.ring.iter().map(|&edge| edge.min(MARK - 1)).collect();
+    if let Err(refused) = refused(search, &unmarked) {
         spoilt.given.answer.refusal = refused.number;
         return true;
     }
     match call {
-        Call::Survey(_) => put(spoilt, plain_survey(ring, line, *allowance)),
-        Call::Scan(_) => put(spoilt, quick_scan(ring, line, *allowance)),
+        Call::Survey(_) => put(spoilt, plain_survey(&search.ring, search.line(), search.allowance)),
+        Call::Scan(_) => put(spoilt, quick_scan(&search.ring, search.line(), search.allowance)),
         _ => false,
     }
 }

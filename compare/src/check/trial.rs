@@ -6,6 +6,7 @@ use super::crash;
 use super::program::{self, Slot};
 use super::run::Plan;
 use super::spoil::{Way, OF_REFUSALS_AND_BOOKS, OF_SEARCHES};
+use super::spoil_closed::{OF_CLOSED, OF_LONGEST};
 use super::spoil_marks::OF_MARKS;
 use crate::cases::{Call, Case};
 use crate::memory::{Area, Placement};
@@ -16,8 +17,9 @@ use std::process::{Command, Stdio};
 const SHARE: u64 = 150;
 /// The same for the program, where each case costs a process.
 const SHARE_OF_INPUTS: u64 = 12;
-/// The same for long rings and lines, whose areas are copied for every way.
+/// The same for long rings and lines, whose areas are copied for every way; and of these, for the longest.
 const SHARE_OF_LONG: u64 = 16;
+const SHARE_OF_LONGEST: u64 = 2;
 
 /// What was spoilt and, of that, noticed.
 #[derive(Clone, Copy, Default)]
@@ -66,6 +68,25 @@ impl Trial {
 /// Lines too long to be copied for every way.
 fn long(call: &Call) -> bool {
     call.search().is_some_and(|search| search.line.len() > 5_000)
+}
+
+/// The cases of a kind that are spoilt: all of a small one, else some from all over it. They are not a fixed step apart, which
+/// might miss one of the calls or refusals that come in turn: the step is the golden section of the count.
+fn spread(number: u64, count: u64) -> u64 {
+    const GOLDEN: u64 = 0x9E37_79B9_7F4A_7C15;
+    if count <= SHARE {
+        return number;
+    }
+    (u128::from(number.wrapping_mul(GOLDEN)) * u128::from(count) >> 64) as u64
+}
+
+/// How many cases of a kind of three calls are spoilt.
+fn share_of(calls: &[Call; 3]) -> u64 {
+    if long(&calls[0]) {
+        SHARE_OF_LONGEST
+    } else {
+        SHARE_OF_LONG
+    }
 }
 
 type TextWay = (&'static str, fn(&mut Vec<u8>) -> bool);
@@ -173,21 +194,23 @@ fn spoil_lines(samples: Lines) -> Vec<bool> {
 
 /// Prints a line for each way; returns the ways that passed and that failed.
 pub fn run_trial(plan: &Plan, samples: Option<Lines>) -> (usize, usize) {
-    let mut of_calls = [OF_SEARCHES, OF_MARKS, OF_REFUSALS_AND_BOOKS].map(Trial::new);
-    let mut of_long = Trial::new(OF_SEARCHES);
+    let mut of_calls = [OF_SEARCHES, OF_MARKS, OF_CLOSED, OF_REFUSALS_AND_BOOKS].map(Trial::new);
+    let mut of_long = [OF_SEARCHES, OF_LONGEST].map(Trial::new);
     let mut text_ways = [Noticed::default(); TEXT_WAYS.len()];
     let mut areas = Areas::new();
     for kind in &plan.kinds {
         for number in 0..SHARE.min(kind.count) {
-            let case = kind.case(plan.seed, number * kind.count / SHARE.min(kind.count));
+            let case = kind.case(plan.seed, spread(number, kind.count));
             match &case {
                 Case::Call(call, placement) if !long(call) => {
                     let compared = compare(call, *placement, &mut areas);
                     of_calls.iter_mut().for_each(|trial| trial.spoil(call, &compared));
                 }
-                Case::Three(calls, placement) if number < SHARE_OF_LONG => {
+                Case::Three(calls, placement) if number < share_of(calls) => {
                     let compared = compare_three(calls, *placement, &mut areas);
-                    calls.iter().zip(&compared).for_each(|(call, compared)| of_long.spoil(call, compared));
+                    for (call, compared) in calls.iter().zip(&compared) {
+                        of_long.iter_mut().for_each(|trial| trial.spoil(call, compared));
+                    }
                 }
                 Case::Input(_) if number < SHARE_OF_INPUTS => spoil_output(plan, &case, &mut text_ways),
                 _ => {}
@@ -195,7 +218,7 @@ pub fn run_trial(plan: &Plan, samples: Option<Lines>) -> (usize, usize) {
         }
     }
     let mut results: Vec<bool> = of_calls.iter().flat_map(|trial| trial.told("")).collect();
-    results.extend(of_long.told("long: "));
+    results.extend(of_long.iter().flat_map(|trial| trial.told("long: ")));
     if plan.program.is_some() {
         results.extend(TEXT_WAYS.iter().zip(text_ways).map(|(way, noticed)| told(way.0, noticed)));
     }

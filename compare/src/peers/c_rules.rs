@@ -20,6 +20,24 @@ extern "C" {
         words: *mut u32,
         room: usize,
     ) -> Answer;
+    fn rules_scan_closed(
+        ring: *const u8,
+        m: usize,
+        line: *const u8,
+        n: usize,
+        k: usize,
+        words: *mut u32,
+        room: usize,
+    ) -> Answer;
+    fn rules_survey_closed(
+        ring: *const u8,
+        m: usize,
+        line: *const u8,
+        n: usize,
+        k: usize,
+        words: *mut u32,
+        room: usize,
+    ) -> Answer;
     fn rules_report(
         cell: u32,
         ring_number: u16,
@@ -35,9 +53,9 @@ extern "C" {
     ) -> Answer;
 }
 
-pub const RULES: Rules = Rules { scan, survey, report };
+pub const RULES: Rules = Rules { scan, survey, report, scan_closed, survey_closed };
 
-// SAFETY, for all three: each pointer goes with the length of its own slice, the words are lent for writing, and the C code
+// SAFETY, for all five: each pointer goes with the length of its own slice, the words are lent for writing, and the C code
 // keeps none of them.
 
 fn scan(ring: &[u8], line: &[u8], k: usize, words: &mut [u32]) -> Answer {
@@ -46,6 +64,16 @@ fn scan(ring: &[u8], line: &[u8], k: usize, words: &mut [u32]) -> Answer {
 
 fn survey(ring: &[u8], line: &[u8], k: usize, words: &mut [u32]) -> Answer {
     unsafe { rules_survey(ring.as_ptr(), ring.len(), line.as_ptr(), line.len(), k, words.as_mut_ptr(), words.len()) }
+}
+
+fn scan_closed(ring: &[u8], line: &[u8], k: usize, words: &mut [u32]) -> Answer {
+    let (room, out) = (words.len(), words.as_mut_ptr());
+    unsafe { rules_scan_closed(ring.as_ptr(), ring.len(), line.as_ptr(), line.len(), k, out, room) }
+}
+
+fn survey_closed(ring: &[u8], line: &[u8], k: usize, words: &mut [u32]) -> Answer {
+    let (room, out) = (words.len(), words.as_mut_ptr());
+    unsafe { rules_survey_closed(ring.as_ptr(), ring.len(), line.as_ptr(), line.len(), k, out, room) }
 }
 
 fn report(q: &Question, words: &mut [u32]) -> Answer {

@@ -45,11 +45,14 @@ pub struct Question<'a> {
 /// Scan or survey: ring, line, allowance, lent words.
 pub type Search = fn(&[u8], &[u8], usize, &mut [u32]) -> Answer;
 
-/// The three calls of documents 01 and 02, in one implementation.
+/// The calls of documents 01 and 02 that the benchmark times, in one implementation: those of open lines, and of closed ones
+/// scan and survey.
 pub struct Rules {
     pub scan: Search,
     pub survey: Search,
     pub report: fn(&Question, &mut [u32]) -> Answer,
+    pub scan_closed: Search,
+    pub survey_closed: Search,
 }
 
 /// A peer finds, and counts no looks. It is only given what a scan accepts.
@@ -66,6 +69,13 @@ pub const PEERS: [Peer; 6] = [
     Peer { name: "naive", search: naive::search },
     Peer { name: "sliding survey", search: sliding::search },
 ];
+
+/// A closed line as an open one: the line followed by its first m − 1 edges, or the line itself where it is shorter than the
+/// ring.
+pub fn lengthened(line: &[u8], m: usize) -> Vec<u8> {
+    let more = if line.len() >= m { m - 1 } else { 0 };
+    [line, &line[..more]].concat()
+}
 
 /// The ring twice, end to end: every rotation is a part of it.
 pub fn doubled(ring: &[u8]) -> Vec<u8> {

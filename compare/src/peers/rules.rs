@@ -1,23 +1,37 @@
 //! The same rules in Rust: scan, survey and report, built like the library's own code. Vectors are held by value in as
 //! few words as m needs, the occurrence table is made once for a call, the tally is moved in two loops, looks are counted
-//! one by one.
+//! one by one. A closed line is searched as a longer one, which is copied.
 mod book;
 mod sweep;
 mod tally;
 
 use super::findings::{Findings, FINDING_WORDS};
-use super::{doubled, Answer, Question, Rules, MARK};
+use super::{doubled, lengthened, Answer, Question, Rules, MARK};
 use book::{is_for, read, seek, seek_on, Address};
 use sweep::Sweep;
 use tally::{Tally, MOST_RING};
 
-pub const RULES: Rules = Rules { scan, survey, report };
+pub const RULES: Rules = Rules { scan, survey, report, scan_closed, survey_closed };
 
 /// "Line: n edges, 0 to 65,536."
 const MOST_LINE: usize = 65_536;
 
-/// Refusals 1, 12, 2, 3 and 4, in this order, or 0.
-fn admit(ring: &[u8], k: usize, n: usize, room: usize) -> usize {
+/// How many windows a line has.
+fn open_windows(ring: &[u8], line: &[u8]) -> usize {
+    (line.len() + 1).saturating_sub(ring.len())
+}
+
+/// How many windows a closed line has.
+fn closed_windows(ring: &[u8], line: &[u8]) -> usize {
+    if line.len() >= ring.len() {
+        line.len()
+    } else {
+        0
+    }
+}
+
+/// Refusals 1, 12, 2, 3 and 4, in this order, or 0. Each window may be a finding.
+fn admit(ring: &[u8], k: usize, n: usize, windows: usize, room: usize) -> usize {
     let m = ring.len();
     if m == 0 || m > MOST_RING {
         1
@@ -27,7 +41,7 @@ fn admit(ring: &[u8], k: usize, n: usize, room: usize) -> usize {
         2
     } else if n > MOST_LINE {
         3
-    } else if n >= m && room < FINDING_WORDS * (n - m + 1) {
+    } else if room < FINDING_WORDS * windows {
         4
     } else {
         0
@@ -35,10 +49,34 @@ fn admit(ring: &[u8], k: usize, n: usize, room: usize) -> usize {
 }
 
 fn scan(ring: &[u8], line: &[u8], k: usize, words: &mut [u32]) -> Answer {
-    let refusal = admit(ring, k, line.len(), words.len());
-    if refusal != 0 {
-        return Answer { refusal, ..Answer::default() };
+    match admit(ring, k, line.len(), open_windows(ring, line), words.len()) {
+        0 => scan_line(ring, line, k, words),
+        refusal => Answer { refusal, ..Answer::default() },
     }
+}
+
+fn survey(ring: &[u8], line: &[u8], k: usize, words: &mut [u32]) -> Answer {
+    match admit(ring, k, line.len(), open_windows(ring, line), words.len()) {
+        0 => survey_line(ring, line, k, words),
+        refusal => Answer { refusal, ..Answer::default() },
+    }
+}
+
+fn scan_closed(ring: &[u8], line: &[u8], k: usize, words: &mut [u32]) -> Answer {
+    match admit(ring, k, line.len(), closed_windows(ring, line), words.len()) {
+        0 => scan_line(ring, &lengthened(line, ring.len()), k, words),
+        refusal => Answer { refusal, ..Answer::default() },
+    }
+}
+
+fn survey_closed(ring: &[u8], line: &[u8], k: usize, words: &mut [u32]) -> Answer {
+    match admit(ring, k, line.len(), closed_windows(ring, line), words.len()) {
+        0 => survey_line(ring, &lengthened(line, ring.len()), k, words),
+        refusal => Answer { refusal, ..Answer::default() },
+    }
+}
+
+fn scan_line(ring: &[u8], line: &[u8], k: usize, words: &mut [u32]) -> Answer {
     let mut sweep = Sweep::new(ring, line, k);
     let mut findings = Findings::new(words);
     for finding in &mut sweep {
@@ -48,12 +86,8 @@ fn scan(ring: &[u8], line: &[u8], k: usize, words: &mut [u32]) -> Answer {
 }
 
 /// "the first afresh and each next by one step, at m = 1 too": on to the next finding or to the last window.
-fn survey(ring: &[u8], line: &[u8], k: usize, words: &mut [u32]) -> Answer {
+fn survey_line(ring: &[u8], line: &[u8], k: usize, words: &mut [u32]) -> Answer {
     let (m, n) = (ring.len(), line.len());
-    let refusal = admit(ring, k, n, words.len());
-    if refusal != 0 {
-        return Answer { refusal, ..Answer::default() };
-    }
     let doubled = doubled(ring);
     let mut tally = Tally::new();
     let mut findings = Findings::new(words);
@@ -74,7 +108,7 @@ fn survey(ring: &[u8], line: &[u8], k: usize, words: &mut [u32]) -> Answer {
 }
 
 fn report(q: &Question, words: &mut [u32]) -> Answer {
-    let (refusal, place) = match admit(q.ring, q.k, q.line.len(), words.len()) {
+    let (refusal, place) = match admit(q.ring, q.k, q.line.len(), open_windows(q.ring, q.line), words.len()) {
         0 => read(q.book),
         refusal => (refusal, 0),
     };

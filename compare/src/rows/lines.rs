@@ -10,9 +10,13 @@ use crate::second::program::output;
 /// The most bytes or words that are shown one by one; for more a checksum is shown.
 const MOST_SHOWN: usize = 26;
 
-/// "If a room is left out, it is more than any call requires."
+/// "If a room is left out, it is more than any call requires." So is the join area of a closed call.
 fn room(row: &Row) -> usize {
     row.number("room").unwrap_or(usize::MAX)
+}
+
+fn join(row: &Row) -> usize {
+    row.number("join").unwrap_or(usize::MAX)
 }
 
 /// A byte or a word that a call wrote.
@@ -53,22 +57,22 @@ fn checksum(words: &[u32]) -> u64 {
     words.iter().fold(0, |sum, &word| (31 * sum + u64::from(word)) % 1_000_003)
 }
 
-/// What was written, in groups of `each`; the second program writes nothing behind it.
-fn end<T: Written>(written: &[T], each: usize) -> String {
+/// What was written, in groups of `each`, behind the word for it; the second program writes nothing behind it.
+fn end<T: Written>(word: &str, written: &[T], each: usize) -> String {
     let shown = if written.len() <= MOST_SHOWN {
         written.chunks(each).map(group).collect()
     } else {
         let words: Vec<u32> = written.iter().map(T::as_word).collect();
         format!(" checksum {}", checksum(&words))
     };
-    format!(" written {}{shown} behind kept", written.len())
+    format!(" {word} {}{shown} behind kept", written.len())
 }
 
 /// The number, the place, the counts that this call returns, and what it wrote, in groups of `each`.
 fn line<T: Written + Default>(outcome: Outcome<T>, each: usize, counts: fn(&Answered<T>) -> String) -> String {
     let (number, place) = outcome.as_ref().err().map_or((0, 0), |refused| (refused.number, refused.place));
     let answered = outcome.unwrap_or_default();
-    format!(" number {number} place {place}{}{}", counts(&answered), end(&answered.written, each))
+    format!(" number {number} place {place}{}{}", counts(&answered), end("written", &answered.written, each))
 }
 
 fn records<T>(answered: &Answered<T>) -> String {
@@ -118,16 +122,34 @@ fn seek(row: &Row) -> String {
     format!(" from {from} {found}")
 }
 
+/// The counts of a search and what it wrote; a closed call's line goes on with the bytes of the join area.
+fn found(outcome: Outcome<u32>, counts: fn(&Answered<u32>) -> String, closed: bool) -> String {
+    let joined = outcome.as_ref().map_or(Vec::new(), |answered| answered.joined.clone());
+    let text = line(outcome, FINDING_WORDS, counts);
+    if closed {
+        text + &end("joined", &joined, 1)
+    } else {
+        text
+    }
+}
+
 fn searched(call: &str, row: &Row) -> String {
     let (ring, line_edges) = (edges(row.text("ring")), edges(row.text("line")));
-    let search = Search::new(&ring, &line_edges, row.number("k").expect("a search has an allowance"), room(row));
-    match call {
-        "scan" => line(search.scan(), FINDING_WORDS, found_and_looks),
-        "survey" => line(search.survey(), FINDING_WORDS, found_and_looks),
+    let (k, room) = (row.number("k").expect("a search has an allowance"), room(row));
+    let open = call.trim_end_matches("_closed");
+    let closed = open != call;
+    let search = if closed {
+        Search::closed(&ring, &line_edges, k, room, join(row))
+    } else {
+        Search::new(&ring, &line_edges, k, room)
+    };
+    match open {
+        "scan" => found(search.scan(), found_and_looks, closed),
+        "survey" => found(search.survey(), found_and_looks, closed),
         _ => {
             let cell = row.number("cell").unwrap_or(0) as u32;
             let ring_number = row.number("ring number").unwrap_or(0) as u16;
-            line(search.report(cell, ring_number, &book(row)), FINDING_WORDS, found_hidden_looks)
+            found(search.report(cell, ring_number, &book(row)), found_hidden_looks, closed)
         }
     }
 }
@@ -147,7 +169,7 @@ pub fn answer(call: &str, row: &Row) -> String {
         "read" => has_read(row),
         "unpack" => line(unpack(&book(row), room(row)), SILENCE_WORDS, records),
         "seek" => seek(row),
-        "scan" | "survey" | "report" => searched(call, row),
+        "scan" | "survey" | "report" | "scan_closed" | "survey_closed" | "report_closed" => searched(call, row),
         "answer" => answered(row),
         _ => panic!("the table names a call {call}"),
     }

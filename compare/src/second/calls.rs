@@ -1,9 +1,11 @@
-//! What each call returns and what it writes into the lent area.
+//! What each call returns and what it writes into the lent areas.
 
 use super::book::{self, Silence, FIELD, SILENCE_WORDS};
+use super::line::{join, Line};
 use super::meaning::{findings, Finding};
 use super::refusals::{self, refuse_if, Refused};
 use super::rules::{plain_survey, quick_scan, Marks, Searched};
+use super::seam::Seam;
 use std::cell::OnceCell;
 
 #[derive(Clone, Debug, Default, PartialEq, Eq)]
@@ -12,17 +14,22 @@ pub struct Answered<T> {
     pub hidden: usize,
     pub looks: u64,
     pub written: Vec<T>,
-    /// No call returns this: it is for the comparison's ledger.
+    /// The bytes written at the beginning of the join area; none by an open call.
+    pub joined: Vec<u8>,
+    /// No call returns these two: they are for the comparison's ledger.
     pub marks: Marks,
+    pub seam: Seam,
 }
 
 pub type Outcome<T> = Result<Answered<T>, Refused>;
 
 pub struct Search<'a> {
     ring: &'a [u8],
-    line: &'a [u8],
+    line: Line<'a>,
     allowance: usize,
     room: usize,
+    /// The bytes of the join area; an open search has none.
+    join: usize,
     /// The findings by their meaning, and the quick scan: computed once, however many calls use this search.
     meant: OnceCell<Vec<Finding>>,
     scanned: OnceCell<Searched>,
@@ -32,18 +39,27 @@ fn words(findings: &[Finding]) -> Vec<u32> {
     findings.iter().flat_map(Finding::words).collect()
 }
 
-fn all_shown(searched: &Searched) -> Answered<u32> {
-    let Searched { findings, looks, marks, .. } = searched;
-    Answered { found: findings.len(), hidden: 0, looks: *looks, written: words(findings), marks: *marks }
-}
-
 impl<'a> Search<'a> {
+    fn of(ring: &'a [u8], line: Line<'a>, allowance: usize, room: usize, join: usize) -> Search<'a> {
+        Search { ring, line, allowance, room, join, meant: OnceCell::new(), scanned: OnceCell::new() }
+    }
+
     pub fn new(ring: &'a [u8], line: &'a [u8], allowance: usize, room: usize) -> Search<'a> {
-        Search { ring, line, allowance, room, meant: OnceCell::new(), scanned: OnceCell::new() }
+        Search::of(ring, Line::open(line), allowance, room, 0)
+    }
+
+    /// A closed search with a join area of `join` bytes.
+    pub fn closed(ring: &'a [u8], line: &'a [u8], allowance: usize, room: usize, join: usize) -> Search<'a> {
+        Search::of(ring, Line::closed(line), allowance, room, join)
     }
 
     fn refusals(&self) -> Result<(), Refused> {
-        refusals::search(self.ring, self.line, self.allowance, self.room)
+        let Search { ring, line, allowance, room, join, .. } = self;
+        if line.closed {
+            refusals::closed_search(ring, line.edges, *allowance, *room, *join)
+        } else {
+            refusals::search(ring, line.edges, *allowance, *room)
+        }
     }
 
     /// The findings come from their meaning. Document 01 says that the rules lead to the same ones, so a second program in
@@ -58,24 +74,35 @@ impl<'a> Search<'a> {
         self.scanned.get_or_init(|| self.checked(quick_scan(self.ring, self.line, self.allowance)))
     }
 
+    /// The answer of an accepted call that hides these of its findings.
+    fn answered(&self, searched: &Searched, is_hidden: impl Fn(&Finding) -> bool) -> Answered<u32> {
+        let Searched { findings, looks, marks, .. } = searched;
+        let (hidden, shown): (Vec<Finding>, Vec<Finding>) = findings.iter().partition(|finding| is_hidden(finding));
+        let (joined, seam) = if self.line.closed {
+            (join(self.line.edges, self.ring.len()), Seam::of(self.line, self.ring.len(), &shown, &hidden))
+        } else {
+            Default::default()
+        };
+        let (found, hidden) = (findings.len(), hidden.len());
+        Answered { found, hidden, looks: *looks, written: words(&shown), joined, marks: *marks, seam }
+    }
+
     pub fn survey(&self) -> Outcome<u32> {
         self.refusals()?;
-        Ok(all_shown(&self.checked(plain_survey(self.ring, self.line, self.allowance))))
+        let searched = self.checked(plain_survey(self.ring, self.line, self.allowance));
+        Ok(self.answered(&searched, |_| false))
     }
 
     pub fn scan(&self) -> Outcome<u32> {
         self.refusals()?;
-        Ok(all_shown(self.scanned()))
+        Ok(self.answered(self.scanned(), |_| false))
     }
 
     pub fn report(&self, cell: u32, ring_number: u16, book: &[u8]) -> Outcome<u32> {
         self.refusals()?;
         let silences = book::read(book)?;
-        let Searched { findings, looks, marks, .. } = self.scanned();
         let silent = |f: &Finding| silences.contains(&Silence { cell, ring_number, start: f.start as u32 });
-        let (hidden, shown): (Vec<Finding>, Vec<Finding>) = findings.iter().partition(|f| silent(f));
-        let (found, hidden) = (findings.len(), hidden.len());
-        Ok(Answered { found, hidden, looks: *looks, written: words(&shown), marks: *marks })
+        Ok(self.answered(self.scanned(), silent))
     }
 }
 

@@ -1,5 +1,7 @@
 //! Rotations, distances and findings, by their meanings.
 
+use super::line::Line;
+
 /// "a finding becomes four words: start, rotation, distance, ties" (ticket 1).
 pub const FINDING_WORDS: usize = 4;
 
@@ -57,13 +59,13 @@ pub fn holds_mark(window: &[u8]) -> bool {
     window.contains(&MARK)
 }
 
-pub fn findings(ring: &[u8], line: &[u8], allowance: usize) -> Vec<Finding> {
-    let turned = rotations(ring);
-    let windows = line.windows(ring.len()).enumerate();
+pub fn findings(ring: &[u8], line: Line, allowance: usize) -> Vec<Finding> {
+    let (m, turned) = (ring.len(), rotations(ring));
+    let windows = (0..line.windows(m)).map(|start| (start, line.window(start, m)));
     let starts = windows.filter(|(_, window)| !holds_mark(window));
     starts
         .filter_map(|(start, window)| {
-            let distances: Vec<usize> = turned.iter().map(|rotation| distance(window, rotation)).collect();
+            let distances: Vec<usize> = turned.iter().map(|rotation| distance(&window, rotation)).collect();
             judge(start, &distances, allowance)
         })
         .collect()

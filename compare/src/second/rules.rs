@@ -1,5 +1,8 @@
-//! The quick scan by rules 1 to 5, and the plain survey.
+//! The quick scan by rules 1 to 5, and the plain survey. Both ask the line for its windows, open or closed: "For n ≥ m an
+//! accepted call's findings and looks are those that the meanings and rules give for the line followed by its first m−1
+//! edges" (ticket 3), and that line has n windows.
 
+use super::line::Line;
 use super::meaning::{holds_mark, rotations, Finding, MARK};
 use super::tally::Tally;
 
@@ -113,7 +116,7 @@ impl Marks {
 }
 
 /// Rule 5: only the way since the last verified start decides, whatever windows were left in between.
-pub fn verify(last: Option<Tally>, start: usize, rotations: &[Vec<u8>], line: &[u8], looks: &mut u64) -> Tally {
+pub fn verify(last: Option<Tally>, start: usize, rotations: &[Vec<u8>], line: Line, looks: &mut u64) -> Tally {
     match last {
         Some(mut tally) if 2 * (start - tally.start) <= rotations.len() => {
             while tally.start < start {
@@ -125,15 +128,15 @@ pub fn verify(last: Option<Tally>, start: usize, rotations: &[Vec<u8>], line: &[
     }
 }
 
-pub fn quick_scan(ring: &[u8], line: &[u8], allowance: usize) -> Searched {
+pub fn quick_scan(ring: &[u8], line: Line, allowance: usize) -> Searched {
     let m = ring.len();
     let rotations = rotations(ring);
     let mut searched = Searched::default();
     let mut last: Option<Tally> = None;
     let mut start = 0;
-    while start + m <= line.len() {
-        let window = &line[start..start + m];
-        let read = read_window(window, &rotations, allowance, &mut searched.looks);
+    while start < line.windows(m) {
+        let window = line.window(start, m);
+        let read = read_window(&window, &rotations, allowance, &mut searched.looks);
         if read.at_mark {
             searched.marks.leave(&read, m, allowance);
         } else if read.edges == m && read.breaks <= allowance {
@@ -160,18 +163,18 @@ impl Searched {
 }
 
 /// "Plain survey: same findings, and its looks stay" (ticket 2): the tally also moves through windows with marks.
-pub fn plain_survey(ring: &[u8], line: &[u8], allowance: usize) -> Searched {
+pub fn plain_survey(ring: &[u8], line: Line, allowance: usize) -> Searched {
     let m = ring.len();
     let mut searched = Searched::default();
-    if line.len() < m {
+    if line.windows(m) == 0 {
         return searched;
     }
     let rotations = rotations(ring);
     let mut tally = Tally::afresh(&rotations, line, 0, &mut searched.looks);
-    searched.judge(&tally, &line[..m], allowance);
-    while tally.start + m < line.len() {
+    searched.judge(&tally, &line.window(0, m), allowance);
+    while tally.start + 1 < line.windows(m) {
         tally.step(&rotations, line, &mut searched.looks);
-        searched.judge(&tally, &line[tally.start..tally.start + m], allowance);
+        searched.judge(&tally, &line.window(tally.start, m), allowance);
     }
     searched
 }

@@ -3,6 +3,7 @@
 
 use super::book::Silence;
 use super::calls::Search;
+use super::line::Line;
 use super::meaning::FINDING_WORDS;
 use super::program;
 use super::rules::quick_scan;
@@ -73,7 +74,7 @@ impl Sample {
     fn holds(&self) -> bool {
         let scan = self.search().scan().expect("a sample is accepted");
         let survey = self.search().survey().expect("a sample is accepted");
-        let candidates = quick_scan(self.ring.as_bytes(), self.line.as_bytes(), self.allowance).candidates;
+        let candidates = quick_scan(self.ring.as_bytes(), Line::open(self.line.as_bytes()), self.allowance).candidates;
         let reaches = ["P6", "P9", "P11"].contains(&self.name);
         let (m, n) = (self.ring.len() as u64, self.line.len() as u64);
         scan.written == self.findings.concat()
@@ -93,7 +94,7 @@ pub fn silenced(index: usize) -> bool {
 /// P1 to P12, the two silenced ones, the program's example.
 pub const COUNT: usize = SAMPLES.len() + SILENCED.len() + 1;
 
-/// Whether the second program gives what the documents print.
+/// Whether the second program gives what document 01 prints.
 pub fn holds(index: usize) -> bool {
     let behind = index.checked_sub(SAMPLES.len());
     match behind {

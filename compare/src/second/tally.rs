@@ -1,5 +1,6 @@
 //! The tally of rule 5: one count per rotation, each comparison counted as it is made.
 
+use super::line::Line;
 use super::meaning::{judge, Finding};
 
 pub struct Tally {
@@ -8,13 +9,14 @@ pub struct Tally {
 }
 
 impl Tally {
-    pub fn afresh(rotations: &[Vec<u8>], line: &[u8], start: usize, looks: &mut u64) -> Tally {
+    pub fn afresh(rotations: &[Vec<u8>], line: Line, start: usize, looks: &mut u64) -> Tally {
         let m = rotations.len();
+        let window = line.window(start, m);
         let mut differing = vec![0; m];
         for (count, rotation) in differing.iter_mut().zip(rotations) {
             for place in 0..m {
                 *looks += 1;
-                if line[start + place] != rotation[place] {
+                if window[place] != rotation[place] {
                     *count += 1;
                 }
             }
@@ -24,9 +26,9 @@ impl Tally {
 
     /// The edges that stay in the window lie one place further left, hence under the next rotation on the same ring
     /// edges as before: so the counts turn along with the start.
-    pub fn step(&mut self, rotations: &[Vec<u8>], line: &[u8], looks: &mut u64) {
+    pub fn step(&mut self, rotations: &[Vec<u8>], line: Line, looks: &mut u64) {
         let m = rotations.len();
-        let (leaving, entering) = (line[self.start], line[self.start + m]);
+        let (leaving, entering) = (line.edge(self.start), line.edge(self.start + m));
         let mut moved = vec![0; m];
         for (r, &before) in self.differing.iter().enumerate() {
             let next = (r + 1) % m;
