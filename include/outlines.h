@@ -13,12 +13,20 @@
  * ring with that edge is refused. Books are as before; a silence that names a place which is no start any more hides nothing.
  *
  * One stored copy can be several findings. If an exact copy of the ring stands at start i, a window that begins s edges before or after it has a distance
- * of at most s. So every start from i - k to i + k is a finding, and the copy gives at least 2 k + 1 findings, fewer only near the line's ends and near
- * marks: with a mark just before it and another just behind it the copy gives one. A reviewer who accepts that copy needs as many silences: 5 at k = 2,
- * so that a book of 1,000 silences is full after some 200 separate copies.
+ * of at most s. So every start from i - k to i + k is a finding, and the copy gives at least 2 k + 1 findings. There are fewer near the ends of an open
+ * line, near marks, and in a closed line of fewer than 2 k + 1 places. With a mark just before it and another just behind it the copy gives one. A
+ * reviewer who accepts that copy needs as many silences: 5 at k = 2, so that a book of 1,000 silences is full after some 200 separate copies.
+ *
+ * A closed line. A cell may deliver one boundary alone; its line is then a ring itself, and a copy may lie across its first vertex. The calls that end in
+ * _closed search such a line: if n >= m, every place i from 0 to n - 1 has a window, the line's bytes at places i, i + 1, .. i + m - 1 mod n, and i is a
+ * start if that window holds no mark. Findings and looks are those that the meanings and rules of an open line give for the line followed by its first
+ * m - 1 bytes, even if that is longer than 65,536. If n < m there is no start and no look. Every finding of the open line is one of the closed line, with
+ * the same four numbers.
+ * These calls are lent one area more, the join area. If such a call is accepted and n >= m, the area's first 2 m - 2 bytes hold the line's last m - 1
+ * bytes and then its first m - 1; the bytes behind them keep their values. If n < m, or if the call is refused, the whole area keeps its values.
  *
  * Calls. Every call takes every input. It is accepted or refused, and returns a struct outlines_answer by value. A refused call has written nothing
- * and returns zero in every count. A length counts elements: bytes of a ring, a line or a book, 32-bit words of an area of words. A pointer may be
+ * and returns zero in every count. A length counts elements: bytes of a ring, a line, a book or a join area, 32-bit words of an area of words. A pointer may be
  * null where its length is 0. An area that is lent for writing must not overlap anything else that is passed to the same call. A call reads and writes
  * only what it is passed, keeps no pointer to it, allocates nothing and needs about 12 KB of stack (docs/LOOKS.md).
  */
@@ -49,13 +57,14 @@ enum outlines_refusal {
     OUTLINES_RING = 1,          /* the ring has no edge, or more than 256; place 0 */
     OUTLINES_ALLOWANCE = 2,     /* k is m or more; place 0 */
     OUTLINES_LINE = 3,          /* the line has more than 65,536 bytes; place 0 */
-    OUTLINES_FINDINGS_ROOM = 4, /* n >= m, and fewer than 4 (n - m + 1) words are lent for the findings; place 0 */
+    OUTLINES_FINDINGS_ROOM = 4, /* n >= m, and fewer than 4 (n - m + 1) words are lent for the findings, 4 n if the line is closed; place 0 */
     OUTLINES_BOOK_LENGTH = 5,   /* the book has more than 13,000 bytes; place 0 */
     OUTLINES_FIELD = 6,         /* a field of the book does not begin with 21 00 0A hex, or has fewer than 13 bytes; place: the field's byte offset */
-    OUTLINES_NOT_ABOVE = 7,     /* a record is not above the one before it; place: its byte offset (report, unpack) or its record number (pack) */
+    OUTLINES_NOT_ABOVE = 7,     /* a record is not above the one before it; place: its byte offset (the reports, unpack) or its record number (pack) */
     OUTLINES_WORD_COUNT = 8,    /* the number of words to pack is not a multiple of 3, or is above 3,000; place 0 */
     OUTLINES_RING_NUMBER = 9,   /* a word to pack as a ring number is above 65,535; place: its record number */
-    OUTLINES_OUTPUT_ROOM = 10,  /* the area lent to pack or unpack is too small for the whole output; place 0 */
+    OUTLINES_OUTPUT_ROOM = 10,  /* the area lent to pack or unpack is too small for the whole output; or, in a closed call, n >= m and the join area has
+                                 * fewer than 2 m - 2 bytes; place 0 */
     OUTLINES_INPUT = 11,        /* the report program's input is not laid out as SPEC, section 8, says; no call declared here gives it */
     OUTLINES_RING_MARK = 12     /* the ring holds 255, a boundary mark; place 0 */
 };
@@ -65,9 +74,9 @@ enum outlines_refusal {
 struct outlines_answer {
     uint32_t refusal; /* 0 if the call is accepted, else a number of enum outlines_refusal */
     uint32_t place;   /* the place of the refusal; 0 if the call is accepted */
-    uint64_t found;   /* survey, scan and report: findings, hidden ones included; pack and unpack: records */
-    uint64_t hidden;  /* report: findings that the book hides; 0 from the other calls */
-    uint64_t looks;   /* survey, scan and report: looks; 0 from pack and unpack */
+    uint64_t found;   /* survey, scan and report, open and closed: findings, hidden ones included; pack and unpack: records */
+    uint64_t hidden;  /* the two reports: findings that the book hides; 0 from the other calls */
+    uint64_t looks;   /* survey, scan and report, open and closed: looks; 0 from pack and unpack */
 };
 
 /* The plain survey: computes the least distance at every place i with i + m <= n, and lists the starts among them that are findings.
@@ -97,6 +106,31 @@ struct outlines_answer outlines_scan(const uint8_t *ring, size_t ring_length, co
  * field of the book, 6 before 7. The book is read even if the line is shorter than the ring. */
 struct outlines_answer outlines_report(uint32_t cell, uint16_t ring_number, const uint8_t *ring, size_t ring_length, const uint8_t *line,
                                        size_t line_length, size_t k, const uint8_t *book, size_t book_length, uint32_t *words, size_t words_length);
+
+/* The plain survey of a closed line.
+ *   join, join_length     the join area: at least 2 m - 2 bytes if n >= m, so none if m = 1; none are needed if n < m
+ *   words, words_length   lent for the findings: at least 4 n words if n >= m; none are needed if n < m
+ *   the others            as for outlines_survey
+ * Returns found and looks; looks are 2 m (n + m - 1) - m m if n >= m, marks or not, else 0. Writes the words of the findings as outlines_survey does, and the
+ * join area. Refusals, in order: 1, 12, 2, 3 (n alone is tested), 4, 10. */
+struct outlines_answer outlines_survey_closed(const uint8_t *ring, size_t ring_length, const uint8_t *line, size_t line_length, size_t k, uint8_t *join,
+                                              size_t join_length, uint32_t *words, size_t words_length);
+
+/* The quick scan of a closed line: the arguments, findings, words, join area and refusals of outlines_survey_closed. Its looks are at most
+ * 3 m (n + m - 1) - 2 m m + m if n >= m, else 0. */
+struct outlines_answer outlines_scan_closed(const uint8_t *ring, size_t ring_length, const uint8_t *line, size_t line_length, size_t k, uint8_t *join,
+                                            size_t join_length, uint32_t *words, size_t words_length);
+
+/* The report of a closed line: outlines_scan_closed without the findings that the book hides. A record of this cell and ring number hides the finding at
+ * its start, whichever of the places 0 to n - 1 that is.
+ *   cell, ring_number, book, book_length   as for outlines_report
+ *   the others                             as for outlines_survey_closed
+ * As many words are needed however many findings are hidden. Returns found (hidden ones included), hidden, and the looks of the closed scan. Refusals, in
+ * order: 1, 12, 2, 3 (n alone is tested), 4, 10, 5, then the first faulty field of the book, 6 before 7. The book is read even if n < m, and the join area is
+ * written only if nothing is refused. */
+struct outlines_answer outlines_report_closed(uint32_t cell, uint16_t ring_number, const uint8_t *ring, size_t ring_length, const uint8_t *line,
+                                              size_t line_length, size_t k, const uint8_t *book, size_t book_length, uint8_t *join, size_t join_length,
+                                              uint32_t *words, size_t words_length);
 
 /* Packs silences into a book.
  *   words, words_length   three words for each silence (cell, ring number, start): at most 3,000 words, in strictly rising order by cell, then ring

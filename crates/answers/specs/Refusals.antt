@@ -19,7 +19,8 @@ numberOf Ring = 1
 numberOf Allowance = 2
 -- "n > 65,536"
 numberOf Line = 3
--- "n ≥ m and fewer than" 4·(n − m + 1) "words are lent for findings"; document 01 has 3·(n − m + 1), and document 02, ticket 1, makes it 4
+-- "n ≥ m and fewer than" 4·(n − m + 1) "words are lent for findings"; document 01 has 3·(n − m + 1), and document 02, ticket 1, makes it 4. On a closed line
+-- fewer than 4·n (ticket 3).
 numberOf FindingsRoom = 4
 -- "book longer than 13,000 bytes"
 numberOf BookLength = 5
@@ -31,7 +32,7 @@ numberOf (NotAbove place) = 7
 numberOf WordCount = 8
 -- "a ring number to pack is above 65,535"
 numberOf (RingNumber place) = 9
--- "packing or unpacking lacks room for its whole output"
+-- "packing or unpacking lacks room for its whole output"; on a closed line, "when the join area is below 2·m − 2 bytes and n ≥ m" (document 02, ticket 3)
 numberOf OutputRoom = 10
 -- "the program's input isn't as laid down below"
 numberOf (Input place) = 11

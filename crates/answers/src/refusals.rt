@@ -10,7 +10,8 @@ pub enum Refusal {
     Allowance,
     // 3: n > 65,536
     Line,
-    // 4: n ≥ m and fewer than 4·(n − m + 1) words are lent for findings (document 02, ticket 1)
+    // 4: n ≥ m and fewer than 4·(n − m + 1) words are lent for findings (document 02, ticket 1), or 4·n on a closed line
+    // (ticket 3)
     FindingsRoom,
     // 5: book longer than 13,000 bytes
     BookLength,
@@ -22,7 +23,8 @@ pub enum Refusal {
     WordCount,
     // 9: a ring number to pack is above 65,535; record number
     RingNumber(usize),
-    // 10: packing or unpacking lacks room for its whole output
+    // 10: packing or unpacking lacks room for its whole output, or on a closed line n ≥ m and the join area is below 2·m − 2
+    // bytes (document 02, ticket 3)
     OutputRoom,
     // 11: the program's input isn't as laid down; the offset where the first such field begins or should begin, or 0 if
     // the input is too long

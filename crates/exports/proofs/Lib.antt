@@ -4,6 +4,7 @@ pub mod RowsAgree
 pub mod SearchDemands
 pub mod BookDemands
 pub mod ReportDemands
+pub mod ClosedDemands
 pub mod BookPlaces
 pub mod ReportPlaces
 pub mod PassedOn

@@ -5,7 +5,7 @@ use mathlib.Core.List.{List}
 use Rattle.answers.specs.Paper.{Paper}
 use Rattle.outlines.specs.Report.{ReportCounts}
 use Rattle.exports.specs.declared.answering.Answer.{Answer as AnswerStruct}
-use Rattle.exports.specs.Exported.{IsExported, IsSurveyExported, IsScanExported, IsReportExported, IsPackExported, IsUnpackExported}
+use Rattle.exports.specs.Exported.{IsExported, IsSurveyExported, IsScanExported, IsReportExported, IsPackExported, IsUnpackExported, IsClosedExported, IsSurveyClosedExported, IsScanClosedExported, IsReportClosedExported}
 
 -- the struct that holds a paper
 abbrev structWith : Paper ReportCounts → AnswerStruct
@@ -40,3 +40,26 @@ pack-unique words area a b out out′ h h′ = exported-unique h h′
 pub unpack-unique : (book area : List ℕ) (a b : AnswerStruct) (out out′ : List ℕ) → IsUnpackExported book area a out → IsUnpackExported book area b out′
     → (a ≡ b) × (out ≡ out′)
 unpack-unique book area a b out out′ h h′ = exported-unique h h′
+
+-- two structs with the same paper are equal, and so are two join areas and two areas of words with the same content
+closed-exported-unique : {p : Paper ReportCounts} {area join joined joined′ out out′ : List ℕ} {a b : AnswerStruct} → IsClosedExported p area join a joined out
+    → IsClosedExported p area join b joined′ out′ → (a ≡ b) × (joined ≡ joined′) × (out ≡ out′)
+closed-exported-unique h h′ = (ap structWith (h .paper ∙ sym (h′ .paper)), h .joined-is ∙ sym (h′ .joined-is), h .written ∙ sym (h′ .written))
+
+-- Any two answers of `outlines_survey_closed` are equal, and any two join areas and words at exit.
+pub survey-closed-unique : (ring line : List ℕ) (k : ℕ) (join words : List ℕ) (a b : AnswerStruct) (joined joined′ out out′ : List ℕ)
+    → IsSurveyClosedExported ring line k join words a joined out → IsSurveyClosedExported ring line k join words b joined′ out′
+    → (a ≡ b) × (joined ≡ joined′) × (out ≡ out′)
+survey-closed-unique ring line k join words a b joined joined′ out out′ h h′ = closed-exported-unique h h′
+
+-- Any two answers of `outlines_scan_closed` are equal, and any two join areas and words at exit.
+pub scan-closed-unique : (ring line : List ℕ) (k : ℕ) (join words : List ℕ) (a b : AnswerStruct) (joined joined′ out out′ : List ℕ)
+    → IsScanClosedExported ring line k join words a joined out → IsScanClosedExported ring line k join words b joined′ out′
+    → (a ≡ b) × (joined ≡ joined′) × (out ≡ out′)
+scan-closed-unique ring line k join words a b joined joined′ out out′ h h′ = closed-exported-unique h h′
+
+-- Any two answers of `outlines_report_closed` are equal, and any two join areas and words at exit.
+pub report-closed-unique : (cell ringNumber : ℕ) (ring line : List ℕ) (k : ℕ) (book join words : List ℕ) (a b : AnswerStruct) (joined joined′ out out′ : List ℕ)
+    → IsReportClosedExported cell ringNumber ring line k book join words a joined out
+    → IsReportClosedExported cell ringNumber ring line k book join words b joined′ out′ → (a ≡ b) × (joined ≡ joined′) × (out ≡ out′)
+report-closed-unique cell ringNumber ring line k book join words a b joined joined′ out out′ h h′ = closed-exported-unique h h′

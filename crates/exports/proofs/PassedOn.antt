@@ -5,6 +5,7 @@ use mathlib.Core.Path.{_≡_, ap, _∙_}
 use mathlib.Core.List.{List}
 use native.Mathlib.Omega.{arith}
 use lib.ListN.{length}
+use Rattle.meaning.specs.Closed.{closedLine}
 use Rattle.answers.specs.Paper.{Paper}
 use Rattle.book.specs.declared.answering.BookAnswer.{BookAnswer}
 use Rattle.book.specs.Calls.{paperOf as bookPaperOf, IsUnpacked}
@@ -12,12 +13,17 @@ use Rattle.packing.specs.Calls.{IsPacked}
 use Rattle.findings.specs.declared.searching.Searched.{Searched}
 use Rattle.findings.specs.Admitting.{admitRows}
 use Rattle.findings.specs.Searching.{paperOf as searchPaperOf, IsSearched}
+use Rattle.findings.specs.ClosedRows.{closedRows}
+use Rattle.findings.specs.ClosedSearching.{IsClosedSearched}
 use Rattle.findings.proofs.AdmitRows.{row-places}
+use Rattle.findings.proofs.ClosedAdmitRows.{closed-row-places}
 use Rattle.findings.proofs.RowsOfSearching.{rows-of-search}
+use Rattle.findings.proofs.RowsOfClosedSearching.{rows-of-closed-search}
 use Rattle.outlines.specs.declared.reporting.Reported.{Reported}
 use Rattle.outlines.specs.Report.{ReportCounts, paperOf as reportPaperOf, IsReported}
+use Rattle.outlines.specs.ClosedReport.{IsClosedReported}
 use Rattle.exports.specs.declared.answering.Answer.{Answer as AnswerStruct}
-use Rattle.exports.specs.Exported.{paperOf, paperInStruct, IsExported}
+use Rattle.exports.specs.Exported.{paperOf, paperInStruct, IsExported, IsClosedExported}
 use Rattle.exports.proofs.BookPlaces.{packed-place-le, unpacked-place-le}
 use Rattle.exports.proofs.ReportPlaces.{report-place-le}
 
@@ -38,6 +44,24 @@ report-place {cell} {ringNumber} {ring} {line} {k} {book} {words} h =
     let room = length words in
     omega (arith, place-is (h .paper), report-place-le (admitRows ring k n room) (row-places ring k n room) ring line k cell ringNumber book)
 
+-- A place of `survey_closed` or `scan_closed` fits 32 bits: it is 0.
+pub closed-search-place : {ring line : List ℕ} {k looks : ℕ} {join words joined out : List ℕ} {r : Searched}
+    → IsClosedSearched ring line k looks join words r joined out → searchPaperOf r .place < 2 ^ 32
+closed-search-place h = omega (arith, rows-of-closed-search h .place-is)
+
+-- A place of `report_closed` fits 32 bits.
+pub closed-report-place : {cell ringNumber : ℕ} {ring line : List ℕ} {k : ℕ} {book join words joined out : List ℕ} {r : Reported}
+    → IsClosedReported cell ringNumber ring line k book join words r joined out → reportPaperOf r .place < 2 ^ 32
+closed-report-place {cell} {ringNumber} {ring} {line} {k} {book} {join} {words} h =
+    let n = length line in
+    let room = length words in
+    let joins = length join in
+    omega (
+      arith,
+      place-is (h .paper),
+      report-place-le (closedRows ring k n room joins) (closed-row-places ring k n room joins) ring (closedLine (length ring) line) k cell ringNumber book,
+    )
+
 -- A place of `pack` fits 32 bits.
 pub pack-place : {words area out : List ℕ} {r : BookAnswer} → IsPacked words area r out → bookPaperOf r .place < 2 ^ 32
 pack-place {words} {area} h = omega (arith, place-is (h .paper), packed-place-le words (length area))
@@ -50,3 +74,8 @@ unpack-place {book} {area} h = omega (arith, place-is (h .paper), unpacked-place
 pub passed-on : {C : Type 0} (held : C → ReportCounts) {p q : Paper C} {area out : List ℕ} {a : AnswerStruct} → p ≡ q → out ≡ area → paperOf a ≡ paperInStruct held p
     → IsExported (paperInStruct held q) area a out
 passed-on held paper written e = record { paper = e ∙ ap (paperInStruct held) paper; written = written }
+
+-- The same for a call on a closed line, which has a join area too.
+pub closed-passed-on : {C : Type 0} (held : C → ReportCounts) {p q : Paper C} {words join joined out : List ℕ} {a : AnswerStruct} → p ≡ q → out ≡ words → joined ≡ join
+    → paperOf a ≡ paperInStruct held p → IsClosedExported (paperInStruct held q) words join a joined out
+closed-passed-on held paper written joined-is e = record { paper = e ∙ ap (paperInStruct held) paper; written = written; joined-is = joined-is }

@@ -30,6 +30,7 @@ use Rattle.lists.specs.Areas.{written}
 use Rattle.meaning.specs.Meanings.{HoldsMark, IsStart, distance}
 use Rattle.meaning.specs.Findings.{Finding, IsFinding, Rising, wordsOf}
 use Rattle.meaning.specs.Looks.{quickLooks}
+use Rattle.meaning.specs.Closed.{closedLine, IsClosedStart, closedDistance, IsClosedFinding}
 use Rattle.silences.specs.Silences.{Silence, Names}
 use Rattle.silences.specs.Layout.{layout}
 use Rattle.silences.specs.Books.{IsBook}
@@ -76,6 +77,16 @@ searchTable ring k n room =
     ++ rowOf 4 ((length ring ≤ n) × (room < 4 * (n - length ring + 1)))
     ∷ []
 
+-- Survey and scan on a closed line (document 02, ticket 3): with `room` words lent for findings and `joins` bytes for the join.
+abbrev pub closedSearchTable : List ℕ → ℕ → ℕ → ℕ → ℕ → List Row
+closedSearchTable ring k n room joins =
+    limitTable ring k n
+    -- "findings room is 4·n words"; "in this mode 4 uses that figure"
+    ++ rowOf 4 ((length ring ≤ n) × (room < 4 * n))
+    -- "10, after 4, is given when the join area is below 2·m − 2 bytes and n ≥ m"
+    ∷ rowOf 10 ((length ring ≤ n) × (joins < 2 * length ring - 2))
+    ∷ []
+
 -- Rows 5, 6 and 7 of a book that is read. "Within a book the first faulty field decides, 6 before 7": a fault requires that all fields before it are right.
 abbrev pub bookTable : List ℕ → List Row
 bookTable book =
@@ -88,6 +99,10 @@ bookTable book =
 -- "report 1 to 7", with 12 after 1: the rows of a search, then those of the book.
 abbrev pub reportTable : List ℕ → ℕ → ℕ → ℕ → List ℕ → List Row
 reportTable ring k n room book = searchTable ring k n room ++ bookTable book
+
+-- The report on a closed line: the rows of a search on a closed line, then those of the book.
+abbrev pub closedReportTable : List ℕ → ℕ → ℕ → ℕ → ℕ → List ℕ → List Row
+closedReportTable ring k n room joins book = closedSearchTable ring k n room joins ++ bookTable book
 
 -- "unpacker 5, 6, 7, 10": with room for `room` words.
 abbrev pub unpackTable : List ℕ → ℕ → List Row
@@ -180,6 +195,50 @@ pub record Demand3 (ring line : List ℕ) (k : ℕ) (r : AnswerStruct) : Type 0 
   -- "A line shorter than the ring is accepted: no start, no look, zero findings."
   pub no-looks : length line < length ring → r .looks ≡ 0
 
+-- The join area of a call on a closed line at exit, `joined`; at entry it is `join` (document 02, ticket 3).
+pub record JoinDemand (ring line join : List ℕ) (r : AnswerStruct) (joined : List ℕ) : Type 0 where
+  -- A refusal "writes nothing to any lent area" (document 01).
+  pub untouched : 0 < r .refusal → joined ≡ join
+  -- "all of it for n < m" keeps its values.
+  pub short : length line < length ring → joined ≡ join
+  -- "The first 2·m − 2 bytes of the join area then hold the line's last m−1 edges and its first m−1; later bytes .. keep their values."
+  pub long : r .refusal ≡ 0 → length ring ≤ length line
+      → joined ≡ drop (length line - (length ring - 1)) line ++ (take (length ring - 1) line ++ drop (2 * length ring - 2) join)
+
+-- Demand 2 on an accepted survey, scan or report on a closed line: as `Demand2`, for a line whose "edges continue from the beginning after the last"
+-- (document 02, ticket 3).
+pub record ClosedDemand2 (Named : ℕ → Type 0) (ring line : List ℕ) (k : ℕ) (words : List ℕ) (r : AnswerStruct) (out : List ℕ) : Type 0 where
+  pub shown : List Finding
+  pub hidden : List Finding
+  -- A start ("for n ≥ m every place 0 to n−1 without a mark in its window", none for n < m) is among the shown exactly when some rotation differs from its
+  -- window in at most k places and the book does not name it.
+  pub start-iff : (i : ℕ)
+      → ((f : Finding) × (f .start ≡ i) × List·Memᴰ f shown)
+      ↔ ((IsClosedStart ring line i × ((q : ℕ) × (q < length ring) × (closedDistance ring line i q ≤ k))) × (Named i → ⊥))
+  -- A finding is among the shown exactly when the book does not name its start; by `IsClosedFinding` it carries the least distance, the lowest rotation that
+  -- reaches it, and ties.
+  pub shown-iff : (f : Finding) → List·Memᴰ f shown ↔ (IsClosedFinding ring line k f × (Named (f .start) → ⊥))
+  -- A finding is among the hidden exactly when the book names its start.
+  pub hidden-iff : (f : Finding) → List·Memᴰ f hidden ↔ (IsClosedFinding ring line k f × Named (f .start))
+  -- "by rising start": so none is listed twice.
+  pub shown-rising : Rising 0 (length line) shown
+  pub hidden-rising : Rising 0 (length line) hidden
+  -- "found (hidden ones included), hidden"
+  pub found-is : r .found ≡ length shown + length hidden
+  pub hidden-is : r .hidden ≡ length hidden
+  -- The words of the shown findings stand first. "Words after the last one written keep their values."
+  pub words-are : out ≡ written (wordsOf shown) words
+
+-- Demand 3 on an accepted scan or report on a closed line: its looks are the steps of rules 1 to 5 on "the line followed by its first m−1 edges", and "The
+-- look bound reads with n + m − 1 in place of n" (document 02, ticket 3).
+pub record ClosedDemand3 (ring line : List ℕ) (k : ℕ) (r : AnswerStruct) : Type 0 where
+  pub looks-are : r .looks ≡ quickLooks ring (closedLine (length ring) line) k
+  pub looks-le : length ring ≤ length line
+      → r .looks ≤ 3 * length ring * (length line + length ring - 1) - 2 * length ring * length ring + length ring
+  pub looks-most : r .looks ≤ 3 * length ring * (length line + length ring - 1)
+  -- "for n < m there are none, and no look"
+  pub no-looks : length line < length ring → r .looks ≡ 0
+
 -- Demand 2 on packing and unpacking in turn: the second call gives back what the first was given (`given`). It accepts what the first wrote, counts as many records,
 -- and its area at exit (`out`) begins with `given`.
 pub record GivesBack (given : List ℕ) (first second : AnswerStruct) (out : List ℕ) : Type 0 where
@@ -213,6 +272,29 @@ pub record ReportMeets (cell ringNumber : ℕ) (ring line : List ℕ) (k : ℕ) 
   pub demand-1 : Demand1 (reportTable ring k (length line) (length words) book) r words out
   pub demand-2 : r .refusal ≡ 0 → Demand2 (BookNames book cell ringNumber) ring line k words r out
   pub demand-3 : r .refusal ≡ 0 → Demand3 ring line k r
+
+-- The demands on `outlines_survey_closed`. Its looks are the survey's for n + m − 1 edges: 2·m·(n + m − 1) − m·m for n ≥ m, else 0.
+pub record SurveyClosedMeets (ring line : List ℕ) (k : ℕ) (join words : List ℕ) (r : AnswerStruct) (joined out : List ℕ) : Type 0 where
+  pub demand-1 : Demand1 (closedSearchTable ring k (length line) (length words) (length join)) r words out
+  pub join-area : JoinDemand ring line join r joined
+  pub demand-2 : r .refusal ≡ 0 → ClosedDemand2 NeverNamed ring line k words r out
+  pub looks-are : r .refusal ≡ 0 → length ring ≤ length line
+      → r .looks ≡ 2 * length ring * (length line + length ring - 1) - length ring * length ring
+  pub no-looks : r .refusal ≡ 0 → length line < length ring → r .looks ≡ 0
+
+-- The demands on `outlines_scan_closed`.
+pub record ScanClosedMeets (ring line : List ℕ) (k : ℕ) (join words : List ℕ) (r : AnswerStruct) (joined out : List ℕ) : Type 0 where
+  pub demand-1 : Demand1 (closedSearchTable ring k (length line) (length words) (length join)) r words out
+  pub join-area : JoinDemand ring line join r joined
+  pub demand-2 : r .refusal ≡ 0 → ClosedDemand2 NeverNamed ring line k words r out
+  pub demand-3 : r .refusal ≡ 0 → ClosedDemand3 ring line k r
+
+-- The demands on `outlines_report_closed`.
+pub record ReportClosedMeets (cell ringNumber : ℕ) (ring line : List ℕ) (k : ℕ) (book join words : List ℕ) (r : AnswerStruct) (joined out : List ℕ) : Type 0 where
+  pub demand-1 : Demand1 (closedReportTable ring k (length line) (length words) (length join) book) r words out
+  pub join-area : JoinDemand ring line join r joined
+  pub demand-2 : r .refusal ≡ 0 → ClosedDemand2 (BookNames book cell ringNumber) ring line k words r out
+  pub demand-3 : r .refusal ≡ 0 → ClosedDemand3 ring line k r
 
 -- The demands on `outlines_unpack`.
 pub record UnpackMeets (book area : List ℕ) (r : AnswerStruct) (out : List ℕ) : Type 0 where

@@ -22,6 +22,7 @@ use mathlib.Core.List.{List}
 use mathlib.Core.Option.{Option}
 use lib.ListN.{length}
 use Rattle.meaning.specs.Looks.{quickLooks, surveyLooks}
+use Rattle.meaning.specs.Closed.{closedLine}
 use Rattle.answers.specs.declared.refusals.Refusal.{Refusal}
 use Rattle.answers.specs.Paper.{Paper, answerPaper}
 use Rattle.silences.specs.Layout.{layout}
@@ -29,6 +30,8 @@ use Rattle.silences.specs.Packing.{wordsOfSilences, packed, unpacked, areaAtExi
 use Rattle.book.specs.Calls.{recordsPaper}
 use Rattle.findings.specs.Admitting.{admitRows}
 use Rattle.findings.specs.Searching.{Counts, searchPaper, searchedWords}
+use Rattle.findings.specs.ClosedRows.{closedRows}
+use Rattle.findings.specs.ClosedSearching.{joinAtExit}
 use Rattle.outlines.specs.Report.{ReportCounts, noReportCounts, reportRows, reportAnswer, reportedWords}
 use Rattle.exports.specs.declared.answering.Answer.{Answer as AnswerStruct}
 
@@ -84,3 +87,38 @@ IsPackExported words area r out =
 abbrev pub IsUnpackExported : List ℕ → List ℕ → AnswerStruct → List ℕ → Type 0
 IsUnpackExported book area r out =
     IsExported (paperInStruct recordsInStruct (recordsPaper (unpacked book (length area)))) (areaAtExit wordsOfSilences (unpacked book (length area)) area) r out
+
+-- The contract of an exported call on a closed line (document 02, ticket 3): the returned struct has this paper, the words hold `words-given` at exit, and
+-- the join area holds `join-given`.
+pub record IsClosedExported (paper-given : Paper ReportCounts) (words-given join-given : List ℕ) (r : AnswerStruct) (joined out : List ℕ) : Type 0 where
+  pub paper : paperOf r ≡ paper-given
+  pub written : out ≡ words-given
+  pub joined-is : joined ≡ join-given
+
+-- The contract of an exported search on a closed line with these looks. `join` and `words` are the join area and the words at entry, `joined` and `out` the
+-- same at exit.
+abbrev pub IsSearchClosedExported : List ℕ → List ℕ → ℕ → ℕ → List ℕ → List ℕ → AnswerStruct → List ℕ → List ℕ → Type 0
+IsSearchClosedExported ring line k looks join words r joined out =
+    IsClosedExported
+    (paperInStruct searchInStruct (searchPaper (closedRows ring k (length line) (length words) (length join)) ring (closedLine (length ring) line) k looks))
+    (searchedWords (closedRows ring k (length line) (length words) (length join)) ring (closedLine (length ring) line) k words)
+    (joinAtExit (closedRows ring k (length line) (length words) (length join)) (length ring) line join) r joined out
+
+-- The contract of `outlines_survey_closed`.
+abbrev pub IsSurveyClosedExported : List ℕ → List ℕ → ℕ → List ℕ → List ℕ → AnswerStruct → List ℕ → List ℕ → Type 0
+IsSurveyClosedExported ring line k join words r joined out =
+    IsSearchClosedExported ring line k (surveyLooks ring (closedLine (length ring) line)) join words r joined out
+
+-- The contract of `outlines_scan_closed`: that of the survey, with the looks of the quick scan.
+abbrev pub IsScanClosedExported : List ℕ → List ℕ → ℕ → List ℕ → List ℕ → AnswerStruct → List ℕ → List ℕ → Type 0
+IsScanClosedExported ring line k join words r joined out =
+    IsSearchClosedExported ring line k (quickLooks ring (closedLine (length ring) line) k) join words r joined out
+
+-- The contract of `outlines_report_closed`.
+abbrev pub IsReportClosedExported : ℕ → ℕ → List ℕ → List ℕ → ℕ → List ℕ → List ℕ → List ℕ → AnswerStruct → List ℕ → List ℕ → Type 0
+IsReportClosedExported cell ringNumber ring line k book join words r joined out =
+    IsClosedExported
+    (answerPaper noReportCounts
+    (reportAnswer (closedRows ring k (length line) (length words) (length join)) ring (closedLine (length ring) line) k cell ringNumber book))
+    (reportedWords (closedRows ring k (length line) (length words) (length join)) ring (closedLine (length ring) line) k cell ringNumber book words)
+    (joinAtExit (reportRows (closedRows ring k (length line) (length words) (length join)) book) (length ring) line join) r joined out

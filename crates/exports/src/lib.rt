@@ -1,13 +1,17 @@
-// The library's five calls for programs in C and Rust, over the C calling convention; include/outlines.h declares them for C. Each
-// passes its arguments to the Rattle call of that name without `outlines_` and returns that call's answer as one struct, by value.
-// Each takes every input. A slice is a pointer and a length.
+// The library's eight calls for programs in C and Rust, over the C calling convention; include/outlines.h declares them
+// for C. Each passes its arguments to the Rattle call of that name without `outlines_` and returns that call's answer as
+// one struct, by value. Each takes every input. A slice is a pointer and a length.
 mod answering;
 mod books;
+mod closed;
 mod searches;
 
 pub use answering::Answer;
 pub use books::outlines_pack;
 pub use books::outlines_unpack;
+pub use closed::outlines_report_closed;
+pub use closed::outlines_scan_closed;
+pub use closed::outlines_survey_closed;
 pub use searches::outlines_report;
 pub use searches::outlines_scan;
 pub use searches::outlines_survey;

@@ -7,8 +7,10 @@ pub mod MarkLoop
 -- Rows 1, 12, 2, 3, 4, and on a closed line 10: when each is the first that is given; and that without a mark they are document 01's.
 pub mod LimitRows
 pub mod AdmitRows
+pub mod ClosedAdmitRows
 pub mod RowsUnmarked
--- An accepted call is within the limits of a search.
+-- What a verdict says about the rows; an accepted call is within the limits of a search.
+pub mod VerdictTold
 pub mod WithinLimits
 -- A finding's words in the lent words.
 pub mod WordsPut
@@ -19,5 +21,8 @@ pub mod SearchAnswers
 pub mod SearchGives
 pub mod RowsOfSearching
 -- The same on a closed line, with the join area.
+pub mod JoinAtExit
+pub mod ClosedSearchAnswers
+pub mod RowsOfClosedSearching
 -- Any two answers that meet a contract are equal.
 pub mod OneAnswer

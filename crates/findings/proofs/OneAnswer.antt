@@ -17,6 +17,7 @@ use Rattle.findings.specs.Marks.{SaysIsMark}
 use Rattle.findings.specs.Admitting.{verdictOf, IsVerdict}
 use Rattle.findings.specs.Putting.{IsFindingPut}
 use Rattle.findings.specs.Searching.{Counts, noCounts, answerOf, paperOf, IsSearched}
+use Rattle.findings.specs.ClosedSearching.{IsClosedSearched}
 
 -- Any two answers that meet the contract of `is_mark` are equal.
 pub one-mark : (edge : ℕ) (r r′ : Bool) → SaysIsMark edge r → SaysIsMark edge r′ → r ≡ r′
@@ -58,3 +59,13 @@ paper-unique r r′ e = sym (answer-back r) ∙ ap answerBack (answer-unique noC
 pub search-unique : {rows : List (Option Refusal)} {ring line : List ℕ} {k expected : ℕ} {words : List ℕ} {r r′ : Searched} {out out′ : List ℕ}
     → IsSearched rows ring line k expected words r out → IsSearched rows ring line k expected words r′ out′ → (r ≡ r′) × (out ≡ out′)
 search-unique {r = r} {r′ = r′} p p′ = (paper-unique r r′ (p .paper ∙ sym (p′ .paper)), p .written ∙ sym (p′ .written))
+
+-- Any two answers that meet the contract of a search on a closed line are equal, and so are the words and the join areas at exit.
+pub closed-search-unique : {ring line : List ℕ} {k expected : ℕ} {join words : List ℕ} {r r′ : Searched} {joined joined′ out out′ : List ℕ}
+    → IsClosedSearched ring line k expected join words r joined out → IsClosedSearched ring line k expected join words r′ joined′ out′
+    → (r ≡ r′) × (joined ≡ joined′) × (out ≡ out′)
+closed-search-unique {r = r} {r′ = r′} p p′ = (
+  paper-unique r r′ (p .paper ∙ sym (p′ .paper)),
+  p .joined-is ∙ sym (p′ .joined-is),
+  p .written ∙ sym (p′ .written),
+)

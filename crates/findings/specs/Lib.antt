@@ -16,5 +16,8 @@ pub mod Admitting
 pub mod Limits
 pub mod Searching
 pub mod SearchRows
+pub mod ClosedRows
+pub mod ClosedSearching
+pub mod ClosedSearchRows
 pub mod Putting
 pub mod BeforeMarks

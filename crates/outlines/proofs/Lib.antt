@@ -30,5 +30,10 @@ pub mod SilencesAlike
 pub mod OneSilenceMore
 pub mod EmptyBookIsScan
 -- Scan and report on a closed line.
+pub mod ClosedScanGives
+pub mod ClosedShown
+pub mod ClosedReportAnswers
+pub mod RowsOfClosedReport
+pub mod ClosedReportGives
 -- Rings and lines without marks.
 pub mod ReportUnmarked

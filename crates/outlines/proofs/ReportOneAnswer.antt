@@ -10,6 +10,7 @@ use Rattle.answers.proofs.OneAnswer.{answer-unique}
 use Rattle.outlines.specs.declared.reporting.Reported.{Reported}
 use Rattle.outlines.specs.declared.reporting.Reported.the-variants.{Counts as CountsCase, Refused}
 use Rattle.outlines.specs.Report.{ReportCounts, noReportCounts, answerOf, paperOf, IsReportedBy, IsReported}
+use Rattle.outlines.specs.ClosedReport.{IsClosedReported}
 
 -- the enum's case for an answer
 abbrev answerBack : Answer ReportCounts → Reported
@@ -38,3 +39,13 @@ reported-by-unique {r = r} {r′ = r′} p p′ = (report-paper-unique r r′ (p
 pub report-unique : (cell ringNumber : ℕ) (ring line : List ℕ) (k : ℕ) (book words : List ℕ) (r r′ : Reported) (out out′ : List ℕ)
     → IsReported cell ringNumber ring line k book words r out → IsReported cell ringNumber ring line k book words r′ out′ → (r ≡ r′) × (out ≡ out′)
 report-unique cell ringNumber ring line k book words r r′ out out′ p p′ = reported-by-unique p p′
+
+-- Any two answers that meet the contract of `report_closed` are equal, and so are the join areas and the words at exit.
+pub closed-report-unique : (cell ringNumber : ℕ) (ring line : List ℕ) (k : ℕ) (book join words : List ℕ) (r r′ : Reported) (joined joined′ out out′ : List ℕ)
+    → IsClosedReported cell ringNumber ring line k book join words r joined out → IsClosedReported cell ringNumber ring line k book join words r′ joined′ out′
+    → (r ≡ r′) × (joined ≡ joined′) × (out ≡ out′)
+closed-report-unique cell ringNumber ring line k book join words r r′ joined joined′ out out′ p p′ = (
+  report-paper-unique r r′ (p .paper ∙ sym (p′ .paper)),
+  p .joined-is ∙ sym (p′ .joined-is),
+  p .written ∙ sym (p′ .written),
+)

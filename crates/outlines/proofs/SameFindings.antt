@@ -11,8 +11,11 @@ use Rattle.answers.specs.Paper.{Paper, answerPaper}
 use Rattle.findings.specs.declared.searching.Searched.{Searched}
 use Rattle.answers.specs.Rows.{firstGiven, answerBy}
 use Rattle.findings.specs.Searching.{Counts, noCounts, searched, paperOf, IsSearched}
+use Rattle.findings.proofs.ClosedSearchAnswers.{closed-is-search}
 use Rattle.outlines.specs.Scan.{IsScanned}
+use Rattle.outlines.specs.ClosedScan.{IsClosedScanned}
 use Rattle.survey.specs.Survey.{IsSurveyed}
+use Rattle.survey.specs.ClosedSurvey.{IsClosedSurveyed}
 
 -- Two papers that are equal but for their looks.
 pub record SameButLooks (a b : Paper Counts) : Type 0 where
@@ -39,3 +42,11 @@ search-same {rows} {ring} {line} {k} {looks} {looks′} p p′ = (
 pub survey-scan-same : (ring line : List ℕ) (k : ℕ) (words : List ℕ) (surveyed scanned : Searched) (out out′ : List ℕ)
     → IsSurveyed ring line k words surveyed out → IsScanned ring line k words scanned out′ → SameButLooks (paperOf surveyed) (paperOf scanned) × (out ≡ out′)
 survey-scan-same ring line k words surveyed scanned out out′ p p′ = search-same p p′
+
+-- On a closed line, survey and scan give the same number, place and found, the same join area, and the same words, on every input.
+pub closed-survey-scan-same : (ring line : List ℕ) (k : ℕ) (join words : List ℕ) (surveyed scanned : Searched) (joined joined′ out out′ : List ℕ)
+    → IsClosedSurveyed ring line k join words surveyed joined out → IsClosedScanned ring line k join words scanned joined′ out′
+    → SameButLooks (paperOf surveyed) (paperOf scanned) × (joined ≡ joined′) × (out ≡ out′)
+closed-survey-scan-same ring line k join words surveyed scanned joined joined′ out out′ p p′ =
+    let same = search-same (closed-is-search p) (closed-is-search p′) in
+    (same .0, p .joined-is ∙ sym (p′ .joined-is), same .1)

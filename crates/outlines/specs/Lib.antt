@@ -12,6 +12,9 @@
 pub mod Scan
 pub mod Report
 pub mod ReportRows
+pub mod ClosedScan
+pub mod ClosedReport
+pub mod ClosedReportRows
 pub mod Hiding
 pub mod LineScan
 pub mod ReportSamples

@@ -8,4 +8,5 @@ pub mod SurveyLoop
 pub mod LentSurvey
 -- What follows for every answer that meets the contract; any two such answers are equal.
 pub mod SurveyGives
+pub mod ClosedSurveyGives
 pub mod OneAnswer

@@ -5,11 +5,15 @@ use Prim.Native.Nat.{ℕ}
 use mathlib.Core.Path.{_≡_, sym, subst}
 use mathlib.Core.List.{List, []}
 use lib.ListN.{length, take}
+use Rattle.meaning.specs.Closed.{closedLine, joinedWith}
 use Rattle.findings.specs.Admitting.{Admitted}
+use Rattle.findings.specs.ClosedRows.{ClosedAdmitted}
 use Rattle.findings.specs.Limits.{CanSearch}
-use Rattle.findings.proofs.WithinLimits.{open-within}
+use Rattle.findings.proofs.WithinLimits.{open-within, closed-within}
 use Rattle.tally.specs.Windows.{Parts, parts, wholeLine, Joined}
+use Rattle.tally.specs.Joins.{IsJoinFilled}
 use Rattle.tally.proofs.WindowEdges.{whole-open, open-joined}
+use Rattle.tally.proofs.JoinFilled.{ClosedParts, closed-parts}
 
 -- Ring, allowance, whole line and room are within the limits of a search, the join area is right, and the whole line is the list `searched`.
 pub record Lent (ring : List ℕ) (p : Parts) (k room : ℕ) (searched : List ℕ) : Type 0 where
@@ -24,3 +28,21 @@ open-lent {ring} {line} {k} {room} admitted = record {
   joined = open-joined (length ring) line (admitted .some-edge);
   whole-is = whole-open (length ring) line;
 }
+
+module _ {ring line : List ℕ} {k room : ℕ} {join : List ℕ} (admitted : ClosedAdmitted ring k (length line) room (length join)) {used : ℕ} {joined : List ℕ}
+    (filled : IsJoinFilled line (length ring) join used joined) where
+  -- what filling gives
+  filled-parts : ClosedParts (length ring) line (take used joined) × (joined ≡ joinedWith (length ring) line join)
+  filled-parts = closed-parts (admitted .some-edge) (admitted .join-for) filled
+
+  -- If none of rows 1, 12, 2, 3, 4, 10 is given and the join area is filled, the line with the used part of the area is searched as the closed line.
+  pub closed-lent : Lent ring (parts line (take used joined)) k room (closedLine (length ring) line)
+  closed-lent = record {
+    can-search = subst (λ (l : List ℕ). CanSearch ring k (length l) room) (sym (filled-parts .0 .whole-is)) (closed-within ring line admitted);
+    joined = filled-parts .0 .joined;
+    whole-is = filled-parts .0 .whole-is;
+  }
+
+  -- The join area then holds what it must.
+  pub closed-joined : joined ≡ joinedWith (length ring) line join
+  closed-joined = filled-parts .1

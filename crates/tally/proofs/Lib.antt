@@ -4,6 +4,7 @@
 --
 -- The edges of a window; how the join area is filled, and that its windows are the closed line's; what a call lends to its search in either mode.
 pub mod WindowEdges
+pub mod JoinFilled
 pub mod LentParts
 -- The place just past the last mark.
 pub mod PastMark

@@ -2,6 +2,7 @@
 -- whatever the counts hold. Tallied says when counts are the tally of a start; `counted-verified` of proofs/AfreshTallied.antt joins the two. Read them in this
 -- order.
 pub mod Windows
+pub mod Joins
 pub mod Marks
 pub mod Counts
 pub mod Tallied

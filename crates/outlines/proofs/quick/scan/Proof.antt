@@ -1,9 +1,9 @@
 -- `outlines::quick::scan` meets its contract: a row is given and the call is refused, or the line is scanned with an empty book (`empty-book-searched`). These are the
 -- two ways in which a search meets its contract (`SearchAnswers` of crates/findings).
-use mathlib.Core.Path.{refl, sym, ap, _∙_}
+use mathlib.Core.Path.{refl}
 use borrow.Author.Needs.{needs}
 use Rattle.tally.proofs.LentParts.{open-lent}
-use Rattle.findings.specs.Admitting.{verdictOf}
+use Rattle.findings.proofs.VerdictTold.{told-accepted, told-none, told-refused}
 use Rattle.findings.proofs.AdmitRows.{no-row-iff}
 use Rattle.findings.proofs.SearchAnswers.{refused-search, accepted-search}
 use Rattle.outlines.proofs.LentScan.{can-scan-line, searched-scanned}
@@ -29,13 +29,13 @@ slice-aggregate-scan-line-2 c = search needs
 scan-line-requires : tie.Need-scan-line-requires
 scan-line-requires c κs =
     let told = c .before .before .before in
-    can-scan-line (open-lent (no-row-iff _ _ _ _ .0 (sym (told .before .before .admit .ensures .is) ∙ ap verdictOf (told .enum-told .given .1)))) empty-book-read refl
+    can-scan-line (open-lent (no-row-iff _ _ _ _ .0 (told-none (told .before .before .admit .ensures) (told .enum-told .given .1)))) empty-book-read refl
 
 -- Refused.
 returns : tie.Need-returns
 returns c =
     let admitted = c .before .before .before in
-    refused-search (sym (ap verdictOf (c .before .refusal .given .1)) ∙ admitted .admit .ensures .is)
+    refused-search (told-refused (admitted .admit .ensures) (c .before .refusal .given .1))
 
 same-length : tie.Need-same-length
 same-length c = search needs
@@ -45,8 +45,10 @@ returns-2 : tie.Need-returns-2
 returns-2 c =
     let scanned = c .before .before in
     let told = scanned .before .before .before .before in
-    let no-row = sym (ap verdictOf (told .enum-told .given .1)) ∙ told .before .before .admit .ensures .is in
-    accepted-search no-row (empty-book-searched 0 0 (searched-scanned (open-lent (no-row-iff _ _ _ _ .0 (sym no-row))) (scanned .scan-line .ensures)))
+    let admit = told .before .before .admit in
+    let accepted = told .enum-told .given .1 in
+    accepted-search (told-accepted (admit .ensures) accepted)
+    (empty-book-searched 0 0 (searched-scanned (open-lent (no-row-iff _ _ _ _ .0 (told-none (admit .ensures) accepted))) (scanned .scan-line .ensures)))
 
 pub scan-spec : {M : Type 1} → statement M
 scan-spec =

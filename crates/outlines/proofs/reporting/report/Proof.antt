@@ -1,9 +1,9 @@
 -- `outlines::reporting::report` meets its contract: one of the search's rows is given; none of them is, and the book is refused; or the line is scanned with the
 -- book (`ReportAnswers`).
-use mathlib.Core.Path.{refl, sym, ap, _∙_}
+use mathlib.Core.Path.{refl}
 use borrow.Author.Needs.{needs}
 use Rattle.tally.proofs.LentParts.{open-lent}
-use Rattle.findings.specs.Admitting.{verdictOf}
+use Rattle.findings.proofs.VerdictTold.{told-accepted, told-none, told-refused}
 use Rattle.findings.proofs.AdmitRows.{no-row-iff}
 use Rattle.outlines.proofs.LentScan.{can-scan-line, searched-scanned}
 use Rattle.outlines.proofs.ReportAnswers.{read-accepted, read-refused, report-refused-row, report-refused-book, report-accepted}
@@ -36,21 +36,21 @@ scan-line-requires c κs =
     let accepted = c .before .before in
     let read = accepted .before .before in
     let told = read .before in
-    can-scan-line (open-lent (no-row-iff _ _ _ _ .0 (sym (told .before .before .admit .ensures .is) ∙ ap verdictOf (told .enum-told .given .1))))
+    can-scan-line (open-lent (no-row-iff _ _ _ _ .0 (told-none (told .before .before .admit .ensures) (told .enum-told .given .1))))
     (read-accepted (read .read .ensures) (accepted .enum-told2 .given .1)) refl
 
 -- One of the search's rows is given.
 returns : tie.Need-returns
 returns c =
     let admitted = c .before .before .before in
-    report-refused-row (sym (ap verdictOf (c .before .refusal .given .1)) ∙ admitted .admit .ensures .is)
+    report-refused-row (told-refused (admitted .admit .ensures) (c .before .refusal .given .1))
 
 -- One of the book's rows is given.
 returns-2 : tie.Need-returns-2
 returns-2 c =
     let read = c .before .before .before in
     let told = read .before in
-    report-refused-book (sym (ap verdictOf (told .enum-told .given .1)) ∙ told .before .before .admit .ensures .is)
+    report-refused-book (told-accepted (told .before .before .admit .ensures) (told .enum-told .given .1))
     (read-refused (read .read .ensures) (c .before .refusal2 .given .1))
 
 same-length : tie.Need-same-length
@@ -63,9 +63,10 @@ returns-3 c =
     let accepted = scanned .before .before .before in
     let read = accepted .before .before in
     let told = read .before in
-    let no-row = sym (ap verdictOf (told .enum-told .given .1)) ∙ told .before .before .admit .ensures .is in
-    report-accepted no-row (read-accepted (read .read .ensures) (accepted .enum-told2 .given .1))
-    (searched-scanned (open-lent (no-row-iff _ _ _ _ .0 (sym no-row))) (scanned .scan-line .ensures))
+    let admit = told .before .before .admit in
+    let no-refusal = told .enum-told .given .1 in
+    report-accepted (told-accepted (admit .ensures) no-refusal) (read-accepted (read .read .ensures) (accepted .enum-told2 .given .1))
+    (searched-scanned (open-lent (no-row-iff _ _ _ _ .0 (told-none (admit .ensures) no-refusal))) (scanned .scan-line .ensures))
 
 pub report-spec : {M : Type 1} → statement M
 report-spec =
