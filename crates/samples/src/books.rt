@@ -96,7 +96,7 @@ fn put_fault(book: &mut [u8], at: usize, byte: u8) {
 
 // Fills the book that a row gives in the four fields from `at` on into the front of an area, and returns it.
 pub fn book<'a>(row: &[u8], at: usize, area: &'a mut [u8]) -> &'a [u8]
-    requires { ⌜ at < 8 ⌝ }
+    requires { ⌜ at < 9 ⌝ }
 {
     let book = area::lend_bytes(area, table::number_or(row, at + 1, 0));
     filling::fill_bytes(ByteKind::Book, table::field(row, at), book);

@@ -18,9 +18,16 @@ pub const REPORT: usize = 6;
 
 pub const ANSWER: usize = 7;
 
+pub const SCAN_CLOSED: usize = 8;
+
+pub const SURVEY_CLOSED: usize = 9;
+
+pub const REPORT_CLOSED: usize = 10;
+
 // Begins the line of a row: prints the call and the row's name.
 pub fn begin_row(call: usize, row: &[u8]) {
-    let names = b"pack |read |unpack |seek |scan |survey |report |answer ";
+    let names =
+        b"pack |read |unpack |seek |scan |survey |report |answer |scan_closed |survey_closed |report_closed ";
     printing::print_text(table::field(names, call));
     printing::print_text(table::field(row, 0));
     printing::print_text(b":");

@@ -5,6 +5,7 @@ mod area;
 mod book_rows;
 mod books;
 mod calls;
+mod closed_rows;
 mod edges;
 mod filling;
 mod pack_rows;
@@ -19,9 +20,12 @@ use calls::ANSWER;
 use calls::PACK;
 use calls::READ;
 use calls::REPORT;
+use calls::REPORT_CLOSED;
 use calls::SCAN;
+use calls::SCAN_CLOSED;
 use calls::SEEK;
 use calls::SURVEY;
+use calls::SURVEY_CLOSED;
 use calls::UNPACK;
 
 // Runs one row through a call.
@@ -31,6 +35,7 @@ fn run_row(call: usize, row: &[u8]) {
         READ | UNPACK => book_rows::book_row(call, row),
         SEEK => seek_rows::seek_row(row),
         ANSWER => answer_rows::answer_row(row),
+        SCAN_CLOSED | SURVEY_CLOSED | REPORT_CLOSED => closed_rows::closed_row(call, row),
         _ => search_rows::search_row(call, row), // scan, survey, report
     }
 }
@@ -48,7 +53,7 @@ fn run(call: usize, text: &[u8], index: usize) {
     }
 }
 
-// Reads the table of rows and runs each of its seven sections through its calls.
+// Reads the table of rows and runs each of its nine sections through its calls.
 fn main() {
     let mut input = area::zeros();
     let n = io::read_full(0, &mut input);
@@ -64,4 +69,8 @@ fn main() {
     run(REPORT, text, 5);
     run(REPORT, text, 6);
     run(ANSWER, text, 7);
+    run(SCAN_CLOSED, text, 8);
+    run(SURVEY_CLOSED, text, 8);
+    run(REPORT_CLOSED, text, 8);
+    run(REPORT_CLOSED, text, 9);
 }

@@ -48,6 +48,8 @@ const WRITTEN_LABEL: usize = 11;
 
 const CHECKSUM_LABEL: usize = 12;
 
+const JOINED_LABEL: usize = 13;
+
 // Prints a text.
 pub fn print_text(bytes: &[u8]) {
     io::write_all(1, bytes);
@@ -57,7 +59,7 @@ pub fn print_text(bytes: &[u8]) {
 // tenths of a second.
 pub fn print_number(label: usize, value: usize) {
     let labels =
-        b" number | place | records | found | hidden | looks | from | cell | ring number | start | next | written | checksum ";
+        b" number | place | records | found | hidden | looks | from | cell | ring number | start | next | written | checksum | joined ";
     print_text(table::field(labels, label));
     io::print_decimal(1, value as u64);
 }
@@ -105,26 +107,44 @@ fn print_values(shown: PrintedAs, words: &[u32]) -> usize {
     sum
 }
 
-// Ends the line of a row: prints what the call wrote into the first `room` words of the area, and whether all words
-// after them are kept.
-pub fn end_row(shown: PrintedAs, area: &[u32], room: usize) {
+// Prints what a call wrote into the first `room` words of an area, and whether all words after them are kept.
+fn print_area(label: usize, shown: PrintedAs, area: &[u32], room: usize) {
     let seen = area::inspect(area, room);
     let count = seen.written;
-    print_number(WRITTEN_LABEL, count);
+    print_number(label, count);
     let checksum = print_values(shown, &area[0..count]);
     if MOST_SHOWN < count {
         print_number(CHECKSUM_LABEL, checksum);
     }
     if seen.kept {
-        print_text(b" behind kept\n");
+        print_text(b" behind kept");
     } else {
-        print_text(b" behind touched\n");
+        print_text(b" behind touched");
     }
 }
 
-// Ends the line of a row whose call was lent bytes: they are inspected as words.
-pub fn end_row_of_bytes(bytes: &[u8], room: usize) {
+// The same for an area of bytes: they are inspected as words.
+fn print_bytes(label: usize, bytes: &[u8], room: usize) {
     let mut words = area::book_room();
     filling::fill_words(WordKind::Spread, bytes, &mut words);
-    end_row(PrintedAs::Bytes, &words, room);
+    print_area(label, PrintedAs::Bytes, &words, room);
+}
+
+// Ends the line of a row whose call was lent words.
+pub fn end_row(shown: PrintedAs, area: &[u32], room: usize) {
+    print_area(WRITTEN_LABEL, shown, area, room);
+    print_text(b"\n");
+}
+
+// Ends the line of a row whose call was lent bytes.
+pub fn end_row_of_bytes(bytes: &[u8], room: usize) {
+    print_bytes(WRITTEN_LABEL, bytes, room);
+    print_text(b"\n");
+}
+
+// Ends the line of a row whose call was lent words for findings and bytes for the join area.
+pub fn end_closed_row(words: &[u32], room: usize, join: &[u8], joins: usize) {
+    print_area(WRITTEN_LABEL, PrintedAs::Findings, words, room);
+    print_bytes(JOINED_LABEL, join, joins);
+    print_text(b"\n");
 }
