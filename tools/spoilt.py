@@ -1,7 +1,7 @@
 """Spoilt copies of the tree for tools/looks --try. Each copy is spoilt in one way, and must be noticed for that reason.
 
 The places to spoil are looked up in the tree itself: the first look, the first count that starts or is added, a public function that has the line, a function
-that reads an edge. No other line of the source is quoted here.
+that reads an edge, the function that fills the join area. Of the source only the statement of that copy is quoted here.
 """
 import re
 
@@ -24,6 +24,8 @@ def copies(tree, check):
     reader = next(f for f in check.all if f.reads and f.uses)
     giver = sorted(check.givers)[0]
     marks = check.functions["is_mark"][0].path
+    uncut = next(f for f in check.all if "line" in f.line_names and not f.cuts and not f.reads)
+    copy = check.functions["copy_edges"][0]
 
     def with_text(path, text):
         return {**tree, path: text}
@@ -35,10 +37,14 @@ def copies(tree, check):
     def at_start(new):
         return with_text(file, START.sub(new, tree[file], count=1))
 
+    def at_start_of(f, new, more=""):
+        """statements at the beginning of a function"""
+        lines = tree[f.path].split("\n")
+        return with_text(f.path, "\n".join(lines[:f.lines[0]] + [new] + lines[f.lines[0]:]) + more)
+
     def in_public(new, more=""):
         """statements at the beginning of a public function that has the line"""
-        lines = tree[public.path].split("\n")
-        return with_text(public.path, "\n".join(lines[:public.lines[0]] + [new] + lines[public.lines[0]:]) + more)
+        return at_start_of(public, new, more)
 
     def without_row(start):
         return with_text(page, re.sub(rf"(?m)^{start}.*\n", "", tree[page], count=1))
@@ -82,7 +88,12 @@ def copies(tree, check):
     yield "the line lent by &mut", in_public("let mut edges = line;\nnext_part(&mut edges);"), NOT_FOLLOWED
     yield "the line under another name in a public function", with_text(public.path, re.sub(r"\bline\b", "edges", tree[public.path])), "is neither the line nor"
     yield "the line under the book's name in a public function", with_text(public.path, re.sub(r"\bline\b", "book", tree[public.path])), "has no line"
-    yield "the line cut in another function", in_public("let part = &line[1..];"), NO_ROW
+    yield "the line cut in another function", at_start_of(uncut, "let part = &line[1..];"), NO_ROW
+    yield "an edge stored into the join area in another function", in_public("join[0] = line[0];"), "something is stored into the line's edges"
+    yield "a copy that changes the edge", with_text(copy.path, tree[copy.path].replace("= edges[q];", "= edges[q] + 1;")), NO_LOOK
+    yield "a copy of something else", with_text(copy.path, tree[copy.path].replace("= edges[q];", "= 0;")), "something is stored into the line's edges"
+    yield "a copy into the line", with_text(copy.path, tree[copy.path].replace("join[at + q] =", "edges[at + q] =")), "something is stored into the line's edges"
+    yield "a copy that compares the edge", with_text(copy.path, tree[copy.path].replace("= edges[q];", "= edges[q];\n        same = edges[q] == 7;")), NO_LOOK
     moved = re.sub(r"\b%s\[([^\]]*)\]" % reader.reads[0].split("[")[0], lambda m: m[0].replace("[", ", ").replace("]", ")").replace(m[0].split("[")[0], "edge_at(" + m[0].split("[")[0], 1), tree[reader.path])
     yield "a read moved out of its function", with_text(reader.path, moved + "fn edge_at(edges: &[u8], place: usize) -> u8 {\n    edges[place]\n}\n"), NO_ROW
     yield "no row for a read", without_row(r"\| `%s` \(" % reader.name), NO_ROW
