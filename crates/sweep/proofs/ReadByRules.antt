@@ -2,17 +2,18 @@
 -- (`WindowLoop` of crates/meaning), and the vector grown by an edge stands for the grown stretch (`grown-by-edge` of crates/vectors). So no bit is set exactly at a
 -- break or at a mark, which the ring does not hold. This proof uses the vectors by their bits only; the words are a matter of crates/vectors.
 use Prim.Native.Nat.{ℕ, zero, suc, _+_, _*_, _≤_, _<_}
-use mathlib.Core.Path.{_≡_, refl, sym, subst, _∙_}
-use mathlib.Core.Bool.{Bool, true, false, true≢false}
+use mathlib.Core.Path.{_≡_, refl, sym, ap₂, subst, _∙_}
+use mathlib.Core.Bool.{Bool, true, false, _||_, or-true, or-false, true≢false}
 use mathlib.Core.List.{List}
 use native.Mathlib.Nat.{zero-add}
 use native.Mathlib.Numerals.{add-one}
 use native.Mathlib.Omega.{arith}
 use lib.Dec.{ltb}
 use lib.ListN.{length, getD}
-use borrow.Author.Tests.{ltb-true, ltb-false}
+use borrow.Author.Tests.{le-ltb, ltb-true, ltb-false}
 use Rattle.meaning.specs.Counting.{someBelow}
 use Rattle.meaning.specs.Meanings.{windowEdge, isMark}
+use Rattle.meaning.specs.Rules.{stopsAt}
 use Rattle.lists.proofs.Cases.{by-test, not-passed}
 use Rattle.meaning.proofs.Some.{some-yes, some-by}
 use Rattle.meaning.proofs.WindowLoop.{AllSet, GrownBy, WindowLoop, ReadTo, window-start, window-end, window-stopped, window-grows, window-marked, window-breaks}
@@ -29,6 +30,11 @@ record StandsFor (ring window : List ℕ) (k : ℕ) (held : List ℕ) (left brea
   pub looks-are : looks + left ≡ length ring
   pub vector : HeldVector (length window) held
   pub reading : WindowLoop ring window k 0 left breaks (isSet held)
+
+-- If a disjunction of two tests is false, both tests are false.
+or-fails : (a b : Bool) → (a || b) ≡ false → (a ≡ false) × (b ≡ false)
+or-fails true b e = absurd (true≢false e)
+or-fails false b e = (refl, e)
 
 module _ (ring window table : List ℕ) (k : ℕ) (own : OwnVectors ring table) (long : length window ≡ length ring) where
   abbrev m : ℕ
@@ -51,11 +57,11 @@ module _ (ring window table : List ℕ) (k : ℕ) (own : OwnVectors ring table) 
   unfolding AllSet
   full-set r l = first-set m most r (omega arith)
 
-  -- Where reading ends by the rules, these numbers are its result.
-  read-to : (left breaks looks : ℕ) (marked : Bool) → looks + left ≡ length ring → ReadTo ring window k 0 left breaks marked
-      → IsWindowRead ring window k (record { left = left; breaks = breaks; looks = looks; marked = marked })
-  read-to left breaks looks marked all to =
-      record { read-is = omega (arith, to .left-is); left-is = all; breaks-is = sym (to .breaks-is); mark-is = sym (to .mark-is) }
+  -- Where reading ends by the rules, this is its result.
+  read-to : (left breaks looks : ℕ) (marked stopped : Bool) → looks + left ≡ length ring → stopped ≡ stopsAt k breaks marked → ReadTo ring window k 0 left breaks marked
+      → IsWindowRead ring window k (record { left = left; looks = looks; stopped = stopped })
+  read-to left breaks looks marked stopped all stops to =
+      record { read-is = omega (arith, to .left-is); left-is = all; stopped-is = stops ∙ ap₂ (stopsAt k) (sym (to .breaks-is)) (sym (to .mark-is)) }
 
   module _ (left : ℕ) (held : List ℕ) (breaks looks : ℕ) (h : StandsFor ring window k held (suc left) breaks looks) where
     -- The held vector grown by the window's edge at `left`.
@@ -98,39 +104,50 @@ module _ (ring window table : List ℕ) (k : ℕ) (own : OwnVectors ring table) 
     edge-is : {t : Bool} → isMark edge ≡ t → isMark (windowEdge window 0 left) ≡ t
     edge-is e = rw (zero-add left) e
 
+    -- The result where reading stops at the edge.
+    abbrev Stops : Type 0
+    Stops = IsWindowRead ring window k (record { left = left; looks = looks + 1; stopped = true })
+
     -- If the edge is a mark, reading stops, without a break.
-    leaves : isMark edge ≡ true → IsWindowRead ring window k (record { left = left; breaks = breaks; looks = looks + 1; marked = true })
+    leaves : isMark edge ≡ true → Stops
     leaves is =
-        read-to left breaks (looks + 1) true (omega (arith, h .looks-are))
+        read-to left breaks (looks + 1) true true (omega (arith, h .looks-are)) (sym (or-true (ltb k breaks)))
         (window-marked ring window k 0 left breaks (isSet held) (isSet new) (own .no-mark) (h .few) grown-by (h .reading) (edge-is is))
 
-    module _ (unmarked : isMark edge ≡ false) (e : noBit new words ≡ true) where
+    module _ (e : noBit new words ≡ true) where
       -- If no bit is set and the edge is no mark, it is a break.
-      broken : WindowLoop ring window k 0 left (breaks + 1) (isSet full)
-      broken =
+      broken : isMark edge ≡ false → WindowLoop ring window k 0 left (breaks + 1) (isSet full)
+      broken unmarked =
           rw add-one (window-breaks ring window k 0 left breaks (isSet held) (isSet new) (own .no-mark) (h .few) grown-by (h .reading) (edge-is unmarked) (none-set e) (isSet full) full-set)
 
       -- If it is at most break k, every bit is set again, for the empty stretch.
-      empties : breaks + 1 ≤ k → StandsFor ring window k full left (breaks + 1) (looks + 1)
-      empties few = record { few = few; looks-are = omega (arith, h .looks-are); vector = first-held m most; reading = broken }
+      empties : stopsAt k (breaks + 1) (isMark edge) ≡ false → StandsFor ring window k full left (breaks + 1) (looks + 1)
+      empties goes-on =
+          let both = or-fails (ltb k (breaks + 1)) (isMark edge) goes-on in
+          record { few = ltb-false k (breaks + 1) (both .0); looks-are = omega (arith, h .looks-are); vector = first-held m most; reading = broken (both .1) }
 
-      -- If it is break k + 1, reading stops, as rule 3 says.
-      stops : k < breaks + 1 → IsWindowRead ring window k (record { left = left; breaks = breaks + 1; looks = looks + 1; marked = false })
-      stops many =
-          read-to left (breaks + 1) (looks + 1) false (omega (arith, h .looks-are)) (window-stopped ring window k 0 left (breaks + 1) (isSet full) many broken)
+      -- If it is a mark or break k + 1, reading stops, as the rules say.
+      stops : stopsAt k (breaks + 1) (isMark edge) ≡ true → Stops
+      stops stop = go (isMark edge) refl
+        where
+          go : (t : Bool) → isMark edge ≡ t → Stops
+          go true is = leaves is
+          go false unmarked =
+              let many : ltb k (breaks + 1) ≡ true = sym (or-false _) ∙ (rw unmarked at stop) in
+              read-to left (breaks + 1) (looks + 1) false true (omega (arith, h .looks-are)) (sym (or-false _ ∙ many))
+              (window-stopped ring window k 0 left (breaks + 1) (isSet full) (ltb-true k (breaks + 1) many) (broken unmarked))
 
   -- Reading the edges before place `left`, with a vector that stands for the stretch, follows the rules.
   read-on : (left : ℕ) (held : List ℕ) (breaks looks : ℕ) → StandsFor ring window k held left breaks looks
       → IsWindowRead ring window k (readOn table window k words left held breaks looks)
   unfolding readOn
-  read-on zero held breaks looks h = read-to 0 breaks looks false (h .looks-are) (window-end ring window k 0 breaks (isSet held) (h .reading))
+  read-on zero held breaks looks h =
+      read-to 0 breaks looks false false (h .looks-are) (rw (le-ltb k breaks (h .few)) refl) (window-end ring window k 0 breaks (isSet held) (h .reading))
   read-on (suc left) held breaks looks h =
       by-test (IsWindowRead ring window k) (noBit (new left held breaks looks h) words)
-      (λ none. by-test (IsWindowRead ring window k) (isMark (getD window left 0))
-      (λ is. leaves left held breaks looks h is)
-      (λ unmarked. by-test (IsWindowRead ring window k) (ltb k (breaks + 1))
-      (λ many. stops left held breaks looks h unmarked none (ltb-true k (breaks + 1) many))
-      (λ few. read-on left full (breaks + 1) (looks + 1) (empties left held breaks looks h unmarked none (ltb-false k (breaks + 1) few)))))
+      (λ none. by-test (IsWindowRead ring window k) (stopsAt k (breaks + 1) (isMark (getD window left 0)))
+      (λ stop. stops left held breaks looks h none stop)
+      (λ goes-on. read-on left full (breaks + 1) (looks + 1) (empties left held breaks looks h none goes-on)))
       (λ some. read-on left (new left held breaks looks h) breaks (looks + 1) (grows left held breaks looks h some))
 
   -- A window of m edges, read with the ring's own vectors, is read by rules 1 to 3. (Before the first edge every bit is set, because the empty stretch is the

@@ -5,12 +5,10 @@ use mathlib.Core.Path.{_≡_, refl, sym, ap, _∙_}
 use mathlib.Core.Bool.{Bool, true, false}
 use mathlib.Core.List.{List}
 use native.Mathlib.Omega.{arith}
-use lib.Dec.{ltb}
 use lib.ListN.{length, getD}
-use borrow.Author.Tests.{lt-ltb, le-ltb}
 use Rattle.lists.proofs.Cases.{by-test}
 use Rattle.meaning.specs.Meanings.{isMark}
-use Rattle.findings.specs.Marks.{SaysIsMark}
+use Rattle.meaning.specs.Rules.{stopsAt}
 use Rattle.vectors.specs.Bits.{wordBits, wordCount, firstBits, noBit}
 use Rattle.vectors.specs.Holding.{vectorAt}
 use Rattle.vectors.specs.ByValue.{vectorWords, grownWords}
@@ -29,7 +27,7 @@ to-read-all table window k words = record { looks-are = omega arith; breaks-le =
 
 module _ {table window : List ℕ} {k words : ℕ} {held : List ℕ} {left breaks looks : ℕ} (known : StillToRead table window k words held left breaks looks) where
   -- If no edge is left, the contract is met.
-  pub to-read-none : left ≡ 0 → record { left = left; breaks = breaks; looks = looks; marked = false } ≡ readWith table window k words
+  pub to-read-none : left ≡ 0 → record { left = left; looks = looks; stopped = false } ≡ readWith table window k words
   unfolding readOn
   to-read-none none = rw none (rw none at (known .still))
 
@@ -42,27 +40,20 @@ module _ {table window : List ℕ} {k words : ℕ} {held : List ℕ} {left break
     from-here : readOn table window k words (suc (left - 1)) held breaks looks ≡ readWith table window k words
     from-here = let one : left ≡ suc (left - 1) = omega arith in ap (λ (n : ℕ). readOn table window k words n held breaks looks) (sym one) ∙ known .still
 
-    -- If no bit is set, the edge is a mark or a break.
-    module _ (none : noBit new words ≡ true) {marked : Bool} (says : SaysIsMark (getD window (left - 1) 0) marked) where
-      -- If it is a mark, returning there meets the contract.
-      pub to-read-marked : marked ≡ true → record { left = left - 1; breaks = breaks; looks = looks + 1; marked = true } ≡ readWith table window k words
+    -- If no bit is set, the edge is a break or a mark.
+    module _ (none : noBit new words ≡ true) {stops : Bool} (says : stops ≡ stopsAt k (breaks + 1) (isMark (getD window (left - 1) 0))) where
+      -- If reading stops there, returning meets the contract.
+      pub to-read-stops : stops ≡ true → record { left = left - 1; looks = looks + 1; stopped = true } ≡ readWith table window k words
       unfolding readOn
-      to-read-marked is = rw (new-is, none, sym (says .is) ∙ is) at from-here
+      to-read-stops stop = rw (new-is, none, sym says ∙ stop) at from-here
 
-      -- If it is break k + 1, returning there meets the contract.
-      pub to-read-stops : marked ≡ false → k < breaks + 1
-          → record { left = left - 1; breaks = breaks + 1; looks = looks + 1; marked = false } ≡ readWith table window k words
+      -- If not, it is one of the first k breaks, and the invariant holds with every bit set again.
+      pub to-read-empties : stops ≡ false → StillToRead table window k words (firstBits (length window) vectorWords) (left - 1) (breaks + 1) (looks + 1)
       unfolding readOn
-      to-read-stops edge many = rw (new-is, none, sym (says .is) ∙ edge, lt-ltb k (breaks + 1) many) at from-here
-
-      -- If it is a break, but not break k + 1, the invariant holds with every bit set again.
-      pub to-read-empties : marked ≡ false → breaks + 1 ≤ k
-          → StillToRead table window k words (firstBits (length window) vectorWords) (left - 1) (breaks + 1) (looks + 1)
-      unfolding readOn
-      to-read-empties edge few = record {
+      to-read-empties goes-on = record {
         looks-are = omega (arith, known .looks-are);
         breaks-le = omega (arith, known .breaks-le);
-        still = rw (new-is, none, sym (says .is) ∙ edge, le-ltb k (breaks + 1) few) at from-here;
+        still = rw (new-is, none, sym says ∙ goes-on) at from-here;
       }
 
     -- If the edge is no break, the invariant holds with the grown vector.
@@ -93,11 +84,9 @@ module _ (table window : List ℕ) (k words : ℕ) where
       let emptied = read-goes left full (breaks + 1) (looks + 1) in
       let grown = read-goes left (heldWith table window words left held) breaks (looks + 1) in
       by-test (ReadGoes (suc left) looks) (noBit (heldWith table window words left held) words)
-      (λ _. by-test (ReadGoes (suc left) looks) (isMark (getD window left 0))
+      (λ _. by-test (ReadGoes (suc left) looks) (stopsAt k (breaks + 1) (isMark (getD window left 0)))
       (λ _. record { looks-are = omega arith; left-le = omega arith })
-      (λ _. by-test (ReadGoes (suc left) looks) (ltb k (breaks + 1))
-      (λ _. record { looks-are = omega arith; left-le = omega arith })
-      (λ _. record { looks-are = omega (arith, emptied .looks-are); left-le = omega (arith, emptied .left-le) })))
+      (λ _. record { looks-are = omega (arith, emptied .looks-are); left-le = omega (arith, emptied .left-le) }))
       (λ _. record { looks-are = omega (arith, grown .looks-are); left-le = omega (arith, grown .left-le) })
 
   -- Looks and edges left unread add up to m.

@@ -15,7 +15,7 @@ use Rattle.tally.specs.Counts.{mostCounts}
 use Rattle.tally.proofs.WindowEdges.{fitting-length, some-fits}
 use Rattle.sweep.specs.declared.reading.WindowRead.{WindowRead}
 use Rattle.sweep.specs.declared.sweeping.WindowsRead.{WindowsRead}
-use Rattle.sweep.specs.Reads.{readBy, stoppedBy, noneLeft, windowsOn, windowsBy, CanReadWindows}
+use Rattle.sweep.specs.Reads.{readBy, noneLeft, windowsOn, windowsBy, CanReadWindows}
 use Rattle.sweep.proofs.ReadTurns.{read-sum, read-some}
 
 -- The invariant before the turn at start i: at most `left` windows are still to come, and `still` says that reading them from here gives the result of the whole loop.
@@ -89,13 +89,13 @@ module _ {ring table : List ℕ} {p : Parts} {k from i looks : ℕ} (known : Sti
     windows-looks-le = omega (arith, known .looks-le, reads-fit .0, known .can .most)
 
     -- If the window was not stopped it is the candidate, and returning there meets the contract.
-    pub windows-stop : stoppedBy k r ≡ false
+    pub windows-stop : r .stopped ≡ false
         → record { start = record { 0 = i }; next = record { 0 = i + r .left + 1 }; looks = looks + r .looks; candidate = true } ≡ windowsBy ring table p k from
     unfolding windowsOn
     windows-stop goes-on = rw (fits-line-iff ring line i .1 in-line, is-read, goes-on) at from-here
 
     -- If the window was stopped, the invariant holds at the next start.
-    pub windows-turn : stoppedBy k r ≡ true → StillWindows ring table p k from (i + r .left + 1) (looks + r .looks)
+    pub windows-turn : r .stopped ≡ true → StillWindows ring table p k from (i + r .left + 1) (looks + r .looks)
     unfolding windowsOn
     windows-turn stop = record {
       can = known .can;
@@ -124,7 +124,7 @@ module _ (ring table : List ℕ) (p : Parts) (k from : ℕ) (can : CanReadWindow
       let in-line = fits-line-iff ring line′ i .0 e in
       let r : WindowRead = readBy table (windowOf (length ring) p i) k in
       let reads = window-reads table k (can .some-edge) in-line (record { is = refl }) in
-      by-test (WindowsGo (length line′) looks (suc left)) (stoppedBy k r)
+      by-test (WindowsGo (length line′) looks (suc left)) (r .stopped)
       (λ _.
       let later = windows-go left (i + r .left + 1) (looks + r .looks) (omega (arith, reads .1)) in
       record { start-le = later .start-le; looks-le = omega (arith, later .looks-le, reads .0, can .most) })

@@ -15,7 +15,7 @@ use Rattle.meaning.proofs.WindowAlone.{alone-reading}
 use Rattle.tally.specs.Windows.{Parts, windowOf, wholeLine, Joined}
 use Rattle.tally.proofs.WindowEdges.{fitting-window, fitting-length}
 use Rattle.sweep.specs.declared.reading.WindowRead.{WindowRead}
-use Rattle.sweep.specs.Reads.{readBy, stoppedBy, noneLeft, windowsOn, windowsBy}
+use Rattle.sweep.specs.Reads.{readBy, noneLeft, windowsOn, windowsBy}
 use Rattle.sweep.specs.ReadingRules.{OwnVectors, IsWindowRead}
 use Rattle.sweep.specs.SweepRules.{sweptStart, StoppedTo, none-stopped, one-stopped, IsWindowsRead}
 use Rattle.sweep.proofs.ReadByRules.{read-by-rules}
@@ -51,25 +51,21 @@ module _ (ring table : List ℕ) (p : Parts) (k from : ℕ) (own : OwnVectors ri
       reads-are : read i .looks ≡ readWindow ring line k i .read
       reads-are = by-rules .read-is ∙ ap (λ (w : List ℕ). readWindow ring w k 0 .read) alone ∙ alone-reading ring line i k .read-is
 
-      breaks-are : read i .breaks ≡ readWindow ring line k i .breaks
-      breaks-are = by-rules .breaks-is ∙ ap (λ (w : List ℕ). readWindow ring w k 0 .breaks) alone ∙ alone-reading ring line i k .breaks-is
-
       -- The window is stopped exactly when the rules stop it.
-      stops-are : stoppedBy k (read i) ≡ isStopped k (readWindow ring line k i)
+      stops-are : read i .stopped ≡ isStopped k (readWindow ring line k i)
       stops-are =
-          let marks-are : read i .marked ≡ readWindow ring line k i .at-mark =
-          by-rules .mark-is ∙ ap (λ (w : List ℕ). readWindow ring w k 0 .at-mark) alone ∙ alone-reading ring line i k .mark-is in
-          ap₂ (stopsAt k) breaks-are marks-are
+          let in-line-too = alone-reading ring line i k in
+          by-rules .stopped-is ∙ ap (λ (w : List ℕ). isStopped k (readWindow ring w k 0)) alone ∙ ap₂ (stopsAt k) (in-line-too .breaks-is) (in-line-too .mark-is)
 
       next-is : i + read i .left + 1 ≡ sweptStart ring line k i
       next-is = omega (arith, reads-are, by-rules .left-is)
 
       -- The case that the window is stopped.
-      stopped-here : stoppedBy k (read i) ≡ true → StoppedTo ring line k from (i + read i .left + 1) (looks + read i .looks)
+      stopped-here : read i .stopped ≡ true → StoppedTo ring line k from (i + read i .left + 1) (looks + read i .looks)
       stopped-here stop = rw (next-is, reads-are) (one-stopped h in-line (sym stops-are ∙ stop))
 
       -- The case that it is the candidate.
-      stops-here : stoppedBy k (read i) ≡ false
+      stops-here : read i .stopped ≡ false
           → IsWindowsRead ring line k from (record { start = record { 0 = i }; next = record { 0 = i + read i .left + 1 }; looks = looks + read i .looks; candidate = true })
       stops-here goes-on = record {
         looks = looks;
@@ -87,7 +83,7 @@ module _ (ring table : List ℕ) (p : Parts) (k from : ℕ) (own : OwnVectors ri
       by-test (IsWindowsRead ring line k from) (fitsInLine ring line i)
       (λ passed.
       let in-line = fits-line-iff ring line i .0 passed in
-      by-test (IsWindowsRead ring line k from) (stoppedBy k (read i))
+      by-test (IsWindowsRead ring line k from) (read i .stopped)
       (λ stop. windows-on left (i + read i .left + 1) (looks + read i .looks) (omega arith) (stopped-here i looks h in-line stop))
       (λ goes-on. stops-here i looks h in-line goes-on))
       (λ out. ended i looks h (past-line-iff ring line i .0 out))

@@ -7,7 +7,7 @@ use mathlib.Core.Bool.{false}
 use mathlib.Core.List.{List}
 use lib.ListN.{length}
 use Rattle.meaning.specs.Meanings.{holdsMark}
-use Rattle.meaning.specs.Rules.{readWindow}
+use Rattle.meaning.specs.Rules.{isStopped, readWindow}
 use Rattle.vectors.specs.ByValue.{Occurrences}
 use Rattle.tally.specs.Counts.{mostCounts}
 use Rattle.sweep.specs.declared.reading.WindowRead.{WindowRead}
@@ -19,10 +19,9 @@ pub record OwnVectors (ring table : List ℕ) : Type 0 where
   pub no-mark : holdsMark ring ≡ false
   pub occurs : Occurrences ring table
 
--- r is the result of reading the window by rules 1 to 3: one look for each edge read, the number of edges left unread, the number of breaks, and whether the last
--- edge read was a mark.
+-- r is the result of reading the window by rules 1 to 3: one look for each edge read, the number of edges left unread, and whether the window was stopped, at break
+-- k + 1 or at a mark.
 pub record IsWindowRead (ring window : List ℕ) (k : ℕ) (r : WindowRead) : Type 0 where
   pub read-is : r .looks ≡ readWindow ring window k 0 .read
   pub left-is : r .looks + r .left ≡ length ring
-  pub breaks-is : r .breaks ≡ readWindow ring window k 0 .breaks
-  pub mark-is : r .marked ≡ readWindow ring window k 0 .at-mark
+  pub stopped-is : r .stopped ≡ isStopped k (readWindow ring window k 0)

@@ -5,14 +5,12 @@
 --
 --   heldWith                       the held vector after one more edge
 --   readOn, readWith, readBy       one window: from a given point; from its last edge with a given number of words; with as few words as m bits need
---   stoppedBy                      whether a window was stopped
 --   noneLeft                       the result if no window fits in the line any more
 --   windowsOn, windowsBy           window after window, to the next candidate: at most a given number of them; all from a given start
 --   CanReadWindows                 the precondition of `read_windows`
 use Prim.Native.Nat.{ℕ, zero, suc, _+_, _-_, _*_, _≤_, _<_}
-use mathlib.Core.Bool.{Bool, true, false, cond}
+use mathlib.Core.Bool.{true, false, cond}
 use mathlib.Core.List.{List}
-use lib.Dec.{ltb}
 use lib.ListN.{length, getD}
 use Rattle.meaning.specs.Meanings.{fitsInLine, isMark}
 use Rattle.meaning.specs.Rules.{stopsAt}
@@ -32,19 +30,17 @@ heldWith table window words left held =
 
 -- The result of reading the edges before place `left`, given the held vector, the breaks and the looks so far. Rule 2: "If the grown stretch doesn't fit the ring,
 -- that edge is a break: count one and empty the stretch." The grown vector has no bit at a break; for the empty stretch all m bits are set. Rule 3: "Stop at break
--- k+1, or when all m edges are read." And a mark is where "the quick scan leaves the window" (document 02, ticket 2): "one look and no break". It is asked for only
--- where the grown vector has no bit, because a mark fits no ring of an accepted call.
+-- k+1, or when all m edges are read." And a mark is where "the quick scan leaves the window" (document 02, ticket 2): "one look and no break". Whether reading stops
+-- is asked only where the grown vector has no bit, because a mark fits no ring of an accepted call; there an edge that is no mark is break `breaks + 1`.
 unfoldable pub readOn : List ℕ → List ℕ → ℕ → ℕ → ℕ → List ℕ → ℕ → ℕ → WindowRead
-readOn table window k words zero held breaks looks = record { left = 0; breaks = breaks; looks = looks; marked = false }
+readOn table window k words zero held breaks looks = record { left = 0; looks = looks; stopped = false }
 readOn table window k words (suc left) held breaks looks =
     let next : List ℕ = heldWith table window words left held in
-    let at-mark : WindowRead = record { left = left; breaks = breaks; looks = looks + 1; marked = true } in
-    let stopped : WindowRead = record { left = left; breaks = breaks + 1; looks = looks + 1; marked = false } in
+    let stopped : WindowRead = record { left = left; looks = looks + 1; stopped = true } in
     let emptied : WindowRead = readOn table window k words left (firstBits (length window) vectorWords) (breaks + 1) (looks + 1) in
     let grown : WindowRead = readOn table window k words left next breaks (looks + 1) in
-    let broken : WindowRead = cond (ltb k (breaks + 1)) stopped emptied in
-    let empty : WindowRead = cond (isMark (getD window left 0)) at-mark broken in
-    cond (noBit next words) empty grown
+    let unfit : WindowRead = cond (stopsAt k (breaks + 1) (isMark (getD window left 0))) stopped emptied in
+    cond (noBit next words) unfit grown
 
 -- Rule 1: "read its edges from the last towards the first". At first all m bits are set, because the empty stretch is the beginning of every rotation. `words` is
 -- the number of machine words used for a vector.
@@ -54,10 +50,6 @@ readWith table window k words = readOn table window k words (length window) (fir
 -- The window read with as few words as m bits need.
 abbrev pub readBy : List ℕ → List ℕ → ℕ → WindowRead
 readBy table window k = readWith table window k (wordCount (length window))
-
--- Whether the window was stopped, at break k + 1 or at a mark.
-abbrev pub stoppedBy : ℕ → WindowRead → Bool
-stoppedBy k r = stopsAt k (r .breaks) (r .marked)
 
 -- The result if no window fits in the line at place i: no candidate, and both places are i.
 abbrev pub noneLeft : ℕ → ℕ → WindowsRead
@@ -72,7 +64,7 @@ windowsOn ring table p k (suc left) i looks =
     let read : WindowRead = readBy table (windowOf (length ring) p i) k in
     let found : WindowsRead = record { start = record { 0 = i }; next = record { 0 = i + read .left + 1 }; looks = looks + read .looks; candidate = true } in
     let later : WindowsRead = windowsOn ring table p k left (i + read .left + 1) (looks + read .looks) in
-    let tried : WindowsRead = cond (stoppedBy k read) later found in
+    let tried : WindowsRead = cond (read .stopped) later found in
     let none : WindowsRead = noneLeft i looks in
     cond (fitsInLine ring (wholeLine (length ring) p) i) tried none
 

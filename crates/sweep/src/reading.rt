@@ -8,23 +8,31 @@ use vectors::grown;
 use vectors::no_bit;
 use vectors::vector_of;
 ghost use mathlib.Core.Path.{_≡_};
-ghost use Prim.Native.Nat.{_<_, _≤_};
+ghost use Prim.Native.Nat.{_+_, _<_, _≤_};
 ghost use lib.ListN.{length};
+ghost use Rattle.meaning.specs.Meanings.{isMark};
+ghost use Rattle.meaning.specs.Rules.{stopsAt};
 ghost use Rattle.tally.specs.Counts.{mostCounts};
-ghost use Rattle.sweep.specs.Reads.{readWith, readBy, stoppedBy};
+ghost use Rattle.sweep.specs.Reads.{readWith, readBy};
 
-// How far a window was read: the number of edges left unread, of breaks, and of looks, one for each edge read; and
-// whether the last edge read was a mark.
+// How far a window was read: the number of edges left unread; the looks, one for each edge read; and whether the window was
+// stopped, at break k + 1 or at a mark. If not, all its edges were read, and it is a candidate.
 pub struct WindowRead {
     pub left: usize,
-    pub breaks: usize,
     pub looks: usize,
-    pub marked: bool,
+    pub stopped: bool,
 }
 
-// Rules 1 to 3, with the held vector in its first `words` words. Reading stops at break k + 1. The test is made at the
-// break, because the number of breaks changes nowhere else. Reading stops at a mark too, which is no break. A ring holds
-// no mark, so a mark fits nothing: it is asked for only where the grown vector has no bit.
+// Whether reading stops at an edge that does not fit, after so many breaks: it is break k + 1, or a mark, which is no
+// break.
+fn stops_at(edge: u8, k: usize, breaks: usize) -> bool
+    ensures { λ r. ⌜ r ≡ stopsAt k (breaks + 1) (isMark edge) ⌝ }
+{
+    k <= breaks || is_mark(edge)
+}
+
+// Rules 1 to 3, with the held vector in its first `words` words. Whether reading stops is asked only where the grown vector
+// has no bit: the number of breaks changes nowhere else, and a mark fits nothing, because a ring holds none.
 fn read_words(window: &[u8], table: &[u64; TABLE_WORDS], k: usize, words: usize) -> WindowRead
     ensures { λ z. ⌜ z ≡ readWith (now (table .entry)) (now (window .entry)) k words ⌝ }
 {
@@ -40,23 +48,14 @@ fn read_words(window: &[u8], table: &[u64; TABLE_WORDS], k: usize, words: usize)
         looks += 1; // one look
         let next = grown(held, vector_of(table, edge), m, words);
         if no_bit(next, words) {
-            if is_mark(edge) {
+            if stops_at(edge, k, breaks) {
                 return WindowRead {
                     left,
-                    breaks,
                     looks,
-                    marked: true,
+                    stopped: true,
                 };
             }
             breaks += 1;
-            if k < breaks {
-                return WindowRead {
-                    left,
-                    breaks,
-                    looks,
-                    marked: false,
-                };
-            }
             held = full;
         } else {
             held = next;
@@ -64,17 +63,9 @@ fn read_words(window: &[u8], table: &[u64; TABLE_WORDS], k: usize, words: usize)
     }
     WindowRead {
         left,
-        breaks,
         looks,
-        marked: false,
+        stopped: false,
     }
-}
-
-// Whether the window was stopped, at break k + 1 or at a mark. If not, all its edges were read, and it is a candidate.
-pub fn was_stopped(read: WindowRead, k: usize) -> bool
-    ensures { λ r. ⌜ r ≡ stoppedBy k read ⌝ }
-{
-    k < read.breaks || read.marked
 }
 
 // Reads the window with as few words as m bits need. Each call passes the number of words as a literal, so that the

@@ -1,7 +1,6 @@
 // The sweep goes from candidate to candidate. Its state is small and is passed by value; the counts and the ring's
 // vectors are lent beside it.
 use crate::reading::read_window;
-use crate::reading::was_stopped;
 use crate::verifying::LastVerified;
 use crate::verifying::verify;
 use answers::LinePlace;
@@ -78,7 +77,7 @@ fn read_windows<'a>(
         let read = read_window(edges, table, k);
         looks += read.looks;
         let next = i + read.left + 1;
-        if !was_stopped(read, k) {
+        if !read.stopped {
             return WindowsRead {
                 start: LinePlace(i),
                 next: LinePlace(next),

@@ -1,12 +1,12 @@
--- `sweep::reading::read_words` meets its contract: the loop keeps `StillToRead`. A turn grows the held vector, or sets every bit again at a break, or stops at a mark
--- or at break k + 1. The measure is the number of edges left.
+-- `sweep::reading::read_words` meets its contract: the loop keeps `StillToRead`. A turn grows the held vector, or sets every bit again at a break, or stops at
+-- break k + 1 or at a mark. The measure is the number of edges left.
 use mathlib.Core.Path.{_≡_, sym, _∙_}
 use native.Mathlib.Omega.{arith}
 use borrow.Author.Needs.{needs}
 use lib.ListN.{length}
 use Rattle.vectors.specs.Bits.{firstBits}
 use Rattle.vectors.specs.ByValue.{vectorWords}
-use Rattle.sweep.proofs.ReadTurns.{StillToRead, to-read-all, to-read-none, to-read-marked, to-read-stops, to-read-empties, to-read-grows}
+use Rattle.sweep.proofs.ReadTurns.{StillToRead, to-read-all, to-read-none, to-read-stops, to-read-empties, to-read-grows}
 use Rattle.sweep.proofs.reading.read_words.Statement.{statement}
 use Rattle.sweep.proofs.reading.read_words.Tie as tie
 
@@ -41,28 +41,19 @@ grown-requires c κs = search needs
 no-bit-requires : tie.Need-no-bit-requires Inv-loop μ-loop
 no-bit-requires c κs = search needs
 
-is-mark-requires : tie.Need-is-mark-requires Inv-loop μ-loop
-is-mark-requires c κs = search needs
+stops-at-requires : tie.Need-stops-at-requires Inv-loop μ-loop
+stops-at-requires c κs = search needs
 
--- A mark.
+-- A mark, or break k + 1.
 returns : tie.Need-returns Inv-loop μ-loop
 returns c =
     let tested = c .before .before .before in
     let turn = tested .before .before .before .before in
-    to-read-marked (turn .before .loop .inv .1) (turn .loop-test .taken) (tested .before .before .vector-of .ensures) (tested .before .grown .ensures)
-    (sym (tested .no-bit .ensures) ∙ c .before .before .if1 .taken) (c .before .is-mark .ensures) (c .if2 .taken)
+    to-read-stops (turn .before .loop .inv .1) (turn .loop-test .taken) (tested .before .before .vector-of .ensures) (tested .before .grown .ensures)
+    (sym (tested .no-bit .ensures) ∙ c .before .before .if1 .taken) (c .before .stops-at .ensures) (c .if2 .taken)
 
 add-breaks : tie.Need-add-breaks Inv-loop μ-loop
 add-breaks c = omega arith
-
--- Break k + 1.
-returns-2 : tie.Need-returns-2 Inv-loop μ-loop
-returns-2 c =
-    let asked = c .before .before in
-    let tested = asked .before .before in
-    let turn = tested .before .before .before .before in
-    to-read-stops (turn .before .loop .inv .1) (turn .loop-test .taken) (tested .before .before .vector-of .ensures) (tested .before .grown .ensures)
-    (sym (tested .no-bit .ensures) ∙ asked .before .if1 .taken) (asked .is-mark .ensures) (c .before .if2 .left) (omega (arith, c .if3 .taken))
 
 loop-less : tie.Need-loop-less Inv-loop μ-loop
 loop-less c = omega arith
@@ -70,14 +61,14 @@ loop-less c = omega arith
 -- A break before break k + 1.
 loop-again : tie.Need-loop-again Inv-loop μ-loop
 loop-again c =
-    let asked = c .before .before in
+    let asked = c .before in
     let tested = asked .before .before in
     let turn = tested .before .before .before .before in
     let full = turn .before .before .first-bits .ensures in (
       full,
       rw full
           (to-read-empties (turn .before .loop .inv .1) (turn .loop-test .taken) (tested .before .before .vector-of .ensures) (tested .before .grown .ensures)
-          (sym (tested .no-bit .ensures) ∙ asked .before .if1 .taken) (asked .is-mark .ensures) (c .before .if2 .left) (omega (arith, c .if3 .left))),
+          (sym (tested .no-bit .ensures) ∙ asked .before .if1 .taken) (asked .stops-at .ensures) (c .if2 .left)),
     )
 
 loop-less-2 : tie.Need-loop-less-2 Inv-loop μ-loop
@@ -92,8 +83,8 @@ loop-again-2 c =
       to-read-grows (turn .before .loop .inv .1) (turn .loop-test .taken) (tested .before .before .vector-of .ensures) (tested .before .grown .ensures) (sym (tested .no-bit .ensures) ∙ c .if1 .left),
     )
 
-returns-3 : tie.Need-returns-3 Inv-loop μ-loop
-returns-3 c = to-read-none (c .before .loop .inv .1) (omega (arith, c .loop-test .left))
+returns-2 : tie.Need-returns-2 Inv-loop μ-loop
+returns-2 c = to-read-none (c .before .loop .inv .1) (omega (arith, c .loop-test .left))
 
 pub read-words-spec : {M : Type 1} → statement M
 read-words-spec =
@@ -109,12 +100,11 @@ read-words-spec =
     vector-of-requires
     grown-requires
     no-bit-requires
-    is-mark-requires
+    stops-at-requires
     returns
     add-breaks
-    returns-2
     loop-less
     loop-again
     loop-less-2
     loop-again-2
-    returns-3)
+    returns-2)

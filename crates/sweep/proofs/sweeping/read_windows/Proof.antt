@@ -1,7 +1,6 @@
 -- `sweep::sweeping::read_windows` meets its contract: the loop keeps `StillWindows`. A turn ends where `window` returns no edge, because no window fits in the whole
 -- line there (`none-is-past`); else it passes a window that is stopped, or ends at the candidate. The measure is n + 1 - i.
 use Prim.Native.Nat.{_+_, _-_}
-use mathlib.Core.Path.{sym, _∙_}
 use native.Mathlib.Omega.{arith}
 use borrow.Author.Needs.{needs}
 use borrow.Author.Tests.{not-true, not-false}
@@ -72,9 +71,6 @@ add-next-2 c =
     let in-line = windows-fit known handed (omega (arith, given .if1 .left)) in
     omega (arith, known .can .most-line, windows-next-le known in-line handed (read .read-window .ensures))
 
-was-stopped-requires : tie.Need-was-stopped-requires Inv-loop μ-loop
-was-stopped-requires c κs = search needs
-
 -- The candidate.
 returns-2 : tie.Need-returns-2 Inv-loop μ-loop
 returns-2 c =
@@ -83,7 +79,7 @@ returns-2 c =
     let handed = given .before .window .ensures in
     let known = given .before .before .loop .inv in
     let in-line = windows-fit known handed (omega (arith, given .if1 .left)) in
-    windows-stop known in-line handed (read .read-window .ensures) (sym (c .before .was-stopped .ensures) ∙ not-true _ (c .if2 .taken))
+    windows-stop known in-line handed (read .read-window .ensures) (not-true _ (c .if2 .taken))
 
 loop-less : tie.Need-loop-less Inv-loop μ-loop
 loop-less c =
@@ -100,7 +96,7 @@ loop-again c =
     let handed = given .before .window .ensures in
     let known = given .before .before .loop .inv in
     let in-line = windows-fit known handed (omega (arith, given .if1 .left)) in
-    windows-turn known in-line handed (read .read-window .ensures) (sym (c .before .was-stopped .ensures) ∙ not-false _ (c .if2 .left))
+    windows-turn known in-line handed (read .read-window .ensures) (not-false _ (c .if2 .left))
 
 pub read-windows-spec : {M : Type 1} → statement M
 read-windows-spec =
@@ -115,7 +111,6 @@ read-windows-spec =
     add-looks
     add-next
     add-next-2
-    was-stopped-requires
     returns-2
     loop-less
     loop-again)
