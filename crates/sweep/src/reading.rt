@@ -23,8 +23,8 @@ pub struct WindowRead {
     pub stopped: bool,
 }
 
-// Whether reading stops at an edge that does not fit, after so many breaks: it is break k + 1, or a mark, which is no
-// break.
+// Whether reading stops at an edge that does not fit; `breaks` counts the breaks before it. It stops at a mark. Any other
+// such edge is a break, and reading stops there if it is break k + 1.
 fn stops_at(edge: u8, k: usize, breaks: usize) -> bool
     ensures { λ r. ⌜ r ≡ stopsAt k (breaks + 1) (isMark edge) ⌝ }
 {
