@@ -9,7 +9,7 @@ use native.Mathlib.Omega.{arith}
 use lib.Dec.{leb}
 use lib.ListN.{length}
 use Rattle.findings.specs.Limits.{mostPlaces}
-use Rattle.tally.specs.Windows.{Parts, wholeLine, IsWholeLength}
+use Rattle.windows.specs.Windows.{Parts, wholeLine, IsWholeLength}
 use Rattle.tally.specs.Counts.{mostCounts, HasCounts}
 use Rattle.lists.proofs.SizesTested.{lt-iff, le-iff, and-iff, test-same}
 use Rattle.moves.specs.declared.steps.Reached.{Reached}

@@ -11,8 +11,8 @@ use lib.ListN.{length, getD}
 use borrow.Author.Tests.{lt-ltb, le-ltb}
 use Rattle.lists.proofs.Cases.{by-test}
 use Rattle.meaning.specs.Looks.{stepLooks}
+use Rattle.windows.specs.Windows.{Parts, wholeLine, IsWindow}
 use Rattle.tally.specs.declared.counts.Least.{Least}
-use Rattle.tally.specs.Windows.{Parts, wholeLine, IsWindow}
 use Rattle.tally.specs.Marks.{pastAfter, IsPastMark}
 use Rattle.tally.specs.Counts.{mostCounts, leastOf, HasCounts}
 use Rattle.moves.specs.Moves.{steppedCounts, leavingEdge, enteringEdge, CountsAt, unmoved, stepOn, moveOn, CanMove, IsStepped, IsMovedOn}

@@ -15,11 +15,11 @@ use Rattle.meaning.specs.Looks.{stepLooks}
 use Rattle.moves.specs.declared.steps.Reached.{Reached}
 use Rattle.tally.specs.Marks.{pastMark}
 use Rattle.findings.specs.Limits.{mostPlaces}
-use Rattle.tally.specs.Windows.{Parts, wholeLine, Joined}
+use Rattle.windows.specs.Windows.{Parts, wholeLine, Joined}
 use Rattle.tally.specs.Counts.{mostCounts, IsLeast}
 use Rattle.moves.specs.Moves.{leavingEdge, enteringEdge, CountsAt, unmoved, reachedWith, stepOn, moveOn, canMove, IsMoved, IsReached}
+use Rattle.windows.proofs.WindowEdges.{whole-edge}
 use Rattle.tally.specs.Tallied.{Tallied}
-use Rattle.tally.proofs.WindowEdges.{whole-edge}
 use Rattle.tally.proofs.PastMark.{past-none, past-next}
 use Rattle.tally.proofs.LeastIsOne.{leastOf-is}
 use Rattle.moves.proofs.MoveLoop.{move-none, move-stops, move-goes-on}

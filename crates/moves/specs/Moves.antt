@@ -1,7 +1,7 @@
 -- The counts moved along the line, a step at a time, whatever they hold. Rule 5: "it moves s steps, each 2·m looks (the leaving and the entering edge,
 -- each against m ring edges)". A move may also end early, at the first start whose least count is below a given bound: the survey moves on to the next
 -- place whose least count is at most k. Windows come from the line and its join area, the parts p; n is the length of the whole line (specs/Windows.antt of
--- crates/tally).
+-- crates/windows).
 --
 --   sixteenBits               2^16, the number of values of a count
 --   changedCount, changedAt   count − (leaving edge differs) + (entering edge differs), mod 2^16
@@ -27,9 +27,9 @@ use Rattle.meaning.specs.Counting.{oneIf}
 use Rattle.meaning.specs.Meanings.{unequal, leastDistance}
 use Rattle.meaning.specs.Looks.{stepLooks}
 use Rattle.findings.specs.Limits.{mostPlaces}
+use Rattle.windows.specs.Windows.{Parts, windowOf, wholeLine}
 use Rattle.tally.specs.declared.counts.Least.{Least}
 use Rattle.tally.specs.Marks.{pastAfter, pastMark}
-use Rattle.tally.specs.Windows.{Parts, windowOf, wholeLine}
 use Rattle.tally.specs.Counts.{mostCounts, leastOf, HasCounts}
 use Rattle.tally.specs.Tallied.{Verified}
 use Rattle.moves.specs.declared.steps.Reached.{Reached}

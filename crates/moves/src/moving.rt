@@ -3,10 +3,10 @@ use crate::steps::Reached;
 use crate::steps::move_along;
 use answers::LinePlace;
 use tally::MOST_COUNTS;
-use tally::whole_length;
+use windows::whole_length;
 ghost use mathlib.Core.Path.{_≡_};
 ghost use lib.ListN.{length};
-ghost use Rattle.tally.specs.Windows.{parts, wholeLength};
+ghost use Rattle.windows.specs.Windows.{parts, wholeLength};
 ghost use Rattle.moves.specs.Moves.{canMove, CanMove, IsMovedOn, IsMoved};
 
 // 2^32: a whole line that counts are moved along has at most this many places.

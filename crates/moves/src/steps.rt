@@ -5,12 +5,12 @@ use tally::Least;
 use tally::MOST_COUNTS;
 use tally::differing;
 use tally::past_mark;
-use tally::window;
+use windows::window;
 ghost use mathlib.Core.Path.{_≡_};
 ghost use lib.ListN.{length, getD};
 ghost use Rattle.meaning.specs.Looks.{stepLooks};
 ghost use Rattle.lists.specs.ByPlace.{StoredFirst};
-ghost use Rattle.tally.specs.Windows.{parts, wholeLength};
+ghost use Rattle.windows.specs.Windows.{parts, wholeLength};
 ghost use Rattle.tally.specs.Counts.{HasCounts, IsLeast};
 ghost use Rattle.moves.specs.Moves.{changedCount, changedAt, earlier, IsStepped, CanMove, IsMovedOn};
 

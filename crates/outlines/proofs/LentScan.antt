@@ -1,4 +1,4 @@
--- What a call lends to `scan_line` (`Lent` of crates/tally): with an accepted book it can be scanned, and what is scanned is the list that the call searches, the
+-- What a call lends to `scan_line` (`Lent` of crates/windows): with an accepted book it can be scanned, and what is scanned is the list that the call searches, the
 -- line or the closed line.
 use Prim.Native.Nat.{ℕ}
 use mathlib.Core.Path.{_≡_, subst}
@@ -6,8 +6,8 @@ use mathlib.Core.List.{List}
 use mathlib.Core.Option.{none}
 use lib.ListN.{length}
 use Rattle.silences.specs.Reading.{bookRefusal}
-use Rattle.tally.specs.Windows.{Parts, wholeLine}
-use Rattle.tally.proofs.LentParts.{Lent}
+use Rattle.windows.specs.Windows.{Parts, wholeLine}
+use Rattle.windows.proofs.LentParts.{Lent}
 use Rattle.outlines.specs.LineScan.{CanScanLine, LineScanned}
 
 module _ {ring : List ℕ} {p : Parts} {k room : ℕ} {searched : List ℕ} (lent : Lent ring p k room searched) where

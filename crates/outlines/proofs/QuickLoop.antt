@@ -19,7 +19,7 @@ use Rattle.silences.specs.Silences.{Silence, silence}
 use Rattle.silences.specs.Reading.{silencesRead}
 use Rattle.silences.specs.Addresses.{silenceOf, soughtOf}
 use Rattle.book.specs.Calls.{IsSought}
-use Rattle.tally.specs.Windows.{Parts, wholeLine}
+use Rattle.windows.specs.Windows.{Parts, wholeLine}
 use Rattle.findings.specs.Limits.{mostPlaces, CanSearch}
 use Rattle.findings.proofs.WordsSoFar.{WordsSoFar, so-far-none, so-far-length, so-far-more}
 use Rattle.sweep.specs.declared.sweeping.Sweep.{Sweep}

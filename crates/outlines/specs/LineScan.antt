@@ -13,7 +13,7 @@ use Rattle.meaning.specs.Findings.{findings, wordsOf}
 use Rattle.meaning.specs.Looks.{quickLooks}
 use Rattle.silences.specs.Reading.{bookRefusal, silencesRead}
 use Rattle.vectors.specs.ByValue.{Occurrences}
-use Rattle.tally.specs.Windows.{Parts, wholeLine, Joined}
+use Rattle.windows.specs.Windows.{Parts, wholeLine, Joined}
 use Rattle.tally.specs.Counts.{mostCounts, IsDoubled}
 use Rattle.findings.specs.Limits.{CanSearch}
 use Rattle.outlines.specs.Report.{shown, hidden}

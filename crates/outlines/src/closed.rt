@@ -8,7 +8,7 @@ use book::read;
 use findings::Searched;
 use findings::Verdict;
 use findings::admit_closed;
-use tally::fill_join;
+use windows::fill_join;
 ghost use Rattle.outlines.specs.ClosedScan.{IsClosedScanned};
 ghost use Rattle.outlines.specs.ClosedReport.{IsClosedReported};
 

@@ -15,11 +15,11 @@ use sweep::Swept;
 use sweep::sweep_on;
 use tally::MOST_COUNTS;
 use tally::double;
-use tally::whole_length;
 use vectors::TABLE_WORDS;
 use vectors::occurrences;
+use windows::whole_length;
 ghost use lib.ListN.{length};
-ghost use Rattle.tally.specs.Windows.{parts, wholeLine};
+ghost use Rattle.windows.specs.Windows.{parts, wholeLine};
 ghost use Rattle.outlines.specs.Scan.{IsScanned};
 ghost use Rattle.outlines.specs.LineScan.{CanScan, CanScanLine, LineScanned};
 

@@ -1,11 +1,11 @@
--- What a call lends to `survey_line` (`Lent` of crates/tally): it can be surveyed, and what is surveyed is the list that the call searches, the line or the
+-- What a call lends to `survey_line` (`Lent` of crates/windows): it can be surveyed, and what is surveyed is the list that the call searches, the line or the
 -- closed line.
 use Prim.Native.Nat.{ℕ}
 use mathlib.Core.Path.{_≡_, subst}
 use mathlib.Core.List.{List}
 use lib.ListN.{length}
-use Rattle.tally.specs.Windows.{Parts, wholeLine}
-use Rattle.tally.proofs.LentParts.{Lent}
+use Rattle.windows.specs.Windows.{Parts, wholeLine}
+use Rattle.windows.proofs.LentParts.{Lent}
 use Rattle.survey.specs.Survey.{CanSurveyLine, LineSurveyed}
 
 module _ {ring : List ℕ} {p : Parts} {k room : ℕ} {searched : List ℕ} (lent : Lent ring p k room searched) where

@@ -14,8 +14,8 @@ use Rattle.tally.specs.declared.afresh.Fresh.{Fresh}
 use Rattle.moves.specs.declared.steps.Reached.{Reached}
 use Rattle.tally.proofs.AfreshTallied.{counted-verified, counted-past}
 use Rattle.moves.proofs.MovedTallied.{moved-tallied}
-use Rattle.tally.specs.Windows.{Parts, wholeLine, IsWindow, IsWholeLength}
-use Rattle.tally.proofs.WindowEdges.{fitting-window}
+use Rattle.windows.specs.Windows.{Parts, wholeLine, IsWindow, IsWholeLength}
+use Rattle.windows.proofs.WindowEdges.{fitting-window}
 use Rattle.tally.specs.Counts.{IsCounted}
 use Rattle.moves.specs.Moves.{IsMoved, IsReached}
 use Rattle.survey.specs.Survey.{CanVerifyOn, IsVerifiedOn}

@@ -25,7 +25,7 @@ use Rattle.meaning.proofs.FindingsBelow.{below-same, below-length-le, findings-
 use Rattle.meaning.proofs.SurveyLooks.{surveyLooks-below, surveyLooks-end}
 use Rattle.moves.specs.declared.steps.Reached.{Reached}
 use Rattle.findings.specs.Limits.{mostPlaces, CanSearch}
-use Rattle.tally.specs.Windows.{Parts, wholeLine}
+use Rattle.windows.specs.Windows.{Parts, wholeLine}
 use Rattle.tally.specs.Marks.{pastMark}
 use Rattle.tally.specs.Counts.{mostCounts, IsFindingAt}
 use Rattle.tally.specs.Tallied.{Tallied}

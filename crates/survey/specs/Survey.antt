@@ -17,8 +17,8 @@ use lib.ListN.{length}
 use Rattle.meaning.specs.Meanings.{FitsInLine, leastDistance}
 use Rattle.meaning.specs.Looks.{surveyLooksBelow, surveyLooks}
 use Rattle.moves.specs.declared.steps.Reached.{Reached}
+use Rattle.windows.specs.Windows.{Parts, wholeLine, Joined}
 use Rattle.tally.specs.Marks.{pastMark}
-use Rattle.tally.specs.Windows.{Parts, wholeLine, Joined}
 use Rattle.tally.specs.Counts.{mostCounts, IsDoubled, IsLeast}
 use Rattle.tally.specs.Tallied.{Tallied, CanTally}
 use Rattle.findings.specs.declared.searching.Searched.{Searched}

@@ -3,7 +3,7 @@ use crate::plain::survey_line;
 use findings::Searched;
 use findings::Verdict;
 use findings::admit_closed;
-use tally::fill_join;
+use windows::fill_join;
 ghost use Rattle.survey.specs.ClosedSurvey.{IsClosedSurveyed};
 
 // The plain survey in closed mode: "edges continue from the beginning after the last". The join area is written once no

@@ -11,12 +11,12 @@ use tally::MOST_COUNTS;
 use tally::count_afresh;
 use tally::double;
 use tally::finding_at;
-use tally::whole_length;
-use tally::window;
+use windows::whole_length;
+use windows::window;
 ghost use mathlib.Core.Path.{_≡_};
 ghost use Prim.Native.Nat.{max};
 ghost use lib.ListN.{length};
-ghost use Rattle.tally.specs.Windows.{parts, wholeLine};
+ghost use Rattle.windows.specs.Windows.{parts, wholeLine};
 ghost use Rattle.survey.specs.Survey.{isFound, CanVerifyOn, IsVerifiedOn, CanSurveyLine, CanSurvey, LineSurveyed, IsSurveyed};
 
 // Counts place 0 afresh; for a later place it moves the tally of the place before, a step for each, to the next place

@@ -11,8 +11,8 @@ use lib.ListN.{length}
 use borrow.Author.Tests.{lt-ltb, le-ltb, lt-leb}
 use Rattle.meaning.specs.Looks.{afreshLooks, stepLooks, tallyLooks}
 use Rattle.lists.proofs.Cases.{le-or-lt}
-use Rattle.tally.specs.Windows.{Parts, windowOf, wholeLine, Joined}
-use Rattle.tally.proofs.WindowEdges.{fitting-window}
+use Rattle.windows.specs.Windows.{Parts, windowOf, wholeLine, Joined}
+use Rattle.windows.proofs.WindowEdges.{fitting-window}
 use Rattle.tally.specs.Counts.{TallyResult, countedTo, countedPast}
 use Rattle.tally.specs.Tallied.{Verified}
 use Rattle.tally.proofs.AfreshTallied.{counted-verified}

@@ -10,7 +10,7 @@ use lib.ListN.{length}
 use borrow.Author.Tests.{lt-ltb, le-ltb, le-leb, lt-leb, ltb-false}
 use Rattle.lists.proofs.Cases.{by-test}
 use Rattle.answers.specs.declared.places.LinePlace.{LinePlace}
-use Rattle.tally.specs.Windows.{Parts, windowOf, wholeLine, IsWindow}
+use Rattle.windows.specs.Windows.{Parts, windowOf, wholeLine, IsWindow}
 use Rattle.tally.specs.Counts.{mostCounts, canCount, TallyResult, countedTo, IsCounted}
 use Rattle.moves.specs.Moves.{CountsAt, unmoved, canMove, IsMoved}
 use Rattle.tally.specs.declared.counts.Least.{Least}

@@ -10,9 +10,9 @@ use Rattle.lists.proofs.Cases.{by-test}
 use Rattle.meaning.specs.Meanings.{FitsInLine, IsPastLine, fitsInLine}
 use Rattle.meaning.proofs.Starts.{fits-line-iff, past-line-iff}
 use Rattle.vectors.specs.Bits.{wordCount}
-use Rattle.tally.specs.Windows.{Parts, windowOf, wholeLine, IsWindow}
+use Rattle.windows.specs.Windows.{Parts, windowOf, wholeLine, IsWindow}
+use Rattle.windows.proofs.WindowEdges.{fitting-length, some-fits}
 use Rattle.tally.specs.Counts.{mostCounts}
-use Rattle.tally.proofs.WindowEdges.{fitting-length, some-fits}
 use Rattle.sweep.specs.declared.reading.WindowRead.{WindowRead}
 use Rattle.sweep.specs.declared.sweeping.WindowsRead.{WindowsRead}
 use Rattle.sweep.specs.Reads.{readBy, noneLeft, windowsOn, windowsBy, CanReadWindows}

@@ -12,8 +12,8 @@ use Rattle.meaning.specs.Meanings.{FitsInLine, IsPastLine, window, fitsInLine}
 use Rattle.meaning.proofs.Starts.{fits-line-iff, past-line-iff}
 use Rattle.meaning.specs.Rules.{stopsAt, isStopped, readWindow}
 use Rattle.meaning.proofs.WindowAlone.{alone-reading}
-use Rattle.tally.specs.Windows.{Parts, windowOf, wholeLine, Joined}
-use Rattle.tally.proofs.WindowEdges.{fitting-window, fitting-length}
+use Rattle.windows.specs.Windows.{Parts, windowOf, wholeLine, Joined}
+use Rattle.windows.proofs.WindowEdges.{fitting-window, fitting-length}
 use Rattle.sweep.specs.declared.reading.WindowRead.{WindowRead}
 use Rattle.sweep.specs.Reads.{readBy, noneLeft, windowsOn, windowsBy}
 use Rattle.sweep.specs.ReadingRules.{OwnVectors, IsWindowRead}

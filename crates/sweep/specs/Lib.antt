@@ -11,7 +11,7 @@
 -- | the sweep (rules 1 to 5)  | `sweepBy`, `IsSweptBy` (Sweeps) | `IsSweptOn` (SweepRules)                       | `swept-by-rules` (SweptByRules)     |
 --
 -- The conditions of these laws on what is lent are `OwnVectors` (ReadingRules), `CanVerify` (VerifyingRules), `CanSweepOn` (SweepRules) and, for the join area,
--- `Joined` of crates/tally. The contract of `sweep_on` is the computed definition alone, so that it holds on every input; scan and report use the rules.
+-- `Joined` of crates/windows. The contract of `sweep_on` is the computed definition alone, so that it holds on every input; scan and report use the rules.
 -- docs/DECISIONS.md, entry 19, says why. Read the modules in this order.
 pub mod Reads
 pub mod Sweeps

@@ -1,7 +1,7 @@
 -- What reading windows computes, on every input and with any table. The code holds a vector of one bit for each rotation in place of the stretch (source document
 -- 003). With the vectors of a ring without marks, and a join area that is right, the result is what rules 1 to 3 give, `IsWindowRead` of ReadingRules and
 -- `IsWindowsRead` of SweepRules, by `read-by-rules` and `windows-by-rules` of proofs/. Windows come from the line and its join area, the parts p; n is the length of
--- the whole line (specs/Windows.antt of crates/tally).
+-- the whole line (specs/Windows.antt of crates/windows).
 --
 --   heldWith                       the held vector after one more edge
 --   readOn, readWith, readBy       one window: from a given point; from its last edge with a given number of words; with as few words as m bits need
@@ -17,7 +17,7 @@ use Rattle.meaning.specs.Rules.{stopsAt}
 use Rattle.vectors.specs.Bits.{wordCount, firstBits, noBit}
 use Rattle.vectors.specs.Holding.{vectorAt}
 use Rattle.vectors.specs.ByValue.{vectorWords, grownWords}
-use Rattle.tally.specs.Windows.{Parts, windowOf, wholeLine}
+use Rattle.windows.specs.Windows.{Parts, windowOf, wholeLine}
 use Rattle.tally.specs.Counts.{mostCounts}
 use Rattle.findings.specs.Limits.{mostPlaces}
 use Rattle.sweep.specs.declared.reading.WindowRead.{WindowRead}

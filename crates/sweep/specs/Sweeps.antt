@@ -1,5 +1,5 @@
 -- What `sweep_on` computes, on every input, whatever vectors, doubled ring, join area and counts it is lent. If vectors and double are those of a ring without
--- marks, the counts are the tally of the last verified start, and the join area is right (`Joined` of crates/tally), this is what the rules give for the whole
+-- marks, the counts are the tally of the last verified start, and the join area is right (`Joined` of crates/windows), this is what the rules give for the whole
 -- line, `IsSweptOn` of SweepRules, by `swept-by-rules` of proofs/SweptByRules.antt.
 --
 --   movedTo                  the tally moved a number of steps
@@ -16,7 +16,7 @@ use mathlib.Core.List.{List}
 use lib.Dec.{ltb, leb}
 use lib.ListN.{length}
 use Rattle.findings.specs.declared.searching.Finding.{Finding as FindingStruct}
-use Rattle.tally.specs.Windows.{Parts, windowOf, wholeLine}
+use Rattle.windows.specs.Windows.{Parts, windowOf, wholeLine}
 use Rattle.tally.specs.Counts.{mostCounts, findingWith, TallyResult, countedTo}
 use Rattle.findings.specs.Limits.{mostPlaces}
 use Rattle.moves.specs.Moves.{CountsAt, movedFrom}

@@ -1,6 +1,6 @@
 -- The conditions under which verifying a start follows rule 5: the ring's own double is lent, and the counts are the tally of the last verified start. The rule's
 -- looks are `tallyLooks` of crates/meaning. `tally-by-rules` in proofs/TallyByRules.antt proves that `tallyBy` of Sweeps then gives the start's tally at these looks,
--- if the join area is right (`Joined` of crates/tally).
+-- if the join area is right (`Joined` of crates/windows).
 --
 --   lastStart        the last verified start, if there is one
 --   TalliedBefore    the counts are its tally, and it is before a given start

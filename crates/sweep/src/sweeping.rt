@@ -8,12 +8,12 @@ use findings::Finding;
 use moves::MOST_PLACES;
 use tally::MOST_COUNTS;
 use tally::finding_at;
-use tally::whole_length;
-use tally::window;
 use vectors::TABLE_WORDS;
+use windows::whole_length;
+use windows::window;
 ghost use mathlib.Core.Path.{_≡_};
 ghost use lib.ListN.{length};
-ghost use Rattle.tally.specs.Windows.{parts, wholeLength};
+ghost use Rattle.windows.specs.Windows.{parts, wholeLength};
 ghost use Rattle.sweep.specs.Reads.{CanReadWindows, windowsBy};
 ghost use Rattle.sweep.specs.Sweeps.{canSweep, CanSweep, IsSweptTo, IsSweptBy};
 

@@ -4,10 +4,10 @@ use moves::move_counts;
 use tally::Least;
 use tally::MOST_COUNTS;
 use tally::count_afresh;
-use tally::window;
+use windows::window;
 ghost use Prim.Native.Nat.{_≤_};
 ghost use Rattle.findings.specs.Limits.{mostPlaces};
-ghost use Rattle.tally.specs.Windows.{parts};
+ghost use Rattle.windows.specs.Windows.{parts};
 ghost use Rattle.sweep.specs.Sweeps.{IsCountedTo, IsTalliedBy};
 
 // The last verified start, if there is one.

@@ -2,10 +2,6 @@
 -- them; each stands in a folder with the function's name, as counts/least_of. The theorem of the crate is `counted-verified` (AfreshTallied): a fresh count of a
 -- start's window gives that start's tally.
 --
--- The edges of a window; how the join area is filled, and that its windows are the closed line's; what a call lends to its search in either mode.
-pub mod WindowEdges
-pub mod JoinFilled
-pub mod LentParts
 -- The place just past the last mark.
 pub mod PastMark
 -- Loops over counts: the least count, the lowest rotation that has it, and how many rotations have it.

@@ -5,8 +5,6 @@ use mathlib.Core.List.{List}
 use Rattle.answers.specs.declared.places.LinePlace.{LinePlace}
 use Rattle.findings.specs.declared.searching.Finding.{Finding as FindingStruct}
 use Rattle.tally.specs.declared.afresh.Fresh.{Fresh}
-use Rattle.tally.specs.Windows.{Parts, IsWindow, IsWholeLength}
-use Rattle.tally.specs.Joins.{IsJoinFilled}
 use Rattle.tally.specs.Marks.{IsPastMark}
 use Rattle.tally.specs.Counts.{IsComparison, IsDoubled, IsCounted, IsFindingAt}
 
@@ -17,19 +15,6 @@ one-comparison a b r r′ x y = x .is ∙ sym (y .is)
 -- Any two places that meet the contract of `past_mark` are equal.
 pub one-past : (edge past next r r′ : ℕ) → IsPastMark edge past next r → IsPastMark edge past next r′ → r ≡ r′
 one-past edge past next r r′ x y = x .is ∙ sym (y .is)
-
--- Any two windows that meet the contract of `window` are equal.
-pub one-window : (p : Parts) (i m : ℕ) (edges edges′ : List ℕ) → IsWindow p i m edges → IsWindow p i m edges′ → edges ≡ edges′
-one-window p i m edges edges′ a b = a .is ∙ sym (b .is)
-
--- Any two lengths that meet the contract of `whole_length` are equal.
-pub one-length : (m : ℕ) (p : Parts) (r r′ : ℕ) → IsWholeLength m p r → IsWholeLength m p r′ → r ≡ r′
-one-length m p r r′ a b = a .is ∙ sym (b .is)
-
--- Any two answers that meet the contract of `fill_join` are equal, and so is the join area at exit.
-pub one-fill : (line : List ℕ) (m : ℕ) (join : List ℕ) (r r′ : ℕ) (out out′ : List ℕ) → IsJoinFilled line m join r out → IsJoinFilled line m join r′ out′
-    → (r ≡ r′) × (out ≡ out′)
-one-fill line m join r r′ out out′ a b = (a .used-is ∙ sym (b .used-is), a .filled ∙ sym (b .filled))
 
 -- Any two doubled rings that meet the contract of `double` are equal.
 pub one-doubled : (ring doubled doubled′ : List ℕ) → IsDoubled ring doubled → IsDoubled ring doubled′ → doubled ≡ doubled′

@@ -1,16 +1,11 @@
 // The tally of one count per rotation: `count_afresh` counts it for a window, `finding_at` makes a start's finding of
 // it. crates/moves moves it along the line. `past_mark` notes the place just past the last boundary mark on the way.
 //
-// `window` hands out each window, of the line or of the join area that `fill_join` has filled.
-//
-// The contracts are in specs/Windows.antt, specs/Joins.antt, specs/Marks.antt and specs/Counts.antt; specs/Tallied.antt
-// says when counts are the tally of a start. No public function has a `requires`: each takes every input, whatever the
-// counts hold.
+// The contracts are in specs/Marks.antt and specs/Counts.antt; specs/Tallied.antt says when counts are the tally of a
+// start. No public function has a `requires`: each takes every input, whatever the counts hold.
 mod afresh;
 mod counts;
-mod joins;
 mod marks;
-mod windows;
 
 pub use afresh::Fresh;
 pub use afresh::count_afresh;
@@ -19,7 +14,4 @@ pub use counts::Least;
 pub use counts::MOST_COUNTS;
 pub use counts::differing;
 pub use counts::finding_at;
-pub use joins::fill_join;
 pub use marks::past_mark;
-pub use windows::whole_length;
-pub use windows::window;

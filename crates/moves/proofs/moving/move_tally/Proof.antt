@@ -52,8 +52,8 @@ use Rattle.answers.proofs.places.LinePlace as Place
 use Rattle.answers.proofs.places.LinePlace.Laws as Place′
 use Rattle.moves.specs.declared.moving.Tally.{Tally}
 use Rattle.moves.specs.declared.steps.Reached.{Reached}
+use Rattle.windows.specs.Windows.{parts, wholeLength}
 use Rattle.tally.specs.Counts.{mostCounts}
-use Rattle.tally.specs.Windows.{parts, wholeLength}
 use Rattle.moves.specs.Moves.{CanMove, IsMovedOn}
 use Rattle.moves.proofs.WalkArguments.{placeVal, seven-owned}
 use Rattle.moves.proofs.moving.Tally as T

@@ -2,8 +2,8 @@
 use Prim.Native.Nat.{_-_}
 use borrow.Author.Needs.{needs}
 use native.Mathlib.Omega.{arith}
-use Rattle.tally.specs.Windows.{parts}
-use Rattle.tally.proofs.WindowEdges.{fitting-length}
+use Rattle.windows.specs.Windows.{parts}
+use Rattle.windows.proofs.WindowEdges.{fitting-length}
 use Rattle.moves.proofs.MoveLoop.{Moving, moving-start, moving-has-counts, moving-turn, moving-stops, moving-end}
 use Rattle.moves.proofs.steps.move_along.Statement.{statement}
 use Rattle.moves.proofs.steps.move_along.Tie as tie

@@ -1,10 +1,10 @@
 -- `outlines::closed::report_closed` meets its contract: one of the search's rows is given; none of them is, and the book is refused; or the join area is filled and the
--- closed line is scanned with the book (`LentParts` of crates/tally, `ClosedReportAnswers`).
+-- closed line is scanned with the book (`LentParts` of crates/windows, `ClosedReportAnswers`).
 use mathlib.Core.Path.{refl, sym}
 use lib.Seq.{length-take-le}
 use borrow.Author.Needs.{needs}
-use Rattle.tally.proofs.JoinFilled.{used-le}
-use Rattle.tally.proofs.LentParts.{closed-lent, closed-joined}
+use Rattle.windows.proofs.JoinFilled.{used-le}
+use Rattle.windows.proofs.LentParts.{closed-lent, closed-joined}
 use Rattle.findings.proofs.VerdictTold.{told-accepted, told-none, told-refused}
 use Rattle.findings.proofs.ClosedAdmitRows.{closed-no-row-iff}
 use Rattle.outlines.proofs.LentScan.{can-scan-line, searched-scanned}

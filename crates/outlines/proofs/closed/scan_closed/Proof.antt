@@ -1,10 +1,10 @@
 -- `outlines::closed::scan_closed` meets its contract: a row is given and the call is refused, or the join area is filled and the closed line is scanned with an empty
--- book (`LentParts` of crates/tally, `empty-book-searched`). These are the two ways in which a search on a closed line meets its contract (`ClosedSearchAnswers` of crates/findings).
+-- book (`LentParts` of crates/windows, `empty-book-searched`). These are the two ways in which a search on a closed line meets its contract (`ClosedSearchAnswers` of crates/findings).
 use mathlib.Core.Path.{refl, sym}
 use lib.Seq.{length-take-le}
 use borrow.Author.Needs.{needs}
-use Rattle.tally.proofs.JoinFilled.{used-le}
-use Rattle.tally.proofs.LentParts.{closed-lent, closed-joined}
+use Rattle.windows.proofs.JoinFilled.{used-le}
+use Rattle.windows.proofs.LentParts.{closed-lent, closed-joined}
 use Rattle.findings.proofs.VerdictTold.{told-accepted, told-none, told-refused}
 use Rattle.findings.proofs.ClosedAdmitRows.{closed-no-row-iff}
 use Rattle.findings.proofs.ClosedSearchAnswers.{refused-closed-search, accepted-closed-search}

@@ -2,7 +2,7 @@
 -- two ways in which a search meets its contract (`SearchAnswers` of crates/findings).
 use mathlib.Core.Path.{refl}
 use borrow.Author.Needs.{needs}
-use Rattle.tally.proofs.LentParts.{open-lent}
+use Rattle.windows.proofs.LentParts.{open-lent}
 use Rattle.findings.proofs.VerdictTold.{told-accepted, told-none, told-refused}
 use Rattle.findings.proofs.AdmitRows.{no-row-iff}
 use Rattle.findings.proofs.SearchAnswers.{refused-search, accepted-search}

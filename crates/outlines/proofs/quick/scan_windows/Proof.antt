@@ -5,8 +5,8 @@ use mathlib.Core.Path.{_≡_, refl, ap}
 use native.Mathlib.Omega.{arith}
 use borrow.Author.Needs.{needs}
 use lib.ListN.{length}
-use Rattle.tally.specs.Windows.{parts, wholeLength, IsWholeLength}
-use Rattle.tally.proofs.WindowEdges.{fits-whole, past-whole}
+use Rattle.windows.specs.Windows.{parts, wholeLength, IsWholeLength}
+use Rattle.windows.proofs.WindowEdges.{fits-whole, past-whole}
 use Rattle.sweep.specs.SweepRules.{stateOf, foundOf}
 use Rattle.outlines.proofs.QuickLoop.{QuickLoop, quick-start, quick-found-le, quick-length, quick-end, quick-less, quick-none, quick-can-ask, quick-found}
 use Rattle.outlines.proofs.quick.scan_windows.Statement.{statement}

@@ -2,7 +2,7 @@
 -- book (`ReportAnswers`).
 use mathlib.Core.Path.{refl}
 use borrow.Author.Needs.{needs}
-use Rattle.tally.proofs.LentParts.{open-lent}
+use Rattle.windows.proofs.LentParts.{open-lent}
 use Rattle.findings.proofs.VerdictTold.{told-accepted, told-none, told-refused}
 use Rattle.findings.proofs.AdmitRows.{no-row-iff}
 use Rattle.outlines.proofs.LentScan.{can-scan-line, searched-scanned}

@@ -4,8 +4,8 @@ use mathlib.Core.Path.{sym, _∙_}
 use native.Mathlib.Omega.{arith}
 use borrow.Author.Needs.{needs}
 use lib.ListN.{length}
-use Rattle.tally.specs.Windows.{parts, wholeLength, IsWholeLength}
-use Rattle.tally.proofs.WindowEdges.{fits-whole, past-whole}
+use Rattle.windows.specs.Windows.{parts, wholeLength, IsWholeLength}
+use Rattle.windows.proofs.WindowEdges.{fits-whole, past-whole}
 use Rattle.survey.proofs.SurveyLoop.{SurveyKeeps, survey-start, survey-can-verify, survey-end, survey-found-le, survey-looks-le, survey-next-le, survey-less, survey-none, survey-found}
 use Rattle.survey.proofs.plain.survey_starts.Statement.{statement}
 use Rattle.survey.proofs.plain.survey_starts.Tie as tie

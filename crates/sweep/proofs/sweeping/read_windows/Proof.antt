@@ -5,8 +5,8 @@ use native.Mathlib.Omega.{arith}
 use borrow.Author.Needs.{needs}
 use borrow.Author.Tests.{not-true, not-false}
 use lib.ListN.{length}
-use Rattle.tally.specs.Windows.{parts, wholeLength}
-use Rattle.tally.proofs.WindowEdges.{none-is-past}
+use Rattle.windows.specs.Windows.{parts, wholeLength}
+use Rattle.windows.proofs.WindowEdges.{none-is-past}
 use Rattle.sweep.proofs.WindowTurns.{StillWindows, windows-start, windows-end, windows-fit, windows-size, windows-next-le, windows-looks-le, windows-stop, windows-turn}
 use Rattle.sweep.proofs.sweeping.read_windows.Statement.{statement}
 use Rattle.sweep.proofs.sweeping.read_windows.Tie as tie

@@ -2,7 +2,7 @@
 use native.Mathlib.Omega.{arith}
 use borrow.Author.Needs.{needs}
 use borrow.Author.Tests.{not-true, not-false}
-use Rattle.tally.specs.Windows.{parts}
+use Rattle.windows.specs.Windows.{parts}
 use Rattle.sweep.proofs.SweepWays.{sweep-looks-le, sweep-start-le, way-ended, sweep-all-looks-le, way-none, way-found}
 use Rattle.sweep.proofs.sweeping.to_candidate.Statement.{statement}
 use Rattle.sweep.proofs.sweeping.to_candidate.Tie as tie

@@ -1,10 +1,10 @@
--- `tally::joins::fill_join` meets its contract: at each early return the area cannot be filled; else the line's last m − 1 edges and its first m − 1 are copied, one
+-- `windows::joins::fill_join` meets its contract: at each early return the area cannot be filled; else the line's last m − 1 edges and its first m − 1 are copied, one
 -- behind the other (`JoinFilled`).
 use native.Mathlib.Omega.{arith}
 use borrow.Author.Needs.{needs}
-use Rattle.tally.proofs.JoinFilled.{not-filled, is-filled}
-use Rattle.tally.proofs.joins.fill_join.Statement.{statement}
-use Rattle.tally.proofs.joins.fill_join.Tie as tie
+use Rattle.windows.proofs.JoinFilled.{not-filled, is-filled}
+use Rattle.windows.proofs.joins.fill_join.Statement.{statement}
+use Rattle.windows.proofs.joins.fill_join.Tie as tie
 
 -- The ring has no edge.
 returns : tie.Need-returns

@@ -1,12 +1,12 @@
--- `tally::windows::whole_length` meets its contract: the join area adds nothing if it has fewer than m bytes, if the ring has no edge, or if no window fits in the
+-- `windows::windows::whole_length` meets its contract: the join area adds nothing if it has fewer than m bytes, if the ring has no edge, or if no window fits in the
 -- line; else it adds the m − 1 edges behind its first m − 1, or as many as stand there (`WindowEdges`).
 use native.Mathlib.Omega.{arith}
 use mathlib.Core.Path.{sym, ap}
 use lib.ListN.{length}
 use borrow.Author.Needs.{needs}
-use Rattle.tally.proofs.WindowEdges.{whole-no-edge, whole-short, whole-narrow, whole-full, whole-part}
-use Rattle.tally.proofs.windows.whole_length.Statement.{statement}
-use Rattle.tally.proofs.windows.whole_length.Tie as tie
+use Rattle.windows.proofs.WindowEdges.{whole-no-edge, whole-short, whole-narrow, whole-full, whole-part}
+use Rattle.windows.proofs.windows.whole_length.Statement.{statement}
+use Rattle.windows.proofs.windows.whole_length.Tie as tie
 
 -- The join area has fewer than m bytes.
 returns : tie.Need-returns

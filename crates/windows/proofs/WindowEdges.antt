@@ -15,7 +15,7 @@ use Rattle.lists.proofs.Cases.{by-test, le-or-lt}
 use Rattle.lists.proofs.SizesTested.{lt-iff, le-iff, and-iff, test-fails}
 use Rattle.meaning.specs.Meanings.{FitsInLine, IsPastLine, window, windowEdge}
 use Rattle.meaning.proofs.Windows.{window-edge-is}
-use Rattle.tally.specs.Windows.{windowAt, Parts, parts, crosses, windowOf, wholeLine, Joined, IsWindow, IsWholeLength, IsPart}
+use Rattle.windows.specs.Windows.{windowAt, Parts, parts, crosses, windowOf, wholeLine, Joined, IsWindow, IsWholeLength, IsPart}
 
 -- If m edges from i on do not fit, the empty part meets the contract of `part`.
 pub none-at : (edges : List ℕ) (i m : ℕ) → length edges < i + m → IsPart edges i m []

@@ -3,7 +3,7 @@
 // no look is taken.
 ghost use Prim.Native.Nat.{_+_, _≤_};
 ghost use lib.ListN.{length};
-ghost use Rattle.tally.specs.Joins.{IsCopied, IsJoinFilled};
+ghost use Rattle.windows.specs.Joins.{IsCopied, IsJoinFilled};
 
 // Copies the edges into the join area, from place `at` on.
 fn copy_edges(edges: &[u8], join: &mut [u8], at: usize)

@@ -17,9 +17,9 @@ use Rattle.lists.proofs.SizesTested.{lt-iff, le-iff, and-iff, test-fails}
 use Rattle.meaning.specs.Closed.{closedLine, joinOf, joinedWith}
 use Rattle.meaning.proofs.ClosedLine.{closed-short}
 use Rattle.meaning.proofs.JoinArea.{join-lasts, join-closes, joined-long, joined-short, joined-length, joined-first}
-use Rattle.tally.specs.Windows.{parts, wholeLine, Joined}
-use Rattle.tally.specs.Joins.{canJoin, IsJoinFilled, IsCopied}
-use Rattle.tally.proofs.WindowEdges.{whole-long, whole-short}
+use Rattle.windows.specs.Windows.{parts, wholeLine, Joined}
+use Rattle.windows.specs.Joins.{canJoin, IsJoinFilled, IsCopied}
+use Rattle.windows.proofs.WindowEdges.{whole-long, whole-short}
 
 -- The invariant of the loop of `copy_edges`: the first q edges are copied.
 pub record Copying (edges join₀ : List ℕ) (at q : ℕ) (join : List ℕ) : Type 0 where

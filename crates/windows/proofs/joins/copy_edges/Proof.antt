@@ -1,11 +1,11 @@
--- `tally::joins::copy_edges` meets its contract: the loop keeps `Copying`. The measure is the number of edges left to copy.
+-- `windows::joins::copy_edges` meets its contract: the loop keeps `Copying`. The measure is the number of edges left to copy.
 use Prim.Native.Nat.{_-_}
 use lib.ListN.{length}
 use native.Mathlib.Omega.{arith}
 use borrow.Author.Needs.{needs}
-use Rattle.tally.proofs.JoinFilled.{Copying, copy-start, copy-length, copy-turn, copy-end}
-use Rattle.tally.proofs.joins.copy_edges.Statement.{statement}
-use Rattle.tally.proofs.joins.copy_edges.Tie as tie
+use Rattle.windows.proofs.JoinFilled.{Copying, copy-start, copy-length, copy-turn, copy-end}
+use Rattle.windows.proofs.joins.copy_edges.Statement.{statement}
+use Rattle.windows.proofs.joins.copy_edges.Tie as tie
 
 abbrev Inv-loop : tie.InvT-loop
 Inv-loop edges join₀ at q₀ join q = Copying edges join₀ at q join

@@ -2,7 +2,7 @@
 // window that crosses the line's end comes from the join area, where the line's last edges and its first ones stand side
 // by side; every other from the line.
 use answers::LinePlace;
-ghost use Rattle.tally.specs.Windows.{parts, IsWindow, IsWholeLength, IsPart};
+ghost use Rattle.windows.specs.Windows.{parts, IsWindow, IsWholeLength, IsPart};
 
 // The m edges from place i of the join area on. If they do not fit there, the part is empty. i is compared before m is
 // added to it, so nothing overflows.

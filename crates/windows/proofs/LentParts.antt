@@ -10,10 +10,10 @@ use Rattle.findings.specs.Admitting.{Admitted}
 use Rattle.findings.specs.ClosedRows.{ClosedAdmitted}
 use Rattle.findings.specs.Limits.{CanSearch}
 use Rattle.findings.proofs.WithinLimits.{open-within, closed-within}
-use Rattle.tally.specs.Windows.{Parts, parts, wholeLine, Joined}
-use Rattle.tally.specs.Joins.{IsJoinFilled}
-use Rattle.tally.proofs.WindowEdges.{whole-open, open-joined}
-use Rattle.tally.proofs.JoinFilled.{ClosedParts, closed-parts}
+use Rattle.windows.specs.Windows.{Parts, parts, wholeLine, Joined}
+use Rattle.windows.specs.Joins.{IsJoinFilled}
+use Rattle.windows.proofs.WindowEdges.{whole-open, open-joined}
+use Rattle.windows.proofs.JoinFilled.{ClosedParts, closed-parts}
 
 -- Ring, allowance, whole line and room are within the limits of a search, the join area is right, and the whole line is the list `searched`.
 pub record Lent (ring : List ℕ) (p : Parts) (k room : ℕ) (searched : List ℕ) : Type 0 where

@@ -1,11 +1,11 @@
--- `tally::windows::window` meets its contract: the tests decide whether the window begins behind the line, lies in it, or crosses its end; `part` takes a window
+-- `windows::windows::window` meets its contract: the tests decide whether the window begins behind the line, lies in it, or crosses its end; `part` takes a window
 -- that crosses out of the join area (`WindowEdges`).
 use native.Mathlib.Omega.{arith}
 use mathlib.Core.Path.{_∙_}
 use borrow.Author.Needs.{needs}
-use Rattle.tally.proofs.WindowEdges.{none-behind, none-short, window-in-line, window-in-join}
-use Rattle.tally.proofs.windows.window.Statement.{statement}
-use Rattle.tally.proofs.windows.window.Tie as tie
+use Rattle.windows.proofs.WindowEdges.{none-behind, none-short, window-in-line, window-in-join}
+use Rattle.windows.proofs.windows.window.Statement.{statement}
+use Rattle.windows.proofs.windows.window.Tie as tie
 
 sub-result : tie.Need-sub-result
 sub-result c = search needs

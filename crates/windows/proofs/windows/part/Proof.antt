@@ -1,9 +1,9 @@
--- `tally::windows::part` meets its contract: the two tests decide whether m edges from i on fit, and the returns are these two cases (`WindowEdges`).
+-- `windows::windows::part` meets its contract: the two tests decide whether m edges from i on fit, and the returns are these two cases (`WindowEdges`).
 use native.Mathlib.Omega.{arith}
 use borrow.Author.Needs.{needs}
-use Rattle.tally.proofs.WindowEdges.{none-at, part-at}
-use Rattle.tally.proofs.windows.part.Statement.{statement}
-use Rattle.tally.proofs.windows.part.Tie as tie
+use Rattle.windows.proofs.WindowEdges.{none-at, part-at}
+use Rattle.windows.proofs.windows.part.Statement.{statement}
+use Rattle.windows.proofs.windows.part.Tie as tie
 
 sub-result : tie.Need-sub-result
 sub-result c = search needs
