@@ -21,7 +21,7 @@ const LAST_COUNT: u16 = (SIXTEEN_BITS - 1) as u16;
 
 // count − lost + won, mod 2^16: `lost` is 1 if the leaving edge differs, `won` is 1 if the entering edge does. The sum
 // is computed in 32 bits, where it does not overflow. Counts that are a tally never wrap; other counts may.
-fn changed(count: u16, lost: u16, won: u16) -> u16
+fn changed(count: u16, lost: u8, won: u8) -> u16
     ensures { λ r. ⌜ r ≡ changedCount count lost won ⌝ }
 {
     let sum = count as u32 + (SIXTEEN_BITS - lost as u32) + won as u32;

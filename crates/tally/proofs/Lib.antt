@@ -9,8 +9,9 @@ pub mod LeastSoFar
 pub mod LeastIsOne
 pub mod LowestLoop
 pub mod TiesLoop
--- The fresh count: what `double` and `count_edges` compute.
+-- The fresh count: what `double`, `count_some` and `count_edges` compute.
 pub mod DoubledLoop
+pub mod SomeCounted
 pub mod AfreshLoop
 pub mod CountCases
 -- A start's tally decides whether it is a finding; a fresh count gives that tally.

@@ -13,14 +13,14 @@
 --   countedPast                the place just past the last mark of a counted window
 --   findingWith                the finding at a start with a given least count
 --   IsComparison, IsDoubled, IsCounted, IsFindingAt   the contracts of `differing`, `double`, `count_afresh` and `finding_at`
---   IsLowestWith, IsTies, HasCounts, edgeCounted, IsLeast, IsCountedAfresh   preconditions and contracts of private functions
+--   IsLowestWith, IsTies, HasCounts, differsOver, edgeCounted, fourCounted, IsLeast, CanCountOn, IsCountedOn, IsCountedAfresh   preconditions and contracts of private functions
 use Prim.Native.Nat.{ℕ, zero, suc, _+_, _*_, _%_, _≤_, _<_, min}
 use mathlib.Core.Path.{_≡_}
 use mathlib.Core.Bool.{Bool, cond, _&&_}
 use mathlib.Core.List.{List}
 use lib.Dec.{ltb, leb, eqb}
 use lib.ListN.{length, getD}
-use Rattle.lists.specs.ByPlace.{listOf, storedFirst}
+use Rattle.lists.specs.ByPlace.{listOf, storedFirst, StoredFirst}
 use Rattle.answers.specs.declared.places.LinePlace.{LinePlace}
 use Rattle.findings.specs.declared.searching.Finding.{Finding as FindingStruct}
 use Rattle.meaning.specs.Counting.{oneIf, count, lowest}
@@ -28,6 +28,7 @@ use Rattle.meaning.specs.Meanings.{unequal}
 use Rattle.meaning.specs.Looks.{afreshLooks}
 use Rattle.findings.specs.Admitting.{mostRing}
 use Rattle.tally.specs.declared.afresh.Fresh.{Fresh}
+use Rattle.tally.specs.declared.afresh.Counted.{Counted}
 use Rattle.tally.specs.Marks.{pastMark}
 
 -- The number of counts: one for each rotation of the longest ring.
@@ -153,10 +154,20 @@ pub record CanCount (m room long : ℕ) : Type 0 where
   pub has-counts : HasCounts m room
   pub twice : 2 * m ≤ long
 
--- The count of rotation r after one window edge more. The edge is compared with the doubled ring's at place + r; `place` is the ring place whose edge rotation 0
--- has over it.
+-- 1 if a window edge differs from rotation r's edge over it, else 0. `place` is the ring place whose edge rotation 0 has there, so rotation r has the doubled
+-- ring's at place + r.
+abbrev pub differsOver : List ℕ → ℕ → ℕ → ℕ → ℕ
+differsOver doubled place edge r = oneIf (unequal edge (getD doubled (place + r) 0))
+
+-- The count of rotation r after one window edge more.
 abbrev pub edgeCounted : List ℕ → List ℕ → ℕ → ℕ → ℕ → ℕ
-edgeCounted doubled old place edge r = getD old r 0 + oneIf (unequal edge (getD doubled (place + r) 0))
+edgeCounted doubled old place edge r = getD old r 0 + differsOver doubled place edge r
+
+-- The count of rotation r after four neighbouring edges more; `place` is the ring place under the first of them, a.
+abbrev pub fourCounted : List ℕ → List ℕ → ℕ → ℕ → ℕ → ℕ → ℕ → ℕ → ℕ
+fourCounted doubled old place a b c d r =
+    getD old r 0
+    + (differsOver doubled place a r + differsOver doubled (place + 1) b r + differsOver doubled (place + 2) c r + differsOver doubled (place + 3) d r)
 
 -- `least` is the least of the first m counts: none of them is below it, and the one at `place` equals it.
 pub record IsLeast (m : ℕ) (counts : List ℕ) (least : ℕ) : Type 0 where
@@ -164,6 +175,23 @@ pub record IsLeast (m : ℕ) (counts : List ℕ) (least : ℕ) : Type 0 where
   pub place : ℕ
   pub place-lt : place < m
   pub is : getD counts place 0 ≡ least
+
+-- The precondition of `count_some`: a window can be counted and has an edge at q, each of its counts is at most 256, and `past` is the place just past the last
+-- mark of its first q edges.
+pub record CanCountOn (doubled window counts : List ℕ) (q past : ℕ) : Type 0 where
+  pub can : CanCount (length window) (length counts) (length doubled)
+  pub has-edge : q < length window
+  pub each-le : (r : ℕ) → r < length window → getD counts r 0 ≤ mostCounts
+  pub past-is : past ≡ pastMark window 0 q
+
+-- The contract of `count_some`: of the window's edges from q on, at least one, `edges` in all, are counted for every rotation, each at m looks, and asked whether
+-- they are marks. `old` and `new` are the counts at entry and exit, z is returned.
+pub record IsCountedOn (doubled window : List ℕ) (q : ℕ) (old new : List ℕ) (z : Counted) : Type 0 where
+  pub some : 0 < z .edges
+  pub within : q + z .edges ≤ length window
+  pub stored : StoredFirst (length window) (λ r. getD old r 0 + count (differsThere doubled window r) q (z .edges)) old new
+  pub looks-are : z .looks ≡ z .edges * length window
+  pub past-is : z .past ≡ pastMark window 0 (q + z .edges)
 
 -- The contract of `count_edges`: a window that can be counted is counted afresh, at m·m looks. `old` and `new` are the counts at entry and exit, z is returned.
 pub record IsCountedAfresh (doubled window old new : List ℕ) (z : Fresh) : Type 0 where

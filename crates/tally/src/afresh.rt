@@ -9,10 +9,10 @@ use answers::LinePlace;
 use answers::RingPlace;
 use answers::to_ring;
 ghost use mathlib.Core.Path.{_≡_};
-ghost use Prim.Native.Nat.{ℕ, _<_, _≤_};
+ghost use Prim.Native.Nat.{ℕ, _+_, _*_, _<_, _≤_};
 ghost use lib.ListN.{length, getD};
 ghost use Rattle.lists.specs.ByPlace.{StoredFirst};
-ghost use Rattle.tally.specs.Counts.{mostCounts, canCount, CanCount, IsDoubled, edgeCounted, IsCountedAfresh, IsCounted};
+ghost use Rattle.tally.specs.Counts.{mostCounts, canCount, CanCount, IsDoubled, edgeCounted, fourCounted, CanCountOn, IsCountedOn, IsCountedAfresh, IsCounted};
 
 // Room for the longest ring twice.
 const DOUBLED: usize = 2 * MOST_COUNTS;
@@ -53,11 +53,91 @@ fn count_edge(
     let mut looks: usize = 0;
     let mut r = 0;
     while r < m {
-        counts[r] = counts[r] + differing(edge, doubled[first + r]);
+        counts[r] = counts[r] + differing(edge, doubled[first + r]) as u16;
         looks += 1; // one look
         r += 1;
     }
     looks
+}
+
+// The same for four neighbouring edges; `place` is the ring place under the first. The four comparisons of a rotation
+// are added in eight bits and then to its count, so each count is read and written once for four edges. Returns the 4·m
+// looks.
+fn count_four(
+    counts: &mut [u16; MOST_COUNTS],
+    doubled: &[u8],
+    m: usize,
+    place: RingPlace,
+    a: u8,
+    b: u8,
+    c: u8,
+    d: u8,
+) -> usize
+    requires { ⌜ CanCount m (length (now counts)) (length (now doubled)) × (place .0 + 3 < m) × ((r : ℕ) → r < m → getD (now counts) r 0 ≤ mostCounts) ⌝ }
+    ensures { λ looks. ⌜ StoredFirst m (fourCounted (now (doubled .entry)) (now (counts .entry)) (place .0) a b c d) (now (counts .entry)) (now (counts .exit)) × (looks ≡ 4 * m) ⌝ }
+{
+    let first = place.0;
+    let mut looks: usize = 0;
+    let mut r = 0;
+    while r < m {
+        let at_a = differing(a, doubled[first + r]);
+        looks += 1; // one look, at the first edge
+        let at_b = differing(b, doubled[first + 1 + r]);
+        looks += 1; // one look, at the second edge
+        let at_c = differing(c, doubled[first + 2 + r]);
+        looks += 1; // one look, at the third edge
+        let at_d = differing(d, doubled[first + 3 + r]);
+        looks += 1; // one look, at the fourth edge
+        counts[r] = counts[r] + (at_a + at_b + at_c + at_d) as u16;
+        r += 1;
+    }
+    looks
+}
+
+// What was counted of a window: how many edges, the looks, and the place just past the last mark up to there.
+pub struct Counted {
+    pub edges: usize,
+    pub looks: usize,
+    pub past: usize,
+}
+
+// Counts the edges of a window from place q on: four, or one if fewer than four are left. The window is read as a line of
+// its own, from place 0 on; `to_ring` gives the ring place that rotation 0 has over its edge at q, outside the loop over
+// the rotations. Whether an edge is a mark is asked as it is counted; `past` is the place just past the last one before.
+fn count_some(
+    counts: &mut [u16; MOST_COUNTS],
+    doubled: &[u8],
+    window: &[u8],
+    q: usize,
+    past: usize,
+) -> Counted
+    requires { ⌜ CanCountOn (now doubled) (now window) (now counts) q past ⌝ }
+    ensures { λ z. ⌜ IsCountedOn (now (doubled .entry)) (now (window .entry)) q (now (counts .entry)) (now (counts .exit)) z ⌝ }
+{
+    let m = window.len();
+    let place = to_ring(LinePlace(q), LinePlace(0), RingPlace(0), m);
+    let a = window[q];
+    let past_a = past_mark(a, past, q + 1);
+    if m - q < 4 {
+        let looks = count_edge(counts, doubled, m, place, a);
+        return Counted {
+            edges: 1,
+            looks,
+            past: past_a,
+        };
+    }
+    let b = window[q + 1];
+    let c = window[q + 2];
+    let d = window[q + 3];
+    let past_b = past_mark(b, past_a, q + 2);
+    let past_c = past_mark(c, past_b, q + 3);
+    let past_d = past_mark(d, past_c, q + 4);
+    let looks = count_four(counts, doubled, m, place, a, b, c, d);
+    Counted {
+        edges: 4,
+        looks,
+        past: past_d,
+    }
 }
 
 // The result of a fresh count: the least of the counts, the looks, and the place just past the last mark of the window,
@@ -68,9 +148,7 @@ pub struct Fresh {
     pub past: usize,
 }
 
-// Counts every rotation afresh: m edges, each against m ring edges. The window is read as a line of its own, from place
-// 0 on. `to_ring` gives the ring place that rotation 0 has over an edge. It is called once for each edge, outside the
-// loop over the rotations. Whether an edge is a mark is asked as it is counted.
+// Counts every rotation afresh: m edges, each against m ring edges, four edges at a time.
 fn count_edges(counts: &mut [u16; MOST_COUNTS], doubled: &[u8], window: &[u8]) -> Fresh
     requires { ⌜ CanCount (length (now window)) (length (now counts)) (length (now doubled)) ⌝ }
     ensures { λ z. ⌜ IsCountedAfresh (now (doubled .entry)) (now (window .entry)) (now (counts .entry)) (now (counts .exit)) z ⌝ }
@@ -81,11 +159,10 @@ fn count_edges(counts: &mut [u16; MOST_COUNTS], doubled: &[u8], window: &[u8]) -
     let mut past: usize = 0;
     let mut q = 0;
     while q < m {
-        let place = to_ring(LinePlace(q), LinePlace(0), RingPlace(0), m);
-        let edge = window[q];
-        looks += count_edge(counts, doubled, m, place, edge);
-        past = past_mark(edge, past, q + 1);
-        q += 1;
+        let counted = count_some(counts, doubled, window, q, past);
+        looks += counted.looks;
+        past = counted.past;
+        q += counted.edges;
     }
     let least = count_value(least_of(counts, m));
     Fresh { least, looks, past }

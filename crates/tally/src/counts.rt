@@ -24,8 +24,9 @@ pub struct Least {
     pub looks: usize,
 }
 
-// One comparison: 1 if the two edges differ, else 0.
-pub fn differing(a: u8, b: u8) -> u16
+// One comparison: 1 if the two edges differ, else 0. It has the edges' own width, so that the compiler compares and adds
+// sixteen at once; a caller widens the sum.
+pub fn differing(a: u8, b: u8) -> u8
     ensures { λ r. ⌜ IsComparison a b r ⌝ }
 {
     if a == b { 0 } else { 1 }

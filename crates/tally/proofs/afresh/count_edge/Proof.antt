@@ -4,17 +4,12 @@ use Prim.Native.Nat.{ℕ, _-_, _≤_}
 use mathlib.Core.Path.{_≡_, refl}
 use native.Mathlib.Omega.{arith}
 use borrow.Author.Needs.{needs}
-use Rattle.meaning.specs.Meanings.{unequal}
-use Rattle.meaning.proofs.Count.{oneIf-le}
 use Rattle.lists.specs.ByPlace.{StoredFirst}
 use Rattle.lists.proofs.StoreLoop.{stored-start, stored-turn, stored-end}
-use Rattle.tally.specs.Counts.{IsComparison, edgeCounted}
+use Rattle.tally.specs.Counts.{edgeCounted}
+use Rattle.tally.proofs.SomeCounted.{comparison-le}
 use Rattle.tally.proofs.afresh.count_edge.Statement.{statement}
 use Rattle.tally.proofs.afresh.count_edge.Tie as tie
-
--- A comparison is at most 1.
-comparison-le : {a b d : ℕ} → IsComparison a b d → d ≤ 1
-comparison-le {a} {b} one = omega (arith, one .is, oneIf-le (unequal a b))
 
 abbrev Inv-loop : tie.InvT-loop
 Inv-loop counts₀ doubled m edge first looks₀ r₀ counts looks r = (r ≤ m) × (looks ≡ r) × StoredFirst r (edgeCounted doubled counts₀ first edge) counts₀ counts
@@ -39,6 +34,9 @@ shared-slice-read-differing c = search needs
 
 differing-requires : tie.Need-differing-requires Inv-loop μ-loop
 differing-requires c κs = search needs
+
+cast-counts : tie.Need-cast-counts Inv-loop μ-loop
+cast-counts c = omega (arith, comparison-le (c .differing .ensures))
 
 add-counts : tie.Need-add-counts Inv-loop μ-loop
 add-counts c =
@@ -82,6 +80,7 @@ count-edge-spec =
     add-differing
     shared-slice-read-differing
     differing-requires
+    cast-counts
     add-counts
     mul-counts-2
     element-write-counts

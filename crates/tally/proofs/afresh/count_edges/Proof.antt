@@ -1,10 +1,8 @@
 -- `tally::afresh::count_edges` meets its contract: the counts are cleared, the loop keeps `CountingAfresh`, and then the least is taken. The measure is m - q.
-use Prim.Native.Nat.{_-_}
-use mathlib.Core.Path.{sym}
+use Prim.Native.Nat.{_+_, _-_}
 use native.Mathlib.Omega.{arith}
-use native.Mathlib.Nat.{zero-add}
 use borrow.Author.Needs.{needs}
-use Rattle.tally.proofs.AfreshLoop.{CountingAfresh, counting-afresh-start, counting-afresh-can, counting-afresh-le, counting-afresh-turn, counting-afresh-end, place-under-is}
+use Rattle.tally.proofs.AfreshLoop.{CountingAfresh, counting-afresh-start, counting-afresh-can, counting-afresh-on, counting-afresh-turn, counting-afresh-end}
 use Rattle.tally.proofs.afresh.count_edges.Statement.{statement}
 use Rattle.tally.proofs.afresh.count_edges.Tie as tie
 
@@ -20,49 +18,40 @@ clear-requires c κs = c .before .before .before .pre .has-counts
 loop-holds : tie.Need-loop-holds Inv-loop μ-loop
 loop-holds c = counting-afresh-start _ _ _ _ (c .before .before .before .before .pre) (c .clear .ensures)
 
-to-ring-requires : tie.Need-to-ring-requires Inv-loop μ-loop
-to-ring-requires c κs = search needs
-
-shared-slice-read-edge : tie.Need-shared-slice-read-edge Inv-loop μ-loop
-shared-slice-read-edge c = search needs
-
-count-edge-requires : tie.Need-count-edge-requires Inv-loop μ-loop
-count-edge-requires c κs =
-    let turn = c .before .before .before in
+count-some-requires : tie.Need-count-some-requires Inv-loop μ-loop
+count-some-requires c κs =
+    let turn = c .before in
     let cleared = turn .before .before in
     let pre = cleared .before .before .before .before .pre in
-    let place-is = place-under-is _ _ _ _ _ (sym (zero-add _)) (turn .loop-test .taken) (c .before .before .to-ring .ensures) in (
-      counting-afresh-can _ _ _ _ pre (cleared .clear .ensures) (turn .before .loop .inv),
-      omega (arith, place-is, turn .loop-test .taken),
-      counting-afresh-le _ _ _ _ pre (cleared .clear .ensures) (turn .before .loop .inv),
-    )
+    counting-afresh-on _ _ _ _ pre (cleared .clear .ensures) (turn .before .loop .inv) (turn .loop-test .taken)
+
+-- The invariant after a turn.
+after-turn : (c : tie.After-count-some Inv-loop μ-loop) →
+    let turn = c .before .before in
+    let before = turn .before .loop in
+    let start = turn .before .before .before .before .before .before in
+    CountingAfresh (start .args .doubled .now) (start .args .window .now) (turn .before .before .clear .last .0) (c .count-some .last .0)
+    (before .looks + c .count-some .result .looks) (c .count-some .result .past) (before .q + c .count-some .result .edges)
+after-turn c =
+    let turn = c .before .before in
+    let cleared = turn .before .before in
+    counting-afresh-turn _ _ _ _ (cleared .before .before .before .before .pre) (cleared .clear .ensures) (turn .before .loop .inv) (c .count-some .ensures)
 
 add-looks : tie.Need-add-looks Inv-loop μ-loop
 add-looks c =
-    let turn = c .before .before .before .before in
-    let pre = turn .before .before .before .before .before .before .pre in
-    omega (arith, turn .before .loop .inv .looks-le, turn .before .loop .inv .turn-le, pre .has-counts .most, c .count-edge .ensures .1)
-
-add-past-mark : tie.Need-add-past-mark Inv-loop μ-loop
-add-past-mark c = search needs
-
-past-mark-requires : tie.Need-past-mark-requires Inv-loop μ-loop
-past-mark-requires c κs = search needs
+    let start = c .before .before .before .before .before .before .before .before .before in
+    omega (arith, after-turn (c .before) .looks-le, after-turn (c .before) .turn-le, start .pre .has-counts .most)
 
 add-q : tie.Need-add-q Inv-loop μ-loop
-add-q c = search needs
+add-q c = omega (arith, after-turn (c .before .before) .turn-le)
 
 loop-less : tie.Need-loop-less Inv-loop μ-loop
-loop-less c = search needs
+loop-less c =
+    let counted = c .before .before in
+    omega (arith, counted .count-some .ensures .some, counted .count-some .ensures .within)
 
 loop-again : tie.Need-loop-again Inv-loop μ-loop
-loop-again c =
-    let counted = c .before in
-    let turn = counted .before .before .before .before in
-    let cleared = turn .before .before in
-    let pre = cleared .before .before .before .before .pre in
-    let place-is = place-under-is _ _ _ _ _ (sym (zero-add _)) (turn .loop-test .taken) (counted .before .before .before .to-ring .ensures) in
-    counting-afresh-turn _ _ _ _ pre (cleared .clear .ensures) (turn .before .loop .inv) (turn .loop-test .taken) place-is (counted .count-edge .ensures) (c .past-mark .ensures)
+loop-again c = after-turn (c .before .before)
 
 least-of-requires : tie.Need-least-of-requires Inv-loop μ-loop
 least-of-requires c κs =
@@ -89,12 +78,8 @@ count-edges-spec =
     μ-loop
     clear-requires
     loop-holds
-    to-ring-requires
-    shared-slice-read-edge
-    count-edge-requires
+    count-some-requires
     add-looks
-    add-past-mark
-    past-mark-requires
     add-q
     loop-less
     loop-again
