@@ -1,7 +1,7 @@
 -- A window read with the ring's own vectors is read by rules 1 to 3. By induction on the edges left: the bits of the held vector stand for the held stretch
 -- (`WindowLoop` of crates/meaning), and the vector grown by an edge stands for the grown stretch (`grown-by-edge` of crates/vectors). So no bit is set exactly at a
 -- break or at a mark, which the ring does not hold. This proof uses the vectors by their bits only; the words are a matter of crates/vectors.
-use Prim.Native.Nat.{ℕ, zero, suc, _+_, _*_, _≤_, _<_}
+use Prim.Native.Nat.{ℕ, zero, suc, _+_, _≤_, _<_}
 use mathlib.Core.Path.{_≡_, refl, sym, ap₂, subst, _∙_}
 use mathlib.Core.Bool.{Bool, true, false, _||_, or-true, or-false, true≢false}
 use mathlib.Core.List.{List}
@@ -73,7 +73,7 @@ module _ (ring window table : List ℕ) (k : ℕ) (own : OwnVectors ring table) 
 
     grew : GrownByEdge m ring edge held new
     grew =
-        grown-by-edge m words edge ring table (vectorAt table (edge * vectorWords) vectorWords) held new long some-edge most refl (own .occurs) (h .vector) refl refl
+        grown-by-edge m words edge ring table (vectorAt table edge vectorWords) held new long some-edge most refl (own .occurs) (h .vector) refl refl
 
     grown-by : GrownBy ring (windowEdge window 0 left) (isSet held) (isSet new)
     unfolding GrownBy

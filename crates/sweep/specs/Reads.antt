@@ -8,7 +8,7 @@
 --   noneLeft                       the result if no window fits in the line any more
 --   windowsOn, windowsBy           window after window, to the next candidate: at most a given number of them; all from a given start
 --   CanReadWindows                 the precondition of `read_windows`
-use Prim.Native.Nat.{ℕ, zero, suc, _+_, _-_, _*_, _≤_, _<_}
+use Prim.Native.Nat.{ℕ, zero, suc, _+_, _-_, _≤_, _<_}
 use mathlib.Core.Bool.{true, false, cond}
 use mathlib.Core.List.{List}
 use lib.ListN.{length, getD}
@@ -25,8 +25,7 @@ use Rattle.sweep.specs.declared.sweeping.WindowsRead.{WindowsRead}
 
 -- The held vector after the edge at place `left` of the window is read: `held` grown by the edge's occurrence vector.
 abbrev pub heldWith : List ℕ → List ℕ → ℕ → ℕ → List ℕ → List ℕ
-heldWith table window words left held =
-    grownWords (length window) words (vectorAt table (getD window left 0 * vectorWords) vectorWords) held
+heldWith table window words left held = grownWords (length window) words (vectorAt table (getD window left 0) vectorWords) held
 
 -- The result of reading the edges before place `left`, given the held vector, the breaks and the looks so far. Rule 2: "If the grown stretch doesn't fit the ring,
 -- that edge is a break: count one and empty the stretch." The grown vector has no bit at a break; for the empty stretch all m bits are set. Rule 3: "Stop at break

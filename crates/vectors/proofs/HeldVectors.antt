@@ -5,7 +5,7 @@ use mathlib.Core.Path.{_≡_, refl, _∙_}
 use mathlib.Core.Bool.{true, false, _&&_}
 use mathlib.Core.List.{List}
 use mathlib.Core.Logic.{_↔_}
-use Prim.Native.Nat.{ℕ, _+_, _*_, _%_, _≤_, _<_}
+use Prim.Native.Nat.{ℕ, _+_, _%_, _≤_, _<_}
 use native.Mathlib.Omega.{arith}
 use lib.ListN.{length, getD}
 use lib.Seq.{take-all}
@@ -53,12 +53,12 @@ module _ (m count : ℕ) (held : List ℕ) (few : count ≡ wordCount m) (is : H
 
 module _ (ring table : List ℕ) (code : ℕ) (is : Occurrences ring table) where
   -- `vector_of` returns the code's occurrence vector, if the ring has at most as many edges as a vector has bits.
-  pub vector-occurs : length ring ≤ vectorBits → Occurs ring code (vectorAt table (code * vectorWords) vectorWords)
+  pub vector-occurs : length ring ≤ vectorBits → Occurs ring code (vectorAt table code vectorWords)
   vector-occurs most = rw (take-all vectorBits ring most) at (is .each .each code)
 
   -- The words of what `vector_of` returns are machine words.
-  vector-words : Vector (vectorAt table (code * vectorWords) vectorWords)
-  vector-words = part-vector table (code * vectorWords) vectorWords (is .words)
+  vector-words : Vector (vectorAt table code vectorWords)
+  vector-words = part-vector table code vectorWords (is .words)
 
 -- One turn of the loop that reads a window: `new` is again a vector of m bits, and its bit r is set exactly when bit (r + 1) mod m of `held` was set and the
 -- ring has the edge code at place r.
@@ -69,7 +69,7 @@ pub record GrownByEdge (m : ℕ) (ring : List ℕ) (code : ℕ) (held new : List
 -- What `occurrences`, `vector_of` and `grown` return makes one turn of the loop that reads a window (`GrownByEdge`), for a ring of 1 to 256 edges and the fewest
 -- words that hold as many bits.
 pub grown-by-edge : (m count code : ℕ) (ring table occurs held new : List ℕ) → m ≡ length ring → 0 < m → m ≤ vectorBits → count ≡ wordCount m
-    → Occurrences ring table → HeldVector m held → occurs ≡ vectorAt table (code * vectorWords) vectorWords → new ≡ grownWords m count occurs held
+    → Occurrences ring table → HeldVector m held → occurs ≡ vectorAt table code vectorWords → new ≡ grownWords m count occurs held
     → GrownByEdge m ring code held new
 grown-by-edge m count code ring table occurs held new whole some most few of-ring is-held is-occurs is-new =
     let words : Vector occurs = rw is-occurs (vector-words ring table code of-ring) in

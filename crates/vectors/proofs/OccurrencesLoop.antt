@@ -12,9 +12,9 @@ use lib.Seq.{getD-take}
 use lib.Bits.{or-lt}
 use lib.Pow.{pow-pos}
 use Rattle.vectors.specs.Bits.{wordBits, Vector, putWord}
-use Rattle.vectors.specs.ByValue.{vectorWords, vectorBits, edgeCodes, Occurrences}
+use Rattle.vectors.specs.Holding.{edgeCodes}
+use Rattle.vectors.specs.ByValue.{vectorWords, vectorBits, Occurrences}
 use Rattle.vectors.proofs.VectorBits.{vector-set}
-use Rattle.vectors.proofs.NoBitIsSet.{no-bit-of-words}
 use Rattle.vectors.proofs.EveryCodeOccurs.{TableBelow, table-below-start, table-below-turn, table-below-end}
 
 -- The invariant before turn r.
@@ -38,13 +38,12 @@ module _ (ring : List ℕ) where
   occurrences-start = record {
     size = length-replicate {A = ℕ} (edgeCodes * vectorWords) 0;
     words = record { word-lt = λ w. omega (arith, zeros-word (edgeCodes * vectorWords) w) };
-    below = table-below-start (take vectorBits ring) vectorWords (room ring) (replicate (edgeCodes * vectorWords) 0)
-        (no-bit-of-words (replicate (edgeCodes * vectorWords) 0) (zeros-word (edgeCodes * vectorWords)));
+    below = table-below-start (take vectorBits ring) vectorWords (room ring) (replicate (edgeCodes * vectorWords) 0) (zeros-word (edgeCodes * vectorWords));
   }
 
   -- Turn r keeps the invariant by storing the word that holds bit r of the vector of the code at place r, with the bit put in.
   pub occurrences-turn : (table : List ℕ) (r code at : ℕ) → OccurrencesBelow ring table r → r < length ring → r < vectorBits → code ≡ getD ring r 0
-      → code < edgeCodes → at ≡ code * vectorWords + r / wordBits
+      → code < edgeCodes → at ≡ code + r / wordBits * edgeCodes
       → OccurrencesBelow ring (set table at (putWord (getD table at 0) (r % wordBits) 1)) (r + 1)
   occurrences-turn table r code at known h counts is code-lt there =
       let edge : getD (take vectorBits ring) r 0 ≡ code = getD-take vectorBits ring r 0 counts ∙ sym is in
@@ -52,7 +51,7 @@ module _ (ring : List ℕ) where
         size = length-set table at (putWord (getD table at 0) (r % wordBits) 1) ∙ known .size;
         words = vector-set table at (putWord (getD table at 0) (r % wordBits) 1) (known .words)
             (or-lt wordBits (getD table at 0) (1 * 2 ^ (r % wordBits) % 2 ^ wordBits) (known .words .word-lt at) (mod-lt (1 * 2 ^ (r % wordBits)) (pow-pos wordBits)));
-        below = table-below-turn (take vectorBits ring) vectorWords (room ring) edgeCodes table r at (known .below)
+        below = table-below-turn (take vectorBits ring) vectorWords (room ring) table r at (known .below)
             (simp length-take (omega arith)) (omega arith) (omega (arith, known .size)) (there ∙ rw (sym edge) refl);
       }
 

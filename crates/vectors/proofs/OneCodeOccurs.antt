@@ -49,7 +49,3 @@ module _ (ring : List ℕ) (code : ℕ) where
   -- At the end the vector is the code's occurrence vector.
   pub occurs-below-end : (ws : List ℕ) (r : ℕ) → OccursBelow ring code ws r → length ring ≤ r → Occurs ring code ws
   occurs-below-end ws r known h = record { each = λ q l. known .below q (omega arith); rest = λ i l. known .rest i (omega (arith, known .turn-le)) }
-
-  -- If the invariant holds for a vector, it holds for every vector with the same bits.
-  pub occurs-below-same : (ws new : List ℕ) (r : ℕ) → OccursBelow ring code ws r → ((i : ℕ) → isSet new i ≡ isSet ws i) → OccursBelow ring code new r
-  occurs-below-same ws new r known same = record { turn-le = known .turn-le; below = λ q h. same q ∙ known .below q h; rest = λ i h. same i ∙ known .rest i h }

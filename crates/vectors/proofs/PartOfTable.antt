@@ -1,82 +1,84 @@
--- A vector that is part of a longer list of words: its word w is the list's word base + w, and its bit i is the list's bit 64·base + i. So a bit put into the
--- list is put into the part that holds its place, and every other part stays as it was.
+-- A code's vector in a table: its word w is word code + 256·w of the table, and no two codes share a word. So a word stored there is stored as word w of the
+-- code's vector, and the vector of every other code stays as it was.
 use mathlib.Core.Path.{_≡_, refl, sym, _∙_}
-use mathlib.Core.Bool.{false}
 use mathlib.Core.List.{List, [], _∷_}
 use mathlib.Core.Logic.{dite}
-use Prim.Native.Nat.{ℕ, _+_, _*_, _/_, _%_, _≤_, _<_}
+use Prim.Native.Nat.{ℕ, _+_, _*_, _/_, _%_, _^_, _≤_, _<_}
 use native.Mathlib.Nat.{add-zero}
-use native.Mathlib.Decide.{decLt}
+use native.Mathlib.Decide.{decLt, ℕ-discrete}
 use native.Mathlib.Omega.{arith}
-use lib.ListN.{length, getD, set}
-use Rattle.vectors.specs.Bits.{wordBits, Vector, isSet, putWord, putBit, PutBit, NoBit}
+use lib.ListN.{length, getD, set, length-set}
+use lib.Seq.{getD-set-same, getD-set-other, ext-getD}
+use lib.Dec.{ltb}
+use borrow.Author.Tests.{lt-ltb, le-ltb}
 use Rattle.lists.specs.ByPlace.{listOf}
-use Rattle.vectors.specs.Holding.{vectorAt}
+use Rattle.lists.proofs.ByPlace.{listOf-length, listOf-at, listOf-past, listOf-is}
+use Rattle.lists.proofs.Cases.{by-test}
+use Rattle.vectors.specs.Bits.{wordBits, Vector, putWord, putBit, PutBit}
+use Rattle.vectors.specs.Holding.{edgeCodes, vectorAt}
 use Rattle.vectors.specs.ByValue.{vectorWords}
-use Rattle.vectors.proofs.VectorBits.{isSet-word, isSet-past}
-use Rattle.vectors.proofs.WordByWord.{vectorOf-vector}
-use Rattle.lists.proofs.ByPlace.{listOf-length, listOf-at}
+use Rattle.vectors.proofs.OneBitPut.{put-is}
 
-module _ (table : List ℕ) (base count : ℕ) where
-  -- Word w of the part is word base + w of the list.
-  part-word : (w : ℕ) → w < count → getD (vectorAt table base count) w 0 ≡ getD table (base + w) 0
-  part-word w h = listOf-at count (λ w. getD table (base + w) 0) w h
+module _ (table : List ℕ) (code count : ℕ) where
+  -- The vector has `count` words.
+  pub part-length : length (vectorAt table code count) ≡ count
+  unfolding vectorAt
+  part-length = listOf-length count _
 
-  -- The part has `count` words.
-  part-length : length (vectorAt table base count) ≡ count
-  part-length = listOf-length count (λ w. getD table (base + w) 0)
+  -- Word w of the vector of an edge code is word code + 256·w of the table.
+  pub part-word : code < edgeCodes → (w : ℕ) → w < count → getD (vectorAt table code count) w 0 ≡ getD table (code + w * edgeCodes) 0
+  unfolding vectorAt
+  part-word is-code w h = listOf-at count _ w h ∙ rw (lt-ltb code edgeCodes is-code) refl
 
-  -- The part's words are machine words, if the list's are.
-  pub part-vector : Vector table → Vector (vectorAt table base count)
-  part-vector vector = vectorOf-vector count (λ w. getD table (base + w) 0) (λ w h. vector .word-lt (base + w))
+  -- What holds for 0 and for every word of the table holds for every word of the vector.
+  pub part-every : (P : ℕ → Type 0) → P 0 → ((p : ℕ) → P (getD table p 0)) → (w : ℕ) → P (getD (vectorAt table code count) w 0)
+  unfolding vectorAt
+  part-every P none each w = dite (decLt w count)
+      (λ h. rw (listOf-at count _ w h) (by-test P (ltb code edgeCodes) (λ _. each (code + w * edgeCodes)) (λ _. none)))
+      (λ past. rw (listOf-past count _ w (omega (arith, past))) none)
 
-  -- Past the part's words no bit is set.
-  part-past : (i : ℕ) → wordBits * count ≤ i → isSet (vectorAt table base count) i ≡ false
-  part-past i h = isSet-past (vectorAt table base count) i (omega (arith, part-length))
+  -- The vector's words are machine words, if the table's are.
+  pub part-vector : Vector table → Vector (vectorAt table code count)
+  part-vector vector = record { word-lt = part-every (λ x. x < 2 ^ wordBits) (omega arith) (vector .word-lt) }
 
-  -- Bit i of the part is bit 64·base + i of the list.
-  pub part-isSet : (i : ℕ) → i < wordBits * count → isSet (vectorAt table base count) i ≡ isSet table (wordBits * base + i)
-  part-isSet i h =
-      isSet-word (vectorAt table base count) i (i / wordBits) (i % wordBits) refl refl
-      ∙ (rw (part-word (i / wordBits) (omega arith)) refl
-      ∙ sym (isSet-word table (wordBits * base + i) (base + i / wordBits) (i % wordBits) (omega arith) (omega arith)))
+-- The four words of an edge code, written out, are its vector of `vectorWords` words.
+pub part-words : (table : List ℕ) (code : ℕ) → code < edgeCodes
+    → getD table code 0 ∷ getD table (code + edgeCodes) 0 ∷ getD table (code + 2 * edgeCodes) 0 ∷ getD table (code + 3 * edgeCodes) 0 ∷ []
+    ≡ vectorAt table code vectorWords
+unfolding vectorAt listOf
+part-words table code is-code = rw (lt-ltb code edgeCodes is-code, add-zero code) refl
 
-  -- If no bit of the list is set, none of the part is.
-  pub part-no-bit : NoBit table → NoBit (vectorAt table base count)
-  part-no-bit no-bit = record {
-    none = λ i. dite (decLt i (wordBits * count))
-        (λ h. part-isSet i h ∙ no-bit .none (wordBits * base + i)) (λ past. part-past i (omega (arith, past)));
-  }
+module _ (table : List ℕ) (code w at x count : ℕ) (is-code : code < edgeCodes) (is : at ≡ code + w * edgeCodes) where
+  -- A word stored at code + 256·w is stored as word w of the code's vector.
+  part-set : w < count → edgeCodes * count ≤ length table → vectorAt (set table at x) code count ≡ set (vectorAt table code count) w x
+  part-set h size =
+      let old : List ℕ = vectorAt table code count in
+      let new : List ℕ = vectorAt (set table at x) code count in
+      let old-size : length old ≡ count = part-length table code count in
+      let new-size : length new ≡ count = part-length (set table at x) code count in
+      ext-getD 0 new (set old w x) (new-size ∙ sym (length-set old w x ∙ old-size)) (λ v l. part-word (set table at x) code count is-code v (omega arith)
+      ∙ dite (ℕ-discrete v w)
+      (λ same. rw (same, ← is, getD-set-same table at x 0 (omega arith), getD-set-same old w x 0 (omega arith)) refl)
+      (λ other. getD-set-other table at (code + v * edgeCodes) x 0 (λ e. other (omega arith))
+      ∙ sym (getD-set-other old w v x 0 other ∙ part-word table code count is-code v (omega arith))))
 
--- The four words from `base` on, written out, are the part of `vectorWords` words.
-pub part-words : (table : List ℕ) (base : ℕ)
-    → getD table base 0 ∷ getD table (base + 1) 0 ∷ getD table (base + 2) 0 ∷ getD table (base + 3) 0 ∷ [] ≡ vectorAt table base vectorWords
-unfolding listOf
-part-words table base = rw (add-zero base) refl
+  -- The vector of every other code stays as it was.
+  pub part-set-other : (other : ℕ) → (code ≡ other → ⊥) → vectorAt (set table at x) other count ≡ vectorAt table other count
+  unfolding vectorAt
+  part-set-other other differ = listOf-is (vectorAt (set table at x) other count) count _ (part-length (set table at x) other count)
+      (λ v l. listOf-at count _ v l ∙ dite (decLt other edgeCodes)
+      (λ h. rw (getD-set-other table at (other + v * edgeCodes) x 0 (λ e. differ (omega arith))) refl)
+      (λ above. rw (le-ltb other edgeCodes (omega (arith, above))) refl))
 
--- A bit put into the list at a place of the part is put into the part.
-pub part-put : (table new : List ℕ) (base count i b : ℕ) → i < wordBits * count → PutBit table (wordBits * base + i) b new
-    → PutBit (vectorAt table base count) i b (vectorAt new base count)
-part-put table new base count i b h put = record {
-  there = part-isSet new base count i h ∙ (put .there ∙ rw (part-isSet table base count i h) refl);
-  others = λ j other. dite (decLt j (wordBits * count))
-      (λ l. part-isSet new base count j l ∙ (put .others (wordBits * base + j) (λ e. other (omega arith)) ∙ sym (part-isSet table base count j l)))
-      (λ past. part-past new base count j (omega (arith, past)) ∙ sym (part-past table base count j (omega (arith, past))));
-}
-
--- A bit put into the list at a place outside the part leaves the part's bits as they were.
-pub part-put-outside : (table new : List ℕ) (base count p b : ℕ) → ((i : ℕ) → i < wordBits * count → wordBits * base + i ≡ p → ⊥)
-    → PutBit table p b new
-    → (j : ℕ) → isSet (vectorAt new base count) j ≡ isSet (vectorAt table base count) j
-part-put-outside table new base count p b outside put j = dite (decLt j (wordBits * count))
-    (λ l. part-isSet new base count j l ∙ (put .others (wordBits * base + j) (outside j l) ∙ sym (part-isSet table base count j l)))
-    (λ past. part-past new base count j (omega (arith, past)) ∙ sym (part-past table base count j (omega (arith, past))))
-
--- To put a bit at place i of the part, the code stores word base + i / 64 with its bit i mod 64 put in.
-pub part-put-word : (table : List ℕ) (base i b : ℕ)
-    → set table (base + i / wordBits) (putWord (getD table (base + i / wordBits) 0) (i % wordBits) b) ≡ putBit table (wordBits * base + i) b
+-- If word code + 256·(i / 64) is stored with its bit i mod 64 put in, that bit is put into the code's vector at place i.
+pub part-put : (table : List ℕ) (code count i b at : ℕ) → b < 2 → code < edgeCodes → i < wordBits * count → edgeCodes * count ≤ length table
+    → at ≡ code + i / wordBits * edgeCodes
+    → PutBit (vectorAt table code count) i b (vectorAt (set table at (putWord (getD table at 0) (i % wordBits) b)) code count)
 unfolding putBit
-part-put-word table base i b =
-    let e : (wordBits * base + i) / wordBits ≡ base + i / wordBits = omega arith in
-    let f : (wordBits * base + i) % wordBits ≡ i % wordBits = omega arith in
-    sym (rw (e, f) refl)
+part-put table code count i b at bit-b is-code h size is =
+    rw (
+      part-set table code (i / wordBits) at (putWord (getD table at 0) (i % wordBits) b) count is-code is (omega arith) size,
+      is,
+      ← part-word table code count is-code (i / wordBits) (omega arith),
+    )
+    (put-is (vectorAt table code count) i b bit-b (omega (arith, part-length table code count)))

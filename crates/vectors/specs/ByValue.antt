@@ -2,7 +2,6 @@
 -- longest ring has edges ("Ring: m edges, 1 to 256"). Every input has a result. For a vector of m bits in the fewest words that hold them, the
 -- results mean what `Bits` and `Holding` say; proofs/HeldVectors has the laws.
 --     vectorWords, vectorBits     a vector's words and bits            HeldVector     a vector of m bits held by value
---     edgeCodes     one code for each byte value, 0 to 255
 --     lastBitPlace, carryInto, grownWord, grownWords     the held vector grown by one edge, word by word
 --     Occurrences     the occurrence vectors of a ring's edge codes, in one table
 -- `first_bits` returns `firstBits` and `no_bit` returns `noBit`, both of `Bits`; `vector_of` returns `vectorAt` of `Holding`.
@@ -16,7 +15,7 @@ use lib.Dec.{ltb}
 use Rattle.vectors.specs.Bits.{wordBits, Vector, bit}
 use Rattle.lists.specs.ByPlace.{listOf}
 use Rattle.vectors.specs.Rotating.{WithinBits}
-use Rattle.vectors.specs.Holding.{OccurrenceTable}
+use Rattle.vectors.specs.Holding.{edgeCodes, OccurrenceTable}
 
 -- How many words a vector held by value has.
 abbrev pub vectorWords : ℕ
@@ -31,10 +30,6 @@ pub record HeldVector (m : ℕ) (ws : List ℕ) : Type 0 where
   pub size : length ws ≡ vectorWords
   pub words : Vector ws
   pub within : WithinBits m ws
-
--- How many codes a table has a vector for: "every byte value 0 to 255". (By document 02, ticket 2, 255 is a mark; an accepted ring holds none, so its vector is empty.)
-abbrev pub edgeCodes : ℕ
-edgeCodes = 256
 
 -- The place of bit m − 1 in its word; if m is 0, the top of a word.
 abbrev pub lastBitPlace : ℕ → ℕ
@@ -58,8 +53,8 @@ grownWord m count occurs held w =
 unfoldable pub grownWords : ℕ → ℕ → List ℕ → List ℕ → List ℕ
 grownWords m count occurs held = listOf vectorWords (grownWord m (min count vectorWords) occurs held)
 
--- The table of a ring's occurrence vectors: a vector of machine words for each edge code, by rising code. If the ring has more edges than a vector
--- has bits, only the first `vectorBits` edges count.
+-- The table of a ring's occurrence vectors: a vector of machine words for each edge code. If the ring has more edges than a vector has bits, only
+-- the first `vectorBits` edges count.
 pub record Occurrences (ring table : List ℕ) : Type 0 where
   pub size : length table ≡ edgeCodes * vectorWords
   pub words : Vector table

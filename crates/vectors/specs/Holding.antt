@@ -1,16 +1,17 @@
 -- What the scan does with vectors. Rule 2: "A stretch is held, empty at first, and grows to the left by each edge read"; "003 decides the fit
 -- with one occurrence vector of m bits per edge code, rotated at each edge". No definition here mentions a stretch; that bit r says whether the
 -- held stretch is the beginning of rotation r is proved in WindowLoop of crates/meaning.
---     Occurs     the occurrence vector of an edge code        vectorAt, OccurrenceTable     one for each code, in one list
+--     Occurs     the occurrence vector of an edge code
+--     edgeCodes, vectorAt, OccurrenceTable     one for each code, 0 to 255, in one list
 --     both, Both     AND, bit for bit
 --     grown, Grown     the held vector rotated, AND the read edge's occurrence vector
 use mathlib.Core.Path.{_≡_}
-use mathlib.Core.Bool.{false, _&&_}
+use mathlib.Core.Bool.{false, cond, _&&_}
 use mathlib.Core.List.{List}
 use Prim.Native.Nat.{ℕ, _+_, _*_, _%_, _≤_, _<_}
 use lib.ListN.{length, getD}
 use lib.Bits.{bitAnd}
-use lib.Dec.{eqb}
+use lib.Dec.{ltb, eqb}
 use Rattle.vectors.specs.Bits.{isSet}
 use Rattle.lists.specs.ByPlace.{listOf}
 use Rattle.vectors.specs.Rotating.{rotated}
@@ -20,13 +21,18 @@ pub record Occurs (ring : List ℕ) (code : ℕ) (ws : List ℕ) : Type 0 where
   pub each : (r : ℕ) → r < length ring → isSet ws r ≡ eqb (getD ring r 0) code
   pub rest : (i : ℕ) → length ring ≤ i → isSet ws i ≡ false
 
--- The vector of `count` words that begins at word `base` of a longer list: `table[base]`, `table[base + 1]` and so on.
-abbrev pub vectorAt : List ℕ → ℕ → ℕ → List ℕ
-vectorAt table base count = listOf count (λ w. getD table (base + w) 0)
+-- How many codes a table has a vector for: "every byte value 0 to 255". (By document 02, ticket 2, 255 is a mark; an accepted ring
+-- holds none, so its vector is empty.)
+abbrev pub edgeCodes : ℕ
+edgeCodes = 256
 
--- "one occurrence vector of m bits per edge code": vectors of `count` words, one after the other by rising code.
+-- The vector of an edge code in a table, of `count` words: its word w stands at code + 256·w. For a number that is no edge code it has no bit.
+unfoldable pub vectorAt : List ℕ → ℕ → ℕ → List ℕ
+vectorAt table code count = listOf count (λ w. cond (ltb code edgeCodes) (getD table (code + w * edgeCodes) 0) 0)
+
+-- "one occurrence vector of m bits per edge code": vectors of `count` words in one table.
 pub record OccurrenceTable (ring : List ℕ) (count : ℕ) (table : List ℕ) : Type 0 where
-  pub each : (code : ℕ) → Occurs ring code (vectorAt table (code * count) count)
+  pub each : (code : ℕ) → Occurs ring code (vectorAt table code count)
 
 -- Two vectors joined by `&`, word by word.
 unfoldable pub both : List ℕ → List ℕ → List ℕ

@@ -1,14 +1,16 @@
-// The occurrence vectors of a ring's edge codes, one after the other in a table, by rising code.
+// The occurrence vectors of a ring's edge codes, in one table: the first words of all codes by rising code, then all second
+// words, and so on. So a ring of at most 64 edges uses only the first quarter of the table.
+use crate::widths::EDGE_CODES;
 use crate::widths::TABLE_WORDS;
 use crate::widths::VECTOR_BITS;
 use crate::widths::VECTOR_WORDS;
 use crate::widths::WORD_BITS;
 ghost use mathlib.Core.Path.{_≡_};
-ghost use Prim.Native.Nat.{_*_, _<_};
-ghost use Rattle.vectors.specs.Holding.{vectorAt};
-ghost use Rattle.vectors.specs.ByValue.{vectorWords, edgeCodes, Occurrences};
+ghost use Prim.Native.Nat.{_<_};
+ghost use Rattle.vectors.specs.Holding.{edgeCodes, vectorAt};
+ghost use Rattle.vectors.specs.ByValue.{vectorWords, Occurrences};
 
-// An edge code as the number of its vector.
+// An edge code as the place of its vector's first word.
 fn code_index(code: u8) -> usize
     ensures { λ r. ⌜ (r ≡ code) × (r < edgeCodes) ⌝ }
 {
@@ -23,7 +25,7 @@ pub fn occurrences(ring: &[u8], table: &mut [u64; TABLE_WORDS])
     *table = [0u64; TABLE_WORDS];
     let mut r = 0;
     while r < ring.len() && r < VECTOR_BITS {
-        let at = code_index(ring[r]) * VECTOR_WORDS + r / WORD_BITS;
+        let at = code_index(ring[r]) + r / WORD_BITS * EDGE_CODES;
         table[at] = table[at] | (1u64 << (r % WORD_BITS));
         r += 1;
     }
@@ -31,13 +33,13 @@ pub fn occurrences(ring: &[u8], table: &mut [u64; TABLE_WORDS])
 
 // The occurrence vector of an edge code.
 pub fn vector_of(table: &[u64; TABLE_WORDS], code: u8) -> [u64; VECTOR_WORDS]
-    ensures { λ r. ⌜ r ≡ vectorAt (now (table .entry)) (code * vectorWords) vectorWords ⌝ }
+    ensures { λ r. ⌜ r ≡ vectorAt (now (table .entry)) code vectorWords ⌝ }
 {
-    let base = code_index(code) * VECTOR_WORDS;
+    let first = code_index(code);
     [
-        table[base],
-        table[base + 1],
-        table[base + 2],
-        table[base + 3],
+        table[first],
+        table[first + EDGE_CODES],
+        table[first + 2 * EDGE_CODES],
+        table[first + 3 * EDGE_CODES],
     ]
 }

@@ -7,6 +7,9 @@ pub const VECTOR_WORDS: usize = 4;
 // How many bits a vector has: "Ring: m edges, 1 to 256".
 pub const VECTOR_BITS: usize = 256;
 
-// How many words a table has: "every byte value 0 to 255" has a vector. (That of 255, a mark since document 02, ticket 2,
-// is empty for an accepted ring.)
+// How many codes have a vector: "every byte value 0 to 255". (That of 255, a mark since document 02, ticket 2, is empty
+// for an accepted ring.)
+pub const EDGE_CODES: usize = 256;
+
+// How many words a table has: those of a vector for each code.
 pub const TABLE_WORDS: usize = 1024;

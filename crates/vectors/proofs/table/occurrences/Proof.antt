@@ -1,6 +1,5 @@
 -- `vectors::table::occurrences` meets its contract. Before turn r each code's vector is right below r (`OccurrencesBelow`). Turn r puts in bit r of the vector
 -- of the code at place r. `length ring - r` falls.
-use mathlib.Core.Path.{refl}
 use native.Mathlib.Omega.{arith}
 use borrow.Author.Tests.{ltb-true, ltb-false}
 use Prim.Native.Nat.{_-_}
@@ -26,13 +25,13 @@ code-index-requires : tie.Need-code-index-requires Inv-loop μ-loop
 code-index-requires c κs = search needs
 
 mul-at : tie.Need-mul-at Inv-loop μ-loop
-mul-at c = search needs
+mul-at c = omega (arith, ltb-true)
 
 add-at : tie.Need-add-at Inv-loop μ-loop
-add-at c = search needs
+add-at c = omega (arith, ltb-true)
 
 mul-table : tie.Need-mul-table Inv-loop μ-loop
-mul-table c = search needs
+mul-table c = omega (arith, ltb-true)
 
 element-copy-out-table : tie.Need-element-copy-out-table Inv-loop μ-loop
 element-copy-out-table c = omega (arith, ltb-true)
@@ -41,7 +40,7 @@ shl-table : tie.Need-shl-table Inv-loop μ-loop
 shl-table c = search needs
 
 mul-table-2 : tie.Need-mul-table-2 Inv-loop μ-loop
-mul-table-2 c = search needs
+mul-table-2 c = omega (arith, ltb-true)
 
 element-write-table : tie.Need-element-write-table Inv-loop μ-loop
 element-write-table c = omega (arith, ltb-true)
@@ -56,7 +55,7 @@ loop-again : tie.Need-loop-again Inv-loop μ-loop
 loop-again c =
     let at-place = c .before .before .before in
     occurrences-turn _ _ _ _ _ (at-place .before .before .loop .inv) (at-place .before .loop-test .taken) (ltb-true _ _ (at-place .if1 .taken))
-    (c .before .code-index .ensures .0) (c .before .code-index .ensures .1) refl
+    (c .before .code-index .ensures .0) (c .before .code-index .ensures .1) (omega arith)
 
 returns : tie.Need-returns Inv-loop μ-loop
 returns c = occurrences-end _ _ _ (c .before .before .loop .inv) (simp length-take (omega (arith, ltb-false)))
