@@ -92,8 +92,11 @@ fn second_runs(page: &mut String, results: &Results) {
 pub fn page(results: &Results, loads: [&str; 2], picture: &str) -> String {
     let mut page = String::from("# How fast it is\n\n");
     page.push_str("A ratio is a time over that of *the same rules in C*: the same call in plain C (compare/c). Below 1 is faster. ");
-    page.push_str("It has the library's shape but for two things: its fresh count takes one edge in each pass, the library's four, and its ");
-    page.push_str("table of vectors is by code, the library's by word and then by code (trial 11). A peer is set against the scan in C.\n\n");
+    page.push_str("The rules in C and in Rust are built like the library but for two things: their fresh count takes one edge in each ");
+    page.push_str(
+        "pass, the library's four; their table of vectors is by code, the library's by word, then by code (trial 11). ",
+    );
+    page.push_str("A peer is set against the scan in C.\n\n");
     let _ = writeln!(
         page,
         "{}, on {}. Load of the machine {} before, {} after.\n",

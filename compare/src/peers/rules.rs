@@ -1,6 +1,7 @@
-//! The same rules in Rust: scan, survey and report, built like the library's own code. Vectors are held by value in as
-//! few words as m needs, the occurrence table is made once for a call, the tally is moved in two loops, looks are counted
-//! one by one. A closed line is searched as a longer one, which is copied.
+//! The same rules in Rust: scan, survey and report, built like the library's own code but for the fresh count and the
+//! table of vectors (docs/BENCH.md, trial 11). Vectors are held by value in as few words as m needs, the occurrence table
+//! is made once for a call, the tally is moved in two loops, looks are counted one by one. A closed line is searched as a
+//! longer one, which is copied.
 mod book;
 mod sweep;
 mod tally;

@@ -11,12 +11,13 @@ use Rattle.meaning.specs.Counting.{count}
 use Rattle.meaning.proofs.Count.{count-split, count-le}
 use Rattle.lists.specs.ByPlace.{StoredFirst}
 use Rattle.lists.proofs.StoreLoop.{stored-again, stored-is}
-use Rattle.tally.specs.declared.afresh.Counted.{Counted}
+use Rattle.tally.specs.declared.afresh.EdgesCounted.{EdgesCounted}
 use Rattle.tally.specs.Marks.{pastMark}
 use Rattle.tally.specs.Counts.{mostCounts, differsThere, afreshCount, afreshCounts, CanCount, IsLeast, CanCountOn, IsCountedOn, IsCountedAfresh}
 use Rattle.tally.proofs.LeastIsOne.{leastOf-only}
 
--- The invariant before turn q, for counts that were cleared first: each of the m counts is that of the first q places, and q·m looks are taken.
+-- The invariant when q edges are counted, for counts that were cleared first: each of the m counts is that of the first q places, q·m looks are taken, and `past`
+-- is the place just past the last mark among them.
 pub record CountingAfresh (doubled window cleared counts : List ℕ) (looks past q : ℕ) : Type 0 where
   pub turn-le : q ≤ length window
   pub stored : StoredFirst (length window) (λ r. count (differsThere doubled window r) 0 q) cleared counts
@@ -57,7 +58,7 @@ module _ (doubled window old cleared : List ℕ) (can : CanCount (length window)
     }
 
     -- A turn counts some edges from q on.
-    pub counting-afresh-turn : {new : List ℕ} {z : Counted} → IsCountedOn doubled window q counts new z
+    pub counting-afresh-turn : {new : List ℕ} {z : EdgesCounted} → IsCountedOn doubled window q counts new z
         → CountingAfresh doubled window cleared new (looks + z .looks) (z .past) (q + z .edges)
     counting-afresh-turn {new} {z} on = record {
       turn-le = on .within;

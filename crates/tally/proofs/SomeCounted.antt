@@ -1,10 +1,10 @@
--- `count_some` counts one edge or four. The edge at q is compared from the ring place that rotation 0 has over it; `place-under-is` proves that `to_ring` gives
+-- `count_some` counts one edge or four. The edge at q is compared with the doubled ring, from the ring place on that rotation 0 has over it; `place-under-is` proves that `to_ring` gives
 -- that place. What one edge adds to the count of rotation r is what the number of differing places grows by (`one-counted`), and so for four (`four-counted`).
 use Prim.Native.Nat.{ℕ, _+_, _*_, _%_, _≤_, _<_}
 use mathlib.Core.Path.{_≡_, sym, ap, _∙_}
 use mathlib.Core.Bool.{Bool}
 use mathlib.Core.List.{List}
-use native.Mathlib.Nat.{zero-add, add-zero, mod-eq-of-lt}
+use native.Mathlib.Nat.{zero-add, mod-eq-of-lt}
 use native.Mathlib.Numerals.{add-one}
 use native.Mathlib.Omega.{arith}
 use lib.ListN.{length, getD}
@@ -33,10 +33,10 @@ place-under-is place start under m q along h converted =
 pub comparison-le : {a b d : ℕ} → IsComparison a b d → d ≤ 1
 comparison-le {a} {b} one = omega (arith, one .is, oneIf-le (unequal a b))
 
--- Of four numbers, the count is the sum of what each adds.
-count-four : (p : ℕ → Bool) (a : ℕ) → count p a 4 ≡ oneIf (p a) + oneIf (p (a + 1)) + oneIf (p (a + 2)) + oneIf (p (a + 3))
+-- `count` over four neighbouring numbers is the sum of their four tests.
+count-of-four : (p : ℕ → Bool) (a : ℕ) → count p a 4 ≡ oneIf (p a) + oneIf (p (a + 1)) + oneIf (p (a + 2)) + oneIf (p (a + 3))
 unfolding count
-count-four p a = omega (arith, count-last p a 3, count-last p a 2, count-last p a 1)
+count-of-four p a = omega (arith, count-last p a 3, count-last p a 2, count-last p a 1)
 
 -- One edge more is asked whether it is a mark: the one at p, just before `next`.
 pub past-on : (window : List ℕ) {past past′ : ℕ} (p next : ℕ) → next ≡ p + 1 → past ≡ pastMark window 0 p → IsPastMark (getD window p 0) past next past′
@@ -70,7 +70,7 @@ module _ (doubled window old new : List ℕ) {q past : ℕ} (can : CanCountOn do
     within = omega arith;
     stored = record {
       size = counted .0 .size;
-      first = λ r l. counted .0 .first r l ∙ rw placed (ap (λ (n : ℕ). getD old r 0 + n) (sym (count-four (differsThere doubled window r) q)));
+      first = λ r l. counted .0 .first r l ∙ rw placed (ap (λ (n : ℕ). getD old r 0 + n) (sym (count-of-four (differsThere doubled window r) q)));
       rest = counted .0 .rest;
     };
     looks-are = counted .1;

@@ -13,7 +13,8 @@
 --   countedPast                the place just past the last mark of a counted window
 --   findingWith                the finding at a start with a given least count
 --   IsComparison, IsDoubled, IsCounted, IsFindingAt   the contracts of `differing`, `double`, `count_afresh` and `finding_at`
---   IsLowestWith, IsTies, HasCounts, differsOver, edgeCounted, fourCounted, IsLeast, CanCountOn, IsCountedOn, IsCountedAfresh   preconditions and contracts of private functions
+--   differsOver, edgeCounted, fourCounted   what one window edge adds to the count of a rotation; the count after one edge more, after four
+--   IsLowestWith, IsTies, HasCounts, IsLeast, CanCountOn, IsCountedOn, IsCountedAfresh   preconditions and contracts of private functions
 use Prim.Native.Nat.{ℕ, zero, suc, _+_, _*_, _%_, _≤_, _<_, min}
 use mathlib.Core.Path.{_≡_}
 use mathlib.Core.Bool.{Bool, cond, _&&_}
@@ -28,7 +29,7 @@ use Rattle.meaning.specs.Meanings.{unequal}
 use Rattle.meaning.specs.Looks.{afreshLooks}
 use Rattle.findings.specs.Admitting.{mostRing}
 use Rattle.tally.specs.declared.afresh.Fresh.{Fresh}
-use Rattle.tally.specs.declared.afresh.Counted.{Counted}
+use Rattle.tally.specs.declared.afresh.EdgesCounted.{EdgesCounted}
 use Rattle.tally.specs.Marks.{pastMark}
 
 -- The number of counts: one for each rotation of the longest ring.
@@ -159,11 +160,11 @@ pub record CanCount (m room long : ℕ) : Type 0 where
 abbrev pub differsOver : List ℕ → ℕ → ℕ → ℕ → ℕ
 differsOver doubled place edge r = oneIf (unequal edge (getD doubled (place + r) 0))
 
--- The count of rotation r after one window edge more.
+-- The count of rotation r after one window edge more; `place` as above.
 abbrev pub edgeCounted : List ℕ → List ℕ → ℕ → ℕ → ℕ → ℕ
 edgeCounted doubled old place edge r = getD old r 0 + differsOver doubled place edge r
 
--- The count of rotation r after four neighbouring edges more; `place` is the ring place under the first of them, a.
+-- The count of rotation r after four neighbouring edges more, a to d; `place` is the ring place that rotation 0 has over the first, a.
 abbrev pub fourCounted : List ℕ → List ℕ → ℕ → ℕ → ℕ → ℕ → ℕ → ℕ → ℕ
 fourCounted doubled old place a b c d r =
     getD old r 0
@@ -184,9 +185,10 @@ pub record CanCountOn (doubled window counts : List ℕ) (q past : ℕ) : Type 0
   pub each-le : (r : ℕ) → r < length window → getD counts r 0 ≤ mostCounts
   pub past-is : past ≡ pastMark window 0 q
 
--- The contract of `count_some`: of the window's edges from q on, at least one, `edges` in all, are counted for every rotation, each at m looks, and asked whether
--- they are marks. `old` and `new` are the counts at entry and exit, z is returned.
-pub record IsCountedOn (doubled window : List ℕ) (q : ℕ) (old new : List ℕ) (z : Counted) : Type 0 where
+-- The contract of `count_some`: it counts the next `edges` edges of the window from place q on, at least one. The count of each rotation grows by the number of
+-- these places where it differs from the window. Each edge costs m looks. `past` is the place just past the last mark up to there. `old` and `new` are the counts
+-- at entry and exit, z is returned.
+pub record IsCountedOn (doubled window : List ℕ) (q : ℕ) (old new : List ℕ) (z : EdgesCounted) : Type 0 where
   pub some : 0 < z .edges
   pub within : q + z .edges ≤ length window
   pub stored : StoredFirst (length window) (λ r. getD old r 0 + count (differsThere doubled window r) q (z .edges)) old new

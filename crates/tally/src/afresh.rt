@@ -60,9 +60,9 @@ fn count_edge(
     looks
 }
 
-// The same for four neighbouring edges; `place` is the ring place under the first. The four comparisons of a rotation
-// are added in eight bits and then to its count, so each count is read and written once for four edges. Returns the 4·m
-// looks.
+// The same for four neighbouring edges; `place` is the ring place that rotation 0 has over the first. The four
+// comparisons of a rotation are added in eight bits and then to its count, so each count is read and written once for four
+// edges. Returns the 4·m looks.
 fn count_four(
     counts: &mut [u16; MOST_COUNTS],
     doubled: &[u8],
@@ -94,23 +94,24 @@ fn count_four(
     looks
 }
 
-// What was counted of a window: how many edges, the looks, and the place just past the last mark up to there.
-pub struct Counted {
+// The result of `count_some`: how many edges it counted, the looks, and the place just past the last mark up to there.
+pub struct EdgesCounted {
     pub edges: usize,
     pub looks: usize,
     pub past: usize,
 }
 
-// Counts the edges of a window from place q on: four, or one if fewer than four are left. The window is read as a line of
-// its own, from place 0 on; `to_ring` gives the ring place that rotation 0 has over its edge at q, outside the loop over
-// the rotations. Whether an edge is a mark is asked as it is counted; `past` is the place just past the last one before.
+// Counts the next edges of a window, from place q on: four, or one if fewer than four are left. The window is read as a
+// line of its own, from place 0 on; `to_ring` gives the ring place that rotation 0 has over its edge at q, outside the
+// loop over the rotations. Whether an edge is a mark is asked as it is counted; `past` is the place just past the last mark
+// before q.
 fn count_some(
     counts: &mut [u16; MOST_COUNTS],
     doubled: &[u8],
     window: &[u8],
     q: usize,
     past: usize,
-) -> Counted
+) -> EdgesCounted
     requires { ⌜ CanCountOn (now doubled) (now window) (now counts) q past ⌝ }
     ensures { λ z. ⌜ IsCountedOn (now (doubled .entry)) (now (window .entry)) q (now (counts .entry)) (now (counts .exit)) z ⌝ }
 {
@@ -120,7 +121,7 @@ fn count_some(
     let past_a = past_mark(a, past, q + 1);
     if m - q < 4 {
         let looks = count_edge(counts, doubled, m, place, a);
-        return Counted {
+        return EdgesCounted {
             edges: 1,
             looks,
             past: past_a,
@@ -133,7 +134,7 @@ fn count_some(
     let past_c = past_mark(c, past_b, q + 3);
     let past_d = past_mark(d, past_c, q + 4);
     let looks = count_four(counts, doubled, m, place, a, b, c, d);
-    Counted {
+    EdgesCounted {
         edges: 4,
         looks,
         past: past_d,
@@ -148,7 +149,8 @@ pub struct Fresh {
     pub past: usize,
 }
 
-// Counts every rotation afresh: m edges, each against m ring edges, four edges at a time.
+// Counts every rotation afresh: m edges, each against m ring edges, four edges at a time and the last m mod 4
+// one by one.
 fn count_edges(counts: &mut [u16; MOST_COUNTS], doubled: &[u8], window: &[u8]) -> Fresh
     requires { ⌜ CanCount (length (now window)) (length (now counts)) (length (now doubled)) ⌝ }
     ensures { λ z. ⌜ IsCountedAfresh (now (doubled .entry)) (now (window .entry)) (now (counts .entry)) (now (counts .exit)) z ⌝ }

@@ -2,7 +2,7 @@
 -- with one occurrence vector of m bits per edge code, rotated at each edge". No definition here mentions a stretch; that bit r says whether the
 -- held stretch is the beginning of rotation r is proved in WindowLoop of crates/meaning.
 --     Occurs     the occurrence vector of an edge code
---     edgeCodes, vectorAt, OccurrenceTable     one for each code, 0 to 255, in one list
+--     edgeCodes, vectorAt, OccurrenceTable     one for each code, 0 to 255, in one table
 --     both, Both     AND, bit for bit
 --     grown, Grown     the held vector rotated, AND the read edge's occurrence vector
 use mathlib.Core.Path.{_≡_}
@@ -21,12 +21,12 @@ pub record Occurs (ring : List ℕ) (code : ℕ) (ws : List ℕ) : Type 0 where
   pub each : (r : ℕ) → r < length ring → isSet ws r ≡ eqb (getD ring r 0) code
   pub rest : (i : ℕ) → length ring ≤ i → isSet ws i ≡ false
 
--- How many codes a table has a vector for: "every byte value 0 to 255". (By document 02, ticket 2, 255 is a mark; an accepted ring
--- holds none, so its vector is empty.)
+-- How many codes a table has a vector for: "every byte value 0 to 255". (By document 02, ticket 2, 255 is a mark. An accepted ring
+-- holds none, so no bit is set in the vector of 255.)
 abbrev pub edgeCodes : ℕ
 edgeCodes = 256
 
--- The vector of an edge code in a table, of `count` words: its word w stands at code + 256·w. For a number that is no edge code it has no bit.
+-- The vector of `count` words that a table has for an edge code: its word w stands at code + 256·w. For a number above 255 no bit is set.
 unfoldable pub vectorAt : List ℕ → ℕ → ℕ → List ℕ
 vectorAt table code count = listOf count (λ w. cond (ltb code edgeCodes) (getD table (code + w * edgeCodes) 0) 0)
 

@@ -11,5 +11,5 @@ pub const VECTOR_BITS: usize = 256;
 // for an accepted ring.)
 pub const EDGE_CODES: usize = 256;
 
-// How many words a table has: those of a vector for each code.
+// How many words a table has: VECTOR_WORDS for each of EDGE_CODES codes.
 pub const TABLE_WORDS: usize = 1024;

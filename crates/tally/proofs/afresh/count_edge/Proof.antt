@@ -1,6 +1,6 @@
 -- `tally::afresh::count_edge` meets its contract: a turn stores rotation r's count with the comparison added (`StoreLoop` of crates/lists). A count is at most 256
 -- and a comparison adds at most 1; sixteen bits hold 257. The measure is m - r.
-use Prim.Native.Nat.{ℕ, _-_, _≤_}
+use Prim.Native.Nat.{_-_, _≤_}
 use mathlib.Core.Path.{_≡_, refl}
 use native.Mathlib.Omega.{arith}
 use borrow.Author.Needs.{needs}

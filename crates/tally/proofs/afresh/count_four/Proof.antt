@@ -1,6 +1,6 @@
 -- `tally::afresh::count_four` meets its contract: a turn stores rotation r's count with four comparisons added (`StoreLoop` of crates/lists). Each is at most 1, so
 -- eight bits hold their sum, and sixteen bits hold a count of at most 256 with 4 added. The measure is m - r.
-use Prim.Native.Nat.{ℕ, _+_, _*_, _-_, _≤_}
+use Prim.Native.Nat.{_+_, _*_, _-_, _≤_}
 use mathlib.Core.Path.{_≡_}
 use native.Mathlib.Omega.{arith}
 use borrow.Author.Needs.{needs}

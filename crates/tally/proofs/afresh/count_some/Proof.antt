@@ -1,6 +1,6 @@
--- `tally::afresh::count_some` meets its contract: its two returns are the laws `one-counted` and `four-counted` of `SomeCounted`. The place under the edge at q is
--- q, and the place just past the last mark is asked for edge by edge.
-use Prim.Native.Nat.{_+_, _≤_, _<_}
+-- `tally::afresh::count_some` meets its contract: its two returns are the laws `one-counted` and `four-counted` of `SomeCounted`. Rotation 0 has ring
+-- place q over the edge at q, and the place just past the last mark is asked for edge by edge.
+use Prim.Native.Nat.{_+_, _<_}
 use mathlib.Core.Path.{_≡_, sym}
 use native.Mathlib.Nat.{zero-add}
 use native.Mathlib.Omega.{arith}
