@@ -1,5 +1,6 @@
--- `count_some` counts one edge or four. The edge at q is compared with the doubled ring, from the ring place on that rotation 0 has over it; `place-under-is` proves that `to_ring` gives
--- that place. What one edge adds to the count of rotation r is what the number of differing places grows by (`one-counted`), and so for four (`four-counted`).
+-- `count_some` counts one edge or four. The edge at q is compared with the doubled ring, from the ring place on that rotation 0 has over it; `place-under-is` proves
+-- that `to_ring` gives that place. What one edge adds to the count of rotation r is what the number of differing places grows by (`one-counted`), and so for four
+-- (`four-counted`).
 use Prim.Native.Nat.{ℕ, _+_, _*_, _%_, _≤_, _<_}
 use mathlib.Core.Path.{_≡_, sym, ap, _∙_}
 use mathlib.Core.Bool.{Bool}

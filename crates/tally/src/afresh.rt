@@ -149,8 +149,8 @@ pub struct Fresh {
     pub past: usize,
 }
 
-// Counts every rotation afresh: m edges, each against m ring edges, four edges at a time and the last m mod 4
-// one by one.
+// Counts every rotation afresh: m edges, each against m ring edges, four edges at a time and the last m mod 4 one by
+// one.
 fn count_edges(counts: &mut [u16; MOST_COUNTS], doubled: &[u8], window: &[u8]) -> Fresh
     requires { ⌜ CanCount (length (now window)) (length (now counts)) (length (now doubled)) ⌝ }
     ensures { λ z. ⌜ IsCountedAfresh (now (doubled .entry)) (now (window .entry)) (now (counts .entry)) (now (counts .exit)) z ⌝ }
