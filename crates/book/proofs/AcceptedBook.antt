@@ -15,7 +15,7 @@ use Rattle.silences.specs.Reading.{readBook}
 use Rattle.book.specs.Calls.{answerOf, recordCount, IsRead}
 use Rattle.answers.proofs.AnswerCases.{accepted-not-refused}
 use Rattle.silences.proofs.FieldsRead.{read-length-le}
-use Rattle.silences.proofs.AcceptedIsLayout.{IsReadWhole, accepted-whole-iff}
+use Rattle.silences.proofs.AcceptedIsBook.{IsReadWhole, accepted-whole-iff}
 
 -- What `read` returns is the number of silences that reading gives, or its refusal: the paper determines it.
 pub read-answer-is : (book : List ℕ) (r answer : BookAnswer) → IsRead book r → r ≡ answer → recordCount (readBook book) ≡ answerOf answer

@@ -9,7 +9,7 @@ use Rattle.answers.proofs.OneAnswer.{answer-unique}
 use Rattle.silences.proofs.OneAnswer.{sought-unique}
 use Rattle.book.specs.declared.answering.BookAnswer.{BookAnswer}
 use Rattle.book.specs.declared.answering.BookAnswer.the-variants.{Records, Refused}
-use Rattle.silences.specs.declared.addresses.Address.{Address}
+use Rattle.silences.specs.declared.addresses.Address.{Address as AddressStruct}
 use Rattle.silences.specs.declared.addresses.Sought.{Sought}
 use Rattle.book.specs.Calls.{answerOf, paperOf, IsUnpacked, IsRead, IsSought, IsSoughtOn, IsAskedFor}
 
@@ -37,14 +37,14 @@ pub read-unique : (book : List ℕ) (r r′ : BookAnswer) → IsRead book r → 
 read-unique book r r′ p p′ = paper-unique r r′ (p .paper ∙ sym (p′ .paper))
 
 -- Any two answers of `seek` that meet its contract are equal.
-pub seek-unique : (book : List ℕ) (from : ℕ) (address : Address) (r r′ : Sought) → IsSought book from address r → IsSought book from address r′ → r ≡ r′
+pub seek-unique : (book : List ℕ) (from : ℕ) (address : AddressStruct) (r r′ : Sought) → IsSought book from address r → IsSought book from address r′ → r ≡ r′
 seek-unique book from address r r′ p p′ = sought-unique r r′ (p .is ∙ sym (p′ .is))
 
 -- Any two answers of `seek_on` that meet its contract are equal.
-pub seek-on-unique : (book : List ℕ) (held : Sought) (address : Address) (r r′ : Sought) → IsSoughtOn book held address r → IsSoughtOn book held address r′
+pub seek-on-unique : (book : List ℕ) (held : Sought) (address : AddressStruct) (r r′ : Sought) → IsSoughtOn book held address r → IsSoughtOn book held address r′
     → r ≡ r′
 seek-on-unique book held address r r′ p p′ = sought-unique r r′ (p .is ∙ sym (p′ .is))
 
 -- Any two answers of `is_for` that meet its contract are equal.
-pub is-for-unique : (sought : Sought) (address : Address) (r r′ : Bool) → IsAskedFor sought address r → IsAskedFor sought address r′ → r ≡ r′
+pub is-for-unique : (sought : Sought) (address : AddressStruct) (r r′ : Bool) → IsAskedFor sought address r → IsAskedFor sought address r′ → r ≡ r′
 is-for-unique sought address r r′ p p′ = p .is ∙ sym (p′ .is)

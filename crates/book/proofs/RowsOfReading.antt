@@ -1,5 +1,5 @@
 -- The rows of `read`, for any answer `r` that meets its contract. Rows 5, 6 and 7 of document 01's table are given exactly when the table says, each with its
--- number and place; no other row is given; n records are returned exactly for the book of n silences. Rows 5 to 7 are stated once for any call that begins with
+-- number and place; no other row is given; n records are returned exactly for a book of n silences. Rows 5 to 7 are stated once for any call that begins with
 -- a book's rows (`row-5` to `row-7`), since unpacking does too. From BookRows of crates/silences, by AnswerByRows of crates/answers.
 use Prim.Native.Nat.{ℕ, _≤_, _<_}
 use mathlib.Core.Logic.{_⊎_, inl, inr, _↔_, Iff·rfl, Iff·trans}
@@ -21,7 +21,7 @@ use Rattle.silences.specs.Layout.{mostBytes}
 use Rattle.silences.specs.Reading.{silencesRead, bookRefusal}
 use Rattle.silences.specs.Books.{IsBook}
 use Rattle.silences.specs.Faults.{IsFieldFault, IsOrderFault}
-use Rattle.silences.proofs.AcceptedIsLayout.{read-book-iff, no-refusal-iff}
+use Rattle.silences.proofs.AcceptedIsBook.{read-book-iff, no-refusal-iff}
 use Rattle.silences.proofs.BookRows.{book-answer-is, refusal-5-iff, refusal-6-iff, refusal-7-iff, refusal-has}
 use Rattle.book.specs.declared.answering.BookAnswer.{BookAnswer}
 use Rattle.book.specs.declared.answering.BookAnswer.the-variants.{Records}
@@ -77,11 +77,11 @@ module _ (book : List ℕ) (r : BookAnswer) (meets : IsRead book r) where
     pub read-row-7 : (at : ℕ) → ((paperOf r .number ≡ 7) × (paperOf r .place ≡ at)) ↔ ((length book ≤ mostBytes) × IsOrderFault book at)
     read-row-7 = row-7 book (bookRefusal book) (length (silencesRead book)) paper (λ q other. Iff·rfl) bytes
 
-    -- `read` accepts bytes exactly when they are the book of some silences.
+    -- `read` accepts bytes exactly when they are a book of some silences.
     pub read-accepted : (paperOf r .number ≡ 0) ↔ ((ss : List Silence) × IsBook ss book)
     read-accepted = Iff·trans (accepted-number-iff 0 (length (silencesRead book)) (bookRefusal book) paper) (no-refusal-iff book bytes)
 
-    -- `read` returns n records exactly for the book of n silences.
+    -- `read` returns n records exactly for a book of n silences.
     pub read-records : (n : ℕ) → (r ≡ Records n) ↔ ((ss : List Silence) × IsBook ss book × (length ss ≡ n))
     read-records n =
         Iff·trans (records-iff (bookRefusal book) (silencesRead book) r (meets .paper ∙ ap recordsPaper (book-answer-is book)) n) (read-book-iff book bytes (λ (ss : List Silence). length ss ≡ n))

@@ -1,5 +1,5 @@
 -- The rows of `unpack`, for any answer `r` and area at exit `out` that meet its contract. Rows 5, 6, 7 and 10 of document 01's table are given exactly when the
--- table says, each with its number and place; no other row is given; a refusal counts and writes nothing; n records are returned exactly for the book of n
+-- table says, each with its number and place; no other row is given; a refusal counts and writes nothing; n records are returned exactly for a book of n
 -- silences with room for their words. From UnpackRows of crates/silences, by AnswerByRows of crates/answers; rows 5 to 7 as for reading (RowsOfReading).
 use Prim.Native.Nat.{ℕ, _*_, _≤_, _<_}
 use mathlib.Core.Logic.{_⊎_, inl, inr, _↔_, Iff·trans}
@@ -23,7 +23,7 @@ use Rattle.silences.specs.Reading.{silencesRead}
 use Rattle.silences.specs.Packing.{wordsOfSilences, recordWords, unpackRefusal, unpacked}
 use Rattle.silences.specs.Books.{IsBook}
 use Rattle.silences.specs.Faults.{IsFieldFault, IsOrderFault}
-use Rattle.silences.proofs.AcceptedIsLayout.{read-book-iff}
+use Rattle.silences.proofs.AcceptedIsBook.{read-book-iff}
 use Rattle.silences.proofs.UnpackRows.{unpack-has, unpack-row-iff, unpack-10-iff, unpack-none-iff}
 use Rattle.book.specs.declared.answering.BookAnswer.{BookAnswer}
 use Rattle.book.specs.declared.answering.BookAnswer.the-variants.{Records}
@@ -96,7 +96,7 @@ module _ (book area : List ℕ) (r : BookAnswer) (out : List ℕ) (meets : IsUnp
         Iff·trans (accepted-number-iff 0 records o paper)
         (Iff·trans (unpack-none-iff book (length area)) (read-book-iff book bytes (λ (ss : List Silence). recordWords * length ss ≤ length area)))
 
-    -- `unpack` returns n records exactly for the book of n silences with room for three words for each.
+    -- `unpack` returns n records exactly for a book of n silences with room for three words for each.
     pub unpack-records : (n : ℕ) → (r ≡ Records n) ↔ ((ss : List Silence) × IsBook ss book × ((length ss ≡ n) × (recordWords * length ss ≤ length area)))
     unfolding unpacked
     unpack-records n =

@@ -4,39 +4,39 @@ use Prim.Native.Nat.{ℕ, _≤_}
 use mathlib.Core.Path.{_≡_, sym, subst}
 use mathlib.Core.List.{List}
 use Rattle.answers.specs.Paper.{accepted}
-use Rattle.silences.specs.declared.addresses.Address.{Address}
+use Rattle.silences.specs.declared.addresses.Address.{Address as AddressStruct}
 use Rattle.silences.specs.declared.addresses.Sought.{Sought}
 use Rattle.silences.specs.Silences.{Silence, Below, names}
 use Rattle.silences.specs.Reading.{readBook}
 use Rattle.book.specs.Seeking.{isFor}
-use Rattle.silences.specs.Addresses.{silenceOf, soughtOf}
+use Rattle.silences.specs.Addresses.{addressOf, soughtOf}
 use Rattle.book.specs.Calls.{IsSought, IsSoughtOn}
 use Rattle.silences.proofs.StrictOrder.{start-not-below}
 use Rattle.book.proofs.SeekRising.{HeldField, seeking-turn, seeking-names}
 
 -- The next address has the same cell and ring number as the last one, `asked`, and its start is not lower.
-pub record Rises (asked address : Address) : Type 0 where
+pub record Rises (asked address : AddressStruct) : Type 0 where
   pub cell-is : asked .cell ≡ address .cell
   pub ring-number-is : asked .«ring_number» ≡ address .«ring_number»
   pub start-le : asked .start ≤ address .start
 
 -- so it is not below the last one
-rises-not-below : (asked address : Address) → Rises asked address → Below (silenceOf address) (silenceOf asked) → ⊥
-rises-not-below asked address h = start-not-below (silenceOf asked) (silenceOf address) (h .cell-is) (h .ring-number-is) (h .start-le)
+rises-not-below : (asked address : AddressStruct) → Rises asked address → Below (addressOf address) (addressOf asked) → ⊥
+rises-not-below asked address h = start-not-below (addressOf asked) (addressOf address) (h .cell-is) (h .ring-number-is) (h .start-le)
 
 module _ (book : List ℕ) where
   -- What `seek` returns from the first byte on is held for its address.
-  pub sought-start : (address : Address) (r : Sought) → IsSought book 0 address r → HeldField book (silenceOf address) (soughtOf r)
+  pub sought-start : (address : AddressStruct) (r : Sought) → IsSought book 0 address r → HeldField book (addressOf address) (soughtOf r)
   sought-start address r meets = record { held-is = meets .is }
 
-  module _ (asked address : Address) (rises : Rises asked address) where
+  module _ (asked address : AddressStruct) (rises : Rises asked address) where
     -- What `seek_on` returns is held for the next address.
-    pub sought-turn : (held r : Sought) → IsSoughtOn book held address r → HeldField book (silenceOf asked) (soughtOf held) → HeldField book (silenceOf address) (soughtOf r)
+    pub sought-turn : (held r : Sought) → IsSoughtOn book held address r → HeldField book (addressOf asked) (soughtOf held) → HeldField book (addressOf address) (soughtOf r)
     sought-turn held r meets was =
-        subst (HeldField book (silenceOf address)) (sym (meets .is))
-        (seeking-turn book (silenceOf asked) (silenceOf address) (rises-not-below asked address rises) (soughtOf held) was)
+        subst (HeldField book (addressOf address)) (sym (meets .is))
+        (seeking-turn book (addressOf asked) (addressOf address) (rises-not-below asked address rises) (soughtOf held) was)
 
   -- In an accepted book, what is held for an address is for it exactly when the book names it.
-  pub sought-end : (ss : List Silence) (address : Address) (r : Sought) → readBook book ≡ accepted ss → HeldField book (silenceOf address) (soughtOf r)
-      → isFor (silenceOf address) (soughtOf r) ≡ names ss (address .cell) (address .«ring_number») (address .start)
-  sought-end ss address r e held = seeking-names book ss (silenceOf address) (soughtOf r) e held
+  pub sought-end : (ss : List Silence) (address : AddressStruct) (r : Sought) → readBook book ≡ accepted ss → HeldField book (addressOf address) (soughtOf r)
+      → isFor (addressOf address) (soughtOf r) ≡ names ss (addressOf address)
+  sought-end ss address r e held = seeking-names book ss (addressOf address) (soughtOf r) e held

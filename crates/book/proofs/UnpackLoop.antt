@@ -13,14 +13,14 @@ use Rattle.lists.specs.Records.{numbersOfEach}
 use Rattle.lists.proofs.Areas.{written-length, written-more}
 use Rattle.lists.proofs.Records.{each-more}
 use Rattle.answers.specs.Paper.{Answer, accepted}
-use Rattle.silences.specs.Silences.{Silence}
+use Rattle.silences.specs.Silences.{Address, Silence}
 use Rattle.silences.specs.Reading.{whole, faulty, fieldAt, readBook}
 use Rattle.silences.specs.Packing.{silenceWords, wordsOfSilences, recordWords, areaAtExit}
 use Rattle.book.specs.Calls.{recordCount}
 use Rattle.silences.proofs.WordsOfSilences.{words-length}
 use Rattle.silences.proofs.FieldTest.{faulty-not-whole, whole-silence-unique, whole-next-unique}
 use Rattle.silences.proofs.FieldsRead.{FieldsRead, none-read, one-read}
-use Rattle.silences.proofs.AcceptedIsLayout.{IsReadWhole, accepted-whole-iff}
+use Rattle.silences.proofs.AcceptedIsBook.{IsReadWhole, accepted-whole-iff}
 use Rattle.book.proofs.AcceptedBook.{HasRecords, has-records}
 
 -- the first of some fields that are read from `at` on
@@ -30,11 +30,11 @@ record FirstField (book : List ℕ) (at : ℕ) (ss : List Silence) : Type 0 wher
   pub others : List Silence
   pub stop : ℕ
   pub field-is : fieldAt book at ≡ whole first next
-  pub fields : FieldsRead book (some first) next others stop
+  pub fields : FieldsRead book (some (first .address)) next others stop
   pub all-is : ss ≡ first ∷ others
 
 -- if at least one field is read, there is a first one
-first-field : {book : List ℕ} {last : Option Silence} {at : ℕ} {ss : List Silence} {stop : ℕ} → FieldsRead book last at ss stop → 0 < length ss → FirstField book at ss
+first-field : {book : List ℕ} {last : Option Address} {at : ℕ} {ss : List Silence} {stop : ℕ} → FieldsRead book last at ss stop → 0 < length ss → FirstField book at ss
 first-field none-read h = absurd (omega arith)
 first-field (one-read {s = s} {next = next} {ss = ss} {stop = stop} e above more) h =
     record { first = s; next = next; others = ss; stop = stop; field-is = e; fields = more; all-is = refl }
@@ -46,7 +46,7 @@ length-none (s ∷ ss) e = absurd (omega arith)
 
 -- The invariant: before the field at `at` the words of `done` records are written, and the fields of the others stand from `at` on.
 pub record PutSoFar (book area : List ℕ) (records : ℕ) (words : List ℕ) (at done : ℕ) : Type 0 where
-  pub last : Option Silence
+  pub last : Option Address
   pub put : List Silence
   pub others : List Silence
   pub stop : ℕ
@@ -116,7 +116,7 @@ module _ {book area : List ℕ} {records : ℕ} where
           let to-is : recordWords * done ≡ length (wordsOfSilences (inv .put)) = omega (arith, words-length (inv .put), inv .done-is) in
           let others-are : inv .others ≡ s ∷ f .others = f .all-is ∙ ap (λ (t : Silence). t ∷ f .others) first-is in
           record {
-            last = some s;
+            last = some (s .address);
             put = inv .put ++ s ∷ [];
             others = f .others;
             stop = f .stop;

@@ -13,11 +13,11 @@ use lib.ListN.{length}
 use Rattle.answers.specs.Paper.{Answer, accepted, refused, Paper, answerPaper}
 use Rattle.book.specs.declared.answering.BookAnswer.{BookAnswer}
 use Rattle.book.specs.declared.answering.BookAnswer.the-variants.{Records, Refused}
-use Rattle.silences.specs.declared.addresses.Address.{Address}
+use Rattle.silences.specs.declared.addresses.Address.{Address as AddressStruct}
 use Rattle.silences.specs.declared.addresses.Sought.{Sought}
 use Rattle.silences.specs.Silences.{Silence}
 use Rattle.silences.specs.Reading.{readBook}
-use Rattle.silences.specs.Addresses.{silenceOf, soughtOf}
+use Rattle.silences.specs.Addresses.{addressOf, soughtOf}
 use Rattle.silences.specs.Packing.{wordsOfSilences, unpacked, areaAtExit}
 use Rattle.book.specs.Seeking.{seekField, seekFrom, isFor}
 
@@ -49,14 +49,14 @@ pub record IsRead (book : List ℕ) (r : BookAnswer) : Type 0 where
   pub paper : paperOf r ≡ recordsPaper (readBook book)
 
 -- The contract of `seek`, which seeks the address from byte offset `from` on and returns `r`.
-pub record IsSought (book : List ℕ) (from : ℕ) (address : Address) (r : Sought) : Type 0 where
-  pub is : soughtOf r ≡ seekFrom book (silenceOf address) from
+pub record IsSought (book : List ℕ) (from : ℕ) (address : AddressStruct) (r : Sought) : Type 0 where
+  pub is : soughtOf r ≡ seekFrom book (addressOf address) from
 
 -- The contract of `seek_on`, which returns `r`. If the field `held` is not below the address, it is kept; else the address is sought from just past it. If
 -- `held` is `Nothing`, so is `r`.
-pub record IsSoughtOn (book : List ℕ) (held : Sought) (address : Address) (r : Sought) : Type 0 where
-  pub is : soughtOf r ≡ seekField (silenceOf address) (soughtOf held) (seekFrom book (silenceOf address))
+pub record IsSoughtOn (book : List ℕ) (held : Sought) (address : AddressStruct) (r : Sought) : Type 0 where
+  pub is : soughtOf r ≡ seekField (addressOf address) (soughtOf held) (seekFrom book (addressOf address))
 
 -- The contract of `is_for`, which returns `r`: whether `sought` is a field and its silence has this address.
-pub record IsAskedFor (sought : Sought) (address : Address) (r : Bool) : Type 0 where
-  pub is : r ≡ isFor (silenceOf address) (soughtOf sought)
+pub record IsAskedFor (sought : Sought) (address : AddressStruct) (r : Bool) : Type 0 where
+  pub is : r ≡ isFor (addressOf address) (soughtOf sought)

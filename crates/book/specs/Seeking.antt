@@ -11,26 +11,26 @@ use Prim.Native.Nat.{ℕ, zero, suc, _-_}
 use mathlib.Core.Bool.{Bool, false, cond}
 use mathlib.Core.List.{List}
 use lib.ListN.{length}
-use Rattle.silences.specs.Silences.{Silence, isBelow, isSame}
+use Rattle.silences.specs.Silences.{Address, isBelow, isSame}
 use Rattle.silences.specs.Reading.{FieldAt, whole, faulty, fieldAt}
 
 -- One step of seeking, at a field: if it is below the address, it is passed and `rest` seeks on after it; else it is found. At a faulty field nothing is found.
-abbrev pub seekField : Silence → FieldAt → (ℕ → FieldAt) → FieldAt
-seekField address faulty rest = faulty
-seekField address (whole s next) rest =
+abbrev pub seekField : Address → FieldAt → (ℕ → FieldAt) → FieldAt
+seekField a faulty rest = faulty
+seekField a (whole s next) rest =
     let on : FieldAt = rest next in
-    cond (isBelow s address) on (whole s next)
+    cond (isBelow (s .address) a) on (whole s next)
 
 -- Seeks from `at` on, over at most as many fields as the first argument says.
-unfoldable pub seekFields : ℕ → List ℕ → Silence → ℕ → FieldAt
-seekFields zero book address at = faulty
-seekFields (suc left) book address at = seekField address (fieldAt book at) (seekFields left book address)
+unfoldable pub seekFields : ℕ → List ℕ → Address → ℕ → FieldAt
+seekFields zero book a at = faulty
+seekFields (suc left) book a at = seekField a (fieldAt book at) (seekFields left book a)
 
 -- The first field from `at` on that is not below the address, with the byte offset just past it; faulty if a faulty field or the book's end comes first.
-unfoldable pub seekFrom : List ℕ → Silence → ℕ → FieldAt
-seekFrom book address at = seekFields (length book - at) book address at
+unfoldable pub seekFrom : List ℕ → Address → ℕ → FieldAt
+seekFrom book a at = seekFields (length book - at) book a at
 
--- Whether this is a whole field whose silence is the address.
-abbrev pub isFor : Silence → FieldAt → Bool
-isFor address faulty = false
-isFor address (whole s next) = isSame s address
+-- Whether this is a whole field whose silence has the address.
+abbrev pub isFor : Address → FieldAt → Bool
+isFor a faulty = false
+isFor a (whole s next) = isSame (s .address) a

@@ -13,13 +13,14 @@ ghost use lib.Seq.{sets};
 ghost use Rattle.answers.specs.Paper.{accepted};
 ghost use Rattle.silences.specs.Reading.{readBook};
 ghost use Rattle.silences.specs.Packing.{silenceWords, wordsOfSilences, recordWords, areaAtExit};
-ghost use Rattle.silences.specs.Addresses.{silenceOf};
+ghost use Rattle.silences.specs.Silences.{silence};
+ghost use Rattle.silences.specs.Addresses.{addressOf};
 ghost use Rattle.book.specs.Calls.{recordCount, IsUnpacked};
 
 // Writes the three words of a record from place `to` on.
 fn put_record(words: &mut [u32], to: usize, address: Address)
     requires { ⌜ to + recordWords ≤ length (now words) ⌝ }
-    ensures { λ _. ⌜ now (words .exit) ≡ sets (now (words .entry)) to (silenceWords (silenceOf address)) ⌝ }
+    ensures { λ _. ⌜ now (words .exit) ≡ sets (now (words .entry)) to (silenceWords (silence (addressOf address) 0)) ⌝ }
 {
     words[to] = address.cell;
     words[to + 1] = address.ring_number as u32;

@@ -1,5 +1,5 @@
 -- `outlines_unpack` and `outlines_pack` meet the demands. Both answer by their rows, so demand 1 follows as for every call (RowsAgree). A book is accepted exactly when it
--- is the layout of silences (`accepted-iff` of crates/silences). A book's layout and its words determine each other, so each call gives back what the other was given.
+-- lays down silences (`accepted-iff` of crates/silences). A book's bytes and its words determine each other, so each call gives back what the other was given.
 use Prim.Native.Nat.{ℕ, _*_, _≤_, _<_}
 use mathlib.Core.Path.{_≡_, refl, sym, ap, subst, _∙_}
 use mathlib.Core.Logic.{_↔_, _⊎_, inl, inr, Iff·trans}
@@ -17,13 +17,15 @@ use Rattle.answers.specs.Rows.{firstGiven, answerBy, areaBy}
 use Rattle.answers.proofs.OneAnswer.{number-in}
 use Rattle.answers.proofs.AnswerCases.{accepted-unique}
 use Rattle.silences.specs.Silences.{Silence}
-use Rattle.silences.specs.Layout.{layout}
+use Rattle.silences.specs.Layout.{layout, mostSilences}
 use Rattle.silences.specs.Books.{IsBook}
 use Rattle.silences.specs.Reading.{silencesRead, bookRows, readBook}
 use Rattle.silences.specs.Packing.{recordWords, silencesOf, wordsOfSilences, areaAtExit, roomRow, packRows, packRefusal, packed, unpackRows, unpackRefusal, unpacked}
 use Rattle.silences.specs.Faults.{IsPackable}
-use Rattle.silences.proofs.AcceptedIsLayout.{book-accepted, accepted-iff}
-use Rattle.silences.proofs.RoundTrips.{packable-book, book-packable}
+use Rattle.silences.proofs.FieldTest.{kind-cases}
+use Rattle.silences.proofs.LayoutRead.{layout-length}
+use Rattle.silences.proofs.AcceptedIsBook.{book-accepted, accepted-iff}
+use Rattle.silences.proofs.RoundTrips.{packable-book, few-packable, laid-layout}
 use Rattle.silences.proofs.WordsOfSilences.{words-length, words-of-silences, silences-of-words}
 use Rattle.silences.proofs.BookRows.{is-row-5, fault-has, fault-6-iff, fault-7-iff, book-accepted-iff}
 use Rattle.silences.proofs.RecordRows.{records-have, records-9-iff, records-7-iff}
@@ -72,7 +74,7 @@ module _ (book area : List ℕ) {out : List ℕ} {r : AnswerStruct} (bytes : IsB
       let b = unpacked-accepted-iff book (length area) (h .0) .0 (h .1) in
       (h .0, accepted-iff book (h .0) bytes .0 (b .0), omega (arith, words-length (h .0), b .1))
 
-  -- a book has one list of silences only, so any list that it is the book of is the one unpacked
+  -- a book has one list of silences only, so any list that it is a book of is the one unpacked
   the-book : (ss : List Silence) → IsBook ss book → r .refusal ≡ 0 → GivesRecords wordsOfSilences ss area r out
   the-book ss is-book zero-is =
       let h = unpacked-has zero-is in
@@ -137,9 +139,10 @@ unpack-pack book area {out} {r} bytes e zero-is area′ {out′} {r′} room e�
     let long : length (wordsOfSilences ss) ≡ recordWords * r .found = words-length ss ∙ ap (λ (n : ℕ). recordWords * n) (sym (was .found-is)) in
     let front : take (recordWords * r .found) out ≡ wordsOfSilences ss = written-front (wordsOfSilences ss) area (was .written-is) (recordWords * r .found) long in
     let packs : IsPackExported (wordsOfSilences ss) area′ r′ out′ = subst (λ (w : List ℕ). IsPackExported w area′ r′ out′) front e′ in
-    let book-is : layout ss ≡ book = sym (has .1 .laid-out) in
+    let book-is : layout ss ≡ book = sym (laid-layout (λ tag kind allowed is. kind-cases tag kind is) (has .1 .laid-down)) in
+    let few : length ss ≤ mostSilences = omega (arith, ap length book-is, layout-length ss, has .1 .length-le) in
     let given = gives-records layout (packed (wordsOfSilences ss) (length area′)) area′ packs ss (packed-accepted-iff (wordsOfSilences ss) (length area′) ss .1
-    (book-packable ss book (has .1), sym (silences-of-words ss), omega (arith, room, ap length book-is))) in
+    (few-packable ss book (has .1) few, sym (silences-of-words ss (has .1 .in-range)), omega (arith, room, ap length book-is))) in
     record {
       accepted = given .accepted-is;
       found-is = given .found-is ∙ sym (was .found-is);

@@ -1,5 +1,5 @@
 -- `outlines_report` meets the demands. It answers by the rows of a report, so demand 1 follows as for every call (RowsAgree). Where it is accepted, the book is the
--- layout of the silences read (`accepted-iff` of crates/silences), so a finding is shown exactly when the book's bytes do not name it. Its looks are the scan's.
+-- book of the silences read (`accepted-iff` of crates/silences), so a finding is shown exactly when the book's bytes do not name it. Its looks are the scan's.
 use Prim.Native.Nat.{ℕ, _<_}
 use mathlib.Core.Path.{_≡_, refl, ap, subst}
 use mathlib.Core.Logic.{_↔_, Iff·trans, Iff·and, Iff·rfl}
@@ -21,7 +21,7 @@ use Rattle.silences.specs.Reading.{silencesRead, bookRows, readBook}
 use Rattle.silences.proofs.BookRows.{book-accepted-iff}
 use Rattle.findings.specs.Admitting.{admitRows}
 use Rattle.findings.proofs.AdmitRows.{accepted-edge}
-use Rattle.silences.proofs.AcceptedIsLayout.{book-accepted, accepted-iff}
+use Rattle.silences.proofs.AcceptedIsBook.{book-accepted, accepted-iff}
 use Rattle.outlines.specs.Report.{shown, hidden, ReportCounts, reportCounts, reportRows, reportAnswer, reportedWords}
 use Rattle.outlines.proofs.ShownExactly.{shown-iff, hidden-iff}
 use Rattle.outlines.proofs.ShownAndHidden.{shown-hidden-length}

@@ -35,7 +35,7 @@ use Rattle.silences.specs.Silences.{Silence, Names}
 use Rattle.silences.specs.Layout.{layout}
 use Rattle.silences.specs.Books.{IsBook}
 use Rattle.silences.specs.Packing.{silencesOf, wordsOfSilences}
-use Rattle.silences.specs.Faults.{IsFieldFault, IsOrderFault, IsRingFault, IsRecordFault, IsPackable}
+use Rattle.silences.specs.Faults.{IsFieldFault, IsOrderFault, IsNumberFault, IsRecordFault, IsPackable}
 use Rattle.exports.specs.declared.answering.Answer.{Answer as AnswerStruct}
 
 -- A row of a call: `r number place` says that the row is given, with this number and this place.
@@ -118,7 +118,7 @@ packTable words room =
     -- "words to pack aren't a multiple of 3, or exceed 3,000"
     rowOf 8 ((length words % 3 ≡ 0 → ⊥) ⊎ (3000 < length words))
     -- "a ring number to pack is above 65,535", or "a record isn't above the one before it"; "record number"
-    ∷ (λ number place. ((number ≡ 9) × IsRingFault words place) ⊎ ((number ≡ 7) × IsRecordFault words place))
+    ∷ (λ number place. ((number ≡ 9) × IsNumberFault words place) ⊎ ((number ≡ 7) × IsRecordFault words place))
     -- "packing or unpacking lacks room for its whole output"
     ∷ rowOf 10 (room < length (layout (silencesOf words)))
     ∷ []
@@ -138,7 +138,7 @@ pub record Demand1 (rows : List Row) (r : AnswerStruct) (area out : List ℕ) : 
   -- "writes nothing to any lent area"
   pub untouched : 0 < r .refusal → out ≡ area
 
--- The book's bytes name this cell, ring number and start: they are the layout of silences, and one of these has that cell, ring number and start.
+-- The book's bytes name this cell, ring number and start: they are a book of silences, and one of these has that cell, ring number and start.
 pub record BookNames (book : List ℕ) (cell ringNumber start : ℕ) : Type 0 where
   pub silences : List Silence
   pub is-book : IsBook silences book
@@ -171,7 +171,7 @@ pub record Demand2 (Named : ℕ → Type 0) (ring line : List ℕ) (k : ℕ) (wo
   -- The words of the shown findings stand first. "Words after the last one written keep their values."
   pub words-are : out ≡ written (wordsOf shown) words
 
--- Demand 2 on unpacking: a book is accepted exactly when it is the layout of ascending silences in range, at most 1,000 of them, and there is room for their words.
+-- Demand 2 on unpacking: a book is accepted exactly when it lays down ascending silences in range in at most 13,000 bytes, and there is room for their words.
 pub record UnpackDemand2 (book area : List ℕ) (r : AnswerStruct) (out : List ℕ) : Type 0 where
   pub accepted-iff : (r .refusal ≡ 0) ↔ ((ss : List Silence) × IsBook ss book × (length (wordsOfSilences ss) ≤ length area))
   -- "return the number of records and leave room beyond their output unwritten"

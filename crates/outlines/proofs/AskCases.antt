@@ -4,16 +4,16 @@ use mathlib.Core.Path.{_≡_, refl, ap, _∙_}
 use mathlib.Core.Bool.{Bool, true, false, cond}
 use mathlib.Core.List.{List}
 use Rattle.meaning.specs.Findings.{Finding}
-use Rattle.silences.specs.declared.addresses.Address.{Address}
+use Rattle.silences.specs.declared.addresses.Address.{Address as AddressStruct}
 use Rattle.silences.specs.declared.addresses.Sought.{Sought}
-use Rattle.silences.specs.Addresses.{silenceOf, soughtOf}
+use Rattle.silences.specs.Addresses.{addressOf, soughtOf}
 use Rattle.book.specs.Seeking.{isFor}
 use Rattle.book.specs.Calls.{IsSoughtOn, IsAskedFor}
 use Rattle.outlines.specs.declared.asking.BookAsked.{BookAsked}
-use Rattle.outlines.specs.Hiding.{addressOf, heldFor, hides, IsHiddenOrShown}
+use Rattle.outlines.specs.Hiding.{findingAddress, heldFor, hides, IsHiddenOrShown}
 
-module _ {book : List ℕ} (asked : BookAsked) (cell ringNumber : ℕ) (f : Finding) {address : Address} {held : Sought} (sought : IsSoughtOn book (asked .held) address held)
-    {t : Bool} (asked-for : IsAskedFor held address t) (address-is : silenceOf address ≡ addressOf cell ringNumber f) where
+module _ {book : List ℕ} (asked : BookAsked) (cell ringNumber : ℕ) (f : Finding) {address : AddressStruct} {held : Sought} (sought : IsSoughtOn book (asked .held) address held)
+    {t : Bool} (asked-for : IsAskedFor held address t) (address-is : addressOf address ≡ findingAddress cell ringNumber f) where
   -- the field sought is the field for the finding
   held-is : soughtOf held ≡ heldFor cell ringNumber book f (soughtOf (asked .held))
   held-is = rw address-is at (sought .is)
@@ -22,7 +22,7 @@ module _ {book : List ℕ} (asked : BookAsked) (cell ringNumber : ℕ) (f : Find
   is-asked : {now-shown now-hidden : ℕ} → now-shown ≡ cond t (asked .shown) (asked .shown + 1) → now-hidden ≡ cond t (asked .hidden + 1) (asked .hidden)
       → IsHiddenOrShown cell ringNumber book asked f (record { shown = now-shown; hidden = now-hidden; held = held })
   is-asked s h =
-      let hides-is : t ≡ hides cell ringNumber book f (soughtOf (asked .held)) = rw address-is at (asked-for .is) ∙ ap (isFor (addressOf cell ringNumber f)) held-is in
+      let hides-is : t ≡ hides cell ringNumber book f (soughtOf (asked .held)) = rw address-is at (asked-for .is) ∙ ap (isFor (findingAddress cell ringNumber f)) held-is in
       record {
         held-is = held-is;
         shown-is = s ∙ ap (λ (b : Bool). cond b (asked .shown) (asked .shown + 1)) hides-is;

@@ -15,7 +15,7 @@ use Rattle.meaning.proofs.ClosedLooks.{closed-quickLooks-le, closed-quickLooks-
 use Rattle.answers.specs.declared.refusals.Refusal.{Refusal}
 use Rattle.answers.specs.Paper.{accepted}
 use Rattle.answers.specs.Rows.{areaBy}
-use Rattle.silences.specs.Silences.{Silence, silence}
+use Rattle.silences.specs.Silences.{Silence, address}
 use Rattle.silences.specs.Reading.{readBook, silencesRead, bookRefusal}
 use Rattle.silences.proofs.BookRows.{book-accepted-iff}
 use Rattle.findings.specs.declared.searching.Searched.{Searched}
@@ -95,10 +95,10 @@ module _ (cell ringNumber : ℕ) (s : Silence) (xs ys : List Silence) (ring line
   pub closed-idle-silence-same : {book book′ join words : List ℕ} {r r′ : Reported} {joined joined′ out out′ : List ℕ}
       → readBook book ≡ accepted (xs ++ s ∷ ys) → readBook book′ ≡ accepted (xs ++ ys)
       → IsClosedReported cell ringNumber ring line k book join words r joined out → IsClosedReported cell ringNumber ring line k book′ join words r′ joined′ out′
-      → ((f : Finding) → IsClosedFinding ring line k f → s ≡ silence cell ringNumber (f .start) → ⊥) → (r ≡ r′) × (joined ≡ joined′) × (out ≡ out′)
+      → ((f : Finding) → IsClosedFinding ring line k f → s .address ≡ address cell ringNumber (f .start) → ⊥) → (r ≡ r′) × (joined ≡ joined′) × (out ≡ out′)
   closed-idle-silence-same {book} {book′} {join} {words} {r} {r′} {out = out} {out′ = out′} is is′ p p′ idle =
       let rows : List (Option Refusal) = closedRows ring k (length line) (length words) (length join) in
-      let idle-in-list : (f : Finding) → IsFinding ring (closedLine (length ring) line) k f → s ≡ silence cell ringNumber (f .start) → ⊥ =
+      let idle-in-list : (f : Finding) → IsFinding ring (closedLine (length ring) line) k f → s .address ≡ address cell ringNumber (f .start) → ⊥ =
       λ f finds. idle f (closed-finding-iff ring line (omega (arith, finds .is-rotation)) k f .0 finds) in
       let same = idle-silence-same cell ringNumber s xs ys ring (closedLine (length ring) line) k rows
       (closed-accepted-edge ring k (length line) (length words) (length join)) book book′ words is is′ r r′ out out′ (closed-is-report p) (closed-is-report p′)

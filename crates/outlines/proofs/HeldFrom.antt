@@ -7,33 +7,33 @@ use mathlib.Core.List.{List}
 use mathlib.Core.Option.{none}
 use native.Mathlib.Omega.{arith}
 use Rattle.meaning.specs.Findings.{Finding}
-use Rattle.silences.specs.declared.addresses.Address.{Address}
+use Rattle.silences.specs.declared.addresses.Address.{Address as AddressStruct}
 use Rattle.silences.specs.declared.addresses.Sought.{Sought}
-use Rattle.silences.specs.Silences.{Silence, silence}
+use Rattle.silences.specs.Silences.{Address, address}
 use Rattle.silences.specs.Reading.{silencesRead, bookRefusal}
-use Rattle.silences.specs.Addresses.{silenceOf, soughtOf}
+use Rattle.silences.specs.Addresses.{addressOf, soughtOf}
 use Rattle.book.specs.Calls.{IsSought}
 use Rattle.silences.proofs.BookRows.{book-accepted-iff}
 use Rattle.silences.proofs.StrictOrder.{start-not-below}
 use Rattle.book.proofs.SeekRising.{HeldField, seeking-turn, seeking-names}
 use Rattle.book.proofs.SoughtRising.{sought-start}
 use Rattle.outlines.specs.Report.{isHidden}
-use Rattle.outlines.specs.Hiding.{addressOf, heldFor, hides}
+use Rattle.outlines.specs.Hiding.{findingAddress, heldFor, hides}
 
 -- The field held was sought for a start `last-asked` of at most i.
 pub record HeldFrom (cell ringNumber : ℕ) (book : List ℕ) (i : ℕ) (held : Sought) : Type 0 where
   pub last-asked : ℕ
   pub asked-le : last-asked ≤ i
-  pub seeking : HeldField book (silence cell ringNumber last-asked) (soughtOf held)
+  pub seeking : HeldField book (address cell ringNumber last-asked) (soughtOf held)
 
 module _ {cell ringNumber : ℕ} {book : List ℕ} where
   -- The field that `seek` returns for start 0, from the book's first byte, can be held at every i.
-  pub held-start : (i : ℕ) {first : Address} {held : Sought} → silenceOf first ≡ silence cell ringNumber 0 → IsSought book 0 first held
+  pub held-start : (i : ℕ) {first : AddressStruct} {held : Sought} → addressOf first ≡ address cell ringNumber 0 → IsSought book 0 first held
       → HeldFrom cell ringNumber book i held
   held-start i {first} {held} zero meets = record {
     last-asked = 0;
     asked-le = omega arith;
-    seeking = subst (λ (a : Silence). HeldField book a (soughtOf held)) zero (sought-start book first held meets);
+    seeking = subst (λ (a : Address). HeldField book a (soughtOf held)) zero (sought-start book first held meets);
   }
 
   module _ {i : ℕ} {held : Sought} (h : HeldFrom cell ringNumber book i held) where
@@ -43,21 +43,21 @@ module _ {cell ringNumber : ℕ} {book : List ℕ} where
 
     module _ (f : Finding) (from-le : i ≤ f .start) where
       -- the field for the finding is what seeking from the first byte would give
-      held-next : HeldField book (addressOf cell ringNumber f) (heldFor cell ringNumber book f (soughtOf held))
+      held-next : HeldField book (findingAddress cell ringNumber f) (heldFor cell ringNumber book f (soughtOf held))
       held-next =
           let asked-le : h .last-asked ≤ f .start = omega (arith, h .asked-le) in
-          seeking-turn book (silence cell ringNumber (h .last-asked)) (addressOf cell ringNumber f)
-          (start-not-below (silence cell ringNumber (h .last-asked)) (addressOf cell ringNumber f) refl refl asked-le)
+          seeking-turn book (address cell ringNumber (h .last-asked)) (findingAddress cell ringNumber f)
+          (start-not-below (address cell ringNumber (h .last-asked)) (findingAddress cell ringNumber f) refl refl asked-le)
           (soughtOf held) (h .seeking)
 
       -- The field for a finding that starts at i or later can be held at every i′ from its start on.
       pub held-turn : {held′ : Sought} {i′ : ℕ} → soughtOf held′ ≡ heldFor cell ringNumber book f (soughtOf held) → f .start ≤ i′
           → HeldFrom cell ringNumber book i′ held′
       held-turn is l =
-          record { last-asked = f .start; asked-le = l; seeking = subst (HeldField book (addressOf cell ringNumber f)) (sym is) held-next }
+          record { last-asked = f .start; asked-le = l; seeking = subst (HeldField book (findingAddress cell ringNumber f)) (sym is) held-next }
 
       -- If the book is accepted, the field for the finding has its address exactly when the book names the finding.
       pub held-hides : bookRefusal book ≡ none → hides cell ringNumber book f (soughtOf held) ≡ isHidden (silencesRead book) cell ringNumber f
       held-hides read =
-          seeking-names book (silencesRead book) (addressOf cell ringNumber f) (heldFor cell ringNumber book f (soughtOf held))
+          seeking-names book (silencesRead book) (findingAddress cell ringNumber f) (heldFor cell ringNumber book f (soughtOf held))
           (book-accepted-iff book (silencesRead book) .1 (read, refl)) held-next

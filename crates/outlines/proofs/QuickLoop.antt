@@ -14,10 +14,10 @@ use Rattle.meaning.specs.Meanings.{FitsInLine, IsPastLine}
 use Rattle.meaning.specs.Findings.{Finding, findings, wordsOf, wordsEach}
 use Rattle.meaning.proofs.FindingsBelow.{below-length-le, findings-length-le, findings-short}
 use Rattle.meaning.proofs.ScanLoop.{scan-found-le, scan-end}
-use Rattle.silences.specs.declared.addresses.Address.{Address}
-use Rattle.silences.specs.Silences.{Silence, silence}
+use Rattle.silences.specs.declared.addresses.Address.{Address as AddressStruct}
+use Rattle.silences.specs.Silences.{Silence, address}
 use Rattle.silences.specs.Reading.{silencesRead}
-use Rattle.silences.specs.Addresses.{silenceOf, soughtOf}
+use Rattle.silences.specs.Addresses.{addressOf, soughtOf}
 use Rattle.book.specs.Calls.{IsSought}
 use Rattle.windows.specs.Windows.{Parts, wholeLine}
 use Rattle.findings.specs.Limits.{mostPlaces, CanSearch}
@@ -56,9 +56,9 @@ room-for-all ring line k within =
 
 module _ {cell ringNumber : ℕ} {ring doubled table : List ℕ} {p : Parts} {k : ℕ} {book counts₀ area : List ℕ} where
   -- The invariant holds before the first window, with nothing found and the field that the book gives for start 0.
-  pub quick-start : (can : CanScan ring doubled table p k book counts₀ area) {at : Sweep} {asked : BookAsked} {first : Address}
+  pub quick-start : (can : CanScan ring doubled table p k book counts₀ area) {at : Sweep} {asked : BookAsked} {first : AddressStruct}
       → at .start .0 ≡ 0 → lastStart (at .last) ≡ none → at .looks ≡ 0
-      → asked .shown ≡ 0 → asked .hidden ≡ 0 → silenceOf first ≡ silence cell ringNumber 0 → IsSought book 0 first (asked .held)
+      → asked .shown ≡ 0 → asked .hidden ≡ 0 → addressOf first ≡ address cell ringNumber 0 → IsSought book 0 first (asked .held)
       → QuickLoop cell ringNumber ring doubled table p k book counts₀ area at asked counts₀ area
   unfolding takenBy
   quick-start can {at} s l o no-shown no-hidden zero sought = record {

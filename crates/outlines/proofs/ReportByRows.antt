@@ -23,7 +23,7 @@ use Rattle.silences.specs.Books.{IsBook}
 use Rattle.silences.specs.Faults.{IsFieldFault, IsOrderFault}
 use Rattle.silences.specs.Reading.{silencesRead}
 use Rattle.silences.proofs.BookRows.{refusal-5-iff, refusal-6-iff, refusal-7-iff, refusal-has}
-use Rattle.silences.proofs.AcceptedIsLayout.{no-refusal-iff}
+use Rattle.silences.proofs.AcceptedIsBook.{no-refusal-iff}
 use Rattle.outlines.specs.declared.reporting.Reported.{Reported}
 use Rattle.outlines.specs.Report.{shown, reportRefusal, ReportCounts, noReportCounts, reportCounts, reportAnswer, reportedWords, paperOf, IsReportedBy}
 use Rattle.outlines.proofs.FirstOfReport.{isBookRefusal, NotOfBook, early-row-iff, late-row-iff, none-row-iff, report-row-has}
@@ -79,7 +79,7 @@ module _ {rows : List (Option Refusal)} {cell ringNumber : ℕ} {ring line : Lis
         Iff·trans (row-place-iff noReportCounts counted (reportRefusal rows book) (meets .paper) (NotAbove at))
         (Iff·trans (late-row-iff rows book not-of-book (NotAbove at) refl) (Iff·and Iff·rfl (refusal-7-iff book bytes at)))
 
-    -- The number is 0 exactly when none of the search's rows is given and the book is the book of some list of silences.
+    -- The number is 0 exactly when none of the search's rows is given and the book is a book of some list of silences.
     pub report-accepted-iff : (paperOf r .number ≡ 0) ↔ ((firstGiven rows ≡ none) × ((ss : List Silence) × IsBook ss book))
     report-accepted-iff = Iff·trans report-none-iff (Iff·trans (none-row-iff rows book) (Iff·and Iff·rfl (no-refusal-iff book bytes)))
 

@@ -1,7 +1,7 @@
 -- Contracts of the private functions of src/asking.rt: the book is asked for one finding, which is then hidden or shown. Findings come by rising start and a book's
 -- records ascend, so the loop keeps the field found last ("held") and goes on from it, never back.
 --
---   addressOf          the address of a finding: cell, ring number, start
+--   findingAddress     the address of a finding: cell, ring number, start
 --   heldFor            the first field of the book, from the field held on, that is not below this address; `faulty` if a faulty field or the book's end comes first
 --   hides              whether that field has this very address
 --   CanAsk             the precondition of `ask`
@@ -12,7 +12,7 @@ use mathlib.Core.Path.{_≡_}
 use mathlib.Core.Bool.{Bool, cond}
 use mathlib.Core.List.{List}
 use Rattle.meaning.specs.Findings.{Finding}
-use Rattle.silences.specs.Silences.{Silence, silence}
+use Rattle.silences.specs.Silences.{Address, address}
 use Rattle.silences.specs.Reading.{FieldAt}
 use Rattle.silences.specs.Addresses.{soughtOf}
 use Rattle.book.specs.Seeking.{seekField, seekFrom, isFor}
@@ -20,18 +20,18 @@ use Rattle.findings.specs.Limits.{mostPlaces}
 use Rattle.findings.specs.Putting.{IsFindingPut}
 use Rattle.outlines.specs.declared.asking.BookAsked.{BookAsked}
 
--- The address of a finding: cell, ring number and the finding's start, as a silence would name it.
-abbrev pub addressOf : ℕ → ℕ → Finding → Silence
-addressOf cell ringNumber f = silence cell ringNumber (f .start)
+-- The address of a finding: the report's cell and ring number, and the finding's start.
+abbrev pub findingAddress : ℕ → ℕ → Finding → Address
+findingAddress cell ringNumber f = address cell ringNumber (f .start)
 
 -- The field for a finding, given the field held: the held one if it is not below the finding's address, else the first field behind it that is not; `faulty` if a
 -- faulty field or the book's end comes first, or if the held one is `faulty`.
 abbrev pub heldFor : ℕ → ℕ → List ℕ → Finding → FieldAt → FieldAt
-heldFor cell ringNumber book f held = seekField (addressOf cell ringNumber f) held (seekFrom book (addressOf cell ringNumber f))
+heldFor cell ringNumber book f held = seekField (findingAddress cell ringNumber f) held (seekFrom book (findingAddress cell ringNumber f))
 
 -- Whether the field for a finding, given the field held, has the finding's address. If so, `ask` counts the finding as hidden.
 abbrev pub hides : ℕ → ℕ → List ℕ → Finding → FieldAt → Bool
-hides cell ringNumber book f held = isFor (addressOf cell ringNumber f) (heldFor cell ringNumber book f held)
+hides cell ringNumber book f held = isFor (findingAddress cell ringNumber f) (heldFor cell ringNumber book f held)
 
 -- The precondition of `ask`: the start is below 2^32, both counters are at most 2^32.
 pub record CanAsk (so-far : BookAsked) (f : Finding) : Type 0 where

@@ -26,7 +26,7 @@ use Rattle.meaning.specs.Looks.{quickLooks}
 use Rattle.answers.specs.declared.refusals.Refusal.{Refusal}
 use Rattle.answers.specs.Paper.{Answer, accepted, refused, Paper, answerPaper}
 use Rattle.answers.specs.Rows.{firstGiven, answerBy, areaBy}
-use Rattle.silences.specs.Silences.{Silence, names}
+use Rattle.silences.specs.Silences.{address, Silence, names}
 use Rattle.silences.specs.Reading.{bookRows, silencesRead}
 use Rattle.findings.specs.Admitting.{admitRows}
 use Rattle.outlines.specs.declared.reporting.Reported.{Reported}
@@ -34,7 +34,7 @@ use Rattle.outlines.specs.declared.reporting.Reported.the-variants.{Coun
 
 -- A finding is hidden exactly when one of the silences names the report's cell and ring number and the finding's start.
 abbrev pub isHidden : List Silence → ℕ → ℕ → Finding → Bool
-isHidden silences cell ringNumber f = names silences cell ringNumber (f .start)
+isHidden silences cell ringNumber f = names silences (address cell ringNumber (f .start))
 
 -- A finding is shown exactly when it is not hidden.
 abbrev pub isShown : List Silence → ℕ → ℕ → Finding → Bool

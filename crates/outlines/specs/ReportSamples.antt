@@ -14,7 +14,7 @@ use Rattle.meaning.specs.Rules.{readEdge, readLeft, readWindow, windowsFrom, ca
 use Rattle.meaning.specs.Looks.{readLooks, tallyLooks, verifyLooks}
 use Rattle.meaning.specs.Samples.{finding}
 use Rattle.lists.specs.Texts.{ascii}
-use Rattle.silences.specs.Silences.{Silence, silence, isSame, names}
+use Rattle.silences.specs.Silences.{address, Silence, silence, isSame, names}
 use Rattle.outlines.specs.Report.{takenBy, shown, hidden, reportCounts}
 
 -- P2's ring.
@@ -27,7 +27,7 @@ line2 = ascii "GATACGATACCTAGGGTGATAGAATAG"
 
 -- "the one silence (7, 2, 10)"
 unfoldable silence10 : List Silence
-silence10 = silence 7 2 10 ∷ []
+silence10 = silence (address 7 2 10) 0 ∷ []
 
 -- "as cell 7, ring 2 it shows starts 9 and 11, hidden 1; as cell 8 all three". As cell 0, and as ring 3 of cell 7, nothing is hidden either.
 sample-hidden : (shown silence10 7 2 (findings ring2 line2 1) ≡ finding 9 3 1 1 ∷ finding 11 5 1 1 ∷ [])
@@ -40,15 +40,15 @@ unfolding ring2 line2 silence10 takenBy isSame names ascii window holdsMark coun
 sample-hidden = (refl, refl, refl, refl, refl, refl)
 
 -- A silence for cell 0 hides in cell 0 alone. "Letting cell 0 in a silence stand for all cells" is one of the readings that look right and are wrong.
-sample-cell-0 : (length (hidden (silence 0 2 10 ∷ []) 7 2 (findings ring2 line2 1)) ≡ 0) × (length (hidden (silence 0 2 10 ∷ []) 0 2 (findings ring2 line2 1)) ≡ 1)
+sample-cell-0 : (length (hidden (silence (address 0 2 10) 0 ∷ []) 7 2 (findings ring2 line2 1)) ≡ 0) × (length (hidden (silence (address 0 2 10) 0 ∷ []) 0 2 (findings ring2 line2 1)) ≡ 1)
 unfolding ring2 line2 takenBy isSame names ascii window holdsMark count lowest someBelow differs distance lowestRotation rotationsReaching foundAt findingsBelow
 sample-cell-0 = (refl, refl)
 
 -- "found 2 hidden 1 looks 12", and one shown finding, whose line is `0 0 0 2` with its ties: of the eight words lent, four are written and four kept. As cell 8
 -- nothing is hidden.
-sample-example : (reportCounts (ascii "aa") (ascii "aaa") 0 7 2 (silence 7 2 1 ∷ []) ≡ record { found = 2; hidden = 1; looks = 12 })
-    × (reportCounts (ascii "aa") (ascii "aaa") 0 8 2 (silence 7 2 1 ∷ []) ≡ record { found = 2; hidden = 0; looks = 12 })
-    × (written (wordsOf (shown (silence 7 2 1 ∷ []) 7 2 (findings (ascii "aa") (ascii "aaa") 0))) (1 ∷ 2 ∷ 3 ∷ 4 ∷ 5 ∷ 6 ∷ 7 ∷ 8 ∷ [])
+sample-example : (reportCounts (ascii "aa") (ascii "aaa") 0 7 2 (silence (address 7 2 1) 0 ∷ []) ≡ record { found = 2; hidden = 1; looks = 12 })
+    × (reportCounts (ascii "aa") (ascii "aaa") 0 8 2 (silence (address 7 2 1) 0 ∷ []) ≡ record { found = 2; hidden = 0; looks = 12 })
+    × (written (wordsOf (shown (silence (address 7 2 1) 0 ∷ []) 7 2 (findings (ascii "aa") (ascii "aaa") 0))) (1 ∷ 2 ∷ 3 ∷ 4 ∷ 5 ∷ 6 ∷ 7 ∷ 8 ∷ [])
     ≡ 0 ∷ 0 ∷ 0 ∷ 2 ∷ 5 ∷ 6 ∷ 7 ∷ 8 ∷ [])
 unfolding takenBy numbersOfEach written isSame names ascii window holdsMark count lowest someBelow differs distance lowestRotation rotationsReaching foundAt findingsBelow begins fits readEdge readLeft readWindow windowsFrom candidatesOf reported readLooks tallyLooks verifyLooks
 sample-example = (refl, refl, refl)

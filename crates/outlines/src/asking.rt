@@ -8,8 +8,8 @@ use silences::Address;
 use silences::Sought;
 ghost use mathlib.Core.Path.{_≡_};
 ghost use Prim.Native.Nat.{_<_, _^_};
-ghost use Rattle.silences.specs.Silences.{silence};
-ghost use Rattle.silences.specs.Addresses.{silenceOf};
+ghost use Rattle.silences.specs.Silences.{address};
+ghost use Rattle.silences.specs.Addresses.{addressOf};
 ghost use Rattle.findings.specs.Putting.{findingOf};
 ghost use Rattle.outlines.specs.Hiding.{CanAsk, IsHiddenOrShown, IsShownPut};
 
@@ -24,7 +24,7 @@ pub struct BookAsked {
 // The address that names a start: cell, ring number and start.
 pub fn address_of(cell: u32, ring_number: u16, start: LinePlace) -> Address
     requires { ⌜ start .0 < 2 ^ 32 ⌝ }
-    ensures { λ r. ⌜ silenceOf r ≡ silence cell «ring_number» (start .0) ⌝ }
+    ensures { λ r. ⌜ addressOf r ≡ address cell «ring_number» (start .0) ⌝ }
 {
     Address {
         cell,

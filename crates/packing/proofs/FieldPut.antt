@@ -2,7 +2,7 @@
 -- field's bytes (`fieldOf-is`).
 use Prim.Native.Nat.{ℕ, _+_, _≤_}
 use mathlib.Core.Path.{_≡_, sym, ap, _∙_}
-use mathlib.Core.List.{List, _++_, append-assoc}
+use mathlib.Core.List.{List, _++_, append-assoc, append-nil}
 use native.Mathlib.Omega.{arith}
 use lib.ListN.{length, length-append}
 use Rattle.lists.specs.Areas.{writtenAt}
@@ -10,7 +10,7 @@ use Rattle.lists.proofs.Areas.{writtenAt-append}
 use Rattle.fields.specs.Numbers.{bytesOf}
 use Rattle.fields.specs.Tagged.{tagBytes, lengthBytes}
 use Rattle.silences.specs.Silences.{Silence, cellBytes, ringNumberBytes, startBytes}
-use Rattle.silences.specs.Layout.{silenceTag, valueLength, valueOf, fieldOf}
+use Rattle.silences.specs.Layout.{packedTag, packedKind, valueLength, addressValue, valueOf, fieldOf}
 use Rattle.packing.specs.Putting.{AreBytesPut}
 use Rattle.fields.proofs.NumberBytes.{bytesOf-length}
 use Rattle.silences.proofs.FieldBytes.{fieldOf-is}
@@ -32,26 +32,21 @@ number-next {at} count number is-put = is-put .next-is ∙ ap (λ (n : ℕ). at 
 
 module _ (s : Silence) where
   -- a field is its numbers, each in its bytes
-  field-numbers : bytesOf tagBytes silenceTag ++ bytesOf lengthBytes valueLength ++ bytesOf cellBytes (s .cell) ++ bytesOf ringNumberBytes (s .ringNumber) ++ bytesOf startBytes (s .start) ≡ fieldOf s
-  unfolding bytesOf valueOf
-  field-numbers =
-      let head : List ℕ = bytesOf tagBytes silenceTag ++ bytesOf lengthBytes valueLength in
-      let address : List ℕ = bytesOf cellBytes (s .cell) ++ bytesOf ringNumberBytes (s .ringNumber) in
-      ap (λ (l : List ℕ). l ++ bytesOf startBytes (s .start)) (append-assoc head (bytesOf cellBytes (s .cell)) (bytesOf ringNumberBytes (s .ringNumber)))
-      ∙ append-assoc head address (bytesOf startBytes (s .start))
-      ∙ sym (fieldOf-is s)
+  field-numbers : bytesOf tagBytes packedTag ++ bytesOf lengthBytes (valueLength packedKind) ++ bytesOf cellBytes (s .address .cell) ++ bytesOf ringNumberBytes (s .address .ringNumber) ++ bytesOf startBytes (s .address .start) ≡ fieldOf s
+  unfolding bytesOf valueOf addressValue
+  field-numbers = simp (fieldOf-is s, append-assoc, append-nil)
 
   -- If the five numbers of a field are written one after the other, the field is written.
   pub field-put : {at length-at value-at ring-at start-at next : ℕ} {area a b c d out : List ℕ} → at + length (fieldOf s) ≤ length area
-      → AreBytesPut at (bytesOf tagBytes silenceTag) area length-at a → AreBytesPut length-at (bytesOf lengthBytes valueLength) a value-at b → AreBytesPut value-at (bytesOf cellBytes (s .cell)) b ring-at c
-      → AreBytesPut ring-at (bytesOf ringNumberBytes (s .ringNumber)) c start-at d → AreBytesPut start-at (bytesOf startBytes (s .start)) d next out → AreBytesPut at (fieldOf s) area next out
+      → AreBytesPut at (bytesOf tagBytes packedTag) area length-at a → AreBytesPut length-at (bytesOf lengthBytes (valueLength packedKind)) a value-at b → AreBytesPut value-at (bytesOf cellBytes (s .address .cell)) b ring-at c
+      → AreBytesPut ring-at (bytesOf ringNumberBytes (s .address .ringNumber)) c start-at d → AreBytesPut start-at (bytesOf startBytes (s .address .start)) d next out → AreBytesPut at (fieldOf s) area next out
   field-put {at} {area = area} {out = out} room tag long cell ring start =
-      let head : List ℕ = bytesOf tagBytes silenceTag ++ bytesOf lengthBytes valueLength in
-      let to-cell : List ℕ = head ++ bytesOf cellBytes (s .cell) in
-      let to-ring : List ℕ = to-cell ++ bytesOf ringNumberBytes (s .ringNumber) in
-      let all : at + length (to-ring ++ bytesOf startBytes (s .start)) ≤ length area = omega (arith, room, ap length field-numbers) in
-      let ring-room : at + length to-ring ≤ length area = omega (arith, length-append to-ring (bytesOf startBytes (s .start))) in
-      let cell-room : at + length to-cell ≤ length area = omega (arith, length-append to-cell (bytesOf ringNumberBytes (s .ringNumber))) in
-      let head-room : at + length head ≤ length area = omega (arith, length-append head (bytesOf cellBytes (s .cell))) in
-      let tag-room : at + length (bytesOf tagBytes silenceTag) ≤ length area = omega (arith, length-append (bytesOf tagBytes silenceTag) (bytesOf lengthBytes valueLength)) in
+      let head : List ℕ = bytesOf tagBytes packedTag ++ bytesOf lengthBytes (valueLength packedKind) in
+      let to-cell : List ℕ = head ++ bytesOf cellBytes (s .address .cell) in
+      let to-ring : List ℕ = to-cell ++ bytesOf ringNumberBytes (s .address .ringNumber) in
+      let all : at + length (to-ring ++ bytesOf startBytes (s .address .start)) ≤ length area = omega (arith, room, ap length field-numbers) in
+      let ring-room : at + length to-ring ≤ length area = omega (arith, length-append to-ring (bytesOf startBytes (s .address .start))) in
+      let cell-room : at + length to-cell ≤ length area = omega (arith, length-append to-cell (bytesOf ringNumberBytes (s .address .ringNumber))) in
+      let head-room : at + length head ≤ length area = omega (arith, length-append head (bytesOf cellBytes (s .address .cell))) in
+      let tag-room : at + length (bytesOf tagBytes packedTag) ≤ length area = omega (arith, length-append (bytesOf tagBytes packedTag) (bytesOf lengthBytes (valueLength packedKind))) in
       rw field-numbers at (put-append ring-room (put-append cell-room (put-append head-room (put-append tag-room tag long) cell) ring) start)

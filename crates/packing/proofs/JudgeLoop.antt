@@ -1,5 +1,5 @@
--- The loop of `judge`. Before each turn the records before word `at` are passed: they ascend, none has a ring number above 65,535, and they and the bytes of
--- their fields are counted. Where a record is refused, or none is left, the walk so far is the whole walk (`packs-as-is`).
+-- The loop of `judge`. Before each turn the records before word `at` are passed: they ascend, their numbers fit, and they and the bytes of their fields are
+-- counted. Where a record is refused, or none is left, the walk so far is the whole walk (`packs-as-is`).
 --
 --   words                        the words to pack
 --   last, records, bytes, at     the last record passed, the numbers of records and bytes passed, the word to read next
@@ -17,24 +17,24 @@ use Rattle.answers.specs.declared.refusals.Refusal.{Refusal}
 use Rattle.answers.specs.declared.refusals.Refusal.the-variants.{NotAbove, RingNumber}
 use Rattle.answers.specs.Paper.{Answer, accepted, refused}
 use Rattle.answers.specs.Rows.{firstGiven, answerBy}
-use Rattle.silences.specs.Silences.{Silence, isAbove}
+use Rattle.silences.specs.Silences.{Address, Silence, isAbove}
 use Rattle.silences.specs.Layout.{fieldLength, fieldOf, layout}
-use Rattle.silences.specs.Packing.{silencesOf, recordWords, mostRingNumber, recordRows, recordFault}
-use Rattle.silences.specs.Faults.{AllRingNumbers}
+use Rattle.silences.specs.Packing.{silencesOf, recordWords, recordRows, recordFault}
+use Rattle.silences.specs.Faults.{NumbersFit, AllFit, TooLarge}
 use Rattle.packing.specs.Judging.{Sizes, sized, sizes}
 use Rattle.silences.proofs.FieldBytes.{field-length}
 use Rattle.silences.proofs.WordsOfSilences.{silenceFrom, silencesOf-step, silencesOf-end}
 use Rattle.silences.proofs.AscendingAfter.{AscendingAfter, lastAfter, lastAfter-end, ascends-more}
-use Rattle.silences.proofs.RecordsPacked.{RecordStands, packed-all, stopped-ring-number, stopped-record, ring-numbers-more, packs-as-is}
+use Rattle.silences.proofs.RecordsPacked.{RecordStands, packed-all, stopped-number, stopped-record, all-fit-more, packs-as-is}
 
 -- The loop's invariant. `records-le` and `bytes-le` show that the two sums do not overflow: there are no more records than words.
-pub record JudgedTo (words : List ℕ) (last : Option Silence) (records bytes at : ℕ) : Type 0 where
+pub record JudgedTo (words : List ℕ) (last : Option Address) (records bytes at : ℕ) : Type 0 where
   pub at-le : at ≤ length words
   pub records-le : records ≤ at
   pub bytes-le : bytes ≤ fieldLength * at
   pub passed : List Silence
   pub all-are : silencesOf words ≡ passed ++ silencesOf (drop at words)
-  pub ring-numbers : AllRingNumbers passed
+  pub all-fit : AllFit passed
   pub ascends : AscendingAfter none passed
   pub last-is : last ≡ lastAfter none passed
   pub records-is : records ≡ length passed
@@ -59,14 +59,14 @@ module _ {words : List ℕ} where
         bytes-le = omega arith;
         passed = [];
         all-are = refl;
-        ring-numbers = tt;
+        all-fit = tt;
         ascends = tt;
         last-is = refl;
         records-is = refl;
         bytes-is = refl;
       }
 
-  module _ {last : Option Silence} {records bytes at : ℕ} (now : JudgedTo words last records bytes at) where
+  module _ {last : Option Address} {records bytes at : ℕ} (now : JudgedTo words last records bytes at) where
     module _ (h : at + recordWords ≤ length words) where
       -- this record is the next of them
       all-from : silencesOf words ≡ now .passed ++ silenceFrom words at ∷ silencesOf (drop (at + recordWords) words)
@@ -79,23 +79,23 @@ module _ {words : List ℕ} where
             later = silencesOf (drop (at + recordWords) words);
             records-are = all-from;
             number-is = omega (arith, now .records-is);
-            ring-numbers = now .ring-numbers;
+            all-fit = now .all-fit;
             ascends = now .ascends;
           }
 
-      -- If this record's ring number is above 65,535, refusal 9 with its number is the answer.
-      pub judge-ring-number : mostRingNumber < silenceFrom words at .ringNumber → refused (RingNumber records) ≡ judgement words
-      judge-ring-number high = sym (judged-by words (packs-as-is (stopped-ring-number stands-here high)))
+      -- If a number of this record is too large, refusal 9 with its number is the answer.
+      pub judge-too-large : TooLarge (silenceFrom words at) → refused (RingNumber records) ≡ judgement words
+      judge-too-large high = sym (judged-by words (packs-as-is (stopped-number stands-here high)))
 
-      module _ (low : silenceFrom words at .ringNumber ≤ mostRingNumber) where
+      module _ (fit : NumbersFit (silenceFrom words at)) where
         -- If this record is not above the last, refusal 7 with its number is the answer.
-        pub judge-not-above : isAbove last (silenceFrom words at) ≡ false → refused (NotAbove records) ≡ judgement words
+        pub judge-not-above : isAbove last (silenceFrom words at .address) ≡ false → refused (NotAbove records) ≡ judgement words
         judge-not-above e =
-            sym (judged-by words (packs-as-is (stopped-record stands-here low (subst (λ (l : Option Silence). isAbove l (silenceFrom words at) ≡ false) (now .last-is) e))))
+            sym (judged-by words (packs-as-is (stopped-record stands-here fit (subst (λ (l : Option Address). isAbove l (silenceFrom words at .address) ≡ false) (now .last-is) e))))
 
         -- If this record is above the last, the invariant holds again with it passed and counted.
-        pub judge-turn : {field : ℕ} → isAbove last (silenceFrom words at) ≡ true → length (fieldOf (silenceFrom words at)) ≡ field
-            → JudgedTo words (some (silenceFrom words at)) (records + 1) (bytes + field) (at + recordWords)
+        pub judge-turn : {field : ℕ} → isAbove last (silenceFrom words at .address) ≡ true → length (fieldOf (silenceFrom words at)) ≡ field
+            → JudgedTo words (some (silenceFrom words at .address)) (records + 1) (bytes + field) (at + recordWords)
         unfolding numbersOfEach
         judge-turn {field} e long =
             let here : Silence = silenceFrom words at in
@@ -106,8 +106,8 @@ module _ {words : List ℕ} where
               bytes-le = omega (arith, now .bytes-le, field-length here);
               passed = now .passed ++ here ∷ [];
               all-are = all-from ∙ sym (append-snoc (now .passed) here others);
-              ring-numbers = ring-numbers-more (now .passed) here (now .ring-numbers) low;
-              ascends = ascends-more none (now .passed) here (now .ascends) (subst (λ (l : Option Silence). isAbove l here ≡ true) (now .last-is) e);
+              all-fit = all-fit-more (now .passed) here (now .all-fit) fit;
+              ascends = ascends-more none (now .passed) here (now .ascends) (subst (λ (l : Option Address). isAbove l (here .address) ≡ true) (now .last-is) e);
               last-is = sym (lastAfter-end none (now .passed) here);
               records-is = omega (arith, now .records-is, length-append (now .passed) (here ∷ []));
               bytes-is =
@@ -126,4 +126,4 @@ module _ {words : List ℕ} where
         now .all-are ∙ ap (λ (l : List Silence). now .passed ++ l) (silencesOf-end words at h) ∙ append-nil (now .passed) in
         (λ i. accepted (sized (now .records-is i) (now .bytes-is i)))
         ∙ ap (λ (ss : List Silence). accepted (sizes ss)) (sym all)
-        ∙ sym (judged-by words (ap (λ (ss : List Silence). firstGiven (recordRows none 0 ss)) all ∙ packs-as-is (packed-all (now .ring-numbers) (now .ascends))))
+        ∙ sym (judged-by words (ap (λ (ss : List Silence). firstGiven (recordRows none 0 ss)) all ∙ packs-as-is (packed-all (now .all-fit) (now .ascends))))

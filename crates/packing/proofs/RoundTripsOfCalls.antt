@@ -14,13 +14,13 @@ use Rattle.answers.specs.Paper.{Answer, accepted}
 use Rattle.answers.specs.Rows.{answerBy}
 use Rattle.answers.proofs.AnswerByRows.{answer-gives-iff}
 use Rattle.silences.specs.Silences.{Silence}
-use Rattle.silences.specs.Layout.{fieldLength, layout}
+use Rattle.silences.specs.Layout.{fieldLength, layout, mostSilences}
 use Rattle.silences.specs.Reading.{silencesRead}
 use Rattle.silences.specs.Packing.{wordsOfSilences, recordWords, silencesOf, areaAtExit, packRefusal, packed, unpackRefusal, unpacked}
 use Rattle.silences.proofs.LayoutRead.{layout-length}
 use Rattle.silences.proofs.WordsOfSilences.{words-length}
 use Rattle.silences.proofs.AreaAtExit.{area-front}
-use Rattle.silences.proofs.RoundTrips.{packed-unpacked, packed-words-are, unpacked-packed, unpacked-layout-is}
+use Rattle.silences.proofs.RoundTrips.{packed-unpacked, packed-words-are, unpacked-book, unpacked-packed, unpacked-layout-is}
 use Rattle.book.specs.declared.answering.BookAnswer.{BookAnswer}
 use Rattle.book.specs.declared.answering.BookAnswer.the-variants.{Records}
 use Rattle.book.specs.Calls.{paperOf, recordsPaper, IsUnpacked}
@@ -73,9 +73,10 @@ unpack-pack book area n out are-bytes unpack area′ r out′ room pack =
     let words : List ℕ = take (recordWords * n) out in
     let was = gave wordsOfSilences recordWords words-length (unpackRefusal book (length area)) ss area n out (unpack .written) (unpack .paper) in
     let layout-is : layout ss ≡ book = unpacked-layout-is book are-bytes (length area) ss (was .0) in
-    let enough : length book ≤ length area′ = omega (arith, ap length layout-is, layout-length ss, was .1) in
+    let enough : length (layout ss) ≤ length area′ = omega (arith, layout-length ss, was .1) in
+    let few : length ss ≤ mostSilences = omega (arith, ap length layout-is, layout-length ss, unpacked-book book are-bytes (length area) ss (was .0) .length-le) in
     let accepts : packed words (length area′) ≡ accepted ss =
-    ap (λ (l : List ℕ). packed l (length area′)) (was .2) ∙ unpacked-packed book are-bytes (length area) ss (was .0) (length area′) enough in
+    ap (λ (l : List ℕ). packed l (length area′)) (was .2) ∙ unpacked-packed book are-bytes (length area) ss (was .0) few (length area′) enough in
     let back =
     gives-records layout fieldLength layout-length (packRefusal words (length area′)) (silencesOf words) area′ n out′ (pack .written) ss accepts (was .1) r (pack .paper) in
     (back .0, back .1 ∙ layout-is)

@@ -19,7 +19,7 @@ use Rattle.answers.proofs.AnswerByRows.{row-place-iff, row-number-iff, accepted
 use Rattle.silences.specs.Silences.{Silence}
 use Rattle.silences.specs.Layout.{fieldLength, layout}
 use Rattle.silences.specs.Packing.{silencesOf, packRefusal, packed}
-use Rattle.silences.specs.Faults.{HasWordCount, IsRingFault, IsRecordFault, IsPackable}
+use Rattle.silences.specs.Faults.{HasWordCount, IsNumberFault, IsRecordFault, IsPackable}
 use Rattle.silences.proofs.LayoutRead.{layout-length}
 use Rattle.silences.proofs.PackRows.{HasWrongCount, pack-has, pack-8-iff, pack-9-iff, pack-7-iff, pack-10-iff, pack-none-iff}
 use Rattle.book.specs.declared.answering.BookAnswer.{BookAnswer}
@@ -51,7 +51,7 @@ module _ (words area : List ℕ) (r : BookAnswer) (out : List ℕ) (meets : IsPa
   pack-row-8-place = refusal-place-is 0 (answerBy o records) paper WordCount (omega arith)
 
   -- Row 9, "a ring number to pack is above 65,535", is given at record number i exactly if row 8 is not and it is the first fault.
-  pub pack-row-9 : (i : ℕ) → ((paperOf r .number ≡ 9) × (paperOf r .place ≡ i)) ↔ (HasWordCount words × IsRingFault words i)
+  pub pack-row-9 : (i : ℕ) → ((paperOf r .number ≡ 9) × (paperOf r .place ≡ i)) ↔ (HasWordCount words × IsNumberFault words i)
   pack-row-9 i = Iff·trans (row-place-iff 0 records o paper (RingNumber i)) (pack-9-iff words (length area) i)
 
   -- Row 7, "a record isn't above the one before it", is given at record number i exactly if row 8 is not and it is the first fault.

@@ -12,7 +12,7 @@ ghost use Prim.Native.Nat.{_+_, _≤_};
 ghost use lib.ListN.{length};
 ghost use Rattle.lists.specs.Areas.{written};
 ghost use Rattle.fields.specs.Numbers.{bytesOf};
-ghost use Rattle.silences.specs.Silences.{silence};
+ghost use Rattle.silences.specs.Silences.{address, silence};
 ghost use Rattle.silences.specs.Layout.{fieldOf, layout};
 ghost use Rattle.silences.specs.Packing.{silencesOf};
 ghost use Rattle.packing.specs.Putting.{AreBytesPut};
@@ -35,8 +35,8 @@ fn put_number(out: &mut [u8], at: usize, count: usize, number: u32) -> usize
 
 // Writes a silence's field from `at` on: "one-byte tag, two-byte length, value". Returns the byte offset just past it.
 fn put_field(out: &mut [u8], at: usize, cell: u32, ring_number: u32, start: u32) -> usize
-    requires { ⌜ at + length (fieldOf (silence cell «ring_number» start)) ≤ length (now out) ⌝ }
-    ensures { λ r. ⌜ AreBytesPut at (fieldOf (silence cell «ring_number» start)) (now (out .entry)) r (now (out .exit)) ⌝ }
+    requires { ⌜ at + length (fieldOf (silence (address cell «ring_number» start) 0)) ≤ length (now out) ⌝ }
+    ensures { λ r. ⌜ AreBytesPut at (fieldOf (silence (address cell «ring_number» start) 0)) (now (out .entry)) r (now (out .exit)) ⌝ }
 {
     let length_at = put_number(out, at, TAG_BYTES, SILENCE_TAG as u32);
     let value_at = put_number(out, length_at, LENGTH_BYTES, SILENCE_LENGTH as u32);

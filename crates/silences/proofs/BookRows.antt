@@ -1,5 +1,5 @@
 -- When reading a book gives row 5, 6 or 7, and at which byte offset: row 5 exactly for a book longer than 13,000 bytes, else row 6 or 7 exactly at the first
--- faulty field; no other row. Reading stops at that field (`ReadsAs`), and everything before it is a layout. The laws are about `bookRefusal`, the first row
+-- faulty field; no other row. Reading stops at that field (`ReadsAs`), and everything before it is fine. The laws are about `bookRefusal`, the first row
 -- that is given, because a report uses it too; `book-refused-iff` carries them over to `readBook`.
 use Prim.Native.Nat.{ℕ, _+_, _≤_, _<_}
 use mathlib.Core.Logic.{_↔_, Iff·trans}
@@ -18,11 +18,11 @@ use Rattle.answers.proofs.FirstRow.{none-some}
 use Rattle.answers.proofs.RowsExactly.{OtherNumber, IsRow, is-row, end, each, row-has, first-has, at-fault, at-row, past-row}
 use Rattle.answers.proofs.AnswerByRows.{answer-refused-iff, answer-gives-iff}
 use Rattle.fields.specs.Tagged.{headLength}
-use Rattle.silences.specs.Silences.{Silence}
+use Rattle.silences.specs.Silences.{Address, Silence}
 use Rattle.silences.specs.Layout.{mostBytes}
-use Rattle.silences.specs.Reading.{silenceAt, readFrom, faultIn, silencesIn, fieldFault, silencesRead, isRow5, bookRows, bookRefusal, readBook}
+use Rattle.silences.specs.Reading.{addressAt, silenceAt, whole, fieldAt, readFrom, faultIn, silencesIn, fieldFault, silencesRead, isRow5, bookRows, bookRefusal, readBook}
 use Rattle.silences.specs.Faults.{IsNotAbove, IsFieldFault, IsOrderFault}
-use Rattle.silences.proofs.FieldTest.{field-whole-is, tested-iff, field-whole-iff, field-faulty-iff}
+use Rattle.silences.proofs.FieldTest.{IsWholeField, field-whole-is, field-whole-iff, field-faulty-iff}
 use Rattle.silences.proofs.AscendingAfter.{not-above-iff}
 use Rattle.silences.proofs.FieldsRead.{ReadsAs, stopped-faulty, stopped-order, reads-as, reads-as-is}
 use Rattle.silences.proofs.LayoutRead.{read-fine, fine-read}
@@ -76,6 +76,11 @@ module _ (book : List ℕ) where
   unfolding bookRows
   refusal-has P five six seven = first-has (row-has is-row-5 five (each (fault-has P six seven) end))
 
+-- a whole field's address is the one behind its head, whatever its kind
+address-is : (book : List ℕ) (at : ℕ) (s : Silence) (next : ℕ) → fieldAt book at ≡ whole s next → s .address ≡ addressAt book (at + headLength)
+unfolding silenceAt
+address-is book at s next e = ap (λ (t : Silence). t .address) (field-whole-is book at s next e .silence-is)
+
 module _ (book : List ℕ) (bytes : IsBytes book) (at : ℕ) where
   -- The first faulty field is refused by row 6 at `at` exactly when everything before `at` is fine, the book goes on, and no field stands there.
   pub fault-6-iff : (fieldFault book ≡ some (Field at)) ↔ IsFieldFault book at
@@ -91,8 +96,9 @@ module _ (book : List ℕ) (bytes : IsBytes book) (at : ℕ) where
   fault-7-iff =
       Iff·trans (fault-iff book (NotAbove at)) (
         stands at,
-        λ f. stopped-order (fine-read book (f .fine) at (f .fine-before)) (field-whole-iff book at .1 (f .field))
-            (not-above-iff (f .fine) (silenceAt book (at + headLength)) .1 (f .not-above)),
+        λ f. let here = field-whole-iff book at .1 (f .field) in
+            stopped-order (fine-read book (f .fine) at (f .fine-before)) (here .2)
+            (not-above-iff (f .fine) (here .0 .address) .1 (subst (IsNotAbove (f .fine)) (sym (address-is book at (here .0) (here .1) (here .2))) (f .not-above))),
       )
     where
       stands : (i : ℕ) → ReadsAs book none 0 (refused (NotAbove i)) → IsOrderFault book i
@@ -100,8 +106,8 @@ module _ (book : List ℕ) (bytes : IsBytes book) (at : ℕ) where
           record {
             fine = ss;
             fine-before = read-fine book bytes f;
-            field = tested-iff book i .0 (field-whole-is book i s next n .0);
-            not-above = subst (IsNotAbove ss) (field-whole-is book i s next n .1) (not-above-iff ss s .0 o);
+            field = field-whole-iff book i .0 (s, next, n);
+            not-above = subst (IsNotAbove ss) (address-is book i s next n) (not-above-iff ss (s .address) .0 o);
           }
 
   -- Row 6 is given at byte offset `at` exactly when row 5 is not given and row 6's fault is at `at`, with everything before it fine.

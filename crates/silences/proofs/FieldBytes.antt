@@ -1,108 +1,182 @@
--- A field's bytes and its silence determine each other. The field of a silence in range, wherever it stands, is read back as that silence (`field-of-silence`).
--- Where a whole field is read, its bytes are the field of its silence, which is in range (`silence-of-field`). Number by number, by FieldLaid of crates/fields.
+-- A field's bytes and its silence determine each other, whatever the field's tag. The field of a silence in range, wherever it stands, is read back as that
+-- silence (`field-of-silence`). Where a whole field is read, its bytes are a field that says its silence, which is in range (`silence-of-field`). Number by
+-- number, by FieldLaid of crates/fields.
 use Prim.Native.Nat.{ℕ, _+_, _≤_}
 use mathlib.Core.Path.{_≡_, refl, sym, ap, ap₂, subst, _∙_}
 use mathlib.Core.List.{List, _∷_, _++_, append-assoc}
+use mathlib.Core.Option.{Option, some}
 use native.Mathlib.Omega.{arith}
-use lib.ListN.{length, take, drop, length-append}
+use lib.ListN.{length, getD, take, drop, length-append}
 use lib.Seq.{take-at}
 use Rattle.lists.specs.Bounds.{IsBytes}
 use Rattle.fields.specs.Numbers.{bytesOf, numberAt}
 use Rattle.fields.specs.Tagged.{lengthBytes, headLength, field, fieldEnd}
 use Rattle.fields.proofs.NumberBytes.{bytesOf-length, numberAt-lt}
 use Rattle.fields.proofs.FieldLaid.{laid-number, laid-number-rest, laid-tag, laid-long, laid-value, laid-within, number-then, field-then}
-use Rattle.silences.specs.Silences.{Silence, cellBytes, ringNumberBytes, startBytes, InRange}
-use Rattle.silences.specs.Layout.{silenceTag, valueLength, fieldLength, valueOf, fieldOf}
-use Rattle.silences.specs.Reading.{silenceAt, whole, fieldAt}
-use Rattle.silences.proofs.FieldTest.{IsTested, field-whole-is, field-is-whole}
+use Rattle.silences.specs.Silences.{Address, Silence, silence, cellBytes, ringNumberBytes, startBytes, InRange}
+use Rattle.silences.specs.Layout.{Kind, kindByTag, addressBytes, addressValue, valueLength, valueOf, CanSay, packedTag, packedKind, fieldLength, fieldOf}
+use Rattle.silences.specs.Reading.{addressAt, silenceAt, whole, fieldAt}
+use Rattle.silences.specs.Books.{IsFieldOf}
+use Rattle.silences.proofs.FieldTest.{kind-length-lt, kind-ceiling-lt, IsTested, IsWholeField, field-whole-is, field-is-whole}
 
--- a value has 10 bytes
-value-length : (s : Silence) → length (valueOf s) ≡ valueLength
+-- an address has 10 bytes
+address-length : (a : Address) → length (addressValue a) ≡ addressBytes
+unfolding addressValue
+address-length a = simp (length-append, bytesOf-length)
+
+-- a value has as many bytes as its kind says
+value-length : (kind : Kind) (s : Silence) → length (valueOf kind s) ≡ valueLength kind
 unfolding valueOf
-value-length s = simp (length-append, bytesOf-length)
+value-length kind s =
+    length-append (addressValue (s .address)) (bytesOf (kind .ceilingBytes) (s .ceiling))
+    ∙ ap₂ (λ (m n : ℕ). m + n) (address-length (s .address)) (bytesOf-length (kind .ceilingBytes) (s .ceiling))
 
--- The field of a silence is 21 00 0A hex and then its value.
-pub fieldOf-is : (s : Silence) → fieldOf s ≡ 0x21 ∷ 0x00 ∷ 0x0a ∷ valueOf s
-unfolding fieldOf bytesOf
-fieldOf-is s = ap (λ (n : ℕ). silenceTag ∷ bytesOf lengthBytes n ++ valueOf s) (value-length s)
+-- A field that says a silence has the bytes of its head and of its value.
+pub field-of-length : {tag : ℕ} {s : Silence} {here : List ℕ} (f : IsFieldOf tag s here) → length here ≡ headLength + valueLength (f .kind)
+unfolding bytesOf
+field-of-length {s = s} f = ap length (f .bytes-are) ∙ omega (arith, value-length (f .kind) s)
+
+-- The field that packing writes for a silence is its tag, its length in two bytes, and its value.
+pub fieldOf-is : (s : Silence) → fieldOf s ≡ packedTag ∷ bytesOf lengthBytes (valueLength packedKind) ++ valueOf packedKind s
+unfolding fieldOf
+fieldOf-is s = ap (λ (n : ℕ). packedTag ∷ bytesOf lengthBytes n ++ valueOf packedKind s) (value-length packedKind s)
+
+-- The field that packing writes says its silence, if a field of its kind can.
+pub packed-field : (s : Silence) → CanSay packedKind s → IsFieldOf packedTag s (fieldOf s)
+unfolding fieldOf kindByTag
+packed-field s can = record { kind = packedKind; kind-is = refl; can-say = can; bytes-are = refl }
 
 -- "Each silence is one field of 13 bytes."
 pub field-length : (s : Silence) → length (fieldOf s) ≡ fieldLength
-field-length s = ap length (fieldOf-is s) ∙ omega (arith, value-length s)
+unfolding bytesOf
+field-length s = ap length (fieldOf-is s) ∙ omega (arith, value-length packedKind s)
 
--- The field of a silence in range, wherever it stands in a book, is read back as that silence, with its end.
-pub field-of-silence : (s : Silence) → InRange s → (book : List ℕ) (at : ℕ) (rest : List ℕ) → drop at book ≡ fieldOf s ++ rest
-    → fieldAt book at ≡ whole s (at + length (fieldOf s))
-unfolding fieldOf valueOf silenceAt
-field-of-silence s in-range book at rest laid =
+module _ (book : List ℕ) (at : ℕ) (a : Address) (rest : List ℕ) (laid : drop at book ≡ addressValue a ++ rest) where
+  -- the three numbers of an address, one after the other
+  abbrev ring-bytes : List ℕ
+  ring-bytes = bytesOf ringNumberBytes (a .ringNumber)
+
+  abbrev start-bytes : List ℕ
+  start-bytes = bytesOf startBytes (a .start)
+
+  cell-laid : drop at book ≡ bytesOf cellBytes (a .cell) ++ (ring-bytes ++ (start-bytes ++ rest))
+  unfolding addressValue
+  cell-laid = laid ∙ simp append-assoc
+
+  ring-laid : drop (at + cellBytes) book ≡ ring-bytes ++ (start-bytes ++ rest)
+  ring-laid = laid-number-rest book at cellBytes (a .cell) (ring-bytes ++ (start-bytes ++ rest)) cell-laid
+
+  start-laid : drop (at + cellBytes + ringNumberBytes) book ≡ start-bytes ++ rest
+  start-laid = laid-number-rest book (at + cellBytes) ringNumberBytes (a .ringNumber) (start-bytes ++ rest) ring-laid
+
+  -- behind an address stands the rest
+  address-rest : drop (at + addressBytes) book ≡ rest
+  address-rest =
+      let same : at + addressBytes ≡ at + cellBytes + ringNumberBytes + startBytes = omega arith in
+      ap (λ (n : ℕ). drop n book) same ∙ laid-number-rest book (at + cellBytes + ringNumberBytes) startBytes (a .start) rest start-laid
+
+  -- an address in range is read back
+  address-laid : {ceiling : ℕ} → InRange (silence a ceiling) → addressAt book at ≡ a
+  unfolding addressAt
+  address-laid in-range =
+      let cell-is = laid-number book at cellBytes (a .cell) (ring-bytes ++ (start-bytes ++ rest)) cell-laid (in-range .cell-lt) in
+      let ring-is = laid-number book (at + cellBytes) ringNumberBytes (a .ringNumber) (start-bytes ++ rest) ring-laid (in-range .ring-number-lt) in
+      let start-is = laid-number book (at + cellBytes + ringNumberBytes) startBytes (a .start) rest start-laid (in-range .start-lt) in
+      λ i. record { cell = cell-is i; ringNumber = ring-is i; start = start-is i }
+
+-- A field that says a silence in range, wherever it stands in a book, is read back as that silence, with its end.
+pub field-of-silence : {tag : ℕ} {s : Silence} {here : List ℕ} → IsFieldOf tag s here → InRange s → (book : List ℕ) (at : ℕ) (rest : List ℕ)
+    → drop at book ≡ here ++ rest → fieldAt book at ≡ whole s (at + length here)
+unfolding valueOf silenceAt
+field-of-silence {tag} {s} {here} f in-range book at rest laid-here =
+    let kind : Kind = f .kind in
     let value-at : ℕ = at + headLength in
-    let ring-bytes : List ℕ = bytesOf ringNumberBytes (s .ringNumber) in
-    let start-bytes : List ℕ = bytesOf startBytes (s .start) in
-    let long : length (valueOf s) ≡ valueLength = value-length s in
-    let cell-laid : drop value-at book ≡ bytesOf cellBytes (s .cell) ++ (ring-bytes ++ (start-bytes ++ rest)) =
-    laid-value book at silenceTag (valueOf s) rest laid ∙ simp append-assoc in
-    let ring-laid : drop (value-at + cellBytes) book ≡ ring-bytes ++ (start-bytes ++ rest) =
-    laid-number-rest book value-at cellBytes (s .cell) (ring-bytes ++ (start-bytes ++ rest)) cell-laid in
-    let start-laid : drop (value-at + cellBytes + ringNumberBytes) book ≡ start-bytes ++ rest =
-    laid-number-rest book (value-at + cellBytes) ringNumberBytes (s .ringNumber) (start-bytes ++ rest) ring-laid in
-    let cell-is : numberAt cellBytes book value-at ≡ s .cell =
-    laid-number book value-at cellBytes (s .cell) (ring-bytes ++ (start-bytes ++ rest)) cell-laid (in-range .cell-lt) in
-    let ring-is : numberAt ringNumberBytes book (value-at + cellBytes) ≡ s .ringNumber =
-    laid-number book (value-at + cellBytes) ringNumberBytes (s .ringNumber) (start-bytes ++ rest) ring-laid (in-range .ring-number-lt) in
-    let start-is : numberAt startBytes book (value-at + cellBytes + ringNumberBytes) ≡ s .start =
-    laid-number book (value-at + cellBytes + ringNumberBytes) startBytes (s .start) rest start-laid (in-range .start-lt) in
-    let tested : IsTested book at =
+    let ceiling-bytes : List ℕ = bytesOf (kind .ceilingBytes) (s .ceiling) in
+    let laid : drop at book ≡ field tag (valueOf kind s) ++ rest = laid-here ∙ ap (λ (l : List ℕ). l ++ rest) (f .bytes-are) in
+    let long : length (valueOf kind s) ≡ valueLength kind = value-length kind s in
+    let address-then : drop value-at book ≡ addressValue (s .address) ++ (ceiling-bytes ++ rest) =
+    laid-value book at tag (valueOf kind s) rest laid ∙ append-assoc (addressValue (s .address)) ceiling-bytes rest in
+    let address-is : addressAt book value-at ≡ s .address = address-laid book value-at (s .address) (ceiling-bytes ++ rest) address-then in-range in
+    let ceiling-is : numberAt (kind .ceilingBytes) book (value-at + addressBytes) ≡ s .ceiling =
+    laid-number book (value-at + addressBytes) (kind .ceilingBytes) (s .ceiling) rest (address-rest book value-at (s .address) (ceiling-bytes ++ rest) address-then) (f .can-say) in
+    let tested : IsTested book at kind =
     record {
-      tag-is = laid-tag book at silenceTag (valueOf s) rest laid;
-      long-is = laid-long book at silenceTag (valueOf s) rest laid (omega arith) ∙ long;
-      within = omega (arith, laid-within book at silenceTag (valueOf s) rest laid);
+      kind-is = ap kindByTag (laid-tag book at tag (valueOf kind s) rest laid) ∙ f .kind-is;
+      long-is = laid-long book at tag (valueOf kind s) rest laid (omega (arith, kind-length-lt tag kind (f .kind-is))) ∙ long;
+      within = omega (arith, laid-within book at tag (valueOf kind s) rest laid);
     } in
-    field-is-whole book at tested (λ i. record { cell = sym cell-is i; ringNumber = sym ring-is i; start = sym start-is i }) (omega (arith, field-length s))
+    field-is-whole book at kind tested (λ i. record { address = sym address-is i; ceiling = sym ceiling-is i }) (omega (arith, field-of-length f))
 
 module _ (book : List ℕ) (bytes : IsBytes book) (at : ℕ) where
-  -- a silence that is read is in range
-  value-in-range : InRange (silenceAt book at)
+  -- a field of the kind that was read can say the silence that was read
+  value-can-say : (kind : Kind) → CanSay kind (silenceAt kind book at)
   unfolding silenceAt
-  value-in-range =
+  value-can-say kind = numberAt-lt book bytes (kind .ceilingBytes) (at + addressBytes)
+
+  -- a silence that is read is in range
+  value-in-range : (tag : ℕ) (kind : Kind) → kindByTag tag ≡ some kind → InRange (silenceAt kind book at)
+  unfolding silenceAt addressAt
+  value-in-range tag kind is =
       record {
         cell-lt = numberAt-lt book bytes cellBytes at;
         ring-number-lt = numberAt-lt book bytes ringNumberBytes (at + cellBytes);
         start-lt = numberAt-lt book bytes startBytes (at + cellBytes + ringNumberBytes);
+        ceiling-lt = kind-ceiling-lt tag kind is (numberAt (kind .ceilingBytes) book (at + addressBytes)) (value-can-say kind);
       }
 
-  -- the value's bytes stand in the book, and then the rest
-  value-then : at + valueLength ≤ length book → drop at book ≡ valueOf (silenceAt book at) ++ drop (at + cellBytes + ringNumberBytes + startBytes) book
-  unfolding silenceAt valueOf
-  value-then within =
+  -- the bytes of an address stand in the book, and then the rest
+  address-then : at + addressBytes ≤ length book → drop at book ≡ addressValue (addressAt book at) ++ drop (at + addressBytes) book
+  unfolding addressAt addressValue
+  address-then within =
+      let same : at + cellBytes + ringNumberBytes + startBytes ≡ at + addressBytes = omega arith in
       number-then book bytes cellBytes at (omega arith)
       ∙ ap (λ (l : List ℕ). bytesOf cellBytes (numberAt cellBytes book at) ++ l)
       (number-then book bytes ringNumberBytes (at + cellBytes) (omega arith)
       ∙ ap (λ (l : List ℕ). bytesOf ringNumberBytes (numberAt ringNumberBytes book (at + cellBytes)) ++ l)
-      (number-then book bytes startBytes (at + cellBytes + ringNumberBytes) (omega arith)))
+      (number-then book bytes startBytes (at + cellBytes + ringNumberBytes) (omega arith)
+      ∙ ap (λ (n : ℕ). bytesOf startBytes (numberAt startBytes book (at + cellBytes + ringNumberBytes)) ++ drop n book) same))
       ∙ sym (simp append-assoc)
 
--- At `at` the book has the field of `s`, followed by what stands from `next` on; and `s` is in range.
+  -- so do the bytes of a value
+  value-then : (kind : Kind) → at + valueLength kind ≤ length book
+      → drop at book ≡ valueOf kind (silenceAt kind book at) ++ drop (at + addressBytes + kind .ceilingBytes) book
+  unfolding silenceAt valueOf
+  value-then kind within =
+      address-then (omega arith)
+      ∙ ap (λ (l : List ℕ). addressValue (addressAt book at) ++ l) (number-then book bytes (kind .ceilingBytes) (at + addressBytes) (omega arith))
+      ∙ sym (append-assoc (addressValue (addressAt book at)) (bytesOf (kind .ceilingBytes) (numberAt (kind .ceilingBytes) book (at + addressBytes)))
+      (drop (at + addressBytes + kind .ceilingBytes) book))
+
+-- At `at` the book has a field that says `s`, followed by what stands from `next` on; and `s` is in range.
 pub record FieldStands (book : List ℕ) (at : ℕ) (s : Silence) (next : ℕ) : Type 0 where
+  pub tag : ℕ
+  pub here : List ℕ
+  pub is-field : IsFieldOf tag s here
   pub in-range : InRange s
-  pub bytes-are : drop at book ≡ fieldOf s ++ drop next book
+  pub bytes-are : drop at book ≡ here ++ drop next book
+  pub next-is : next ≡ at + length here
 
--- A whole field ends as many bytes after its beginning as the field of its silence has.
-pub field-next-is : (book : List ℕ) (at : ℕ) (s : Silence) (next : ℕ) → fieldAt book at ≡ whole s next → next ≡ at + length (fieldOf s)
-field-next-is book at s next e = omega (arith, field-whole-is book at s next e .2, field-length s)
-
--- Where a whole field is read, its bytes are the field of its silence, which is in range.
+-- Where a whole field is read, its bytes are a field that says its silence, which is in range.
 pub silence-of-field : (book : List ℕ) → IsBytes book → (at : ℕ) (s : Silence) (next : ℕ) → fieldAt book at ≡ whole s next → FieldStands book at s next
-unfolding fieldOf
 silence-of-field book bytes at s next e =
-    let f : IsTested book at × (s ≡ silenceAt book (at + headLength)) × (next ≡ fieldEnd at valueLength) = field-whole-is book at s next e in
+    let f : IsWholeField book at s next = field-whole-is book at s next e in
+    let kind : Kind = f .kind in
     let value-at : ℕ = at + headLength in
-    let value-is : take valueLength (drop value-at book) ≡ valueOf s =
-    ap (take valueLength) (value-then book bytes value-at (f .0 .within))
-    ∙ take-at (valueOf (silenceAt book value-at)) (drop (value-at + cellBytes + ringNumberBytes + startBytes) book) valueLength (value-length (silenceAt book value-at))
-    ∙ ap valueOf (sym (f .1)) in
+    let read : Silence = silenceAt kind book value-at in
+    let value-is : take (valueLength kind) (drop value-at book) ≡ valueOf kind s =
+    ap (take (valueLength kind)) (value-then book bytes value-at kind (f .tested .within))
+    ∙ take-at (valueOf kind read) (drop (value-at + addressBytes + kind .ceilingBytes) book) (valueLength kind) (value-length kind read)
+    ∙ ap (valueOf kind) (sym (f .silence-is)) in
+    let here : List ℕ = field (getD book at 0) (valueOf kind s) in
+    let is-field : IsFieldOf (getD book at 0) s here =
+    record { kind = kind; kind-is = f .tested .kind-is; can-say = subst (CanSay kind) (sym (f .silence-is)) (value-can-say book bytes value-at kind); bytes-are = refl } in
     record {
-      in-range = subst InRange (sym (f .1)) (value-in-range book bytes value-at);
+      tag = getD book at 0;
+      here = here;
+      is-field = is-field;
+      in-range = subst InRange (sym (f .silence-is)) (value-in-range book bytes value-at (getD book at 0) kind (f .tested .kind-is));
       bytes-are =
-          field-then book bytes at valueLength (f .0 .long-is) (f .0 .within)
-          ∙ (λ i. field (f .0 .tag-is i) (value-is i) ++ drop (sym (f .2) i) book);
+          field-then book bytes at (valueLength kind) (f .tested .long-is) (f .tested .within)
+          ∙ (λ i. field (getD book at 0) (value-is i) ++ drop (sym (f .next-is) i) book);
+      next-is = omega (arith, f .next-is, field-of-length is-field);
     }

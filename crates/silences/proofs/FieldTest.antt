@@ -1,11 +1,11 @@
 -- `fieldAt` decides row 6: it gives a whole field exactly where 13 bytes begin 21 00 0A hex and are not cut off (`IsField`). It makes three tests (`IsTested`):
--- the tag, the two length bytes, which make 10 only as 00 0A, and the field's end.
-use Prim.Native.Nat.{ℕ, _+_, _*_, _≤_, _<_}
+-- the tag has a kind, the two length bytes say the length of that kind, which they do only as 00 and that length, and the field ends within the book.
+use Prim.Native.Nat.{ℕ, _+_, _*_, _^_, _≤_, _<_}
 use mathlib.Core.Logic.{_↔_, Iff·trans}
 use mathlib.Core.Path.{_≡_, refl, sym, ap, ap₂, _∙_}
-use mathlib.Core.Bool.{Bool, true, false, cond, _&&_}
+use mathlib.Core.Bool.{Bool, true, false, cond}
 use mathlib.Core.List.{List, [], _∷_}
-use mathlib.Core.Option.{none, some}
+use mathlib.Core.Option.{Option, none, some}
 use native.Mathlib.Nat.{add-zero}
 use native.Mathlib.Omega.{arith}
 use lib.Dec.{eqb}
@@ -17,10 +17,10 @@ use Rattle.lists.proofs.Records.{part-places}
 use Rattle.lists.proofs.SizesTested.{le-iff, eq-iff, and-iff}
 use Rattle.fields.specs.Numbers.{numberAt}
 use Rattle.fields.specs.Tagged.{headLength, lengthAt, fieldEnd, isWhole}
-use Rattle.silences.specs.Silences.{Silence}
-use Rattle.silences.specs.Layout.{silenceTag, valueLength}
-use Rattle.silences.specs.Reading.{lengthByTag, silenceAt, FieldAt, whole, faulty, fieldBy, fieldAt}
-use Rattle.silences.specs.Books.{IsField}
+use Rattle.silences.specs.Silences.{Silence, ceilingBytes}
+use Rattle.silences.specs.Layout.{Kind, exactTag, exactKind, kindByTag, valueLength}
+use Rattle.silences.specs.Reading.{silenceAt, FieldAt, whole, faulty, fieldBy, fieldAt}
+use Rattle.silences.specs.Books.{BeginsField, IsField}
 
 -- A faulty field is not whole.
 pub faulty-not-whole : {s : Silence} {next : ℕ} → faulty ≡ whole s next → ⊥
@@ -34,62 +34,88 @@ whole-silence-unique e = cc
 pub whole-next-unique : {s t : Silence} {i j : ℕ} → whole s i ≡ whole t j → i ≡ j
 whole-next-unique e = cc
 
--- The field at `at` passes the three tests: its tag is 21 hex, its length bytes say 10, and it ends within the book.
-pub record IsTested (book : List ℕ) (at : ℕ) : Type 0 where
-  pub tag-is : getD book at 0 ≡ silenceTag
-  pub long-is : lengthAt book at ≡ valueLength
-  pub within : fieldEnd at valueLength ≤ length book
+-- A tag with a kind is 21 hex, and its kind is that of an exact silence.
+pub kind-cases : (tag : ℕ) (kind : Kind) → kindByTag tag ≡ some kind → (tag ≡ exactTag) × (kind ≡ exactKind)
+unfolding kindByTag
+kind-cases tag kind =
+    by-test (λ (o : Option Kind). o ≡ some kind → (tag ≡ exactTag) × (kind ≡ exactKind)) (eqb tag exactTag)
+    (λ t e. (eq-iff tag exactTag .0 t, cc))
+    (λ t e. absurd (let z : _≡_ {A = ℕ} 0 1 = cc in omega arith))
+
+-- A value of any kind is shorter than two bytes can say.
+pub kind-length-lt : (tag : ℕ) (kind : Kind) → kindByTag tag ≡ some kind → valueLength kind < 256 ^ 2
+kind-length-lt tag kind e = rw (kind-cases tag kind e .1) (omega arith)
+
+-- A number that fits the ceiling of any kind fits the ceiling of a silence in range.
+pub kind-ceiling-lt : (tag : ℕ) (kind : Kind) → kindByTag tag ≡ some kind → (n : ℕ) → n < 256 ^ kind .ceilingBytes → n < 256 ^ ceilingBytes
+kind-ceiling-lt tag kind e n lt = rw (kind-cases tag kind e .1) at lt
+
+-- The field at `at` passes the three tests for this kind: it is the kind of its tag, its length bytes say the kind's length, and it ends within the book.
+pub record IsTested (book : List ℕ) (at : ℕ) (kind : Kind) : Type 0 where
+  pub kind-is : kindByTag (getD book at 0) ≡ some kind
+  pub long-is : lengthAt book at ≡ valueLength kind
+  pub within : fieldEnd at (valueLength kind) ≤ length book
+
+-- A field that passes the tests for some kind, with the silence of its value and its end just past the value.
+pub record IsWholeField (book : List ℕ) (at : ℕ) (s : Silence) (next : ℕ) : Type 0 where
+  pub kind : Kind
+  pub tested : IsTested book at kind
+  pub silence-is : s ≡ silenceAt kind book (at + headLength)
+  pub next-is : next ≡ fieldEnd at (valueLength kind)
 
 module _ (book : List ℕ) (at : ℕ) where
-  -- the three tests
-  test : Bool
-  test = eqb (getD book at 0) silenceTag && isWhole book at valueLength
+  -- the field of a kind, where the tests pass
+  abbrev hereBy : Kind → FieldAt
+  hereBy kind = whole (silenceAt kind book (at + headLength)) (fieldEnd at (valueLength kind))
 
-  -- the field that stands where they pass
-  abbrev here : FieldAt
-  here = whole (silenceAt book (at + headLength)) (fieldEnd at valueLength)
+  -- the last two tests pass exactly when the two facts hold
+  whole-iff : (kind : Kind)
+      → (isWhole book at (valueLength kind) ≡ true) ↔ ((lengthAt book at ≡ valueLength kind) × (fieldEnd at (valueLength kind) ≤ length book))
+  unfolding isWhole
+  whole-iff kind = and-iff (eq-iff (lengthAt book at) (valueLength kind)) (le-iff (fieldEnd at (valueLength kind)) (length book))
 
-  -- `fieldAt` gives that field if the tests pass, else a faulty one
-  field-by : fieldAt book at ≡ cond test here faulty
-  unfolding fieldAt fieldBy lengthByTag test
-  field-by = go (eqb (getD book at 0) silenceTag)
+  -- A whole field passes the three tests for some kind, its silence is the one of its value, and it ends just past its value.
+  pub field-whole-is : (s : Silence) (next : ℕ) → fieldAt book at ≡ whole s next → IsWholeField book at s next
+  unfolding fieldAt fieldBy
+  field-whole-is s next = go (kindByTag (getD book at 0)) refl
     where
-      go : (t : Bool) → fieldBy (cond t (some valueLength) none) book at ≡ cond (t && isWhole book at valueLength) here faulty
-      go true = refl
-      go false = refl
-
-  -- the tests pass exactly when the three facts hold
-  test-iff : (test ≡ true) ↔ IsTested book at
-  unfolding test isWhole
-  test-iff =
-      Iff·trans (and-iff (eq-iff (getD book at 0) silenceTag) (and-iff (eq-iff (lengthAt book at) valueLength) (le-iff (fieldEnd at valueLength) (length book)))) (
-        λ h. record { tag-is = h .0; long-is = h .1 .0; within = h .1 .1 },
-        λ t. (t .tag-is, (t .long-is, t .within)),
-      )
-
-  -- A whole field passes the three tests (`IsTested`), its silence is the one of its value, and it ends just past its value.
-  pub field-whole-is : (s : Silence) (next : ℕ) → fieldAt book at ≡ whole s next
-      → IsTested book at × (s ≡ silenceAt book (at + headLength)) × (next ≡ fieldEnd at valueLength)
-  field-whole-is s next e =
-      by-test (λ (f : FieldAt). f ≡ whole s next → IsTested book at × (s ≡ silenceAt book (at + headLength)) × (next ≡ fieldEnd at valueLength)) test
-      (λ t is. (test-iff .0 t, sym (whole-silence-unique is), sym (whole-next-unique is)))
-      (λ t is. absurd (faulty-not-whole is))
-      (sym field-by ∙ e)
+      go : (o : Option Kind) → kindByTag (getD book at 0) ≡ o → fieldBy o book at ≡ whole s next → IsWholeField book at s next
+      go none k e = absurd (faulty-not-whole e)
+      go (some kind) k e =
+          by-test (λ (f : FieldAt). f ≡ whole s next → IsWholeField book at s next) (isWhole book at (valueLength kind))
+          (λ t is.
+          let facts = whole-iff kind .0 t in
+          record {
+            kind = kind;
+            tested = record { kind-is = k; long-is = facts .0; within = facts .1 };
+            silence-is = sym (whole-silence-unique is);
+            next-is = sym (whole-next-unique is);
+          })
+          (λ t is. absurd (faulty-not-whole is))
+          e
 
   -- A whole field ends after it begins, and within the book. So a walk from field to field advances, and past the last byte no field stands.
   pub field-ends : (s : Silence) (next : ℕ) → fieldAt book at ≡ whole s next → (at < next) × (next ≤ length book)
   field-ends s next e =
-      let f : IsTested book at × (s ≡ silenceAt book (at + headLength)) × (next ≡ fieldEnd at valueLength) = field-whole-is s next e in
-      (omega arith, omega (arith, f .0 .within))
+      let f : IsWholeField book at s next = field-whole-is s next e in
+      (omega (arith, f .next-is), omega (arith, f .next-is, f .tested .within))
 
-  -- If the three tests pass (`IsTested`), the field is whole, with the silence of its value and its end just past the value.
-  pub field-is-whole : {s : Silence} {next : ℕ} → IsTested book at → s ≡ silenceAt book (at + headLength) → next ≡ fieldEnd at valueLength
-      → fieldAt book at ≡ whole s next
-  field-is-whole t is-silence is-next = field-by ∙ ap (λ (b : Bool). cond b here faulty) (test-iff .1 t) ∙ ap₂ whole (sym is-silence) (sym is-next)
+  -- If the three tests pass for a kind, the field is whole, with the silence of its value and its end just past the value.
+  pub field-is-whole : {s : Silence} {next : ℕ} (kind : Kind) → IsTested book at kind → s ≡ silenceAt kind book (at + headLength)
+      → next ≡ fieldEnd at (valueLength kind) → fieldAt book at ≡ whole s next
+  unfolding fieldAt fieldBy
+  field-is-whole kind t is-silence is-next =
+      ap (λ (o : Option Kind). fieldBy o book at) (t .kind-is)
+      ∙ ap (λ (b : Bool). cond b (hereBy kind) faulty) (whole-iff kind .1 (t .long-is, t .within))
+      ∙ ap₂ whole (sym is-silence) (sym is-next)
 
-  -- If the three tests do not all pass (`IsTested`), the field is faulty.
-  pub field-is-faulty : (IsTested book at → ⊥) → fieldAt book at ≡ faulty
-  field-is-faulty fails = field-by ∙ by-test (λ (f : FieldAt). f ≡ faulty) test (λ t. absurd (fails (test-iff .0 t))) (λ t. refl)
+  -- If the three tests pass for no kind, the field is faulty.
+  pub field-is-faulty : ((kind : Kind) → IsTested book at kind → ⊥) → fieldAt book at ≡ faulty
+  field-is-faulty fails = go (fieldAt book at) refl
+    where
+      go : (f : FieldAt) → fieldAt book at ≡ f → f ≡ faulty
+      go faulty e = refl
+      go (whole s next) e = let f : IsWholeField book at s next = field-whole-is s next e in absurd (fails (f .kind) (f .tested))
 
   -- the number in the two length bytes
   length-is : lengthAt book at ≡ getD book (at + 1) 0 * 256 + getD book (at + 2) 0
@@ -100,28 +126,45 @@ module _ (book : List ℕ) (at : ℕ) where
       rw (first, second) (omega arith)
 
   -- the bytes at the beginning of a field, one by one
-  begins-are : IsField book at → (i : ℕ) → i < headLength → getD book (at + i) 0 ≡ getD (0x21 ∷ 0x00 ∷ 0x0a ∷ []) i 0
+  begins-are : {beginning : List ℕ} {long : ℕ} → BeginsField beginning long book at → (i : ℕ) → i < headLength → getD book (at + i) 0 ≡ getD beginning i 0
   begins-are f i h = sym (getD-drop at book i 0) ∙ sym (getD-take headLength (drop at book) i 0 h) ∙ ap (λ (l : List ℕ). getD l i 0) (f .begins)
 
-  -- The three tests (`IsTested`) pass exactly where row 6 sees a field: two bytes make 10 only as 00 0A.
-  pub tested-iff : IsTested book at ↔ IsField book at
+  -- a tag, a length below 256 and an end within the book: two bytes make such a length only with 00 first
+  begins-iff : (tag long : ℕ) → long < 256
+      → ((getD book at 0 ≡ tag) × (lengthAt book at ≡ long) × (fieldEnd at long ≤ length book)) ↔ BeginsField (tag ∷ 0x00 ∷ long ∷ []) (headLength + long) book at
   unfolding listOf
-  tested-iff = (
-    λ t. let second : getD book (at + 1) 0 ≡ 0x00 = omega (arith, length-is) in
-        let third : getD book (at + 2) 0 ≡ 0x0a = omega (arith, length-is) in
-        record { begins = part-places book at headLength (omega arith) ∙ rw (add-zero at, t .tag-is, second, third); not-cut = omega arith },
-    λ f. record {
-      tag-is = rw add-zero at (begins-are f 0 (omega arith));
-      long-is = omega (arith, length-is, begins-are f 1 (omega arith), begins-are f 2 (omega arith));
-      within = omega arith;
-    },
+  begins-iff tag long lt = (
+    λ t. let second : getD book (at + 1) 0 ≡ 0x00 = omega (arith, length-is, t .1) in
+        let third : getD book (at + 2) 0 ≡ long = omega (arith, length-is, t .1) in
+        record { begins = part-places book at headLength (omega (arith, t .2)) ∙ rw (add-zero at, t .0, second, third); not-cut = omega (arith, t .2) },
+    λ f. (
+      rw add-zero at (begins-are f 0 (omega arith)),
+      omega (arith, length-is, begins-are f 1 (omega arith), begins-are f 2 (omega arith)),
+      omega (arith, f .not-cut),
+    ),
   )
 
-  -- `fieldAt` gives a whole field exactly where `IsField` holds.
-  pub field-whole-iff : (fieldAt book at ≡ here) ↔ IsField book at
-  field-whole-iff =
-      (λ e. tested-iff .0 (field-whole-is (silenceAt book (at + headLength)) (fieldEnd at valueLength) e .0), λ f. field-is-whole (tested-iff .1 f) refl refl)
+  -- The three tests pass for some kind exactly where row 6 sees a field.
+  pub tested-iff : ((kind : Kind) × IsTested book at kind) ↔ IsField book at
+  unfolding kindByTag
+  tested-iff = (
+    λ h. let cases = kind-cases (getD book at 0) (h .0) (h .1 .kind-is) in
+        let t : IsTested book at exactKind = rw (cases .1) at (h .1) in
+        begins-iff exactTag (valueLength exactKind) (omega arith) .0 (cases .0, t .long-is, t .within),
+    λ f. let t = begins-iff exactTag (valueLength exactKind) (omega arith) .1 f in
+        (exactKind, record { kind-is = rw (t .0) refl; long-is = t .1; within = t .2 }),
+  )
+
+  -- `fieldAt` gives a whole field exactly where `IsField` holds, and its address is the one behind its head.
+  pub field-whole-iff : ((s : Silence) × (next : ℕ) × (fieldAt book at ≡ whole s next)) ↔ IsField book at
+  field-whole-iff = (
+    λ h. let f : IsWholeField book at (h .0) (h .1) = field-whole-is (h .0) (h .1) (h .2) in tested-iff .0 (f .kind, f .tested),
+    λ f. let t = tested-iff .1 f in (silenceAt (t .0) book (at + headLength), fieldEnd at (valueLength (t .0)), field-is-whole (t .0) (t .1) refl refl),
+  )
 
   -- Row 6 for one field: it is faulty exactly where no whole "13 bytes beginning 21 00 0A hex" stand.
   pub field-faulty-iff : (fieldAt book at ≡ faulty) ↔ (IsField book at → ⊥)
-  field-faulty-iff = (λ e f. faulty-not-whole (sym e ∙ field-whole-iff .1 f), λ no. field-is-faulty (λ t. no (tested-iff .0 t)))
+  field-faulty-iff = (
+    λ e f. let w = field-whole-iff .1 f in faulty-not-whole (sym e ∙ w .2),
+    λ no. field-is-faulty (λ kind t. no (tested-iff .0 (kind, t))),
+  )

@@ -1,7 +1,7 @@
 -- The theorems about silences and books, and the laws that the proofs of functions cite. A function's own proof is in a folder by its file and name, as
 -- field/field_at/Proof.antt. The theorems to read first (their heads name what they use):
 --
---   AcceptedIsLayout            which books are accepted
+--   AcceptedIsBook              which books are accepted
 --   NamesIff, ZeroIsOrdinary    which addresses silences name
 --   BookRows, PackRows, UnpackRows    when each refusal is given, and where
 --   RoundTrips                  packing and unpacking undo each other
@@ -9,7 +9,7 @@
 --
 -- The modules below stand in groups; a group uses only itself and those before it.
 
--- the order of silences
+-- the order of addresses
 pub mod SilenceOrder
 pub mod StrictOrder
 pub mod AscendingAfter
@@ -24,7 +24,7 @@ pub mod ReadFrom
 pub mod FieldsRead
 pub mod LayoutRead
 pub mod BookRows
-pub mod AcceptedIsLayout
+pub mod AcceptedIsBook
 -- packing and unpacking: words and silences, the rows, the lent area at exit, the round trips
 pub mod WordsOfSilences
 pub mod RecordsPacked

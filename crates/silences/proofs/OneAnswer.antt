@@ -4,17 +4,17 @@ use Prim.Native.Nat.{ℕ}
 use mathlib.Core.Path.{_≡_, refl, sym, ap, _∙_}
 use mathlib.Core.Bool.{Bool}
 use mathlib.Core.List.{List}
-use Rattle.silences.specs.declared.addresses.Address.{Address}
+use Rattle.silences.specs.declared.addresses.Address.{Address as AddressStruct}
 use Rattle.silences.specs.declared.addresses.Sought.{Sought}
 use Rattle.silences.specs.declared.addresses.Sought.the-variants.{Field, Nothing}
 use Rattle.silences.specs.declared.order.Last.{Last}
 use Rattle.silences.specs.Silences.{isBelow, isSame, isAbove}
 use Rattle.silences.specs.Reading.{FieldAt, whole, faulty, fieldAt}
-use Rattle.silences.specs.Addresses.{silenceOf, lastOf, soughtOf}
+use Rattle.silences.specs.Addresses.{addressOf, lastOf, soughtOf}
 
 -- the inverse of `soughtOf`
 abbrev soughtBack : FieldAt → Sought
-soughtBack (whole s next) = Field (record { cell = s .cell; «ring_number» = s .ringNumber; start = s .start }) next
+soughtBack (whole s next) = Field (record { cell = s .address .cell; «ring_number» = s .address .ringNumber; start = s .address .start }) next
 soughtBack faulty = Nothing
 
 -- it gives the `Sought` back
@@ -31,14 +31,14 @@ pub field-at-unique : (book : List ℕ) (at : ℕ) (r r′ : Sought) → soughtO
 field-at-unique book at r r′ p p′ = sought-unique r r′ (p ∙ sym p′)
 
 -- Any two answers of `is_below` that meet its contract are equal.
-pub is-below-unique : (a b : Address) (r r′ : Bool) → r ≡ isBelow (silenceOf a) (silenceOf b) → r′ ≡ isBelow (silenceOf a) (silenceOf b) → r ≡ r′
+pub is-below-unique : (a b : AddressStruct) (r r′ : Bool) → r ≡ isBelow (addressOf a) (addressOf b) → r′ ≡ isBelow (addressOf a) (addressOf b) → r ≡ r′
 is-below-unique a b r r′ p p′ = p ∙ sym p′
 
 -- Any two answers of `is_same` that meet its contract are equal.
-pub is-same-unique : (a b : Address) (r r′ : Bool) → r ≡ isSame (silenceOf a) (silenceOf b) → r′ ≡ isSame (silenceOf a) (silenceOf b) → r ≡ r′
+pub is-same-unique : (a b : AddressStruct) (r r′ : Bool) → r ≡ isSame (addressOf a) (addressOf b) → r′ ≡ isSame (addressOf a) (addressOf b) → r ≡ r′
 is-same-unique a b r r′ p p′ = p ∙ sym p′
 
 -- Any two answers of `is_above` that meet its contract are equal.
-pub is-above-unique : (last : Last) (address : Address) (r r′ : Bool) → r ≡ isAbove (lastOf last) (silenceOf address) → r′ ≡ isAbove (lastOf last) (silenceOf address)
+pub is-above-unique : (last : Last) (address : AddressStruct) (r r′ : Bool) → r ≡ isAbove (lastOf last) (addressOf address) → r′ ≡ isAbove (lastOf last) (addressOf address)
     → r ≡ r′
 is-above-unique last address r r′ p p′ = p ∙ sym p′

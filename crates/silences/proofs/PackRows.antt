@@ -18,7 +18,7 @@ use Rattle.answers.proofs.AnswerByRows.{answer-gives-iff}
 use Rattle.silences.specs.Silences.{Silence}
 use Rattle.silences.specs.Layout.{layout}
 use Rattle.silences.specs.Packing.{recordWords, mostWords, silencesOf, isRow8, recordFault, roomRow, packRows, packRefusal, packed}
-use Rattle.silences.specs.Faults.{HasWordCount, IsRingFault, IsRecordFault, IsPackable}
+use Rattle.silences.specs.Faults.{HasWordCount, IsNumberFault, IsRecordFault, IsPackable}
 use Rattle.silences.proofs.RecordRows.{records-have, records-none-iff, records-9-iff, records-7-iff}
 
 -- Row 8: the words to pack "aren't a multiple of 3, or exceed 3,000".
@@ -57,8 +57,8 @@ module _ (words : List ℕ) (room : ℕ) where
   unfolding packRows
   pack-8-iff = at-row is-row-8 (each (records-have words (OtherNumber WordCount) (λ j e. omega arith) (λ j e. omega arith)) (row-has is-row-10 (λ e. omega arith) end)) .exactly
 
-  -- Row 9 is given at record number j exactly when row 8 is not given, all records before j are fine, and the ring number of record j is above 65,535.
-  pub pack-9-iff : (j : ℕ) → (packRefusal words room ≡ some (RingNumber j)) ↔ (HasWordCount words × IsRingFault words j)
+  -- Row 9 is given at record number j exactly when row 8 is not given, all records before j are fine, and a number of record j is too large.
+  pub pack-9-iff : (j : ℕ) → (packRefusal words room ≡ some (RingNumber j)) ↔ (HasWordCount words × IsNumberFault words j)
   unfolding packRows
   pack-9-iff j = past-row is-row-8 (λ e. omega arith) (at-fault (records-9-iff words j) (row-has is-row-10 (λ e. omega arith) end)) .exactly
 
@@ -75,8 +75,8 @@ module _ (words : List ℕ) (room : ℕ) where
   -- Row 8 is not given and no record is faulty exactly when the words can be packed. P is carried along on both sides.
   pub packable-iff : {P : Type 0} → (HasWordCount words × ((recordFault words ≡ none) × P)) ↔ (IsPackable words × P)
   packable-iff = (
-    λ h. let fine = records-none-iff words .0 (h .1 .0) in (record { word-count = h .0; ring-numbers = fine .0; ascending = fine .1 }, h .1 .1),
-    λ h. (h .0 .word-count, (records-none-iff words .1 (h .0 .ring-numbers, h .0 .ascending), h .1)),
+    λ h. let fine = records-none-iff words .0 (h .1 .0) in (record { word-count = h .0; all-fit = fine .0; ascending = fine .1 }, h .1 .1),
+    λ h. (h .0 .word-count, (records-none-iff words .1 (h .0 .all-fit, h .0 .ascending), h .1)),
   )
 
   -- Row 10 is given exactly when the words can be packed and there is less room than their book has bytes.

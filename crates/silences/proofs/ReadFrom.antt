@@ -13,7 +13,7 @@ use borrow.Author.Tests.{lt-ltb, le-ltb, le-leb, lt-leb}
 use Rattle.answers.specs.declared.refusals.Refusal.the-variants.{BookLength, Field, NotAbove}
 use Rattle.answers.specs.Paper.{Answer, accepted, refused}
 use Rattle.answers.specs.Rows.{firstGiven, answerBy}
-use Rattle.silences.specs.Silences.{Silence, isAbove}
+use Rattle.silences.specs.Silences.{Address, Silence, isAbove}
 use Rattle.silences.specs.Layout.{mostBytes}
 use Rattle.silences.specs.Reading.{FieldAt, whole, faulty, fieldAt, before, readField, fieldsFrom, readFrom, faultIn, silencesIn, bookRows, readBook}
 use Rattle.silences.proofs.FieldTest.{field-ends}
@@ -21,7 +21,7 @@ use Rattle.silences.proofs.FieldInduction.{GoesOnPast, count-step}
 
 module _ (book : List ℕ) where
   -- one step of reading
-  abbrev readStep : Option Silence → ℕ → FieldAt → (Option Silence → ℕ → Answer (List Silence)) → Answer (List Silence)
+  abbrev readStep : Option Address → ℕ → FieldAt → (Option Address → ℕ → Answer (List Silence)) → Answer (List Silence)
   readStep last at f rest =
       let here : Answer (List Silence) = readField last at f rest in
       cond (leb (length book) at) (accepted []) here
@@ -29,15 +29,15 @@ module _ (book : List ℕ) where
   -- reading goes on only past a whole field
   read-goes-on : GoesOnPast readStep
   read-goes-on last at faulty rest rest′ h = refl
-  read-goes-on last at (whole s next) rest rest′ h = rw (h (some s) s next refl)
+  read-goes-on last at (whole s next) rest rest′ h = rw (h (some (s .address)) s next refl)
 
   -- at the end nothing is read, whatever the count
-  fields-end : (left : ℕ) (last : Option Silence) (at : ℕ) → length book ≤ at → fieldsFrom left book last at ≡ accepted []
+  fields-end : (left : ℕ) (last : Option Address) (at : ℕ) → length book ≤ at → fieldsFrom left book last at ≡ accepted []
   unfolding fieldsFrom
   fields-end zero last at h = refl
   fields-end (suc left) last at h = rw (le-leb (length book) at h)
 
-  module _ (last : Option Silence) (at : ℕ) where
+  module _ (last : Option Address) (at : ℕ) where
     -- At the book's end, and past it, nothing is read.
     pub readFrom-end : length book ≤ at → readFrom book last at ≡ accepted []
     unfolding readFrom
@@ -56,17 +56,17 @@ module _ (book : List ℕ) where
 
     module _ {s : Silence} {next : ℕ} (e : fieldAt book at ≡ whole s next) where
       -- a whole field, by whether its record is above the last
-      read-whole : (t : Bool) → isAbove last s ≡ t → readFrom book last at ≡ cond t (before s (readFrom book (some s) next)) (refused (NotAbove at))
+      read-whole : (t : Bool) → isAbove last (s .address) ≡ t → readFrom book last at ≡ cond t (before s (readFrom book (some (s .address)) next)) (refused (NotAbove at))
       read-whole t above =
           let ends : (at < next) × (next ≤ length book) = field-ends book at s next e in
           readFrom-step (omega arith) ∙ rw (e, above)
 
       -- A whole field whose record is not above the last is refused by row 7 at its byte offset.
-      pub readFrom-not-above : isAbove last s ≡ false → readFrom book last at ≡ refused (NotAbove at)
+      pub readFrom-not-above : isAbove last (s .address) ≡ false → readFrom book last at ≡ refused (NotAbove at)
       readFrom-not-above above = read-whole false above
 
       -- A whole field whose record is above the last gives its silence, and then the rest is read.
-      pub readFrom-above : isAbove last s ≡ true → readFrom book last at ≡ before s (readFrom book (some s) next)
+      pub readFrom-above : isAbove last (s .address) ≡ true → readFrom book last at ≡ before s (readFrom book (some (s .address)) next)
       readFrom-above above = read-whole true above
 
   -- A book longer than 13,000 bytes is refused by row 5.

@@ -1,41 +1,54 @@
--- Round trips of the definitions: words that packing accepts come back from unpacking, word for word; a book that unpacking accepts comes back from packing,
--- byte for byte. Both ways the book is the layout of one list of silences (AcceptedIsLayout), which have the words (WordsOfSilences).
+-- Round trips of the definitions. Words that packing accepts come back from unpacking, word for word: what packing writes is a book of their silences
+-- (AcceptedIsBook), which have the words (WordsOfSilences). A book that unpacking accepts comes back from packing as a book of the same silences.
 use Prim.Native.Nat.{ℕ, _*_, _≤_}
-use mathlib.Core.Path.{_≡_, refl, sym, ap, subst, _∙_}
-use mathlib.Core.List.{List}
+use mathlib.Core.Path.{_≡_, refl, sym, ap, ap₂, subst, _∙_}
+use mathlib.Core.List.{List, _++_}
+use mathlib.Core.Option.{some}
 use native.Mathlib.Omega.{arith}
 use lib.ListN.{length}
 use Rattle.answers.specs.Paper.{accepted}
-use Rattle.silences.specs.Silences.{Silence, Ascending}
-use Rattle.silences.specs.Layout.{layout}
+use Rattle.silences.specs.Silences.{Silence, AllInRange, Ascending}
+use Rattle.silences.specs.Layout.{Kind, kindByTag, valueOf, packedTag, packedKind, fieldOf, layout, mostSilences}
 use Rattle.silences.specs.Packing.{wordsOfSilences, silencesOf, recordWords, packed, unpacked}
 use Rattle.lists.specs.Bounds.{IsBytes, IsWords}
-use Rattle.silences.specs.Books.{IsBook}
-use Rattle.silences.specs.Faults.{AllRingNumbers, IsPackable}
-use Rattle.silences.proofs.AcceptedIsLayout.{book-accepted, accepted-iff}
-use Rattle.silences.proofs.WordsOfSilences.{words-length, silences-of-words, words-of-silences, silences-length, silences-in-range, in-range-rings}
+use Rattle.lists.specs.Records.{numbersOfEach}
+use Rattle.fields.specs.Tagged.{field}
+use Rattle.silences.specs.Books.{LaidDown, no-field, one-field, IsBook}
+use Rattle.silences.specs.Faults.{AllFit, IsPackable}
+use Rattle.silences.proofs.FieldTest.{kind-cases}
+use Rattle.silences.proofs.LayoutRead.{layout-length, layout-laid-down}
+use Rattle.silences.proofs.AcceptedIsBook.{book-accepted, accepted-iff}
+use Rattle.silences.proofs.WordsOfSilences.{words-length, silences-of-words, words-of-silences, silences-length, silences-in-range, in-range-fit}
 use Rattle.silences.proofs.UnpackRows.{unpacked-accepted-iff}
 use Rattle.silences.proofs.PackRows.{packed-accepted-iff}
 
--- If the words can be packed, the layout of their silences is the book of those silences.
+-- If the words can be packed, what packing writes is a book of their silences.
 pub packable-book : (words : List ℕ) → IsWords words → IsPackable words → IsBook (silencesOf words) (layout (silencesOf words))
 packable-book words w p =
+    let ss : List Silence = silencesOf words in
+    let in-range : AllInRange ss = silences-in-range ss (subst IsWords (sym (words-of-silences words (p .word-count .multiple))) w) (p .all-fit) in
     record {
-      laid-out = refl;
-      in-range = silences-in-range (silencesOf words) (subst IsWords (sym (words-of-silences words (p .word-count .multiple))) w) (p .ring-numbers);
+      laid-down = layout-laid-down tt ss in-range;
+      in-range = in-range;
       ascending = p .ascending;
-      length-le = omega (arith, silences-length words (p .word-count .multiple), p .word-count .words-le);
+      length-le = omega (arith, layout-length ss, silences-length words (p .word-count .multiple), p .word-count .words-le);
     }
 
--- The words of a book's silences can be packed.
-pub book-packable : (ss : List Silence) (book : List ℕ) → IsBook ss book → IsPackable (wordsOfSilences ss)
-book-packable ss book b =
-    let same : ss ≡ silencesOf (wordsOfSilences ss) = sym (silences-of-words ss) in
-    record {
-      word-count = record { multiple = omega (arith, words-length ss); words-le = omega (arith, words-length ss, b .length-le) };
-      ring-numbers = subst AllRingNumbers same (in-range-rings ss (b .in-range));
-      ascending = subst Ascending same (b .ascending);
-    }
+module _ (ss : List Silence) (book : List ℕ) (b : IsBook ss book) where
+  -- The words of a book's silences can be packed, if these are at most 1,000.
+  pub few-packable : length ss ≤ mostSilences → IsPackable (wordsOfSilences ss)
+  few-packable few =
+      let same : ss ≡ silencesOf (wordsOfSilences ss) = sym (silences-of-words ss (b .in-range)) in
+      record {
+        word-count = record { multiple = omega (arith, words-length ss); words-le = omega (arith, words-length ss) };
+        all-fit = subst AllFit same (in-range-fit ss (b .in-range));
+        ascending = subst Ascending same (b .ascending);
+      }
+
+  -- What packing writes for a book's silences is a book of the same silences, if these are at most 1,000.
+  pub few-book : length ss ≤ mostSilences → IsBook ss (layout ss)
+  few-book few =
+      record { laid-down = layout-laid-down tt ss (b .in-range); in-range = b .in-range; ascending = b .ascending; length-le = omega (arith, layout-length ss) }
 
 -- If packing the words gives `ss`, unpacking the layout of `ss` gives `ss`, given room for as many words.
 pub packed-unpacked : (words : List ℕ) (room room′ : ℕ) (ss : List Silence) → IsWords words → packed words room ≡ accepted ss → length words ≤ room′
@@ -52,17 +65,26 @@ packed-words-are words room ss e =
     let a : IsPackable words × (ss ≡ silencesOf words) × (length (layout ss) ≤ room) = packed-accepted-iff words room ss .0 e in
     ap wordsOfSilences (a .1) ∙ words-of-silences words (a .0 .word-count .multiple)
 
+-- Bytes that lay down silences under packing's own tag alone are what packing writes for them.
+pub laid-layout : {Allowed : ℕ → Type 0} → ((tag : ℕ) (kind : Kind) → Allowed tag → kindByTag tag ≡ some kind → (tag ≡ packedTag) × (kind ≡ packedKind))
+    → {ss : List Silence} {book : List ℕ} → LaidDown Allowed ss book → book ≡ layout ss
+unfolding numbersOfEach fieldOf
+laid-layout own no-field = refl
+laid-layout own (one-field {tag = tag} {s = s} allowed f more) =
+    let is = own tag (f .kind) allowed (f .kind-is) in
+    ap₂ (λ (a b : List ℕ). a ++ b) (f .bytes-are ∙ (λ i. field (is .0 i) (valueOf (is .1 i) s))) (laid-layout own more)
+
 module _ (book : List ℕ) (bytes : IsBytes book) (room : ℕ) (ss : List Silence) (e : unpacked book room ≡ accepted ss) where
-  -- what unpacking accepts is a book
-  unpacked-book : IsBook ss book
+  -- What unpacking accepts is a book.
+  pub unpacked-book : IsBook ss book
   unpacked-book = accepted-iff book ss bytes .0 (unpacked-accepted-iff book room ss .0 e .0)
 
-  -- If unpacking a book gives `ss`, packing the words of `ss` gives `ss`, given room for as many bytes.
-  pub unpacked-packed : (room′ : ℕ) → length book ≤ room′ → packed (wordsOfSilences ss) room′ ≡ accepted ss
-  unpacked-packed room′ fits =
+  -- If unpacking a book gives at most 1,000 silences, packing their words gives them, given room.
+  pub unpacked-packed : length ss ≤ mostSilences → (room′ : ℕ) → length (layout ss) ≤ room′ → packed (wordsOfSilences ss) room′ ≡ accepted ss
+  unpacked-packed few room′ fits =
       packed-accepted-iff (wordsOfSilences ss) room′ ss .1
-      (book-packable ss book unpacked-book, sym (silences-of-words ss), omega (arith, ap length (unpacked-book .laid-out)))
+      (few-packable ss book unpacked-book few, sym (silences-of-words ss (unpacked-book .in-range)), fits)
 
   -- If unpacking a book gives `ss`, the layout of `ss` is the book.
   pub unpacked-layout-is : layout ss ≡ book
-  unpacked-layout-is = sym (unpacked-book .laid-out)
+  unpacked-layout-is = sym (laid-layout (λ tag kind allowed is. kind-cases tag kind is) (unpacked-book .laid-down))

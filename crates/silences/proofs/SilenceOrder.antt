@@ -1,4 +1,4 @@
--- What the tests on silences decide: `isBelow` the order `Below`, `isSame` equality. Each from its comparisons of numbers (SizesTested of crates/lists).
+-- What the tests on addresses decide: `isBelow` the order `Below`, `isSame` equality. Each from its comparisons of numbers (SizesTested of crates/lists).
 use Prim.Native.Nat.{_<_}
 use mathlib.Core.Logic.{_⊎_, inl, inr, ⊎-elim, _↔_, Iff·trans}
 use mathlib.Core.Path.{_≡_, ap}
@@ -7,9 +7,9 @@ use native.Mathlib.Omega.{arith}
 use lib.Dec.{ltb}
 use borrow.Author.Tests.{le-ltb, eq-eqb}
 use Rattle.lists.proofs.SizesTested.{lt-iff, eq-iff, and-iff, or-iff}
-use Rattle.silences.specs.Silences.{Silence, isBelow, Below, by-cell, by-ring-number, by-start, isSame}
+use Rattle.silences.specs.Silences.{Address, isBelow, Below, by-cell, by-ring-number, by-start, isSame}
 
-module _ (a b : Silence) where
+module _ (a b : Address) where
   -- The test `isBelow` passes exactly when a is below b.
   pub isBelow-iff : (isBelow a b ≡ true) ↔ Below a b
   unfolding isBelow
@@ -42,10 +42,10 @@ module _ (a b : Silence) where
   unfolding isSame
   same-numbers-iff = and-iff (eq-iff (a .cell) (b .cell)) (and-iff (eq-iff (a .ringNumber) (b .ringNumber)) (eq-iff (a .start) (b .start)))
 
-  -- The test `isSame` passes exactly when the silences are equal.
+  -- The test `isSame` passes exactly when the addresses are equal.
   pub isSame-iff : (isSame a b ≡ true) ↔ (a ≡ b)
   isSame-iff =
       Iff·trans same-numbers-iff (
         λ h i. record { cell = h .0 i; ringNumber = h .1 .0 i; start = h .1 .1 i },
-        λ e. (ap (λ (s : Silence). s .cell) e, (ap (λ (s : Silence). s .ringNumber) e, ap (λ (s : Silence). s .start) e)),
+        λ e. (ap (λ (s : Address). s .cell) e, (ap (λ (s : Address). s .ringNumber) e, ap (λ (s : Address). s .start) e)),
       )

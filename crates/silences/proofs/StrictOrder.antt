@@ -1,21 +1,21 @@
--- The order of silences is strict and total: no silence is below itself, the order is transitive, and of two silences that differ one is below the other. By
+-- The order of addresses is strict and total: no address is below itself, the order is transitive, and of two addresses that differ one is below the other. By
 -- cases of the first number in which they differ. Then the same for the test `isBelow`.
 use Prim.Native.Nat.{_≤_, _<_}
 use mathlib.Core.Logic.{_↔_}
 use mathlib.Core.Path.{_≡_, refl, sym, subst, _∙_}
 use mathlib.Core.Bool.{Bool, true, false, false≢true, not-eq-not}
 use native.Mathlib.Omega.{arith}
-use Rattle.silences.specs.Silences.{Silence, isBelow, Below, by-cell, by-ring-number, by-start, isSame}
+use Rattle.silences.specs.Silences.{Address, isBelow, Below, by-cell, by-ring-number, by-start, isSame}
 use Rattle.silences.proofs.SilenceOrder.{isBelow-iff, isSame-iff}
 
 -- nothing is below itself
-below-irreflexive : (a : Silence) → Below a a → ⊥
+below-irreflexive : (a : Address) → Below a a → ⊥
 below-irreflexive a (by-cell c) = omega arith
 below-irreflexive a (by-ring-number c r) = omega arith
 below-irreflexive a (by-start c r s) = omega arith
 
 -- The order is transitive.
-pub below-trans : (a b c : Silence) → Below a b → Below b c → Below a c
+pub below-trans : (a b c : Address) → Below a b → Below b c → Below a c
 below-trans a b c (by-cell p) (by-cell q) = by-cell (omega arith)
 below-trans a b c (by-cell p) (by-ring-number q r) = by-cell (omega arith)
 below-trans a b c (by-cell p) (by-start q r s) = by-cell (omega arith)
@@ -26,8 +26,8 @@ below-trans a b c (by-start p o n) (by-cell q) = by-cell (omega arith)
 below-trans a b c (by-start p o n) (by-ring-number q r) = by-ring-number (omega arith) (omega arith)
 below-trans a b c (by-start p o n) (by-start q r s) = by-start (omega arith) (omega arith) (omega arith)
 
--- of two silences that differ one is below the other
-below-total : (a b : Silence) → (Below a b → ⊥) → (Below b a → ⊥) → a ≡ b
+-- of two addresses that differ one is below the other
+below-total : (a b : Address) → (Below a b → ⊥) → (Below b a → ⊥) → a ≡ b
 below-total a b not-ab not-ba =
     let cell-ge : a .cell < b .cell → ⊥ = λ l. not-ab (by-cell l) in
     let cell-le : b .cell < a .cell → ⊥ = λ l. not-ba (by-cell l) in
@@ -41,15 +41,15 @@ below-total a b not-ab not-ba =
     λ i. record { cell = cell-is i; ringNumber = ring-is i; start = start-is i }
 
 -- The test `isBelow` fails exactly when a is not below b.
-pub not-below-iff : (a b : Silence) → (isBelow a b ≡ false) ↔ (Below a b → ⊥)
+pub not-below-iff : (a b : Address) → (isBelow a b ≡ false) ↔ (Below a b → ⊥)
 not-below-iff a b = (λ e h. false≢true (sym e ∙ isBelow-iff a b .1 h), λ h. not-eq-not {b = false} .0 (λ e. h (isBelow-iff a b .0 e)))
 
 -- If b is below a, the test that a is below b fails.
-pub above-isBelow : (a b : Silence) → Below b a → isBelow a b ≡ false
+pub above-isBelow : (a b : Address) → Below b a → isBelow a b ≡ false
 above-isBelow a b h = not-below-iff a b .1 (λ l. below-irreflexive a (below-trans a b a l h))
 
 -- If a and b differ and a is not below b, then b is below a.
-pub above-of-not : (a b : Silence) → isBelow a b ≡ false → isSame a b ≡ false → Below b a
+pub above-of-not : (a b : Address) → isBelow a b ≡ false → isSame a b ≡ false → Below b a
 above-of-not a b h d = go (isBelow b a) refl
   where
     go : (t : Bool) → isBelow b a ≡ t → Below b a
@@ -57,14 +57,14 @@ above-of-not a b h d = go (isBelow b a) refl
     go false e = absurd (false≢true (sym d ∙ isSame-iff a b .1 (below-total a b (not-below-iff a b .0 h) (not-below-iff b a .0 e))))
 
 -- If a is below b, the test `isSame` fails for a and b, and for b and a.
-pub below-not-same : (a b : Silence) → Below a b → (isSame a b ≡ false) × (isSame b a ≡ false)
+pub below-not-same : (a b : Address) → Below a b → (isSame a b ≡ false) × (isSame b a ≡ false)
 below-not-same a b h = (
-  not-eq-not {b = false} .0 (λ e. below-irreflexive b (subst (λ (c : Silence). Below c b) (isSame-iff a b .0 e) h)),
-  not-eq-not {b = false} .0 (λ e. below-irreflexive b (subst (λ (c : Silence). Below c b) (sym (isSame-iff b a .0 e)) h)),
+  not-eq-not {b = false} .0 (λ e. below-irreflexive b (subst (λ (c : Address). Below c b) (isSame-iff a b .0 e) h)),
+  not-eq-not {b = false} .0 (λ e. below-irreflexive b (subst (λ (c : Address). Below c b) (sym (isSame-iff b a .0 e)) h)),
 )
 
 -- If s is below a and b is not below a, then s is below b. So a field that is passed in seeking a is passed in seeking b.
-pub below-not-below : (s a b : Silence) → Below s a → (Below b a → ⊥) → Below s b
+pub below-not-below : (s a b : Address) → Below s a → (Below b a → ⊥) → Below s b
 below-not-below s a b h not-below = go (isBelow a b) refl
   where
     go : (t : Bool) → isBelow a b ≡ t → Below s b
@@ -72,7 +72,7 @@ below-not-below s a b h not-below = go (isBelow a b) refl
     go false e = subst (Below s) (below-total a b (not-below-iff a b .0 e) not-below) h
 
 -- If a and b have equal cells and equal ring numbers and a's start is at most b's, then b is not below a.
-pub start-not-below : (a b : Silence) → a .cell ≡ b .cell → a .ringNumber ≡ b .ringNumber → a .start ≤ b .start → Below b a → ⊥
+pub start-not-below : (a b : Address) → a .cell ≡ b .cell → a .ringNumber ≡ b .ringNumber → a .start ≤ b .start → Below b a → ⊥
 start-not-below a b same-cell same-ring h (by-cell c) = omega arith
 start-not-below a b same-cell same-ring h (by-ring-number c r) = omega arith
 start-not-below a b same-cell same-ring h (by-start c r s) = omega arith

@@ -1,25 +1,51 @@
 -- Document 01, "Silence book", as propositions: what a field and a book are, in terms of bytes and silences, without the definition of reading.
--- Reading accepts exactly these books (`accepted-iff` of proofs/AcceptedIsLayout.antt).
+-- Reading accepts exactly these books (`accepted-iff` of proofs/AcceptedIsBook.antt). A silence can be said under more than one tag, so a book's bytes are no
+-- function of its silences; its silences are a function of its bytes.
 --
---   IsField   row 6, "13 bytes beginning 21 00 0A hex", and not cut off
---   IsBook    the layout of an ascending list of at most 1,000 silences in range
+--   BeginsField, IsField   row 6, "13 bytes beginning 21 00 0A hex", and not cut off
+--   IsFieldOf              these bytes are a field that says this silence, under this tag
+--   LaidDown, AnyTag       these bytes are fields that say these silences, one after the other, each under a tag that is allowed
+--   IsBook                 a book: an ascending list of silences in range, laid down in at most 13,000 bytes
 use Prim.Native.Nat.{ℕ, _+_, _≤_}
 use mathlib.Core.Path.{_≡_}
-use mathlib.Core.List.{List, [], _∷_}
+use mathlib.Core.List.{List, [], _∷_, _++_}
+use mathlib.Core.Option.{some}
 use lib.ListN.{length, take, drop}
-use Rattle.fields.specs.Tagged.{headLength}
+use Rattle.fields.specs.Tagged.{headLength, field}
 use Rattle.silences.specs.Silences.{Silence, AllInRange, Ascending}
-use Rattle.silences.specs.Layout.{fieldLength, layout, mostSilences}
+use Rattle.silences.specs.Layout.{Kind, kindByTag, valueOf, CanSay, mostBytes}
+
+-- At byte offset `at` stand `long` bytes that begin with `beginning`, not cut off.
+pub record BeginsField (beginning : List ℕ) (long : ℕ) (book : List ℕ) (at : ℕ) : Type 0 where
+  pub begins : take headLength (drop at book) ≡ beginning
+  pub not-cut : at + long ≤ length book
 
 -- A silence's field stands at byte offset `at`: "13 bytes beginning 21 00 0A hex", not cut off.
-pub record IsField (book : List ℕ) (at : ℕ) : Type 0 where
-  pub begins : take headLength (drop at book) ≡ 0x21 ∷ 0x00 ∷ 0x0a ∷ []
-  pub not-cut : at + fieldLength ≤ length book
+abbrev pub IsField : List ℕ → ℕ → Type 0
+IsField book at = BeginsField (0x21 ∷ 0x00 ∷ 0x0a ∷ []) 13 book at
 
--- `book` is the book of the silences `ss`: "Each silence is one field", "Records ascend strictly by cell, then ring number, then start"; each silence fits its
--- field, and there are at most 1,000.
+-- These bytes are a field that says the silence `s`: the tag has a kind, a field of that kind can say `s`, and the bytes are "one-byte tag, two-byte length,
+-- value".
+pub record IsFieldOf (tag : ℕ) (s : Silence) (bytes : List ℕ) : Type 0 where
+  pub kind : Kind
+  pub kind-is : kindByTag tag ≡ some kind
+  pub can-say : CanSay kind s
+  pub bytes-are : bytes ≡ field tag (valueOf kind s)
+
+-- The bytes lay down these silences: they are one field for each, one after the other, under a tag that is `Allowed`.
+pub data LaidDown (Allowed : ℕ → Type 0) : List Silence → List ℕ → Type 0 where
+  no-field : LaidDown Allowed [] []
+  one-field : {tag : ℕ} {s : Silence} {ss : List Silence} {here rest : List ℕ} → Allowed tag → IsFieldOf tag s here → LaidDown Allowed ss rest
+      → LaidDown Allowed (s ∷ ss) (here ++ rest)
+
+-- Every tag of the table is allowed.
+abbrev pub AnyTag : ℕ → Type 0
+AnyTag tag = Unit {0}
+
+-- `book` is a book of the silences `ss`: "Each silence is one field", "Records ascend strictly by cell, then ring number, then start", the numbers are in range,
+-- and the book has at most 13,000 bytes.
 pub record IsBook (ss : List Silence) (book : List ℕ) : Type 0 where
-  pub laid-out : book ≡ layout ss
+  pub laid-down : LaidDown AnyTag ss book
   pub in-range : AllInRange ss
   pub ascending : Ascending ss
-  pub length-le : length ss ≤ mostSilences
+  pub length-le : length book ≤ mostBytes

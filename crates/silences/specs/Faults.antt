@@ -3,40 +3,41 @@
 -- That each row is given exactly then is proved for the definitions in proofs/BookRows.antt, PackRows.antt and UnpackRows.antt, and for the calls in
 -- RowsOfReading.antt and RowsOfUnpacking.antt of crates/book and RowsOfPacking.antt of crates/packing.
 --
---   IsFineBefore      everything before a byte offset is fine: the fields of an ascending list of silences in range
+--   IsFineBefore      everything before a byte offset is fine: it lays down an ascending list of silences in range
 --   IsNotAbove        "a record isn't above the one before it"
 --   IsFieldFault      row 6
 --   IsOrderFault      row 7, reading
 --   HasWordCount      row 8 is not given
---   AllRingNumbers    no ring number is above 65,535
+--   NumbersFit, AllFit    no ring number is above 65,535, and no ceiling above the largest: of one record, of all
+--   TooLarge          one of the two is
 --   IsRecord          record number i of the words to pack; all records before it are fine
---   IsRingFault       row 9
+--   IsNumberFault     row 9
 --   IsRecordFault     row 7, packing
 --   IsPackable        none of rows 8, 9 and 7 is given
 use Prim.Native.Nat.{ℕ, _+_, _%_, _≤_, _<_}
 use mathlib.Core.Path.{_≡_}
+use mathlib.Core.Logic.{_⊎_}
 use mathlib.Core.List.{List, [], _∷_, _++_}
 use lib.ListN.{length, take}
-use Rattle.silences.specs.Silences.{Silence, AllInRange, Below, Ascending}
-use Rattle.silences.specs.Layout.{layout}
+use Rattle.silences.specs.Silences.{Address, Silence, AllInRange, Below, Ascending}
 use Rattle.fields.specs.Tagged.{headLength}
-use Rattle.silences.specs.Reading.{silenceAt}
-use Rattle.silences.specs.Packing.{silencesOf, recordWords, mostWords, mostRingNumber}
-use Rattle.silences.specs.Books.{IsField}
+use Rattle.silences.specs.Reading.{addressAt}
+use Rattle.silences.specs.Packing.{silencesOf, recordWords, mostWords, mostRingNumber, mostCeiling}
+use Rattle.silences.specs.Books.{IsField, LaidDown, AnyTag}
 
--- Everything before byte offset `at` is fine: it is the layout of the silences `ss`, which are in range and ascend.
+-- Everything before byte offset `at` is fine: it lays down the silences `ss`, which are in range and ascend.
 pub record IsFineBefore (book : List ℕ) (at : ℕ) (ss : List Silence) : Type 0 where
-  pub laid-out : take at book ≡ layout ss
-  pub offset-is : at ≡ length (layout ss)
+  pub at-le : at ≤ length book
+  pub laid-down : LaidDown AnyTag ss (take at book)
   pub in-range : AllInRange ss
   pub ascending : Ascending ss
 
--- "a record isn't above the one before it": the silences `ss` have a last one, `previous`, and it is not below `s`.
-pub record IsNotAbove (ss : List Silence) (s : Silence) : Type 0 where
+-- "a record isn't above the one before it": the silences `ss` have a last one, `previous`, and its address is not below the address `a`.
+pub record IsNotAbove (ss : List Silence) (a : Address) : Type 0 where
   pub earlier : List Silence
   pub previous : Silence
   pub before-it : ss ≡ earlier ++ previous ∷ []
-  pub not-above : Below previous s → ⊥
+  pub not-above : Below (previous .address) a → ⊥
 
 -- Row 6 at byte offset `at`: everything before it is fine, the book goes on, and "a field isn't 13 bytes beginning 21 00 0A hex, or is cut off" there.
 pub record IsFieldFault (book : List ℕ) (at : ℕ) : Type 0 where
@@ -50,43 +51,52 @@ pub record IsOrderFault (book : List ℕ) (at : ℕ) : Type 0 where
   pub fine : List Silence
   pub fine-before : IsFineBefore book at fine
   pub field : IsField book at
-  pub not-above : IsNotAbove fine (silenceAt book (at + headLength))
+  pub not-above : IsNotAbove fine (addressAt book (at + headLength))
 
 -- Row 8 is not given: the words to pack are "a multiple of 3", and they don't "exceed 3,000".
 pub record HasWordCount (words : List ℕ) : Type 0 where
   pub multiple : length words % recordWords ≡ 0
   pub words-le : length words ≤ mostWords
 
--- No ring number of these silences is "above 65,535".
-abbrev pub AllRingNumbers : List Silence → Type 0
-AllRingNumbers [] = Unit {0}
-AllRingNumbers (s ∷ ss) = (s .ringNumber ≤ mostRingNumber) × AllRingNumbers ss
+-- The record's ring number is not "above 65,535", nor its ceiling above the largest.
+pub record NumbersFit (s : Silence) : Type 0 where
+  pub ring-number-le : s .address .ringNumber ≤ mostRingNumber
+  pub ceiling-le : s .ceiling ≤ mostCeiling
 
--- `s` is record number `i`, from 0, of the words to pack, and `fine` are the records before it: they ascend, and none has a ring number above 65,535.
+-- So for each of these records.
+abbrev pub AllFit : List Silence → Type 0
+AllFit [] = Unit {0}
+AllFit (s ∷ ss) = NumbersFit s × AllFit ss
+
+-- The record's ring number is "above 65,535", or its ceiling is above the largest.
+abbrev pub TooLarge : Silence → Type 0
+TooLarge s = (mostRingNumber < s .address .ringNumber) ⊎ (mostCeiling < s .ceiling)
+
+-- `s` is record number `i`, from 0, of the words to pack, and `fine` are the records before it: they ascend, and their numbers fit.
 pub record IsRecord (words : List ℕ) (i : ℕ) (fine : List Silence) (s : Silence) : Type 0 where
   pub later : List Silence
   pub records-are : silencesOf words ≡ fine ++ s ∷ later
   pub number-is : i ≡ length fine
-  pub ring-numbers : AllRingNumbers fine
+  pub all-fit : AllFit fine
   pub ascending : Ascending fine
 
--- Row 9 at record number `i`: all records before it are fine, and its ring number is "above 65,535".
-pub record IsRingFault (words : List ℕ) (i : ℕ) : Type 0 where
+-- Row 9 at record number `i`: all records before it are fine, and a number of it is too large.
+pub record IsNumberFault (words : List ℕ) (i : ℕ) : Type 0 where
   pub fine : List Silence
   pub here : Silence
   pub is-record : IsRecord words i fine here
-  pub ring-number-gt : mostRingNumber < here .ringNumber
+  pub too-large : TooLarge here
 
--- Row 7, packing, at record number `i`: all records before it are fine, its ring number is not above 65,535, and it isn't above the one before it.
+-- Row 7, packing, at record number `i`: all records before it are fine, its numbers fit, and it isn't above the one before it.
 pub record IsRecordFault (words : List ℕ) (i : ℕ) : Type 0 where
   pub fine : List Silence
   pub here : Silence
   pub is-record : IsRecord words i fine here
-  pub ring-number-le : here .ringNumber ≤ mostRingNumber
-  pub not-above : IsNotAbove fine here
+  pub fits : NumbersFit here
+  pub not-above : IsNotAbove fine (here .address)
 
 -- The words can be packed, given room: row 8 is not given, nor row 9 or 7 at any record.
 pub record IsPackable (words : List ℕ) : Type 0 where
   pub word-count : HasWordCount words
-  pub ring-numbers : AllRingNumbers (silencesOf words)
+  pub all-fit : AllFit (silencesOf words)
   pub ascending : Ascending (silencesOf words)

@@ -3,7 +3,7 @@
 --   silenceWords, wordsOfSilences             silences as words, three each: cell, ring number, start
 --   recordWords, silenceOfWords, silencesOf   words as silences
 --   mostWords, isRow8                         row 8
---   mostRingNumber                            the largest ring number (row 9)
+--   mostRingNumber, mostCeiling, isTooLarge   the largest ring number and ceiling; row 9 for one record
 --   recordRows, recordFault                   "each record 9 before 7"
 --   roomRow                                   row 10
 --   packRows, unpackRows                      the rows of packing and unpacking in their order
@@ -25,13 +25,13 @@ use Rattle.answers.specs.declared.refusals.Refusal.{Refusal}
 use Rattle.answers.specs.declared.refusals.Refusal.the-variants.{NotAbove, WordCount, RingNumber, OutputRoom}
 use Rattle.answers.specs.Paper.{Answer, accepted, refused}
 use Rattle.answers.specs.Rows.{row, firstGiven, answerBy}
-use Rattle.silences.specs.Silences.{Silence, silence, ringNumberBytes, isAbove}
+use Rattle.silences.specs.Silences.{Address, address, Silence, silence, ringNumberBytes, ceilingBytes, isAbove}
 use Rattle.silences.specs.Layout.{layout, mostSilences}
 use Rattle.silences.specs.Reading.{silencesRead, bookRows}
 
 -- The words of a silence: cell, ring number, start.
 abbrev pub silenceWords : Silence → List ℕ
-silenceWords s = s .cell ∷ s .ringNumber ∷ s .start ∷ []
+silenceWords s = s .address .cell ∷ s .address .ringNumber ∷ s .address .start ∷ []
 
 -- The words of a list of silences, one after the other.
 abbrev pub wordsOfSilences : List Silence → List ℕ
@@ -41,9 +41,9 @@ wordsOfSilences = numbersOfEach silenceWords
 abbrev pub recordWords : ℕ
 recordWords = 3
 
--- The silence of a record's three words.
+-- The silence of a record's three words. Its ceiling is 0.
 abbrev pub silenceOfWords : List ℕ → Silence
-silenceOfWords words = silence (getD words 0 0) (getD words 1 0) (getD words 2 0)
+silenceOfWords words = silence (address (getD words 0 0) (getD words 1 0) (getD words 2 0)) 0
 
 -- The silences of a list of words, three words each. One or two words left over at the end are no record.
 abbrev pub silencesOf : List ℕ → List Silence
@@ -69,11 +69,25 @@ mostRingNumber = 65535
 most-ring-number-is : suc mostRingNumber ≡ 256 ^ ringNumberBytes
 most-ring-number-is = refl
 
--- "each record 9 before 7": the rows of the records from record number `i` on; `last` is the record before them. The place is the record number.
-unfoldable pub recordRows : Option Silence → ℕ → List Silence → List (Option Refusal)
+-- The largest ceiling: the largest number that the bytes of a ceiling hold.
+abbrev pub mostCeiling : ℕ
+mostCeiling = 0
+
+-- It is.
+most-ceiling-is : suc mostCeiling ≡ 256 ^ ceilingBytes
+most-ceiling-is = refl
+
+-- Row 9 for one record: "a ring number to pack is above 65,535", or its ceiling is above the largest.
+abbrev pub isTooLarge : Silence → Bool
+isTooLarge s = ltb mostRingNumber (s .address .ringNumber) || ltb mostCeiling (s .ceiling)
+
+-- "each record 9 before 7": the rows of the records from record number `i` on; `last` is the address of the record before them. The place is the record number.
+unfoldable pub recordRows : Option Address → ℕ → List Silence → List (Option Refusal)
 recordRows last i [] = []
 recordRows last i (s ∷ ss) =
-    row (ltb mostRingNumber (s .ringNumber)) (RingNumber i) ∷ row (not (isAbove last s)) (NotAbove i) ∷ recordRows (some s) (suc i) ss
+    row (isTooLarge s) (RingNumber i)
+    ∷ row (not (isAbove last (s .address))) (NotAbove i)
+    ∷ recordRows (some (s .address)) (suc i) ss
 
 -- Rows 9 and 7, as one row: the refusal of the first faulty record, if there is one.
 abbrev pub recordFault : List ℕ → Option Refusal

@@ -1,7 +1,6 @@
 -- Document 01, "Silence book" and rows 5, 6 and 7: what reading a book's bytes gives, whatever bytes they are.
 --
---   lengthByTag                       "tag 21 hex, length 10"
---   silenceAt                         the silence whose value stands at a byte offset
+--   addressAt, silenceAt              the address, and the silence, whose value stands at a byte offset
 --   FieldAt, fieldBy, fieldAt         what stands at a byte offset: a whole field, or a faulty one (row 6)
 --   before, readField                 a silence put in front of others; one field read
 --   fieldsFrom, readFrom              the fields from a byte offset on; "the first faulty field decides, 6 before 7"
@@ -17,7 +16,7 @@ use Prim.Native.Nat.{ℕ, zero, suc, _+_, _-_}
 use mathlib.Core.Bool.{Bool, cond}
 use mathlib.Core.List.{List, [], _∷_}
 use mathlib.Core.Option.{Option, none, some}
-use lib.Dec.{ltb, leb, eqb}
+use lib.Dec.{ltb, leb}
 use lib.ListN.{length, getD}
 use Rattle.answers.specs.declared.refusals.Refusal.{Refusal}
 use Rattle.answers.specs.declared.refusals.Refusal.the-variants.{BookLength, Field, NotAbove}
@@ -25,58 +24,60 @@ use Rattle.answers.specs.Paper.{Answer, accepted, refused}
 use Rattle.answers.specs.Rows.{row, firstGiven, answerBy}
 use Rattle.fields.specs.Numbers.{numberAt}
 use Rattle.fields.specs.Tagged.{headLength, fieldEnd, isWhole}
-use Rattle.silences.specs.Silences.{Silence, cellBytes, ringNumberBytes, startBytes, isAbove}
-use Rattle.silences.specs.Layout.{silenceTag, valueLength, mostBytes}
+use Rattle.silences.specs.Silences.{Address, Silence, silence, cellBytes, ringNumberBytes, startBytes, isAbove}
+use Rattle.silences.specs.Layout.{Kind, kindByTag, addressBytes, valueLength, mostBytes}
 
--- "tag 21 hex, length 10": the length of the value that goes with a tag. Every other tag has none.
-unfoldable pub lengthByTag : ℕ → Option ℕ
-lengthByTag tag = cond (eqb tag silenceTag) (some valueLength) none
-
--- "cell (4 bytes), ring number (2), start (4)": the silence whose value begins at byte offset `at`.
-unfoldable pub silenceAt : List ℕ → ℕ → Silence
-silenceAt book at =
+-- "cell (4 bytes), ring number (2), start (4)": the address whose bytes begin at byte offset `at`.
+unfoldable pub addressAt : List ℕ → ℕ → Address
+addressAt book at =
     record {
       cell = numberAt cellBytes book at;
       ringNumber = numberAt ringNumberBytes book (at + cellBytes);
       start = numberAt startBytes book (at + cellBytes + ringNumberBytes);
     }
 
+-- The silence whose value begins at byte offset `at`, in a field of this kind: an address, and then a ceiling.
+unfoldable pub silenceAt : Kind → List ℕ → ℕ → Silence
+silenceAt kind book at = silence (addressAt book at) (numberAt (kind .ceilingBytes) book (at + addressBytes))
+
 -- What stands at a byte offset: a whole field of a silence, with that silence and the byte offset just past the field; or something else, a faulty field.
 pub data FieldAt : Type 0 where
   whole : Silence → ℕ → FieldAt
   faulty : FieldAt
 
--- The field at `at`, given the length for its tag: whole if its two length bytes say that length and it is not cut off. Without a length it is faulty.
-unfoldable pub fieldBy : Option ℕ → List ℕ → ℕ → FieldAt
+-- The field at `at`, given the kind for its tag: whole if its two length bytes say the length of that kind and it is not cut off. Without a kind it is faulty.
+unfoldable pub fieldBy : Option Kind → List ℕ → ℕ → FieldAt
 fieldBy none book at = faulty
-fieldBy (some long) book at = cond (isWhole book at long) (whole (silenceAt book (at + headLength)) (fieldEnd at long)) faulty
+fieldBy (some kind) book at =
+    let here : FieldAt = whole (silenceAt kind book (at + headLength)) (fieldEnd at (valueLength kind)) in
+    cond (isWhole book at (valueLength kind)) here faulty
 
 -- The field at `at`. It is faulty where row 6 says so: "a field isn't 13 bytes beginning 21 00 0A hex, or is cut off". Past the last byte it is faulty too.
 unfoldable pub fieldAt : List ℕ → ℕ → FieldAt
-fieldAt book at = fieldBy (lengthByTag (getD book at 0)) book at
+fieldAt book at = fieldBy (kindByTag (getD book at 0)) book at
 
 -- Puts a silence in front of those read. A refusal stays as it is.
 abbrev pub before : Silence → Answer (List Silence) → Answer (List Silence)
 before s (accepted ss) = accepted (s ∷ ss)
 before s (refused r) = refused r
 
--- Reads one field, at byte offset `at`; `last` is the silence before it, and `rest` reads on after it. A faulty field is refused by row 6, a record that "isn't
--- above the one before it" by row 7, both at `at`: "the first faulty field decides, 6 before 7".
-abbrev pub readField : Option Silence → ℕ → FieldAt → (Option Silence → ℕ → Answer (List Silence)) → Answer (List Silence)
+-- Reads one field, at byte offset `at`; `last` is the address of the record before it, and `rest` reads on after it. A faulty field is refused by row 6, a record
+-- that "isn't above the one before it" by row 7, both at `at`: "the first faulty field decides, 6 before 7".
+abbrev pub readField : Option Address → ℕ → FieldAt → (Option Address → ℕ → Answer (List Silence)) → Answer (List Silence)
 readField last at faulty rest = refused (Field at)
 readField last at (whole s next) rest =
-    let more : Answer (List Silence) = before s (rest (some s) next) in
-    cond (isAbove last s) more (refused (NotAbove at))
+    let more : Answer (List Silence) = before s (rest (some (s .address)) next) in
+    cond (isAbove last (s .address)) more (refused (NotAbove at))
 
--- Reads the fields from `at` to the book's end, at most as many as the first argument says; `last` is the silence before `at`.
-unfoldable pub fieldsFrom : ℕ → List ℕ → Option Silence → ℕ → Answer (List Silence)
+-- Reads the fields from `at` to the book's end, at most as many as the first argument says; `last` is the address of the record before `at`.
+unfoldable pub fieldsFrom : ℕ → List ℕ → Option Address → ℕ → Answer (List Silence)
 fieldsFrom zero book last at = accepted []
 fieldsFrom (suc left) book last at =
     let here : Answer (List Silence) = readField last at (fieldAt book at) (fieldsFrom left book) in
     cond (leb (length book) at) (accepted []) here
 
--- Reads the fields from `at` to the book's end; `last` is the silence before `at`. There are no more fields than bytes, so the count suffices.
-unfoldable pub readFrom : List ℕ → Option Silence → ℕ → Answer (List Silence)
+-- Reads the fields from `at` to the book's end; `last` is the address of the record before `at`. There are no more fields than bytes, so the count suffices.
+unfoldable pub readFrom : List ℕ → Option Address → ℕ → Answer (List Silence)
 readFrom book last at = fieldsFrom (length book - at) book last at
 
 -- The refusal of an answer, if it is one.

@@ -14,14 +14,14 @@ use fields::number_at;
 ghost use mathlib.Core.Path.{_≡_};
 ghost use Prim.Native.Nat.{_+_, _≤_};
 ghost use lib.ListN.{length};
-ghost use Rattle.silences.specs.Layout.{valueLength};
-ghost use Rattle.silences.specs.Reading.{silenceAt, fieldAt};
-ghost use Rattle.silences.specs.Addresses.{silenceOf, soughtOf};
+ghost use Rattle.silences.specs.Layout.{addressBytes};
+ghost use Rattle.silences.specs.Reading.{addressAt, fieldAt};
+ghost use Rattle.silences.specs.Addresses.{addressOf, soughtOf};
 
-// "cell (4 bytes), ring number (2), start (4)": the address whose value begins at byte offset `at`.
+// "cell (4 bytes), ring number (2), start (4)": the address whose bytes begin at byte offset `at`.
 fn address_at(book: &[u8], at: usize) -> Address
-    requires { ⌜ at + valueLength ≤ length (now book) ⌝ }
-    ensures { λ r. ⌜ silenceOf r ≡ silenceAt (now (book .entry)) at ⌝ }
+    requires { ⌜ at + addressBytes ≤ length (now book) ⌝ }
+    ensures { λ r. ⌜ addressOf r ≡ addressAt (now (book .entry)) at ⌝ }
 {
     let ring_number_at = at + CELL_BYTES;
     let start_at = ring_number_at + RING_NUMBER_BYTES;

@@ -2,11 +2,11 @@
 use crate::addresses::Address;
 ghost use mathlib.Core.Path.{_≡_};
 ghost use Rattle.silences.specs.Silences.{isBelow, isSame, isAbove};
-ghost use Rattle.silences.specs.Addresses.{silenceOf, lastOf};
+ghost use Rattle.silences.specs.Addresses.{addressOf, lastOf};
 
 // Whether one address is below another: "by cell, then ring number, then start".
 pub fn is_below(a: Address, b: Address) -> bool
-    ensures { λ r. ⌜ r ≡ isBelow (silenceOf a) (silenceOf b) ⌝ }
+    ensures { λ r. ⌜ r ≡ isBelow (addressOf a) (addressOf b) ⌝ }
 {
     if a.cell < b.cell {
         return true;
@@ -25,7 +25,7 @@ pub fn is_below(a: Address, b: Address) -> bool
 
 // Whether two addresses are the same. "Zero is an ordinary cell, ring number and start": all three are compared.
 pub fn is_same(a: Address, b: Address) -> bool
-    ensures { λ r. ⌜ r ≡ isSame (silenceOf a) (silenceOf b) ⌝ }
+    ensures { λ r. ⌜ r ≡ isSame (addressOf a) (addressOf b) ⌝ }
 {
     if a.cell != b.cell {
         return false;
@@ -44,7 +44,7 @@ pub enum Last {
 
 // Whether a record is above the one before it. The first record is.
 pub fn is_above(last: Last, address: Address) -> bool
-    ensures { λ r. ⌜ r ≡ isAbove (lastOf last) (silenceOf address) ⌝ }
+    ensures { λ r. ⌜ r ≡ isAbove (lastOf last) (addressOf address) ⌝ }
 {
     match last {
         Last::NoRecord => true,

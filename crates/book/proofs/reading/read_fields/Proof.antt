@@ -7,7 +7,8 @@ use borrow.Author.Needs.{needs}
 use borrow.Author.Tests.{not-true, not-false}
 use lib.ListN.{length}
 use Rattle.silences.specs.Reading.{whole, fieldAt}
-use Rattle.silences.specs.Addresses.{silenceOf, lastOf}
+use Rattle.silences.specs.Silences.{silence}
+use Rattle.silences.specs.Addresses.{addressOf, lastOf}
 use Rattle.silences.proofs.FieldTest.{field-ends}
 use Rattle.book.proofs.ReadLoop.{ReadSoFar, read-start, read-end, read-faulty, read-not-above, read-turn}
 use Rattle.book.proofs.reading.read_fields.Statement.{statement}
@@ -21,7 +22,7 @@ abbrev μ-loop : tie.MeasureT-loop
 
 -- the field that `field_at` returned is the field at `at`
 field-is : (c : tie.After-field Inv-loop μ-loop)
-    → whole (silenceOf (c .field .given .0 .0)) (c .field .given .0 .1 .0)
+    → whole (silence (addressOf (c .field .given .0 .0)) 0) (c .field .given .0 .1 .0)
     ≡ fieldAt (c .before .before .before .before .before .before .args .book .now) (c .before .before .before .before .loop .at)
 field-is c = rw (c .field .given .1) at (c .before .before .field-at .ensures)
 

@@ -7,21 +7,22 @@ use borrow.Author.Needs.{needs}
 use borrow.Author.Tests.{not-true, not-false}
 use lib.ListN.{length}
 use Rattle.silences.specs.Reading.{whole, fieldAt}
-use Rattle.silences.specs.Addresses.{silenceOf}
+use Rattle.silences.specs.Silences.{silence}
+use Rattle.silences.specs.Addresses.{addressOf}
 use Rattle.silences.proofs.FieldTest.{field-ends}
 use Rattle.book.proofs.SeekLoop.{SeekSoFar, seek-start, seek-nothing, seek-end, seek-turn}
 use Rattle.book.proofs.seeking.seek.Statement.{statement}
 use Rattle.book.proofs.seeking.seek.Tie as tie
 
 abbrev Inv-loop : tie.InvT-loop
-Inv-loop book from address at₀ at = SeekSoFar book from (silenceOf address) at
+Inv-loop book from address at₀ at = SeekSoFar book from (addressOf address) at
 
 abbrev μ-loop : tie.MeasureT-loop
 μ-loop book from address at₀ at = length book - at
 
 -- the field that `field_at` returned is the field at `at`
 field-is : (c : tie.After-field Inv-loop μ-loop)
-    → whole (silenceOf (c .field .given .0 .0)) (c .field .given .0 .1 .0)
+    → whole (silence (addressOf (c .field .given .0 .0)) 0) (c .field .given .0 .1 .0)
     ≡ fieldAt (c .before .before .before .before .before .args .book .now) (c .before .before .before .loop .at)
 field-is c = rw (c .field .given .1) at (c .before .before .field-at .ensures)
 

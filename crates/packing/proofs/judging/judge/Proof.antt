@@ -2,12 +2,13 @@
 -- the record there, or that none is left. The number of words left falls.
 use Prim.Native.Nat.{_-_}
 use mathlib.Core.Path.{sym, _∙_}
+use mathlib.Core.Logic.{inl}
 use native.Mathlib.Omega.{arith}
 use lib.ListN.{length}
 use borrow.Author.Tests.{not-true, not-false}
 use Rattle.silences.specs.Addresses.{lastOf}
 use Rattle.silences.proofs.FieldBytes.{field-length}
-use Rattle.packing.proofs.JudgeLoop.{JudgedTo, judge-start, judge-ring-number, judge-not-above, judge-turn, judge-end}
+use Rattle.packing.proofs.JudgeLoop.{JudgedTo, judge-start, judge-too-large, judge-not-above, judge-turn, judge-end}
 use Rattle.packing.proofs.judging.judge.Statement.{statement}
 use Rattle.packing.proofs.judging.judge.Tie as tie
 
@@ -51,7 +52,7 @@ shared-slice-read-start c = omega arith
 returns : tie.Need-returns Inv-loop μ-loop
 returns c =
     let at-loop = c .before .before .before .before .before in
-    judge-ring-number (at-loop .loop .inv) (omega arith) (omega (arith, c .if1 .taken))
+    judge-too-large (at-loop .loop .inv) (omega arith) (inl (omega (arith, c .if1 .taken)))
 
 cast-t18 : tie.Need-cast-t18 Inv-loop μ-loop
 cast-t18 c = omega arith
@@ -63,7 +64,7 @@ is-above-requires c κs = tt
 returns-2 : tie.Need-returns-2 Inv-loop μ-loop
 returns-2 c =
     let at-loop = c .before .before .before .before .before .before .before in
-    judge-not-above (at-loop .loop .inv) (omega arith) (omega (arith, c .before .before .if1 .left)) (sym (c .before .is-above .ensures) ∙ not-true _ (c .if2 .taken))
+    judge-not-above (at-loop .loop .inv) (omega arith) (record { ring-number-le = omega (arith, c .before .before .if1 .left); ceiling-le = omega arith }) (sym (c .before .is-above .ensures) ∙ not-true _ (c .if2 .taken))
 
 add-records : tie.Need-add-records Inv-loop μ-loop
 add-records c = omega arith
@@ -81,7 +82,7 @@ loop-less c = omega arith
 loop-again : tie.Need-loop-again Inv-loop μ-loop
 loop-again c =
     let at-loop = c .before .before .before .before .before .before .before in
-    judge-turn (at-loop .loop .inv) (omega arith) (omega (arith, c .before .before .if1 .left)) (sym (c .before .is-above .ensures) ∙ not-false _ (c .if2 .left)) (field-length _)
+    judge-turn (at-loop .loop .inv) (omega arith) (record { ring-number-le = omega (arith, c .before .before .if1 .left); ceiling-le = omega arith }) (sym (c .before .is-above .ensures) ∙ not-false _ (c .if2 .left)) (field-length _)
 
 -- no record is left
 returns-3 : tie.Need-returns-3 Inv-loop μ-loop

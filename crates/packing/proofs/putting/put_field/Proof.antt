@@ -5,8 +5,8 @@ use native.Mathlib.Omega.{arith}
 use borrow.Author.Needs.{needs}
 use lib.ListN.{length}
 use Rattle.fields.specs.Tagged.{tagBytes, lengthBytes}
-use Rattle.silences.specs.Silences.{Silence, silence, cellBytes, ringNumberBytes, startBytes}
-use Rattle.silences.specs.Layout.{valueLength}
+use Rattle.silences.specs.Silences.{Silence, silence, address, cellBytes, ringNumberBytes, startBytes}
+use Rattle.silences.specs.Layout.{packedKind, valueLength}
 use Rattle.silences.proofs.FieldBytes.{field-length}
 use Rattle.packing.proofs.FieldPut.{number-next, field-put}
 use Rattle.packing.proofs.putting.put_field.Statement.{statement}
@@ -14,15 +14,15 @@ use Rattle.packing.proofs.putting.put_field.Tie as tie
 
 -- the silence whose field is written
 here : tie.Start → Silence
-here c = silence (c .args .cell) (c .args .ring-number) (c .args .start)
+here c = silence (address (c .args .cell) (c .args .ring-number) (c .args .start)) 0
 
 -- after the tag there is room for the length and the value
-behind-tag : (c : tie.After-put-number) → c .put-number .result + lengthBytes + valueLength ≤ length (c .put-number .last .0)
+behind-tag : (c : tie.After-put-number) → c .put-number .result + lengthBytes + valueLength packedKind ≤ length (c .put-number .last .0)
 unfolding here
 behind-tag c = omega (arith, field-length (here (c .before .before .before)), number-next tagBytes _ (c .put-number .ensures))
 
 -- after each further number there is room for the rest
-behind-length : (c : tie.After-put-number2) → c .put-number2 .result + valueLength ≤ length (c .put-number2 .last .0)
+behind-length : (c : tie.After-put-number2) → c .put-number2 .result + valueLength packedKind ≤ length (c .put-number2 .last .0)
 behind-length c = omega (arith, behind-tag (c .before .before .before .before), number-next lengthBytes _ (c .put-number2 .ensures))
 
 behind-cell : (c : tie.After-put-number3) → c .put-number3 .result + ringNumberBytes + startBytes ≤ length (c .put-number3 .last .0)

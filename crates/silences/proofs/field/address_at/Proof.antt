@@ -1,7 +1,7 @@
--- `silences::field::address_at` meets its contract: it reads the three numbers of the value. The ring number's two bytes fit sixteen bits.
+-- `silences::field::address_at` meets its contract: it reads the three numbers of the address. The ring number's two bytes fit sixteen bits.
 use native.Mathlib.Omega.{arith}
 use Rattle.fields.proofs.NumberWithin.{number-read}
-use Rattle.silences.specs.Reading.{silenceAt}
+use Rattle.silences.specs.Reading.{addressAt}
 use Rattle.silences.proofs.field.address_at.Statement.{statement}
 use Rattle.silences.proofs.field.address_at.Tie as tie
 
@@ -24,7 +24,7 @@ number-at-requires-3 : tie.Need-number-at-requires-3
 number-at-requires-3 c κs = tt
 
 returns : tie.Need-returns
-unfolding silenceAt
+unfolding addressAt
 returns c =
     let cell-is = number-read (c .before .before .number-at .ensures) (omega arith) (omega arith) in
     let ring-number-is = number-read (c .before .number-at2 .ensures) (omega arith) (omega arith) in
