@@ -8,7 +8,7 @@ use native.Mathlib.Omega.{arith}
 use lib.Dec.{eqb}
 use borrow.Author.Tests.{ne-eqb}
 use Rattle.answers.specs.declared.refusals.Refusal.{Refusal}
-use Rattle.answers.specs.declared.refusals.Refusal.the-variants.{Ring, Allowance, Line, FindingsRoom, BookLength, Field, NotAbove, WordCount, RingNumber, OutputRoom, Input, RingMark}
+use Rattle.answers.specs.declared.refusals.Refusal.the-variants.{Ring, Allowance, Line, FindingsRoom, BookLength, Field, NotAbove, WordCount, NumberInRecord, OutputRoom, Input, RingMark}
 use Rattle.answers.specs.declared.places.RingPlace.{RingPlace}
 use Rattle.answers.specs.declared.places.LinePlace.{LinePlace}
 use Rattle.answers.specs.Refusals.{numberOf, placeOf, IsNumber, IsPlace}
@@ -26,7 +26,7 @@ refusalOf number place =
     (cond (eqb number 6) (Field place)
     (cond (eqb number 7) (NotAbove place)
     (cond (eqb number 8) WordCount
-    (cond (eqb number 9) (RingNumber place)
+    (cond (eqb number 9) (NumberInRecord place)
     (cond (eqb number 10) OutputRoom
     (cond (eqb number 11) (Input place) RingMark))))))))))
 
@@ -41,7 +41,7 @@ refusal-back BookLength = refl
 refusal-back (Field place) = refl
 refusal-back (NotAbove place) = refl
 refusal-back WordCount = refl
-refusal-back (RingNumber place) = refl
+refusal-back (NumberInRecord place) = refl
 refusal-back OutputRoom = refl
 refusal-back (Input place) = refl
 refusal-back RingMark = refl
@@ -60,7 +60,7 @@ number-in BookLength = omega arith
 number-in (Field place) = omega arith
 number-in (NotAbove place) = omega arith
 number-in WordCount = omega arith
-number-in (RingNumber place) = omega arith
+number-in (NumberInRecord place) = omega arith
 number-in OutputRoom = omega arith
 number-in (Input place) = omega arith
 number-in RingMark = omega arith

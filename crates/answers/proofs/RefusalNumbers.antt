@@ -5,7 +5,7 @@ use mathlib.Core.Logic.{_↔_}
 use mathlib.Core.Path.{_≡_, refl, sym, ap, subst, _∙_}
 use native.Mathlib.Omega.{arith}
 use Rattle.answers.specs.declared.refusals.Refusal.{Refusal}
-use Rattle.answers.specs.declared.refusals.Refusal.the-variants.{Ring, Allowance, Line, FindingsRoom, BookLength, Field, NotAbove, WordCount, RingNumber, OutputRoom, Input, RingMark}
+use Rattle.answers.specs.declared.refusals.Refusal.the-variants.{Ring, Allowance, Line, FindingsRoom, BookLength, Field, NotAbove, WordCount, NumberInRecord, OutputRoom, Input, RingMark}
 use Rattle.answers.specs.Refusals.{numberOf, placeOf}
 use Rattle.answers.specs.Paper.{Answer, accepted, refused, Paper, answerPaper}
 use Rattle.answers.proofs.OneAnswer.{refusal-unique, number-in}
@@ -27,7 +27,7 @@ place-zero BookLength h = refl
 place-zero (Field place) h = absurd (h .not-6 refl)
 place-zero (NotAbove place) h = absurd (h .not-7 refl)
 place-zero WordCount h = refl
-place-zero (RingNumber place) h = absurd (h .not-9 refl)
+place-zero (NumberInRecord place) h = absurd (h .not-9 refl)
 place-zero OutputRoom h = refl
 place-zero (Input place) h = absurd (h .not-11 refl)
 place-zero RingMark h = refl

@@ -6,7 +6,7 @@ use mathlib.Core.Bool.{Bool, true, _&&_}
 use mathlib.Core.List.{List, [], _∷_}
 use lib.Dec.{eqb}
 use Rattle.answers.specs.declared.refusals.Refusal.{Refusal}
-use Rattle.answers.specs.declared.refusals.Refusal.the-variants.{Ring, Allowance, Line, FindingsRoom, BookLength, Field, NotAbove, WordCount, RingNumber, OutputRoom, Input, RingMark}
+use Rattle.answers.specs.declared.refusals.Refusal.the-variants.{Ring, Allowance, Line, FindingsRoom, BookLength, Field, NotAbove, WordCount, NumberInRecord, OutputRoom, Input, RingMark}
 use Rattle.answers.specs.Refusals.{numberOf, placeOf}
 
 -- A row: the refusal's name, its number, its place.
@@ -33,7 +33,7 @@ table =
     ∷ tableRow (Field 13) 6 13
     ∷ tableRow (NotAbove 26) 7 26
     ∷ tableRow WordCount 8 0
-    ∷ tableRow (RingNumber 999) 9 999
+    ∷ tableRow (NumberInRecord 999) 9 999
     ∷ tableRow OutputRoom 10 0
     ∷ tableRow (Input 27) 11 27
     ∷ tableRow RingMark 12 0

@@ -9,7 +9,7 @@
 use Prim.Native.Nat.{ℕ}
 use mathlib.Core.Path.{_≡_}
 use Rattle.answers.specs.declared.refusals.Refusal.{Refusal}
-use Rattle.answers.specs.declared.refusals.Refusal.the-variants.{Ring, Allowance, Line, FindingsRoom, BookLength, Field, NotAbove, WordCount, RingNumber, OutputRoom, Input, RingMark}
+use Rattle.answers.specs.declared.refusals.Refusal.the-variants.{Ring, Allowance, Line, FindingsRoom, BookLength, Field, NotAbove, WordCount, NumberInRecord, OutputRoom, Input, RingMark}
 
 -- The number of a refusal. Above each case stands the table's sentence for that row.
 abbrev pub numberOf : Refusal → ℕ
@@ -22,16 +22,16 @@ numberOf Line = 3
 -- "n ≥ m and fewer than" 4·(n − m + 1) "words are lent for findings"; document 01 has 3·(n − m + 1), and document 02, ticket 1, makes it 4. On a closed line
 -- fewer than 4·n (ticket 3).
 numberOf FindingsRoom = 4
--- "book longer than 13,000 bytes"
+-- "book longer than 13,000 bytes"; "5 at 15,000 bytes" (document 02, ticket 4)
 numberOf BookLength = 5
--- "a field isn't 13 bytes beginning 21 00 0A hex, or is cut off"
+-- "a field isn't 13 bytes beginning 21 00 0A hex, or is cut off"; "6 admits both fields" (document 02, ticket 4)
 numberOf (Field place) = 6
 -- "a record isn't above the one before it"
 numberOf (NotAbove place) = 7
--- "words to pack aren't a multiple of 3, or exceed 3,000"
+-- "words to pack aren't a multiple of 3, or exceed 3,000"; "8 a multiple of 4, at most 4,000" (document 02, ticket 4)
 numberOf WordCount = 8
--- "a ring number to pack is above 65,535"
-numberOf (RingNumber place) = 9
+-- "a ring number to pack is above 65,535"; "9 also for a ceiling above 65,535" (document 02, ticket 4)
+numberOf (NumberInRecord place) = 9
 -- "packing or unpacking lacks room for its whole output"; on a closed line, "when the join area is below 2·m − 2 bytes and n ≥ m" (document 02, ticket 3)
 numberOf OutputRoom = 10
 -- "the program's input isn't as laid down below"
@@ -58,7 +58,7 @@ placeOf (NotAbove place) = place
 -- 8: "0"
 placeOf WordCount = 0
 -- 9: "record number"
-placeOf (RingNumber place) = place
+placeOf (NumberInRecord place) = place
 -- 10: "0"
 placeOf OutputRoom = 0
 -- 11: "the offset where the first such field begins or should begin", or 0

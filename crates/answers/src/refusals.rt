@@ -13,16 +13,18 @@ pub enum Refusal {
     // 4: n ≥ m and fewer than 4·(n − m + 1) words are lent for findings (document 02, ticket 1), or 4·n on a closed line
     // (ticket 3)
     FindingsRoom,
-    // 5: book longer than 13,000 bytes
+    // 5: book longer than 15,000 bytes (document 02, ticket 4)
     BookLength,
-    // 6: a field isn't 13 bytes beginning 21 00 0A hex, or is cut off; its byte offset
+    // 6: a field isn't 13 bytes beginning 21 00 0A hex, nor 15 bytes beginning 22 00 0C (document 02, ticket 4), or is cut
+    // off; its byte offset
     Field(usize),
     // 7: a record isn't above the one before it; byte offset (reading) or record number from 0 (packing)
     NotAbove(usize),
-    // 8: words to pack aren't a multiple of 3, or exceed 3,000
+    // 8: words to pack aren't a multiple of 4, or exceed 4,000 (document 02, ticket 4)
     WordCount,
-    // 9: a ring number to pack is above 65,535; record number
-    RingNumber(usize),
+    // 9: a number of a record to pack, its ring number or its ceiling (document 02, ticket 4), is above 65,535; record
+    // number
+    NumberInRecord(usize),
     // 10: packing or unpacking lacks room for its whole output, or on a closed line n ≥ m and the join area is below 2·m − 2
     // bytes (document 02, ticket 3)
     OutputRoom,
@@ -46,7 +48,7 @@ pub fn number_of(refusal: Refusal) -> usize
         Refusal::Field(_) => 6,
         Refusal::NotAbove(_) => 7,
         Refusal::WordCount => 8,
-        Refusal::RingNumber(_) => 9,
+        Refusal::NumberInRecord(_) => 9,
         Refusal::OutputRoom => 10,
         Refusal::Input(_) => 11,
         Refusal::RingMark => 12,
@@ -60,7 +62,7 @@ pub fn place_of(refusal: Refusal) -> usize
     match refusal {
         Refusal::Field(place) => place,
         Refusal::NotAbove(place) => place,
-        Refusal::RingNumber(place) => place,
+        Refusal::NumberInRecord(place) => place,
         Refusal::Input(place) => place,
         Refusal::Ring => 0,
         Refusal::Allowance => 0,

@@ -1,5 +1,5 @@
 -- What the answer of `read` says about a book. If it is a number of records, the book is accepted with as many silences. There are no more of them than bytes,
--- so at most 13,000, and three times their number does not overflow.
+-- so at most 15,000, and four times their number does not overflow.
 use Prim.Native.Nat.{ℕ, _≤_}
 use mathlib.Core.Path.{_≡_, refl, sym, ap, _∙_}
 use mathlib.Core.List.{List}
@@ -38,7 +38,8 @@ has-refusal (accepted ss) r e = absurd (accepted-not-refused refl e)
 has-refusal (refused q) r e = cc
 
 module _ (book : List ℕ) where
-  -- An accepted book has at most 13,000 records (a weak bound, enough against overflow).
+  -- An accepted book has at most 15,000 records: a weak bound, for a list of any numbers, and enough against overflow. (Of bytes it has at most 1,153: `records-le` of
+  -- AcceptedIsBook in crates/silences.)
   pub records-le : (records : ℕ) → recordCount (readBook book) ≡ accepted records → records ≤ mostBytes
   records-le records e =
       let has : HasRecords (readBook book) records = has-records (readBook book) records e in

@@ -11,7 +11,7 @@ use Rattle.book.specs.declared.answering.BookAnswer.{BookAnswer}
 use Rattle.book.specs.declared.answering.BookAnswer.the-variants.{Records, Refused}
 use Rattle.silences.specs.declared.addresses.Address.{Address as AddressStruct}
 use Rattle.silences.specs.declared.addresses.Sought.{Sought}
-use Rattle.book.specs.Calls.{answerOf, paperOf, IsUnpacked, IsRead, IsSought, IsSoughtOn, IsAskedFor}
+use Rattle.book.specs.Calls.{answerOf, paperOf, IsUnpacked, IsRead, IsSought, IsSoughtOn, IsHidingAsked}
 
 -- the inverse of `answerOf`
 abbrev answerBack : Answer ℕ → BookAnswer
@@ -45,6 +45,7 @@ pub seek-on-unique : (book : List ℕ) (held : Sought) (address : AddressStruct)
     → r ≡ r′
 seek-on-unique book held address r r′ p p′ = sought-unique r r′ (p .is ∙ sym (p′ .is))
 
--- Any two answers of `is_for` that meet its contract are equal.
-pub is-for-unique : (sought : Sought) (address : AddressStruct) (r r′ : Bool) → IsAskedFor sought address r → IsAskedFor sought address r′ → r ≡ r′
-is-for-unique sought address r r′ p p′ = p .is ∙ sym (p′ .is)
+-- Any two answers of `hides` that meet its contract are equal.
+pub hides-unique : (sought : Sought) (address : AddressStruct) (distance : ℕ) (r r′ : Bool) → IsHidingAsked sought address distance r
+    → IsHidingAsked sought address distance r′ → r ≡ r′
+hides-unique sought address distance r r′ p p′ = p .is ∙ sym (p′ .is)

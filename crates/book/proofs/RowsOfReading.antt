@@ -31,12 +31,12 @@ use Rattle.book.proofs.RowNumbers.{paper-by, records-iff}
 -- For any call whose first row given is `o`, if its refusals other than number 10 are exactly the book's. `p` is its paper.
 module _ (book : List ℕ) {p : Paper ℕ} (o : Option Refusal) (counts : ℕ) (paper : p ≡ answerPaper 0 (answerBy o counts))
     (same : (q : Refusal) → (10 ≡ numberOf q → ⊥) → (o ≡ some q) ↔ (bookRefusal book ≡ some q)) where
-  -- Row 5 is given exactly for a "book longer than 13,000 bytes".
+  -- Row 5 is given exactly for a book longer than 15,000 bytes.
   pub row-5 : (p .number ≡ 5) ↔ (mostBytes < length book)
   row-5 = Iff·trans (row-number-iff 0 counts o paper BookLength (omega arith)) (Iff·trans (same BookLength (λ e. omega arith)) (refusal-5-iff book))
 
   module _ (bytes : IsBytes book) (at : ℕ) where
-    -- Row 6, "a field isn't 13 bytes beginning 21 00 0A hex, or is cut off", is given at byte offset `at` exactly if row 5 is not and it is the first fault.
+    -- Row 6, no field of a silence, or one cut off, is given at byte offset `at` exactly if row 5 is not and it is the first fault.
     pub row-6 : ((p .number ≡ 6) × (p .place ≡ at)) ↔ ((length book ≤ mostBytes) × IsFieldFault book at)
     row-6 = Iff·trans (row-place-iff 0 counts o paper (Field at)) (Iff·trans (same (Field at) (λ e. omega arith)) (refusal-6-iff book bytes at))
 
@@ -49,7 +49,7 @@ module _ (book : List ℕ) (r : BookAnswer) (meets : IsRead book r) where
   paper : paperOf r ≡ answerPaper 0 (answerBy (bookRefusal book) (length (silencesRead book)))
   paper = paper-by (bookRefusal book) (silencesRead book) (meets .paper ∙ ap recordsPaper (book-answer-is book))
 
-  -- Row 5 is given exactly for a "book longer than 13,000 bytes".
+  -- Row 5 is given exactly for a book longer than 15,000 bytes.
   pub read-row-5 : (paperOf r .number ≡ 5) ↔ (mostBytes < length book)
   read-row-5 = row-5 book (bookRefusal book) (length (silencesRead book)) paper (λ q other. Iff·rfl)
 
@@ -69,7 +69,7 @@ module _ (book : List ℕ) (r : BookAnswer) (meets : IsRead book r) where
   read-refused-none = refused-counts 0 (length (silencesRead book)) (bookRefusal book) paper
 
   module _ (bytes : IsBytes book) where
-    -- Row 6, "a field isn't 13 bytes beginning 21 00 0A hex, or is cut off", is given at byte offset `at` exactly if row 5 is not and it is the first fault.
+    -- Row 6, no field of a silence, or one cut off, is given at byte offset `at` exactly if row 5 is not and it is the first fault.
     pub read-row-6 : (at : ℕ) → ((paperOf r .number ≡ 6) × (paperOf r .place ≡ at)) ↔ ((length book ≤ mostBytes) × IsFieldFault book at)
     read-row-6 = row-6 book (bookRefusal book) (length (silencesRead book)) paper (λ q other. Iff·rfl) bytes
 

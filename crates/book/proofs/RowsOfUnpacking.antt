@@ -45,7 +45,7 @@ module _ (book area : List ℕ) (r : BookAnswer) (out : List ℕ) (meets : IsUnp
   unfolding unpacked
   paper = paper-by o (silencesRead book) (meets .paper)
 
-  -- Row 5 is given exactly for a "book longer than 13,000 bytes".
+  -- Row 5 is given exactly for a book longer than 15,000 bytes.
   pub unpack-row-5 : (paperOf r .number ≡ 5) ↔ (mostBytes < length book)
   unpack-row-5 = row-5 book o records paper (unpack-row-iff book (length area))
 
@@ -76,7 +76,7 @@ module _ (book area : List ℕ) (r : BookAnswer) (out : List ℕ) (meets : IsUnp
       refused-area 0 records o paper (written (wordsOfSilences (silencesRead book)) area) area (meets .written ∙ area-by wordsOfSilences area o (silencesRead book))
 
   module _ (bytes : IsBytes book) where
-    -- Row 6, "a field isn't 13 bytes beginning 21 00 0A hex, or is cut off", is given at byte offset `at` exactly if row 5 is not and it is the first fault.
+    -- Row 6, no field of a silence, or one cut off, is given at byte offset `at` exactly if row 5 is not and it is the first fault.
     pub unpack-row-6 : (at : ℕ) → ((paperOf r .number ≡ 6) × (paperOf r .place ≡ at)) ↔ ((length book ≤ mostBytes) × IsFieldFault book at)
     unpack-row-6 = row-6 book o records paper (unpack-row-iff book (length area)) bytes
 
@@ -84,19 +84,19 @@ module _ (book area : List ℕ) (r : BookAnswer) (out : List ℕ) (meets : IsUnp
     pub unpack-row-7 : (at : ℕ) → ((paperOf r .number ≡ 7) × (paperOf r .place ≡ at)) ↔ ((length book ≤ mostBytes) × IsOrderFault book at)
     unpack-row-7 = row-7 book o records paper (unpack-row-iff book (length area)) bytes
 
-    -- Row 10, "unpacking lacks room for its whole output", is given exactly for the book of some silences with less room than three words for each.
+    -- Row 10, "unpacking lacks room for its whole output", is given exactly for the book of some silences with less room than four words for each.
     pub unpack-row-10 : (paperOf r .number ≡ 10) ↔ ((ss : List Silence) × IsBook ss book × (length area < recordWords * length ss))
     unpack-row-10 =
         Iff·trans (row-number-iff 0 records o paper OutputRoom (omega arith))
         (Iff·trans (unpack-10-iff book (length area)) (read-book-iff book bytes (λ (ss : List Silence). length area < recordWords * length ss)))
 
-    -- `unpack` accepts bytes exactly when they are the book of some silences and there is room for three words for each.
+    -- `unpack` accepts bytes exactly when they are the book of some silences and there is room for four words for each.
     pub unpack-accepted : (paperOf r .number ≡ 0) ↔ ((ss : List Silence) × IsBook ss book × (recordWords * length ss ≤ length area))
     unpack-accepted =
         Iff·trans (accepted-number-iff 0 records o paper)
         (Iff·trans (unpack-none-iff book (length area)) (read-book-iff book bytes (λ (ss : List Silence). recordWords * length ss ≤ length area)))
 
-    -- `unpack` returns n records exactly for a book of n silences with room for three words for each.
+    -- `unpack` returns n records exactly for a book of n silences with room for four words for each.
     pub unpack-records : (n : ℕ) → (r ≡ Records n) ↔ ((ss : List Silence) × IsBook ss book × ((length ss ≡ n) × (recordWords * length ss ≤ length area)))
     unfolding unpacked
     unpack-records n =

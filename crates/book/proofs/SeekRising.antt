@@ -6,14 +6,14 @@ use mathlib.Core.Path.{_≡_, refl, sym, ap, _∙_}
 use mathlib.Core.Bool.{Bool, true, false}
 use mathlib.Core.List.{List}
 use Rattle.answers.specs.Paper.{accepted}
-use Rattle.silences.specs.Silences.{Address, Silence, isBelow, Below, names}
+use Rattle.silences.specs.Silences.{Address, Silence, isBelow, Below, hides}
 use Rattle.silences.specs.Reading.{FieldAt, whole, faulty, fieldAt, readBook}
-use Rattle.book.specs.Seeking.{seekField, seekFrom, isFor}
+use Rattle.book.specs.Seeking.{seekField, seekFrom, isHiding}
 use Rattle.silences.proofs.SilenceOrder.{isBelow-iff}
 use Rattle.silences.proofs.StrictOrder.{below-not-below}
 use Rattle.silences.proofs.FieldInduction.{field-induction}
 use Rattle.book.proofs.SeekFrom.{seekFrom-step, seekFrom-faulty, seekFrom-below, seekFrom-found}
-use Rattle.book.proofs.SeekNames.{seek-all-names}
+use Rattle.book.proofs.SeekHides.{seek-hides}
 
 module _ (book : List ℕ) where
   -- a step for b at the field found for a gives what seeking b gives, if b is not below a
@@ -48,7 +48,7 @@ module _ (book : List ℕ) where
   seeking-turn a b not-below held was =
       record { held-is = ap (λ (f : FieldAt). seekField b f (seekFrom book b)) (was .held-is) ∙ seek-again book a b not-below 0 }
 
-  -- In an accepted book, the field held for an address is for it exactly when the book names it.
-  pub seeking-names : (ss : List Silence) (a : Address) (held : FieldAt) → readBook book ≡ accepted ss → HeldField book a held
-      → isFor a held ≡ names ss a
-  seeking-names ss a held e now-held = ap (isFor a) (now-held .held-is) ∙ seek-all-names book ss a e
+  -- In an accepted book, the field held for an address hides there at a distance exactly when the book does.
+  pub seeking-hides : (ss : List Silence) (a : Address) (distance : ℕ) (held : FieldAt) → readBook book ≡ accepted ss → HeldField book a held
+      → isHiding a distance held ≡ hides ss a distance
+  seeking-hides ss a distance held e now-held = ap (isHiding a distance) (now-held .held-is) ∙ seek-hides book ss a distance e

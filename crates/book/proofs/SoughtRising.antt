@@ -1,18 +1,18 @@
 -- Calling `seek` and then `seek_on` with rising addresses, as a report does: SeekRising for any answers that meet their contracts. In an accepted book, what is
--- held is for the address exactly when the book names it.
+-- held for a finding's address hides the finding exactly when the book does.
 use Prim.Native.Nat.{ℕ, _≤_}
 use mathlib.Core.Path.{_≡_, sym, subst}
 use mathlib.Core.List.{List}
 use Rattle.answers.specs.Paper.{accepted}
 use Rattle.silences.specs.declared.addresses.Address.{Address as AddressStruct}
 use Rattle.silences.specs.declared.addresses.Sought.{Sought}
-use Rattle.silences.specs.Silences.{Silence, Below, names}
+use Rattle.silences.specs.Silences.{Silence, Below, hides}
 use Rattle.silences.specs.Reading.{readBook}
-use Rattle.book.specs.Seeking.{isFor}
+use Rattle.book.specs.Seeking.{isHiding}
 use Rattle.silences.specs.Addresses.{addressOf, soughtOf}
 use Rattle.book.specs.Calls.{IsSought, IsSoughtOn}
 use Rattle.silences.proofs.StrictOrder.{start-not-below}
-use Rattle.book.proofs.SeekRising.{HeldField, seeking-turn, seeking-names}
+use Rattle.book.proofs.SeekRising.{HeldField, seeking-turn, seeking-hides}
 
 -- The next address has the same cell and ring number as the last one, `asked`, and its start is not lower.
 pub record Rises (asked address : AddressStruct) : Type 0 where
@@ -36,7 +36,7 @@ module _ (book : List ℕ) where
         subst (HeldField book (addressOf address)) (sym (meets .is))
         (seeking-turn book (addressOf asked) (addressOf address) (rises-not-below asked address rises) (soughtOf held) was)
 
-  -- In an accepted book, what is held for an address is for it exactly when the book names it.
-  pub sought-end : (ss : List Silence) (address : AddressStruct) (r : Sought) → readBook book ≡ accepted ss → HeldField book (addressOf address) (soughtOf r)
-      → isFor (addressOf address) (soughtOf r) ≡ names ss (addressOf address)
-  sought-end ss address r e held = seeking-names book ss (addressOf address) (soughtOf r) e held
+  -- In an accepted book, what is held for an address hides there at a distance exactly when the book does.
+  pub sought-end : (ss : List Silence) (address : AddressStruct) (distance : ℕ) (r : Sought) → readBook book ≡ accepted ss
+      → HeldField book (addressOf address) (soughtOf r) → isHiding (addressOf address) distance (soughtOf r) ≡ hides ss (addressOf address) distance
+  sought-end ss address distance r e held = seeking-hides book ss (addressOf address) distance (soughtOf r) e held

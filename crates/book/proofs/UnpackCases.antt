@@ -41,7 +41,7 @@ module _ (book area : List ℕ) where
     has : HasRecords (readBook book) records
     has = has-records (readBook book) records read
 
-    -- If there is less room than three words for each record, refusing with 10 and writing nothing meets the contract.
+    -- If there is less room than four words for each record, refusing with 10 and writing nothing meets the contract.
     pub unpack-no-room : length area < recordWords * records → IsUnpacked book area (Refused OutputRoom) area
     unpack-no-room short =
         let given = book-accepted-iff book (has .silences) .0 (has .is) in

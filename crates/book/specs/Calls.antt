@@ -1,10 +1,10 @@
 -- The contracts of the public functions on a book, one record each, for every input, accepted or refused. `paper` is the returned value as document 01's
 -- number, place and number of records; `written` is the lent area at exit. "Packer and unpacker return the number of records"; so does reading.
--- `is` gives the result of `seek`, `seek_on` and `is_for`.
+-- `is` gives the result of `seek`, `seek_on` and `hides`.
 --
 --   answerOf, paperOf            a `BookAnswer` as an answer, and its paper
 --   recordCount, recordsPaper    an answer with the number of silences instead of the silences, and its paper
---   IsUnpacked, IsRead, IsSought, IsSoughtOn, IsAskedFor    the contracts of `unpack`, `read`, `seek`, `seek_on` and `is_for`
+--   IsUnpacked, IsRead, IsSought, IsSoughtOn, IsHidingAsked    the contracts of `unpack`, `read`, `seek`, `seek_on` and `hides`
 use Prim.Native.Nat.{ℕ}
 use mathlib.Core.Path.{_≡_}
 use mathlib.Core.Bool.{Bool}
@@ -19,7 +19,7 @@ use Rattle.silences.specs.Silences.{Silence}
 use Rattle.silences.specs.Reading.{readBook}
 use Rattle.silences.specs.Addresses.{addressOf, soughtOf}
 use Rattle.silences.specs.Packing.{wordsOfSilences, unpacked, areaAtExit}
-use Rattle.book.specs.Seeking.{seekField, seekFrom, isFor}
+use Rattle.book.specs.Seeking.{seekField, seekFrom, isHiding}
 
 -- A `BookAnswer` as an answer: accepted with a number of records, or refused.
 abbrev pub answerOf : BookAnswer → Answer ℕ
@@ -57,6 +57,6 @@ pub record IsSought (book : List ℕ) (from : ℕ) (address : AddressStruct) (r 
 pub record IsSoughtOn (book : List ℕ) (held : Sought) (address : AddressStruct) (r : Sought) : Type 0 where
   pub is : soughtOf r ≡ seekField (addressOf address) (soughtOf held) (seekFrom book (addressOf address))
 
--- The contract of `is_for`, which returns `r`: whether `sought` is a field and its silence has this address.
-pub record IsAskedFor (sought : Sought) (address : AddressStruct) (r : Bool) : Type 0 where
-  pub is : r ≡ isFor (addressOf address) (soughtOf sought)
+-- The contract of `hides`, which returns `r`: whether `sought` is a field and its silence hides a finding with this address and this distance.
+pub record IsHidingAsked (sought : Sought) (address : AddressStruct) (distance : ℕ) (r : Bool) : Type 0 where
+  pub is : r ≡ isHiding (addressOf address) distance (soughtOf sought)

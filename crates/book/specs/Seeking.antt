@@ -4,14 +4,14 @@
 --   seekField    one step of seeking, at a field
 --   seekFields   seeking over at most a given number of fields
 --   seekFrom     the field found, with the byte offset just past it: a caller with rising addresses goes on from there and reads no field twice
---   isFor        whether the field found is for the address
+--   isHiding     whether the field found hides a finding with this address and this distance
 --
 -- `seekFrom` counts down the bytes left, as reading does. Its one equation hides this count; read it instead: `seekFrom-step` of proofs/SeekFrom.antt.
 use Prim.Native.Nat.{ℕ, zero, suc, _-_}
 use mathlib.Core.Bool.{Bool, false, cond}
 use mathlib.Core.List.{List}
 use lib.ListN.{length}
-use Rattle.silences.specs.Silences.{Address, isBelow, isSame}
+use Rattle.silences.specs.Silences.{Address, isBelow, covers}
 use Rattle.silences.specs.Reading.{FieldAt, whole, faulty, fieldAt}
 
 -- One step of seeking, at a field: if it is below the address, it is passed and `rest` seeks on after it; else it is found. At a faulty field nothing is found.
@@ -30,7 +30,8 @@ seekFields (suc left) book a at = seekField a (fieldAt book at) (seekFields left
 unfoldable pub seekFrom : List ℕ → Address → ℕ → FieldAt
 seekFrom book a at = seekFields (length book - at) book a at
 
--- Whether this is a whole field whose silence has the address.
-abbrev pub isFor : Address → FieldAt → Bool
-isFor a faulty = false
-isFor a (whole s next) = isSame (s .address) a
+-- Whether this is a whole field whose silence hides a finding with this address and this distance: "at its address only up to that distance" (document 02,
+-- ticket 4).
+abbrev pub isHiding : Address → ℕ → FieldAt → Bool
+isHiding a distance faulty = false
+isHiding a distance (whole s next) = covers s a distance

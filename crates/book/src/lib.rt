@@ -7,7 +7,7 @@ mod unpacking;
 
 pub use answering::BookAnswer;
 pub use reading::read;
-pub use seeking::is_for;
+pub use seeking::hides;
 pub use seeking::seek;
 pub use seeking::seek_on;
 pub use unpacking::unpack;

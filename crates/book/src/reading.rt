@@ -12,7 +12,7 @@ ghost use mathlib.Core.Option.{none};
 ghost use Rattle.silences.specs.Reading.{readFrom};
 ghost use Rattle.book.specs.Calls.{answerOf, recordCount, IsRead};
 
-// "book longer than 13,000 bytes": the most bytes that a book may have.
+// "book longer than" 15,000 "bytes": the most bytes that a book may have.
 const MOST_BOOK_LENGTH: usize = FIELD_LENGTH * MOST_SILENCES;
 
 // Reads the fields of a book one after the other. "Within a book the first faulty field decides, 6 before 7."
@@ -28,7 +28,11 @@ fn read_fields(book: &[u8]) -> BookAnswer
             Sought::Nothing => {
                 return BookAnswer::Refused(Refusal::Field(at));
             }
-            Sought::Field { address, next } => {
+            Sought::Field {
+                address,
+                ceiling: _,
+                next,
+            } => {
                 if !is_above(last, address) {
                     return BookAnswer::Refused(Refusal::NotAbove(at));
                 }

@@ -1,10 +1,10 @@
-// Seeking an address in a book.
+// Seeking an address in a book, and whether what was found hides a finding.
 use silences::Address;
 use silences::Sought;
 use silences::field_at;
 use silences::is_below;
 use silences::is_same;
-ghost use Rattle.book.specs.Calls.{IsSought, IsSoughtOn, IsAskedFor};
+ghost use Rattle.book.specs.Calls.{IsSought, IsSoughtOn, IsHidingAsked};
 
 // Returns the first field from byte offset `from` on that is not below the address; `Nothing` if a faulty field or the
 // book's end comes first. A caller with rising addresses keeps it and goes on with `seek_on`, and so reads no field
@@ -21,6 +21,7 @@ pub fn seek(book: &[u8], from: usize, address: Address) -> Sought
             }
             Sought::Field {
                 address: found,
+                ceiling: _,
                 next,
             } => {
                 if !is_below(found, address) {
@@ -41,6 +42,7 @@ pub fn seek_on(book: &[u8], held: Sought, address: Address) -> Sought
         Sought::Nothing => Sought::Nothing,
         Sought::Field {
             address: found,
+            ceiling: _,
             next,
         } => {
             if is_below(found, address) {
@@ -51,15 +53,22 @@ pub fn seek_on(book: &[u8], held: Sought, address: Address) -> Sought
     }
 }
 
-// Whether `sought` is a field and is for this address.
-pub fn is_for(sought: Sought, address: Address) -> bool
-    ensures { λ r. ⌜ IsAskedFor sought address r ⌝ }
+// Whether `sought` hides a finding with this address and this distance: it is a field, its address is the finding's, and
+// the distance is at most its ceiling.
+pub fn hides(sought: Sought, address: Address, distance: usize) -> bool
+    ensures { λ r. ⌜ IsHidingAsked sought address distance r ⌝ }
 {
     match sought {
         Sought::Nothing => false,
         Sought::Field {
             address: found,
+            ceiling,
             next: _,
-        } => is_same(found, address),
+        } => {
+            if !is_same(found, address) {
+                return false;
+            }
+            distance <= ceiling as usize
+        }
     }
 }

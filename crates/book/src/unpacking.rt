@@ -1,4 +1,4 @@
-// Unpacking a book into words, three for each record: cell, ring number, start.
+// Unpacking a book into words, four for each record: cell, ring number, start, ceiling.
 use crate::answering::BookAnswer;
 use crate::reading::read;
 use answers::Refusal;
@@ -17,14 +17,15 @@ ghost use Rattle.silences.specs.Silences.{silence};
 ghost use Rattle.silences.specs.Addresses.{addressOf};
 ghost use Rattle.book.specs.Calls.{recordCount, IsUnpacked};
 
-// Writes the three words of a record from place `to` on.
-fn put_record(words: &mut [u32], to: usize, address: Address)
+// Writes the four words of a record from place `to` on.
+fn put_record(words: &mut [u32], to: usize, address: Address, ceiling: u16)
     requires { ⌜ to + recordWords ≤ length (now words) ⌝ }
-    ensures { λ _. ⌜ now (words .exit) ≡ sets (now (words .entry)) to (silenceWords (silence (addressOf address) 0)) ⌝ }
+    ensures { λ _. ⌜ now (words .exit) ≡ sets (now (words .entry)) to (silenceWords (silence (addressOf address) ceiling)) ⌝ }
 {
     words[to] = address.cell;
     words[to + 1] = address.ring_number as u32;
     words[to + 2] = address.start;
+    words[to + 3] = ceiling as u32;
 }
 
 // Writes the words of all records. The book is accepted and there is room, so nothing is refused after a write.
@@ -36,11 +37,16 @@ fn put_records(book: &[u8], records: usize, words: &mut [u32])
     let mut done: usize = 0;
     while done < records {
         let field = field_at(book, at);
-        let Sought::Field { address, next } = field else {
+        let Sought::Field {
+            address,
+            ceiling,
+            next,
+        } = field
+        else {
             // An accepted book has a whole field for each of its records.
             return;
         };
-        put_record(words, RECORD_WORDS * done, address);
+        put_record(words, RECORD_WORDS * done, address, ceiling);
         done += 1;
         at = next;
     }

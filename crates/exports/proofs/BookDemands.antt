@@ -1,5 +1,6 @@
 -- `outlines_unpack` and `outlines_pack` meet the demands. Both answer by their rows, so demand 1 follows as for every call (RowsAgree). A book is accepted exactly when it
--- lays down silences (`accepted-iff` of crates/silences). A book's bytes and its words determine each other, so each call gives back what the other was given.
+-- lays down silences (`accepted-iff` of crates/silences). Unpacking gives back the words that were packed; packing what was unpacked, up to 1,000 records, gives a book
+-- of the same silences.
 use Prim.Native.Nat.{ℕ, _*_, _≤_, _<_}
 use mathlib.Core.Path.{_≡_, refl, sym, ap, subst, _∙_}
 use mathlib.Core.Logic.{_↔_, _⊎_, inl, inr, Iff·trans}
@@ -11,21 +12,20 @@ use Rattle.lists.specs.Areas.{written}
 use Rattle.lists.specs.Bounds.{IsBytes, IsWords}
 use Rattle.lists.proofs.Areas.{written-front}
 use Rattle.answers.specs.declared.refusals.Refusal.{Refusal}
-use Rattle.answers.specs.declared.refusals.Refusal.the-variants.{Field, NotAbove, RingNumber}
+use Rattle.answers.specs.declared.refusals.Refusal.the-variants.{Field, NotAbove, NumberInRecord}
 use Rattle.answers.specs.Paper.{Answer, accepted, refused, Paper, answerPaper}
 use Rattle.answers.specs.Rows.{firstGiven, answerBy, areaBy}
 use Rattle.answers.proofs.OneAnswer.{number-in}
 use Rattle.answers.proofs.AnswerCases.{accepted-unique}
 use Rattle.silences.specs.Silences.{Silence}
-use Rattle.silences.specs.Layout.{layout, mostSilences}
+use Rattle.silences.specs.Layout.{fieldLength, layout, mostSilences}
 use Rattle.silences.specs.Books.{IsBook}
 use Rattle.silences.specs.Reading.{silencesRead, bookRows, readBook}
 use Rattle.silences.specs.Packing.{recordWords, silencesOf, wordsOfSilences, areaAtExit, roomRow, packRows, packRefusal, packed, unpackRows, unpackRefusal, unpacked}
 use Rattle.silences.specs.Faults.{IsPackable}
-use Rattle.silences.proofs.FieldTest.{kind-cases}
 use Rattle.silences.proofs.LayoutRead.{layout-length}
 use Rattle.silences.proofs.AcceptedIsBook.{book-accepted, accepted-iff}
-use Rattle.silences.proofs.RoundTrips.{packable-book, few-packable, laid-layout}
+use Rattle.silences.proofs.RoundTrips.{packable-book, few-packable, few-book, laid-layout}
 use Rattle.silences.proofs.WordsOfSilences.{words-length, words-of-silences, silences-of-words}
 use Rattle.silences.proofs.BookRows.{is-row-5, fault-has, fault-6-iff, fault-7-iff, book-accepted-iff}
 use Rattle.silences.proofs.RecordRows.{records-have, records-9-iff, records-7-iff}
@@ -35,7 +35,7 @@ use Rattle.book.specs.Calls.{recordsPaper}
 use Rattle.outlines.specs.Report.{ReportCounts, noReportCounts}
 use Rattle.exports.specs.declared.answering.Answer.{Answer as AnswerStruct}
 use Rattle.exports.specs.Exported.{paperInStruct, recordsInStruct, IsExported, IsPackExported, IsUnpackExported}
-use Rattle.exports.specs.Demands.{rowOf, bookTable, packTable, UnpackDemand2, PackDemand2, GivesBack, UnpackMeets, PackMeets}
+use Rattle.exports.specs.Demands.{rowOf, bookTable, packTable, UnpackDemand2, PackDemand2, GivesBack, ReadsBack, UnpackMeets, PackMeets}
 use Rattle.exports.proofs.RowsAgree.{Agrees, AllAgree, agree-append, row-agrees, faults-agree, demand-1-met}
 
 -- What an accepted pack or unpack returns and writes, for the records `ss`.
@@ -128,25 +128,30 @@ pack-unpack words area {out} {r} are-words e zero-is area′ {out′} {r′} roo
       front-is = written-front (wordsOfSilences ss) area′ (given .written-is) (length words) (ap length back) ∙ back;
     }
 
--- The words that an accepted `outlines_unpack` wrote, packed with room for their bytes, give the book back.
-pub unpack-pack : (book area : List ℕ) {out : List ℕ} {r : AnswerStruct} → IsBytes book → IsUnpackExported book area r out → r .refusal ≡ 0
-    → (area′ : List ℕ) {out′ : List ℕ} {r′ : AnswerStruct} → length book ≤ length area′ → IsPackExported (take (recordWords * r .found) out) area′ r′ out′
-    → GivesBack book r r′ out′
-unpack-pack book area {out} {r} bytes e zero-is area′ {out′} {r′} room e′ =
+-- The words that an accepted `outlines_unpack` of at most 1,000 records wrote, packed with room, give a book of the same silences, and the same bytes where tag 21 is
+-- absent.
+pub unpack-pack : (book area : List ℕ) {out : List ℕ} {r : AnswerStruct} → IsBytes book → IsUnpackExported book area r out → r .refusal ≡ 0 → r .found ≤ mostSilences
+    → (area′ : List ℕ) {out′ : List ℕ} {r′ : AnswerStruct} → fieldLength * r .found ≤ length area′ → IsPackExported (take (recordWords * r .found) out) area′ r′ out′
+    → ReadsBack book r r′ out′
+unpack-pack book area {out} {r} bytes e zero-is few area′ {out′} {r′} room e′ =
     let has = unpacked-has book area bytes e zero-is in
     let ss : List Silence = has .0 in
     let was = the-book book area bytes e ss (has .1) zero-is in
     let long : length (wordsOfSilences ss) ≡ recordWords * r .found = words-length ss ∙ ap (λ (n : ℕ). recordWords * n) (sym (was .found-is)) in
     let front : take (recordWords * r .found) out ≡ wordsOfSilences ss = written-front (wordsOfSilences ss) area (was .written-is) (recordWords * r .found) long in
     let packs : IsPackExported (wordsOfSilences ss) area′ r′ out′ = subst (λ (w : List ℕ). IsPackExported w area′ r′ out′) front e′ in
-    let book-is : layout ss ≡ book = sym (laid-layout (λ tag kind allowed is. kind-cases tag kind is) (has .1 .laid-down)) in
-    let few : length ss ≤ mostSilences = omega (arith, ap length book-is, layout-length ss, has .1 .length-le) in
+    let few-read : length ss ≤ mostSilences = omega (arith, was .found-is) in
     let given = gives-records layout (packed (wordsOfSilences ss) (length area′)) area′ packs ss (packed-accepted-iff (wordsOfSilences ss) (length area′) ss .1
-    (few-packable ss book (has .1) few, sym (silences-of-words ss (has .1 .in-range)), omega (arith, room, ap length book-is))) in
+    (few-packable ss book (has .1) few-read, sym (silences-of-words ss), omega (arith, layout-length ss, was .found-is))) in
     record {
       accepted = given .accepted-is;
       found-is = given .found-is ∙ sym (was .found-is);
-      front-is = written-front (layout ss) area′ (given .written-is) (length book) (ap length book-is) ∙ book-is;
+      silences = ss;
+      was-book = has .1;
+      front = layout ss;
+      front-is = written-front (layout ss) area′ (given .written-is) (length (layout ss)) refl;
+      is-book = few-book ss book (has .1) few-read;
+      same-bytes = λ laid. sym (laid-layout laid);
     }
 
 -- the paper of pack and unpack in the struct, by the first row that is given
@@ -206,8 +211,8 @@ unfolding packRows
 pack-agrees words room = (
   row-agrees (is-row-8 words room) refl,
   λ _. (
-    faults-agree RingNumber NotAbove (λ p. (refl, refl)) (λ p. (refl, refl)) (records-9-iff words) (records-7-iff words)
-        (records-have words (λ (q : Refusal). ((p : ℕ) × (q ≡ RingNumber p)) ⊎ ((p : ℕ) × (q ≡ NotAbove p))) (λ j. inl (j, refl)) (λ j. inr (j, refl))),
+    faults-agree NumberInRecord NotAbove (λ p. (refl, refl)) (λ p. (refl, refl)) (records-9-iff words) (records-7-iff words)
+        (records-have words (λ (q : Refusal). ((p : ℕ) × (q ≡ NumberInRecord p)) ⊎ ((p : ℕ) × (q ≡ NotAbove p))) (λ j. inl (j, refl)) (λ j. inr (j, refl))),
     λ _. (row-agrees (is-room-row (layout (silencesOf words)) room) refl, λ _. tt),
   ),
 )

@@ -1,4 +1,4 @@
--- The places of the calls on a book fit 32 bits. A byte offset is at most the book's length, which is at most 13,000 where an offset is given. A record number is
+-- The places of the calls on a book fit 32 bits. A byte offset is at most the book's length, which is at most 15,000 where an offset is given. A record number is
 -- at most the number of records, which is at most 1,000.
 use Prim.Native.Nat.{ℕ, _≤_, _<_}
 use mathlib.Core.Logic.{⊎-elim}
@@ -33,7 +33,7 @@ module _ (book : List ℕ) where
   reads-place (stopped-faulty f h n) = omega (arith, h)
   reads-place (stopped-order {stop = stop} {s = s} {next = next} f n o) = omega (arith, field-ends book stop s next n)
 
-  -- A place of reading is at most 13,000.
+  -- A place of reading is at most 15,000.
   pub read-place-le : recordsPaper (readBook book) .place ≤ mostBytes
   read-place-le =
       ⊎-elim
@@ -46,7 +46,7 @@ place-le : (most : ℕ) (o : Option Refusal) (ss : List Silence) → ((q : Refus
 place-le most none ss each = omega arith
 place-le most (some q) ss each = each q refl
 
--- A place of unpacking is at most 13,000.
+-- A place of unpacking is at most 15,000.
 pub unpacked-place-le : (book : List ℕ) (room : ℕ) → recordsPaper (unpacked book room) .place ≤ mostBytes
 unfolding unpacked
 unpacked-place-le book room =

@@ -29,7 +29,7 @@ use Rattle.findings.proofs.JoinAtExit.{join-short, join-long}
 use Rattle.outlines.specs.Report.{ReportCounts, noReportCounts}
 use Rattle.exports.specs.declared.answering.Answer.{Answer as AnswerStruct}
 use Rattle.exports.specs.Exported.{IsSearchExported, IsReportExportedBy, IsSearchClosedExported, IsSurveyClosedExported, IsScanClosedExported, IsReportClosedExported}
-use Rattle.exports.specs.Demands.{limitTable, closedSearchTable, NeverNamed, Demand2, JoinDemand, ClosedDemand2, ClosedDemand3, SurveyClosedMeets, ScanClosedMeets, ReportClosedMeets, SurveyScanSame}
+use Rattle.exports.specs.Demands.{limitTable, closedSearchTable, NeverHidden, Demand2, JoinDemand, ClosedDemand2, ClosedDemand3, SurveyClosedMeets, ScanClosedMeets, ReportClosedMeets, SurveyScanSame}
 use Rattle.exports.proofs.RowsAgree.{AllAgree, agree-append, row-agrees, GoesByRows, demand-1-met}
 use Rattle.exports.proofs.SearchDemands.{limits-agree, countsInStruct, searched-by-rows, ring-edge, looks-are, search-demand-2, same-but-looks}
 use Rattle.exports.proofs.ReportDemands.{reported-by-rows, report-agrees, report-edge, report-looks-are, accepted-demand-2}
@@ -58,14 +58,14 @@ module _ (ring line : List ℕ) (pos : 0 < length ring) (k : ℕ) where
   )
 
   -- Demand 2 for the list `closedLine` is demand 2 for the closed line.
-  pub closed-demand-2 : {Named : ℕ → Type 0} {words : List ℕ} {r : AnswerStruct} {out : List ℕ}
-      → Demand2 Named ring closed k words r out → ClosedDemand2 Named ring line k words r out
+  pub closed-demand-2 : {Hidden : ℕ → ℕ → Type 0} {words : List ℕ} {r : AnswerStruct} {out : List ℕ}
+      → Demand2 Hidden ring closed k words r out → ClosedDemand2 Hidden ring line k words r out
   closed-demand-2 met =
       let finding-iff : (f : Finding) → IsFinding ring closed k f ↔ IsClosedFinding ring line k f = closed-finding-iff ring line pos k in
       record {
         shown = met .shown;
         hidden = met .hidden;
-        start-iff = λ i. Iff·trans (met .start-iff i) (Iff·and (within-iff i) Iff·rfl);
+        start-iff = λ i. Iff·trans (met .start-iff i) (within-iff i);
         shown-iff = λ f. Iff·trans (met .shown-iff f) (Iff·and (finding-iff f) Iff·rfl);
         hidden-iff = λ f. Iff·trans (met .hidden-iff f) (Iff·and (finding-iff f) Iff·rfl);
         shown-rising = rising-below 0 (length closed) (length line) (met .shown) (met .shown-rising) (omega arith)
@@ -131,7 +131,7 @@ module _ (ring line : List ℕ) (k : ℕ) (join words : List ℕ) where
       edge = ring-edge own-rows ring whole k looks words as-search some-edge zero-is
 
       -- it meets demand 2
-      closed-search-2 : ClosedDemand2 NeverNamed ring line k words r out
+      closed-search-2 : ClosedDemand2 NeverHidden ring line k words r out
       closed-search-2 = closed-demand-2 ring line edge k (search-demand-2 own-rows ring whole k looks words as-search some-edge zero-is)
 
       -- its looks are the search's

@@ -1,5 +1,5 @@
 -- `outlines_report` meets the demands. It answers by the rows of a report, so demand 1 follows as for every call (RowsAgree). Where it is accepted, the book is the
--- book of the silences read (`accepted-iff` of crates/silences), so a finding is shown exactly when the book's bytes do not name it. Its looks are the scan's.
+-- book of the silences read (`accepted-iff` of crates/silences), so a finding is shown exactly when the book's bytes do not hide it. Its looks are the scan's.
 use Prim.Native.Nat.{ℕ, _<_}
 use mathlib.Core.Path.{_≡_, refl, ap, subst}
 use mathlib.Core.Logic.{_↔_, Iff·trans, Iff·and, Iff·rfl}
@@ -16,7 +16,7 @@ use Rattle.answers.specs.Rows.{firstGiven}
 use Rattle.answers.proofs.RowsExactly.{none-append-iff}
 use Rattle.answers.proofs.AnswerCases.{accepted-unique}
 use Rattle.lists.specs.Bounds.{IsBytes}
-use Rattle.silences.specs.Silences.{Silence, Names}
+use Rattle.silences.specs.Silences.{Silence, Hides}
 use Rattle.silences.specs.Reading.{silencesRead, bookRows, readBook}
 use Rattle.silences.proofs.BookRows.{book-accepted-iff}
 use Rattle.findings.specs.Admitting.{admitRows}
@@ -24,21 +24,21 @@ use Rattle.findings.proofs.AdmitRows.{accepted-edge}
 use Rattle.silences.proofs.AcceptedIsBook.{book-accepted, accepted-iff}
 use Rattle.outlines.specs.Report.{shown, hidden, ReportCounts, reportCounts, reportRows, reportAnswer, reportedWords}
 use Rattle.outlines.proofs.ShownExactly.{shown-iff, hidden-iff}
-use Rattle.outlines.proofs.ShownAndHidden.{shown-hidden-length}
+use Rattle.outlines.proofs.ShownAndHidden.{shown-hidden-length, shown-or-hidden-iff}
 use Rattle.outlines.proofs.ShownRising.{shown-rising, hidden-rising}
 use Rattle.exports.specs.declared.answering.Answer.{Answer as AnswerStruct}
 use Rattle.exports.specs.Exported.{IsReportExportedBy, IsReportExported}
-use Rattle.exports.specs.Demands.{Row, searchTable, bookTable, BookNames, Demand2, ReportMeets}
+use Rattle.exports.specs.Demands.{Row, searchTable, bookTable, BookHides, Demand2, ReportMeets}
 use Rattle.exports.proofs.RowsAgree.{AllAgree, agree-append, GoesByRows, Accepts, demand-1-met, accepts}
 use Rattle.exports.proofs.BookDemands.{book-agrees}
-use Rattle.exports.proofs.SearchDemands.{search-agrees, start-shown-iff, looks-demand-3}
+use Rattle.exports.proofs.SearchDemands.{search-agrees, start-listed-iff, looks-demand-3}
 
--- the book's bytes name a start exactly when the silences read from them do
-named-iff : {book : List ℕ} {ss : List Silence} → IsBytes book → readBook book ≡ accepted ss
-    → (cell ringNumber start : ℕ) → Names ss cell ringNumber start ↔ BookNames book cell ringNumber start
-named-iff {book} {ss} bytes is cell ringNumber start = (
-  λ n. record { silences = ss; is-book = accepted-iff book ss bytes .0 is; named = n },
-  λ b. subst (λ (l : List Silence). Names l cell ringNumber start) (accepted-unique (book-accepted book (b .silences) (b .is-book)) is) (b .named),
+-- the book's bytes hide a start at a distance exactly when the silences read from them do
+book-hides-iff : {book : List ℕ} {ss : List Silence} → IsBytes book → readBook book ≡ accepted ss
+    → (cell ringNumber start distance : ℕ) → Hides ss cell ringNumber start distance ↔ BookHides book cell ringNumber start distance
+book-hides-iff {book} {ss} bytes is cell ringNumber start distance = (
+  λ h. record { silences = ss; is-book = accepted-iff book ss bytes .0 is; hides = h },
+  λ b. subst (λ (l : List Silence). Hides l cell ringNumber start distance) (accepted-unique (book-accepted book (b .silences) (b .is-book)) is) (b .hides),
 )
 
 module _ (cell ringNumber : ℕ) (ring line : List ℕ) (k : ℕ) where
@@ -47,19 +47,16 @@ module _ (cell ringNumber : ℕ) (ring line : List ℕ) (k : ℕ) where
 
   -- demand 2 on a report with these silences
   report-demand-2 : {book words : List ℕ} {ss : List Silence} {r : AnswerStruct} {out : List ℕ} → IsBytes book → readBook book ≡ accepted ss → 0 < length ring → r .found ≡ length fs → r .hidden ≡ length (hidden ss cell ringNumber fs) → out ≡ written (wordsOf (shown ss cell ringNumber fs)) words
-      → Demand2 (BookNames book cell ringNumber) ring line k words r out
+      → Demand2 (BookHides book cell ringNumber) ring line k words r out
   report-demand-2 {book} {words} {ss} bytes is pos found-is hidden-is words-are =
-      let named : (i : ℕ) → Names ss cell ringNumber i ↔ BookNames book cell ringNumber i = named-iff bytes is cell ringNumber in
-      let shows : (f : Finding) → List·Memᴰ f (shown ss cell ringNumber fs) ↔ (IsFinding ring line k f × (BookNames book cell ringNumber (f .start) → ⊥)) =
-      λ f. Iff·trans (shown-iff ss cell ringNumber ring line k pos f)
-      (Iff·and Iff·rfl (λ never b. never (named (f .start) .1 b), λ never n. never (named (f .start) .0 n)))
-      in
+      let hides : (i d : ℕ) → Hides ss cell ringNumber i d ↔ BookHides book cell ringNumber i d = book-hides-iff bytes is cell ringNumber in
       record {
         shown = shown ss cell ringNumber fs;
         hidden = hidden ss cell ringNumber fs;
-        start-iff = start-shown-iff (BookNames book cell ringNumber) pos shows;
-        shown-iff = shows;
-        hidden-iff = λ f. Iff·trans (hidden-iff ss cell ringNumber ring line k pos f) (Iff·and Iff·rfl (named (f .start)));
+        start-iff = start-listed-iff pos (shown-or-hidden-iff ss cell ringNumber fs);
+        shown-iff = λ f. Iff·trans (shown-iff ss cell ringNumber ring line k pos f)
+            (Iff·and Iff·rfl (λ never b. never (hides (f .start) (f .distance) .1 b), λ never h. never (hides (f .start) (f .distance) .0 h)));
+        hidden-iff = λ f. Iff·trans (hidden-iff ss cell ringNumber ring line k pos f) (Iff·and Iff·rfl (hides (f .start) (f .distance)));
         shown-rising = shown-rising ss cell ringNumber ring line k;
         hidden-rising = hidden-rising ss cell ringNumber ring line k;
         found-is = omega (arith, found-is, shown-hidden-length ss cell ringNumber fs);
@@ -102,7 +99,7 @@ module _ (rows : List (Option Refusal)) (cell ringNumber : ℕ) (ring line : Lis
     report-looks-are = ap (λ (c : ReportCounts). c .looks) (taken .counts-are)
 
     -- An accepted report meets demand 2.
-    pub accepted-demand-2 : Demand2 (BookNames book cell ringNumber) ring line k words r out
+    pub accepted-demand-2 : Demand2 (BookHides book cell ringNumber) ring line k words r out
     accepted-demand-2 =
         report-demand-2 cell ringNumber ring line k bytes (book-accepted-iff book (silencesRead book) .1 (none-of-either .1, refl)) report-edge
         (ap (λ (c : ReportCounts). c .found) (taken .counts-are)) (ap (λ (c : ReportCounts). c .hidden) (taken .counts-are)) (taken .written)

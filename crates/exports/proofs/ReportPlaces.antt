@@ -1,4 +1,4 @@
--- The place of a report's refusal is at most 13,000: the search's rows have place 0, and the others have the places of reading the book. This holds for the
+-- The place of a report's refusal is at most 15,000: the search's rows have place 0, and the others have the places of reading the book. This holds for the
 -- rows of any search that have place 0.
 use Prim.Native.Nat.{ℕ, _≤_}
 use mathlib.Core.Path.{_≡_, refl}
@@ -16,7 +16,7 @@ use Rattle.outlines.specs.Report.{reportRefusal, noReportCounts, reportCounts, 
 use Rattle.outlines.proofs.FirstOfReport.{report-row-has}
 use Rattle.exports.proofs.BookPlaces.{read-place-le}
 
--- A place of a report is at most 13,000, if the search's rows have place 0.
+-- A place of a report is at most 15,000, if the search's rows have place 0.
 pub report-place-le : (rows : List (Option Refusal)) → ((q : Refusal) → firstGiven rows ≡ some q → placeOf q ≡ 0) → (ring line : List ℕ) (k cell ringNumber : ℕ) (book : List ℕ)
     → answerPaper noReportCounts (reportAnswer rows ring line k cell ringNumber book) .place ≤ mostBytes
 unfolding reportAnswer

@@ -3,7 +3,7 @@
 -- `surveyLooks` and `quickLooks`, whose value and bound crates/meaning proves.
 use Prim.Native.Nat.{ℕ, _≤_, _<_}
 use mathlib.Core.Path.{_≡_, refl, sym, ap, subst, _∙_}
-use mathlib.Core.Logic.{_↔_}
+use mathlib.Core.Logic.{_⊎_, inl, ⊎-elim, _↔_}
 use mathlib.Core.List.{List, [], List·Memᴰ, List·Memᴰ·not-nil}
 use mathlib.Core.Option.{Option, none, some}
 use native.Mathlib.Omega.{arith}
@@ -26,7 +26,7 @@ use Rattle.findings.proofs.AdmitRows.{is-row-4, accepted-edge}
 use Rattle.outlines.specs.Report.{ReportCounts, noReportCounts}
 use Rattle.exports.specs.declared.answering.Answer.{Answer as AnswerStruct}
 use Rattle.exports.specs.Exported.{paperOf, paperInStruct, searchInStruct, IsSearchExported, IsSurveyExported, IsScanExported}
-use Rattle.exports.specs.Demands.{limitTable, searchTable, NeverNamed, Demand2, Demand3, SurveyMeets, ScanMeets, SurveyScanSame}
+use Rattle.exports.specs.Demands.{limitTable, searchTable, NeverHidden, Demand2, Demand3, SurveyMeets, ScanMeets, SurveyScanSame}
 use Rattle.exports.proofs.RowsAgree.{AllAgree, agree-append, row-agrees, GoesByRows, Accepts, demand-1-met, accepts}
 
 -- The rows that every search has, 1, 12, 2, 3, agree with those of the page of demands.
@@ -43,17 +43,15 @@ unfolding admitRows
 search-agrees ring k n room =
     agree-append (limitRows ring k n) (limitTable ring k n) _ _ (limits-agree ring k n) (λ _. (row-agrees (is-row-4 ring k n room) refl, λ _. tt))
 
--- For a ring that is not empty: if the shown findings are exactly those not named, then a start is among them exactly when some rotation differs in at most k places and
--- it is not named.
-pub start-shown-iff : (Named : ℕ → Type 0) {ring line : List ℕ} {k : ℕ} {shown : List Finding} → 0 < length ring
-    → ((f : Finding) → List·Memᴰ f shown ↔ (IsFinding ring line k f × (Named (f .start) → ⊥)))
-    → (i : ℕ) → ((f : Finding) × (f .start ≡ i) × List·Memᴰ f shown)
-    ↔ ((IsStart ring line i × ((q : ℕ) × (q < length ring) × (distance ring line i q ≤ k))) × (Named i → ⊥))
-start-shown-iff Named {ring} {line} {k} pos shown-iff i = (
-  λ w. let is = shown-iff (w .0) .0 (w .2) in
-      (found-iff ring line k pos i .0 (w .0, w .1, findings-iff ring line k pos (w .0) .1 (is .0)), subst (λ (j : ℕ). Named j → ⊥) (w .1) (is .1)),
-  λ h. let w = found-iff ring line k pos i .1 (h .0) in
-      (w .0, w .1, shown-iff (w .0) .1 (findings-iff ring line k pos (w .0) .0 (w .2), subst (λ (j : ℕ). Named j → ⊥) (sym (w .1)) (h .1))),
+-- For a ring that is not empty: if the findings are exactly the shown and the hidden ones, then a start is among these exactly when some rotation differs in at most k
+-- places.
+pub start-listed-iff : {ring line : List ℕ} {k : ℕ} {shown hidden : List Finding} → 0 < length ring
+    → ((f : Finding) → List·Memᴰ f (findings ring line k) ↔ (List·Memᴰ f shown ⊎ List·Memᴰ f hidden))
+    → (i : ℕ) → ((f : Finding) × (f .start ≡ i) × (List·Memᴰ f shown ⊎ List·Memᴰ f hidden))
+    ↔ (IsStart ring line i × ((q : ℕ) × (q < length ring) × (distance ring line i q ≤ k)))
+start-listed-iff {ring} {line} {k} pos listed-iff i = (
+  λ w. found-iff ring line k pos i .0 (w .0, w .1, listed-iff (w .0) .1 (w .2)),
+  λ h. let w = found-iff ring line k pos i .1 h in (w .0, w .1, listed-iff (w .0) .0 (w .2)),
 )
 
 -- The counts of a search as the struct holds them.
@@ -91,14 +89,14 @@ module _ (rows : List (Option Refusal)) (ring line : List ℕ) (k looks : ℕ) (
     looks-are = ap (λ (c : ReportCounts). c .looks) (taken .counts-are)
 
     -- An accepted search meets demand 2: all findings are shown, and none is hidden.
-    pub search-demand-2 : Demand2 NeverNamed ring line k words r out
+    pub search-demand-2 : Demand2 NeverHidden ring line k words r out
     search-demand-2 =
         let shown-iff : (f : Finding) → List·Memᴰ f (findings ring line k) ↔ (IsFinding ring line k f × (⊥ → ⊥)) =
         λ f. (λ m. (findings-iff ring line k ring-edge f .0 m, λ never. never), λ h. findings-iff ring line k ring-edge f .1 (h .0)) in
         record {
           shown = findings ring line k;
           hidden = [];
-          start-iff = start-shown-iff NeverNamed ring-edge shown-iff;
+          start-iff = start-listed-iff ring-edge (λ f. (inl, ⊎-elim (λ m. m) (λ m. absurd (List·Memᴰ·not-nil m))));
           shown-iff = shown-iff;
           hidden-iff = λ f. (λ m. absurd (List·Memᴰ·not-nil m), λ h. absurd (h .1));
           shown-rising = findings-rising ring line k;

@@ -1,5 +1,5 @@
 -- The three demands on the calls, stated for what a C caller gets: the struct of five numbers and the lent areas at exit. Read this page beside document 01 and
--- tickets 1 to 3 of document 02. Nothing here says how a call works. proofs/SearchDemands.antt (survey and scan), proofs/ReportDemands.antt,
+-- tickets 1 to 4 of document 02. Nothing here says how a call works. proofs/SearchDemands.antt (survey and scan), proofs/ReportDemands.antt,
 -- proofs/ClosedDemands.antt (the three on a closed line) and proofs/BookDemands.antt prove that each call meets its demands.
 --
 --   Row, rowOf, FirstRow, NoRow              a row of the table of refusals; the first row that is given; no row is given
@@ -8,9 +8,10 @@
 --   closedSearchTable, closedReportTable,
 --   unpackTable, packTable
 --   Demand1                                  accepted, or refused by the first row that is given; a refusal has 0 in every count and writes nothing
---   BookNames, NeverNamed                    which starts a book names
+--   BookHides, NeverHidden                   which findings a book hides
 --   Demand2                                  which findings are written, and which are hidden
---   UnpackDemand2, PackDemand2, GivesBack    books: what is accepted, what is written, and that each call gives back what the other was given
+--   UnpackDemand2, PackDemand2               books: what is accepted, and what is written
+--   GivesBack, ReadsBack                     unpacking gives back what was packed; packing what was unpacked reads back the same, up to 1,000 records
 --   Demand3                                  the looks of scan and report
 --   JoinDemand, ClosedDemand2,               a closed line: the join area at exit, and demands 2 and 3
 --   ClosedDemand3
@@ -31,9 +32,9 @@ use Rattle.meaning.specs.Meanings.{HoldsMark, IsStart, distance}
 use Rattle.meaning.specs.Findings.{Finding, IsFinding, Rising, wordsOf}
 use Rattle.meaning.specs.Looks.{quickLooks}
 use Rattle.meaning.specs.Closed.{closedLine, IsClosedStart, closedDistance, IsClosedFinding}
-use Rattle.silences.specs.Silences.{Silence, Names}
+use Rattle.silences.specs.Silences.{Silence, Hides}
 use Rattle.silences.specs.Layout.{layout}
-use Rattle.silences.specs.Books.{IsBook}
+use Rattle.silences.specs.Books.{LaidDown, NoTag21, IsBook}
 use Rattle.silences.specs.Packing.{silencesOf, wordsOfSilences}
 use Rattle.silences.specs.Faults.{IsFieldFault, IsOrderFault, IsNumberFault, IsRecordFault, IsPackable}
 use Rattle.exports.specs.declared.answering.Answer.{Answer as AnswerStruct}
@@ -90,9 +91,10 @@ closedSearchTable ring k n room joins =
 -- Rows 5, 6 and 7 of a book that is read. "Within a book the first faulty field decides, 6 before 7": a fault requires that all fields before it are right.
 abbrev pub bookTable : List ℕ → List Row
 bookTable book =
-    -- "book longer than 13,000 bytes"
-    rowOf 5 (13000 < length book)
-    -- "a field isn't 13 bytes beginning 21 00 0A hex, or is cut off", or "a record isn't above the one before it"; "its byte offset"
+    -- "book longer than" 15,000 "bytes": "5 at 15,000 bytes" (document 02, ticket 4)
+    rowOf 5 (15000 < length book)
+    -- "a field isn't 13 bytes beginning 21 00 0A hex, or is cut off", where "6 admits both fields" (document 02, ticket 4); or "a record isn't above the one before
+    -- it"; "its byte offset"
     ∷ (λ number place. ((number ≡ 6) × IsFieldFault book place) ⊎ ((number ≡ 7) × IsOrderFault book place))
     ∷ []
 
@@ -115,9 +117,10 @@ unpackTable book room =
 -- "packer 8, then each record 9 before 7, then 10": with room for `room` bytes.
 abbrev pub packTable : List ℕ → ℕ → List Row
 packTable words room =
-    -- "words to pack aren't a multiple of 3, or exceed 3,000"
-    rowOf 8 ((length words % 3 ≡ 0 → ⊥) ⊎ (3000 < length words))
-    -- "a ring number to pack is above 65,535", or "a record isn't above the one before it"; "record number"
+    -- "words to pack aren't a multiple of" 4, "or exceed" 4,000: "8 a multiple of 4, at most 4,000" (document 02, ticket 4)
+    rowOf 8 ((length words % 4 ≡ 0 → ⊥) ⊎ (4000 < length words))
+    -- "a ring number to pack is above 65,535", "9 also for a ceiling above 65,535" (document 02, ticket 4); or "a record isn't above the one before it"; "record
+    -- number"
     ∷ (λ number place. ((number ≡ 9) × IsNumberFault words place) ⊎ ((number ≡ 7) × IsRecordFault words place))
     -- "packing or unpacking lacks room for its whole output"
     ∷ rowOf 10 (room < length (layout (silencesOf words)))
@@ -138,30 +141,31 @@ pub record Demand1 (rows : List Row) (r : AnswerStruct) (area out : List ℕ) : 
   -- "writes nothing to any lent area"
   pub untouched : 0 < r .refusal → out ≡ area
 
--- The book's bytes name this cell, ring number and start: they are a book of silences, and one of these has that cell, ring number and start.
-pub record BookNames (book : List ℕ) (cell ringNumber start : ℕ) : Type 0 where
+-- The book's bytes hide a finding with this cell, ring number, start and distance: they are a book of silences, and one of these has that cell, ring number and start,
+-- and a ceiling of at least that distance: "It hides a finding at its address only up to that distance, and demand 2 reads so" (document 02, ticket 4).
+pub record BookHides (book : List ℕ) (cell ringNumber start distance : ℕ) : Type 0 where
   pub silences : List Silence
   pub is-book : IsBook silences book
-  pub named : Names silences cell ringNumber start
+  pub hides : Hides silences cell ringNumber start distance
 
--- Survey and scan have no book: no start is named.
-abbrev pub NeverNamed : ℕ → Type 0
-NeverNamed start = ⊥
+-- Survey and scan have no book: nothing is hidden.
+abbrev pub NeverHidden : ℕ → ℕ → Type 0
+NeverHidden start distance = ⊥
 
--- Demand 2 on an accepted survey, scan or report: it writes exactly the findings whose starts the book does not name. `Named` says which starts it names.
-pub record Demand2 (Named : ℕ → Type 0) (ring line : List ℕ) (k : ℕ) (words : List ℕ) (r : AnswerStruct) (out : List ℕ) : Type 0 where
+-- Demand 2 on an accepted survey, scan or report: it writes exactly the findings that the book does not hide. `Hidden` says which starts and distances it hides.
+pub record Demand2 (Hidden : ℕ → ℕ → Type 0) (ring line : List ℕ) (k : ℕ) (words : List ℕ) (r : AnswerStruct) (out : List ℕ) : Type 0 where
   pub shown : List Finding
   pub hidden : List Finding
-  -- A start ("a window holding" a mark "isn't a start", document 02, ticket 2) is among the shown exactly when some rotation differs from its window in at most
-  -- k places and the book does not name it.
+  -- A start ("a window holding" a mark "isn't a start", document 02, ticket 2) is among the shown or the hidden exactly when some rotation differs from its window in
+  -- at most k places.
   pub start-iff : (i : ℕ)
-      → ((f : Finding) × (f .start ≡ i) × List·Memᴰ f shown)
-      ↔ ((IsStart ring line i × ((q : ℕ) × (q < length ring) × (distance ring line i q ≤ k))) × (Named i → ⊥))
-  -- A finding is among the shown exactly when the book does not name its start; by `IsFinding` it carries "the least distance, and the lowest r that reaches it",
-  -- and ties, "how many rotations reach the least distance" (document 02, ticket 1).
-  pub shown-iff : (f : Finding) → List·Memᴰ f shown ↔ (IsFinding ring line k f × (Named (f .start) → ⊥))
-  -- A finding is among the hidden exactly when the book names its start.
-  pub hidden-iff : (f : Finding) → List·Memᴰ f hidden ↔ (IsFinding ring line k f × Named (f .start))
+      → ((f : Finding) × (f .start ≡ i) × (List·Memᴰ f shown ⊎ List·Memᴰ f hidden))
+      ↔ (IsStart ring line i × ((q : ℕ) × (q < length ring) × (distance ring line i q ≤ k)))
+  -- A finding is among the shown exactly when the book does not hide it; by `IsFinding` it carries "the least distance, and the lowest r that reaches it", and ties,
+  -- "how many rotations reach the least distance" (document 02, ticket 1).
+  pub shown-iff : (f : Finding) → List·Memᴰ f shown ↔ (IsFinding ring line k f × (Hidden (f .start) (f .distance) → ⊥))
+  -- A finding is among the hidden exactly when the book hides its start at its distance.
+  pub hidden-iff : (f : Finding) → List·Memᴰ f hidden ↔ (IsFinding ring line k f × Hidden (f .start) (f .distance))
   -- "by rising start": so none is listed twice.
   pub shown-rising : Rising 0 (length line) shown
   pub hidden-rising : Rising 0 (length line) hidden
@@ -171,7 +175,7 @@ pub record Demand2 (Named : ℕ → Type 0) (ring line : List ℕ) (k : ℕ) (wo
   -- The words of the shown findings stand first. "Words after the last one written keep their values."
   pub words-are : out ≡ written (wordsOf shown) words
 
--- Demand 2 on unpacking: a book is accepted exactly when it lays down ascending silences in range in at most 13,000 bytes, and there is room for their words.
+-- Demand 2 on unpacking: a book is accepted exactly when it lays down ascending silences in range in at most 15,000 bytes, and there is room for their words.
 pub record UnpackDemand2 (book area : List ℕ) (r : AnswerStruct) (out : List ℕ) : Type 0 where
   pub accepted-iff : (r .refusal ≡ 0) ↔ ((ss : List Silence) × IsBook ss book × (length (wordsOfSilences ss) ≤ length area))
   -- "return the number of records and leave room beyond their output unwritten"
@@ -207,19 +211,19 @@ pub record JoinDemand (ring line join : List ℕ) (r : AnswerStruct) (joined : L
 
 -- Demand 2 on an accepted survey, scan or report on a closed line: as `Demand2`, for a line whose "edges continue from the beginning after the last"
 -- (document 02, ticket 3).
-pub record ClosedDemand2 (Named : ℕ → Type 0) (ring line : List ℕ) (k : ℕ) (words : List ℕ) (r : AnswerStruct) (out : List ℕ) : Type 0 where
+pub record ClosedDemand2 (Hidden : ℕ → ℕ → Type 0) (ring line : List ℕ) (k : ℕ) (words : List ℕ) (r : AnswerStruct) (out : List ℕ) : Type 0 where
   pub shown : List Finding
   pub hidden : List Finding
-  -- A start ("for n ≥ m every place 0 to n−1 without a mark in its window", none for n < m) is among the shown exactly when some rotation differs from its
-  -- window in at most k places and the book does not name it.
+  -- A start ("for n ≥ m every place 0 to n−1 without a mark in its window", none for n < m) is among the shown or the hidden exactly when some rotation differs
+  -- from its window in at most k places.
   pub start-iff : (i : ℕ)
-      → ((f : Finding) × (f .start ≡ i) × List·Memᴰ f shown)
-      ↔ ((IsClosedStart ring line i × ((q : ℕ) × (q < length ring) × (closedDistance ring line i q ≤ k))) × (Named i → ⊥))
-  -- A finding is among the shown exactly when the book does not name its start; by `IsClosedFinding` it carries the least distance, the lowest rotation that
-  -- reaches it, and ties.
-  pub shown-iff : (f : Finding) → List·Memᴰ f shown ↔ (IsClosedFinding ring line k f × (Named (f .start) → ⊥))
-  -- A finding is among the hidden exactly when the book names its start.
-  pub hidden-iff : (f : Finding) → List·Memᴰ f hidden ↔ (IsClosedFinding ring line k f × Named (f .start))
+      → ((f : Finding) × (f .start ≡ i) × (List·Memᴰ f shown ⊎ List·Memᴰ f hidden))
+      ↔ (IsClosedStart ring line i × ((q : ℕ) × (q < length ring) × (closedDistance ring line i q ≤ k)))
+  -- A finding is among the shown exactly when the book does not hide it; by `IsClosedFinding` it carries the least distance, the lowest rotation that reaches it,
+  -- and ties.
+  pub shown-iff : (f : Finding) → List·Memᴰ f shown ↔ (IsClosedFinding ring line k f × (Hidden (f .start) (f .distance) → ⊥))
+  -- A finding is among the hidden exactly when the book hides its start at its distance.
+  pub hidden-iff : (f : Finding) → List·Memᴰ f hidden ↔ (IsClosedFinding ring line k f × Hidden (f .start) (f .distance))
   -- "by rising start": so none is listed twice.
   pub shown-rising : Rising 0 (length line) shown
   pub hidden-rising : Rising 0 (length line) hidden
@@ -246,17 +250,30 @@ pub record GivesBack (given : List ℕ) (first second : AnswerStruct) (out : Lis
   pub found-is : second .found ≡ first .found
   pub front-is : take (length given) out ≡ given
 
+-- Demand 2 on unpacking and packing in turn, for a book of at most 1,000 records: "the round trip is then of values, and of bytes where tag 21 is absent" (document 02,
+-- ticket 4). The second call accepts the words that the first wrote and counts as many records. Its area at exit (`out`) begins with a book of the same silences, and
+-- with the same bytes if no field of `book` has tag 21.
+pub record ReadsBack (book : List ℕ) (first second : AnswerStruct) (out : List ℕ) : Type 0 where
+  pub accepted : second .refusal ≡ 0
+  pub found-is : second .found ≡ first .found
+  pub silences : List Silence
+  pub was-book : IsBook silences book
+  pub front : List ℕ
+  pub front-is : take (length front) out ≡ front
+  pub is-book : IsBook silences front
+  pub same-bytes : LaidDown NoTag21 silences book → front ≡ book
+
 -- The demands on `outlines_survey`. "2·m·n − m·m looks for n ≥ m, else 0", and with marks in the line "its looks stay" (document 02, ticket 2).
 pub record SurveyMeets (ring line : List ℕ) (k : ℕ) (words : List ℕ) (r : AnswerStruct) (out : List ℕ) : Type 0 where
   pub demand-1 : Demand1 (searchTable ring k (length line) (length words)) r words out
-  pub demand-2 : r .refusal ≡ 0 → Demand2 NeverNamed ring line k words r out
+  pub demand-2 : r .refusal ≡ 0 → Demand2 NeverHidden ring line k words r out
   pub looks-are : r .refusal ≡ 0 → length ring ≤ length line → r .looks ≡ 2 * length ring * length line - length ring * length ring
   pub no-looks : r .refusal ≡ 0 → length line < length ring → r .looks ≡ 0
 
 -- The demands on `outlines_scan`.
 pub record ScanMeets (ring line : List ℕ) (k : ℕ) (words : List ℕ) (r : AnswerStruct) (out : List ℕ) : Type 0 where
   pub demand-1 : Demand1 (searchTable ring k (length line) (length words)) r words out
-  pub demand-2 : r .refusal ≡ 0 → Demand2 NeverNamed ring line k words r out
+  pub demand-2 : r .refusal ≡ 0 → Demand2 NeverHidden ring line k words r out
   pub demand-3 : r .refusal ≡ 0 → Demand3 ring line k r
 
 -- Demand 3: the quick scan lists exactly the survey's findings. For the same ring, line, allowance and lent words, survey and scan return the same refusal, place and
@@ -270,14 +287,14 @@ pub record SurveyScanSame (survey scan : AnswerStruct) (survey-out scan-out : Li
 -- The demands on `outlines_report`.
 pub record ReportMeets (cell ringNumber : ℕ) (ring line : List ℕ) (k : ℕ) (book words : List ℕ) (r : AnswerStruct) (out : List ℕ) : Type 0 where
   pub demand-1 : Demand1 (reportTable ring k (length line) (length words) book) r words out
-  pub demand-2 : r .refusal ≡ 0 → Demand2 (BookNames book cell ringNumber) ring line k words r out
+  pub demand-2 : r .refusal ≡ 0 → Demand2 (BookHides book cell ringNumber) ring line k words r out
   pub demand-3 : r .refusal ≡ 0 → Demand3 ring line k r
 
 -- The demands on `outlines_survey_closed`. Its looks are the survey's for n + m − 1 edges: 2·m·(n + m − 1) − m·m for n ≥ m, else 0.
 pub record SurveyClosedMeets (ring line : List ℕ) (k : ℕ) (join words : List ℕ) (r : AnswerStruct) (joined out : List ℕ) : Type 0 where
   pub demand-1 : Demand1 (closedSearchTable ring k (length line) (length words) (length join)) r words out
   pub join-area : JoinDemand ring line join r joined
-  pub demand-2 : r .refusal ≡ 0 → ClosedDemand2 NeverNamed ring line k words r out
+  pub demand-2 : r .refusal ≡ 0 → ClosedDemand2 NeverHidden ring line k words r out
   pub looks-are : r .refusal ≡ 0 → length ring ≤ length line
       → r .looks ≡ 2 * length ring * (length line + length ring - 1) - length ring * length ring
   pub no-looks : r .refusal ≡ 0 → length line < length ring → r .looks ≡ 0
@@ -286,14 +303,14 @@ pub record SurveyClosedMeets (ring line : List ℕ) (k : ℕ) (join words : List
 pub record ScanClosedMeets (ring line : List ℕ) (k : ℕ) (join words : List ℕ) (r : AnswerStruct) (joined out : List ℕ) : Type 0 where
   pub demand-1 : Demand1 (closedSearchTable ring k (length line) (length words) (length join)) r words out
   pub join-area : JoinDemand ring line join r joined
-  pub demand-2 : r .refusal ≡ 0 → ClosedDemand2 NeverNamed ring line k words r out
+  pub demand-2 : r .refusal ≡ 0 → ClosedDemand2 NeverHidden ring line k words r out
   pub demand-3 : r .refusal ≡ 0 → ClosedDemand3 ring line k r
 
 -- The demands on `outlines_report_closed`.
 pub record ReportClosedMeets (cell ringNumber : ℕ) (ring line : List ℕ) (k : ℕ) (book join words : List ℕ) (r : AnswerStruct) (joined out : List ℕ) : Type 0 where
   pub demand-1 : Demand1 (closedReportTable ring k (length line) (length words) (length join) book) r words out
   pub join-area : JoinDemand ring line join r joined
-  pub demand-2 : r .refusal ≡ 0 → ClosedDemand2 (BookNames book cell ringNumber) ring line k words r out
+  pub demand-2 : r .refusal ≡ 0 → ClosedDemand2 (BookHides book cell ringNumber) ring line k words r out
   pub demand-3 : r .refusal ≡ 0 → ClosedDemand3 ring line k r
 
 -- The demands on `outlines_unpack`.

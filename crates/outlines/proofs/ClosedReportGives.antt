@@ -1,7 +1,7 @@
 -- What follows for the answers of `report_closed`, from the laws of reports with any rows (`closed-is-report`). In an accepted one found is shown plus
--- hidden, and the looks obey the bound with n + m − 1 in place of n. With an empty book it gives what `scan_closed` gives. A silence that names no finding
--- of the closed line changes nothing, and one silence more hides at most one finding more. The laws on empty books and idle silences give the join area too:
--- once the book is accepted, the search's rows alone decide it.
+-- hidden, and the looks obey the bound with n + m − 1 in place of n. With an empty book it gives what `scan_closed` gives. A silence that covers no finding
+-- of the closed line changes nothing, and one silence more hides at most one finding more. A book of tag 21 alone gives what the same addresses with ceiling 0
+-- give under tag 22. The laws on two books give the join area too: once a book is accepted, the search's rows alone decide it (`joined-alike`).
 use Prim.Native.Nat.{ℕ, _+_, _-_, _*_, _≤_, _<_}
 use mathlib.Core.Path.{_≡_, sym, ap, _∙_}
 use mathlib.Core.List.{List, [], _∷_, _++_}
@@ -16,6 +16,10 @@ use Rattle.answers.specs.declared.refusals.Refusal.{Refusal}
 use Rattle.answers.specs.Paper.{accepted}
 use Rattle.answers.specs.Rows.{areaBy}
 use Rattle.silences.specs.Silences.{Silence, address}
+use Rattle.silences.specs.Layout.{layout, mostSilences}
+use Rattle.silences.specs.Books.{LaidDown, OnlyTag21, IsBook}
+use Rattle.silences.proofs.AcceptedIsBook.{book-accepted}
+use Rattle.silences.proofs.ExactBook.{withCeilings, exact-read}
 use Rattle.silences.specs.Reading.{readBook, silencesRead, bookRefusal}
 use Rattle.silences.proofs.BookRows.{book-accepted-iff}
 use Rattle.findings.specs.declared.searching.Searched.{Searched}
@@ -33,6 +37,7 @@ use Rattle.outlines.proofs.ShownAndHidden.{shown-hidden-length}
 use Rattle.outlines.proofs.FirstOfReport.{accepted-book-row}
 use Rattle.outlines.proofs.ReportGives.{report-none-given, report-gives, report-looks-are}
 use Rattle.outlines.proofs.EmptyBookIsScan.{empty-book-read, reportOf, empty-book-same}
+use Rattle.outlines.proofs.ExactBooks.{exact-report-same}
 use Rattle.outlines.proofs.OneSilenceMore.{silence-hides-one-le, idle-silence-same}
 use Rattle.outlines.proofs.ClosedReportAnswers.{closed-is-report}
 
@@ -84,6 +89,17 @@ closed-empty-book-same {cell} {ringNumber} {ring} {line} {k} {join} {words} {r =
     let rows : List (Option Refusal) = closedRows ring k (length line) (length words) (length join) in
     (same .0, meets .joined-is ∙ join-by-search rows [] (length ring) line join empty-book-read ∙ sym (scanned .joined-is), same .1)
 
+-- Two reports on a closed line whose books are accepted leave the same join area.
+joined-alike : {cell ringNumber : ℕ} {ring line : List ℕ} {k : ℕ} {book book′ join words : List ℕ} {ss ts : List Silence} {r r′ : Reported} {joined joined′ out out′ : List ℕ}
+    → readBook book ≡ accepted ss → readBook book′ ≡ accepted ts → IsClosedReported cell ringNumber ring line k book join words r joined out
+    → IsClosedReported cell ringNumber ring line k book′ join words r′ joined′ out′ → joined ≡ joined′
+joined-alike {ring = ring} {line = line} {k = k} {book = book} {book′ = book′} {join = join} {words = words} {ss = ss} {ts = ts} is is′ p p′ =
+    let rows : List (Option Refusal) = closedRows ring k (length line) (length words) (length join) in
+    p .joined-is
+    ∙ join-by-search rows book (length ring) line join (book-accepted-iff book ss .0 is .0)
+    ∙ sym (join-by-search rows book′ (length ring) line join (book-accepted-iff book′ ts .0 is′ .0))
+    ∙ sym (p′ .joined-is)
+
 -- One silence s more in a book, between the silences xs and ys.
 module _ (cell ringNumber : ℕ) (s : Silence) (xs ys : List Silence) (ring line : List ℕ) (k : ℕ) where
   -- With one silence more, at most one finding more of the closed line is hidden.
@@ -91,21 +107,29 @@ module _ (cell ringNumber : ℕ) (s : Silence) (xs ys : List Silence) (ring line
       ≤ length (hidden (xs ++ ys) cell ringNumber (findings ring (closedLine (length ring) line) k)) + 1
   closed-hides-one-le = silence-hides-one-le cell ringNumber s xs ys ring (closedLine (length ring) line) k
 
-  -- "A silence that names no finding hides nothing": without it the report on the closed line is the same, its words and its join area too.
+  -- "A silence that names no finding hides nothing", nor does one whose ceiling is too low: without it the report on the closed line is the same, its words and its
+  -- join area too.
   pub closed-idle-silence-same : {book book′ join words : List ℕ} {r r′ : Reported} {joined joined′ out out′ : List ℕ}
       → readBook book ≡ accepted (xs ++ s ∷ ys) → readBook book′ ≡ accepted (xs ++ ys)
       → IsClosedReported cell ringNumber ring line k book join words r joined out → IsClosedReported cell ringNumber ring line k book′ join words r′ joined′ out′
-      → ((f : Finding) → IsClosedFinding ring line k f → s .address ≡ address cell ringNumber (f .start) → ⊥) → (r ≡ r′) × (joined ≡ joined′) × (out ≡ out′)
+      → ((f : Finding) → IsClosedFinding ring line k f → s .address ≡ address cell ringNumber (f .start) → f .distance ≤ s .ceiling → ⊥) → (r ≡ r′) × (joined ≡ joined′) × (out ≡ out′)
   closed-idle-silence-same {book} {book′} {join} {words} {r} {r′} {out = out} {out′ = out′} is is′ p p′ idle =
       let rows : List (Option Refusal) = closedRows ring k (length line) (length words) (length join) in
-      let idle-in-list : (f : Finding) → IsFinding ring (closedLine (length ring) line) k f → s .address ≡ address cell ringNumber (f .start) → ⊥ =
+      let idle-in-list : (f : Finding) → IsFinding ring (closedLine (length ring) line) k f → s .address ≡ address cell ringNumber (f .start)
+      → f .distance ≤ s .ceiling → ⊥ =
       λ f finds. idle f (closed-finding-iff ring line (omega (arith, finds .is-rotation)) k f .0 finds) in
       let same = idle-silence-same cell ringNumber s xs ys ring (closedLine (length ring) line) k rows
       (closed-accepted-edge ring k (length line) (length words) (length join)) book book′ words is is′ r r′ out out′ (closed-is-report p) (closed-is-report p′)
       idle-in-list in
-      let joined-same =
-      p .joined-is
-      ∙ join-by-search rows book (length ring) line join (book-accepted-iff book (xs ++ s ∷ ys) .0 is .0)
-      ∙ sym (join-by-search rows book′ (length ring) line join (book-accepted-iff book′ (xs ++ ys) .0 is′ .0))
-      ∙ sym (p′ .joined-is) in
-      (same .0, joined-same, same .1)
+      (same .0, joined-alike is is′ p p′, same .1)
+
+-- A report on a closed line by a book of tag 21 alone, of at most 1,000 records, is the report by the same addresses with ceiling 0 under tag 22.
+pub closed-exact-same : (cell ringNumber : ℕ) (ring line : List ℕ) (k : ℕ) {book join words : List ℕ} {ss : List Silence}
+    → IsBook ss book → LaidDown OnlyTag21 ss book → length ss ≤ mostSilences → {r r′ : Reported} {joined joined′ out out′ : List ℕ}
+    → IsClosedReported cell ringNumber ring line k book join words r joined out
+    → IsClosedReported cell ringNumber ring line k (layout (withCeilings 0 ss)) join words r′ joined′ out′ → (r ≡ r′) × (joined ≡ joined′) × (out ≡ out′)
+closed-exact-same cell ringNumber ring line k {book} {join} {words} {ss} b laid few {r} {r′} {out = out} {out′ = out′} p p′ =
+    let rows : List (Option Refusal) = closedRows ring k (length line) (length words) (length join) in
+    let same = exact-report-same cell ringNumber rows ring (closedLine (length ring) line)
+    (closed-accepted-edge ring k (length line) (length words) (length join)) k book words ss b laid few r r′ out out′ (closed-is-report p) (closed-is-report p′) in
+    (same .0, joined-alike (book-accepted book ss b) (exact-read ss book b laid few) p p′, same .1)

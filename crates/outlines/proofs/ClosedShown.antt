@@ -8,7 +8,7 @@ use lib.ListN.{length}
 use Rattle.meaning.specs.Findings.{Finding, findings, Rising}
 use Rattle.meaning.specs.Closed.{closedLine, IsClosedFinding}
 use Rattle.meaning.proofs.ClosedFindings.{closed-finding-iff, closed-findings-rising}
-use Rattle.silences.specs.Silences.{Silence, Names}
+use Rattle.silences.specs.Silences.{Silence, Hides}
 use Rattle.outlines.specs.Report.{isHidden, isShown, shown, hidden}
 use Rattle.outlines.proofs.TakenByTest.{taken-rising}
 use Rattle.outlines.proofs.ShownExactly.{shown-iff, hidden-iff}
@@ -18,14 +18,14 @@ module _ (silences : List Silence) (cell ringNumber : ℕ) (ring line : List ℕ
   abbrev found : List Finding
   found = findings ring (closedLine (length ring) line) k
 
-  -- For a ring that is not empty, f is among the shown exactly when it is a finding of the closed line and the silences do not name its cell, ring number and
-  -- start.
-  pub closed-shown-iff : (f : Finding) → List·Memᴰ f (shown silences cell ringNumber found) ↔ (IsClosedFinding ring line k f × (Names silences cell ringNumber (f .start) → ⊥))
+  -- For a ring that is not empty, f is among the shown exactly when it is a finding of the closed line and the silences do not hide it.
+  pub closed-shown-iff : (f : Finding) → List·Memᴰ f (shown silences cell ringNumber found) ↔ (IsClosedFinding ring line k f × (Hides silences cell ringNumber (f .start) (f .distance) → ⊥))
   closed-shown-iff f =
       Iff·trans (shown-iff silences cell ringNumber ring (closedLine (length ring) line) k pos f) (Iff·and (closed-finding-iff ring line pos k f) Iff·rfl)
 
-  -- For a ring that is not empty, f is among the hidden exactly when it is a finding of the closed line and the silences name its cell, ring number and start.
-  pub closed-hidden-iff : (f : Finding) → List·Memᴰ f (hidden silences cell ringNumber found) ↔ (IsClosedFinding ring line k f × Names silences cell ringNumber (f .start))
+  -- For a ring that is not empty, f is among the hidden exactly when it is a finding of the closed line and some silence has its cell, ring
+  -- number and start, and its distance is at most the ceiling.
+  pub closed-hidden-iff : (f : Finding) → List·Memᴰ f (hidden silences cell ringNumber found) ↔ (IsClosedFinding ring line k f × Hides silences cell ringNumber (f .start) (f .distance))
   closed-hidden-iff f =
       Iff·trans (hidden-iff silences cell ringNumber ring (closedLine (length ring) line) k pos f) (Iff·and (closed-finding-iff ring line pos k f) Iff·rfl)
 

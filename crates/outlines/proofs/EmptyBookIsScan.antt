@@ -1,5 +1,5 @@
 -- With an empty book the report gives what the scan gives: the same refusal, or the same found and looks with hidden 0, and the same words. The reason is
--- that an empty book names nothing, so all findings are shown. Stated for a report and a scan that have the same rows of a search.
+-- that an empty book hides nothing, so all findings are shown. Stated for a report and a scan that have the same rows of a search.
 use Prim.Native.Nat.{ℕ}
 use mathlib.Core.Path.{_≡_, refl, sym, ap, subst, _∙_}
 use mathlib.Core.List.{List, [], _∷_}
@@ -11,7 +11,7 @@ use Rattle.meaning.specs.Looks.{quickLooks}
 use Rattle.answers.specs.declared.refusals.Refusal.{Refusal}
 use Rattle.answers.proofs.OneAnswer.{number-in}
 use Rattle.answers.proofs.AnswerByRows.{row-place-iff, refused-area}
-use Rattle.silences.specs.Silences.{names}
+use Rattle.silences.specs.Silences.{hides}
 use Rattle.silences.specs.Samples.{empty-book}
 use Rattle.silences.specs.Reading.{bookRefusal, silencesRead}
 use Rattle.silences.proofs.BookRows.{book-accepted-iff}
@@ -38,7 +38,7 @@ no-silence = book-accepted-iff [] [] .0 empty-book .1
 module _ (cell ringNumber : ℕ) where
   -- with no silence all findings are shown
   shown-all : (fs : List Finding) → shown (silencesRead []) cell ringNumber fs ≡ fs
-  unfolding takenBy names
+  unfolding takenBy hides
   shown-all fs = rw no-silence (go fs)
     where
       go : (l : List Finding) → shown [] cell ringNumber l ≡ l
@@ -47,7 +47,7 @@ module _ (cell ringNumber : ℕ) where
 
   -- and none is hidden
   hidden-none : (fs : List Finding) → length (hidden (silencesRead []) cell ringNumber fs) ≡ 0
-  unfolding takenBy names
+  unfolding takenBy hides
   hidden-none fs = rw no-silence (go fs)
     where
       go : (l : List Finding) → length (hidden [] cell ringNumber l) ≡ 0

@@ -1,6 +1,6 @@
 -- The book's part of the loop's invariant. The field that the loop holds was sought for a start that is not above the next window's start. Starts rise, so
 -- going on from this field to the next finding's address gives what seeking from the book's first byte would give. If the book is accepted, the field then
--- has the finding's address exactly when the book names the finding.
+-- hides the finding exactly when the book does.
 use Prim.Native.Nat.{ℕ, _≤_}
 use mathlib.Core.Path.{_≡_, refl, sym, subst}
 use mathlib.Core.List.{List}
@@ -15,10 +15,10 @@ use Rattle.silences.specs.Addresses.{addressOf, soughtOf}
 use Rattle.book.specs.Calls.{IsSought}
 use Rattle.silences.proofs.BookRows.{book-accepted-iff}
 use Rattle.silences.proofs.StrictOrder.{start-not-below}
-use Rattle.book.proofs.SeekRising.{HeldField, seeking-turn, seeking-names}
+use Rattle.book.proofs.SeekRising.{HeldField, seeking-turn, seeking-hides}
 use Rattle.book.proofs.SoughtRising.{sought-start}
 use Rattle.outlines.specs.Report.{isHidden}
-use Rattle.outlines.specs.Hiding.{findingAddress, heldFor, hides}
+use Rattle.outlines.specs.Hiding.{findingAddress, heldFor, hidesFinding}
 
 -- The field held was sought for a start `last-asked` of at most i.
 pub record HeldFrom (cell ringNumber : ℕ) (book : List ℕ) (i : ℕ) (held : Sought) : Type 0 where
@@ -56,8 +56,8 @@ module _ {cell ringNumber : ℕ} {book : List ℕ} where
       held-turn is l =
           record { last-asked = f .start; asked-le = l; seeking = subst (HeldField book (findingAddress cell ringNumber f)) (sym is) held-next }
 
-      -- If the book is accepted, the field for the finding has its address exactly when the book names the finding.
-      pub held-hides : bookRefusal book ≡ none → hides cell ringNumber book f (soughtOf held) ≡ isHidden (silencesRead book) cell ringNumber f
+      -- If the book is accepted, the field for the finding hides it exactly when the book does.
+      pub held-hides : bookRefusal book ≡ none → hidesFinding cell ringNumber book f (soughtOf held) ≡ isHidden (silencesRead book) cell ringNumber f
       held-hides read =
-          seeking-names book (silencesRead book) (findingAddress cell ringNumber f) (heldFor cell ringNumber book f (soughtOf held))
+          seeking-hides book (silencesRead book) (findingAddress cell ringNumber f) (f .distance) (heldFor cell ringNumber book f (soughtOf held))
           (book-accepted-iff book (silencesRead book) .1 (read, refl)) held-next

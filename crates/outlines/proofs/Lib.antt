@@ -28,6 +28,7 @@ pub mod ReportGives
 pub mod ShownRising
 pub mod SilencesAlike
 pub mod OneSilenceMore
+pub mod ExactBooks
 pub mod EmptyBookIsScan
 -- Scan and report on a closed line.
 pub mod ClosedScanGives

@@ -1,5 +1,5 @@
 -- The loop of `scan_windows`, for scan and report. `SweepKeeps` has the findings so far. Of these the shown ones are counted and written into the words, the
--- hidden ones are counted, and a field of the book is held (`HeldFrom`). A finding that the book names is hidden, any other is shown (`held-hides`).
+-- hidden ones are counted, and a field of the book is held (`HeldFrom`). A finding that the book hides is not written, any other is shown (`held-hides`).
 use Prim.Native.Nat.{ℕ, _+_, _-_, _*_, _≤_, _<_}
 use mathlib.Core.Path.{_≡_, refl, sym, ap, _∙_}
 use mathlib.Core.Bool.{Bool, true, false, not}
@@ -29,7 +29,7 @@ use Rattle.sweep.specs.SweepRules.{stateOf, foundOf}
 use Rattle.sweep.specs.VerifyingRules.{lastStart}
 use Rattle.outlines.specs.declared.asking.BookAsked.{BookAsked}
 use Rattle.outlines.specs.Report.{isHidden, isShown, takenBy, shown, hidden}
-use Rattle.outlines.specs.Hiding.{hides, CanAsk, IsHiddenOrShown, IsShownPut}
+use Rattle.outlines.specs.Hiding.{hidesFinding, CanAsk, IsHiddenOrShown, IsShownPut}
 use Rattle.outlines.specs.LineScan.{CanScan, LineScanned}
 use Rattle.outlines.proofs.TakenByTest.{taken-more-no, taken-more-yes}
 use Rattle.outlines.proofs.ShownAndHidden.{shown-hidden-length}
@@ -156,7 +156,7 @@ module _ {cell ringNumber : ℕ} {ring doubled table : List ℕ} {p : Parts} {k 
                 held-from = held-turn (h .held-from) f (turn .found f e .from-le) (asks .held-is) (rw is-next at (turn .found f e .to-le));
               }
 
-              go : (t : Bool) → isHidden ss cell ringNumber f ≡ t → hides cell ringNumber book f (soughtOf (asked .held)) ≡ t
+              go : (t : Bool) → isHidden ss cell ringNumber f ≡ t → hidesFinding cell ringNumber book f (soughtOf (asked .held)) ≡ t
                   → QuickLoop cell ringNumber ring doubled table p k book counts₀ area next asked′ counts′ out
               go true named same =
                   let shown-is : asked′ .shown ≡ asked .shown = rw same at (asks .shown-is) in

@@ -50,8 +50,8 @@ module _ {rows : List (Option Refusal)} {cell ringNumber : ℕ} {ring line : Lis
   report-number-iff q not-of-book no-place =
       Iff·trans (row-number-iff noReportCounts counted (reportRefusal rows book) (meets .paper) q no-place) (early-row-iff rows book q not-of-book)
 
-  -- Row 5: none of the search's rows is given, and the book is longer than 13,000 bytes.
-  pub report-5-iff : NotOfBook rows → (paperOf r .number ≡ 5) ↔ ((firstGiven rows ≡ none) × (13000 < length book))
+  -- Row 5: none of the search's rows is given, and the book is longer than 15,000 bytes.
+  pub report-5-iff : NotOfBook rows → (paperOf r .number ≡ 5) ↔ ((firstGiven rows ≡ none) × (15000 < length book))
   unfolding reportAnswer
   report-5-iff not-of-book =
       Iff·trans (row-number-iff noReportCounts counted (reportRefusal rows book) (meets .paper) BookLength (omega arith))
@@ -65,7 +65,7 @@ module _ {rows : List (Option Refusal)} {cell ringNumber : ℕ} {ring line : Lis
   module _ (bytes : IsBytes book) where
     -- Row 6 with its place: none of the search's rows is given, nor row 5, and the first faulty field is this one, which isn't as laid down or is cut off.
     pub report-6-iff : NotOfBook rows → (at : ℕ)
-        → ((paperOf r .number ≡ 6) × (paperOf r .place ≡ at)) ↔ ((firstGiven rows ≡ none) × ((length book ≤ 13000) × IsFieldFault book at))
+        → ((paperOf r .number ≡ 6) × (paperOf r .place ≡ at)) ↔ ((firstGiven rows ≡ none) × ((length book ≤ 15000) × IsFieldFault book at))
     unfolding reportAnswer
     report-6-iff not-of-book at =
         Iff·trans (row-place-iff noReportCounts counted (reportRefusal rows book) (meets .paper) (Field at))
@@ -73,7 +73,7 @@ module _ {rows : List (Option Refusal)} {cell ringNumber : ℕ} {ring line : Lis
 
     -- Row 7 with its place: none of the search's rows is given, nor row 5, and the first faulty field is this one, whose record isn't above the one before it.
     pub report-7-iff : NotOfBook rows → (at : ℕ)
-        → ((paperOf r .number ≡ 7) × (paperOf r .place ≡ at)) ↔ ((firstGiven rows ≡ none) × ((length book ≤ 13000) × IsOrderFault book at))
+        → ((paperOf r .number ≡ 7) × (paperOf r .place ≡ at)) ↔ ((firstGiven rows ≡ none) × ((length book ≤ 15000) × IsOrderFault book at))
     unfolding reportAnswer
     report-7-iff not-of-book at =
         Iff·trans (row-place-iff noReportCounts counted (reportRefusal rows book) (meets .paper) (NotAbove at))

@@ -1,5 +1,5 @@
 -- What follows for every answer that meets the contract of a report, for the rows of any search. The first row that is given decides the number, the counts
--- and the words (`AnswerByRows` of crates/answers). In an accepted report found is the number of findings, hidden the number of those that the book names,
+-- and the words (`AnswerByRows` of crates/answers). In an accepted report found is the number of findings, hidden the number of those that the book hides,
 -- and the looks are the steps of rules 1 to 5. "For n ≥ m they are never above 3·m·n − 2·m·m + m, which is at most 3·m·n."
 use Prim.Native.Nat.{ℕ, _+_, _-_, _*_, _≤_, _<_}
 use mathlib.Core.Path.{_≡_, refl, ap, _∙_}

@@ -1,4 +1,4 @@
--- Two lists of silences that name the same findings show and hide the same findings. So two reports whose books name the same findings give the same answer,
+-- Two lists of silences that hide the same findings show the same findings. So two reports whose books hide the same findings give the same answer,
 -- whatever their rows of a search are, if these accept no empty ring (for `report`, `accepted-edge` of crates/findings).
 use Prim.Native.Nat.{ℕ, _<_}
 use mathlib.Core.Path.{_≡_, refl, sym, ap, _∙_}
@@ -22,16 +22,16 @@ use Rattle.outlines.proofs.FirstOfReport.{accepted-book-row}
 use Rattle.outlines.proofs.ReportOneAnswer.{report-paper-unique}
 
 module _ (ss ts : List Silence) (cell ringNumber : ℕ) where
-  -- Each finding of the list is named by both lists of silences or by neither.
-  abbrev pub NamesAlike : List Finding → Type 0
-  NamesAlike fs = (f : Finding) → List·Memᴰ f fs → isHidden ss cell ringNumber f ≡ isHidden ts cell ringNumber f
+  -- Each finding of the list is hidden by both lists of silences or by neither.
+  abbrev pub HidesAlike : List Finding → Type 0
+  HidesAlike fs = (f : Finding) → List·Memᴰ f fs → isHidden ss cell ringNumber f ≡ isHidden ts cell ringNumber f
 
-  -- if each finding of a list is named by both lists of silences or by neither, both show the same ones
-  shown-same : (fs : List Finding) → NamesAlike fs → shown ss cell ringNumber fs ≡ shown ts cell ringNumber fs
+  -- if each finding of a list is hidden by both lists of silences or by neither, both show the same ones
+  shown-same : (fs : List Finding) → HidesAlike fs → shown ss cell ringNumber fs ≡ shown ts cell ringNumber fs
   shown-same fs h = taken-same (isShown ss cell ringNumber) (isShown ts cell ringNumber) fs (λ f m. ap not (h f m))
 
-  -- If each finding of a list is named by both lists of silences or by neither, both hide the same ones.
-  pub hidden-same : (fs : List Finding) → NamesAlike fs → hidden ss cell ringNumber fs ≡ hidden ts cell ringNumber fs
+  -- If each finding of a list is hidden by both lists of silences or by neither, both hide the same ones.
+  pub hidden-same : (fs : List Finding) → HidesAlike fs → hidden ss cell ringNumber fs ≡ hidden ts cell ringNumber fs
   hidden-same fs h = taken-same (isHidden ss cell ringNumber) (isHidden ts cell ringNumber) fs h
 
   module _ (rows : List (Option Refusal)) (ring line : List ℕ) (some-edge : firstGiven rows ≡ none → 0 < length ring) (k : ℕ) (book book′ words : List ℕ)
@@ -52,10 +52,10 @@ module _ (ss ts : List Silence) (cell ringNumber : ℕ) where
         go : (o : Option Refusal) → firstGiven rows ≡ o → by o ss ≡ by o ts
         go (some refusal) e = refused-same refusal
         go none e =
-            let named : NamesAlike (findings ring line k) = λ f m. alike f (findings-iff ring line k (some-edge e) f .0 m) in
-            accepted-same (shown-same (findings ring line k) named) (hidden-same (findings ring line k) named)
+            let alike-in-list : HidesAlike (findings ring line k) = λ f m. alike f (findings-iff ring line k (some-edge e) f .0 m) in
+            accepted-same (shown-same (findings ring line k) alike-in-list) (hidden-same (findings ring line k) alike-in-list)
 
-    -- Two reports that differ only in their books give the same answer and leave the same words, if both books are accepted and name the same findings.
+    -- Two reports that differ only in their books give the same answer and leave the same words, if both books are accepted and hide the same findings.
     pub reports-same : (r r′ : Reported) (out out′ : List ℕ) → IsReportedBy rows cell ringNumber ring line k book words r out
         → IsReportedBy rows cell ringNumber ring line k book′ words r′ out′ → (r ≡ r′) × (out ≡ out′)
     unfolding reportAnswer reportedWords

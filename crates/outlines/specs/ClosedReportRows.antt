@@ -39,17 +39,18 @@ pub record ClosedReportRows (ring line : List ℕ) (k : ℕ) (book join words : 
       × ((HoldsMark ring → ⊥)
       × ((k < length ring)
       × ((length line ≤ 65536) × ((length ring ≤ length line) × ((4 * length line ≤ length words) × (length join < 2 * length ring - 2)))))))
-  -- "book longer than 13,000 bytes", none of the rows above given
-  pub row-5 : (p .number ≡ 5) ↔ (ClosedAdmitted ring k (length line) (length words) (length join) × (13000 < length book))
-  -- "a field isn't 13 bytes beginning 21 00 0A hex, or is cut off"; place: its byte offset; none of the rows above given, and no earlier field is faulty
+  -- "book longer than" 15,000 "bytes" (document 02, ticket 4), none of the rows above given
+  pub row-5 : (p .number ≡ 5) ↔ (ClosedAdmitted ring k (length line) (length words) (length join) × (15000 < length book))
+  -- "a field isn't 13 bytes beginning 21 00 0A hex, or is cut off", nor 15 bytes beginning 22 00 0C (document 02, ticket 4); place: its byte offset; none of the
+  -- rows above given, and no earlier field is faulty
   pub row-6 : (at : ℕ)
       → ((p .number ≡ 6) × (p .place ≡ at))
-      ↔ (ClosedAdmitted ring k (length line) (length words) (length join) × ((length book ≤ 13000) × IsFieldFault book at))
+      ↔ (ClosedAdmitted ring k (length line) (length words) (length join) × ((length book ≤ 15000) × IsFieldFault book at))
   -- "a record isn't above the one before it"; place: its byte offset; none of the rows up to 5 given, and no earlier field is faulty
   pub row-7 : (at : ℕ)
       → ((p .number ≡ 7) × (p .place ≡ at))
-      ↔ (ClosedAdmitted ring k (length line) (length words) (length join) × ((length book ≤ 13000) × IsOrderFault book at))
-  -- Accepted exactly when none of these rows is given: the call is admitted, and the book is the book of some list of silences.
+      ↔ (ClosedAdmitted ring k (length line) (length words) (length join) × ((length book ≤ 15000) × IsOrderFault book at))
+  -- Accepted exactly when none of these rows is given: the call is admitted, and the book is a book of some list of silences.
   pub accepted : (p .number ≡ 0) ↔ (ClosedAdmitted ring k (length line) (length words) (length join) × ((ss : List Silence) × IsBook ss book))
   -- No other number is given.
   pub numbers : (p .number ≤ 7) ⊎ ((p .number ≡ 10) ⊎ (p .number ≡ 12))

@@ -2,7 +2,7 @@
 -- ones included), hidden, looks"; "the report writes the shown ones only". Its contract, `IsReported`, is one record and holds on every input. The
 -- definitions take the rows of a search that come before the book's (`rows`): for `report` they are `admitRows` of crates/findings.
 --
---   isHidden, isShown              a silence of the book names the report's cell and ring number and the finding's start; none does
+--   isHidden, isShown              a silence of the book hides the finding; none does
 --   takenBy                        the findings of a list that pass a test, in their order
 --   shown, hidden                  the findings of a list that are shown, and those that are hidden
 --   reportRows                     the rows of a search, then the book's
@@ -26,15 +26,16 @@ use Rattle.meaning.specs.Looks.{quickLooks}
 use Rattle.answers.specs.declared.refusals.Refusal.{Refusal}
 use Rattle.answers.specs.Paper.{Answer, accepted, refused, Paper, answerPaper}
 use Rattle.answers.specs.Rows.{firstGiven, answerBy, areaBy}
-use Rattle.silences.specs.Silences.{address, Silence, names}
+use Rattle.silences.specs.Silences.{address, Silence, hides}
 use Rattle.silences.specs.Reading.{bookRows, silencesRead}
 use Rattle.findings.specs.Admitting.{admitRows}
 use Rattle.outlines.specs.declared.reporting.Reported.{Reported}
 use Rattle.outlines.specs.declared.reporting.Reported.the-variants.{Counts as CountsCase, Refused}
 
--- A finding is hidden exactly when one of the silences names the report's cell and ring number and the finding's start.
+-- A finding is hidden exactly when one of the silences has the report's cell and ring number and the finding's start, and the finding's distance is at most its
+-- ceiling: "It hides a finding at its address only up to that distance, and demand 2 reads so" (document 02, ticket 4).
 abbrev pub isHidden : List Silence → ℕ → ℕ → Finding → Bool
-isHidden silences cell ringNumber f = names silences (address cell ringNumber (f .start))
+isHidden silences cell ringNumber f = hides silences (address cell ringNumber (f .start)) (f .distance)
 
 -- A finding is shown exactly when it is not hidden.
 abbrev pub isShown : List Silence → ℕ → ℕ → Finding → Bool

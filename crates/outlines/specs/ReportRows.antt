@@ -33,13 +33,14 @@ pub record ReportRows (ring : List ℕ) (k n : ℕ) (book words : List ℕ) (p :
   pub row-4 : (p .number ≡ 4)
       ↔ (IsRingLength (length ring)
       × ((HoldsMark ring → ⊥) × ((k < length ring) × ((n ≤ 65536) × ((length ring ≤ n) × (length words < 4 * (n - length ring + 1)))))))
-  -- "book longer than 13,000 bytes", none of the rows above given
-  pub row-5 : (p .number ≡ 5) ↔ (Admitted ring k n (length words) × (13000 < length book))
-  -- "a field isn't 13 bytes beginning 21 00 0A hex, or is cut off"; place: its byte offset; none of the rows above given, and no earlier field is faulty
-  pub row-6 : (at : ℕ) → ((p .number ≡ 6) × (p .place ≡ at)) ↔ (Admitted ring k n (length words) × ((length book ≤ 13000) × IsFieldFault book at))
+  -- "book longer than" 15,000 "bytes" (document 02, ticket 4), none of the rows above given
+  pub row-5 : (p .number ≡ 5) ↔ (Admitted ring k n (length words) × (15000 < length book))
+  -- "a field isn't 13 bytes beginning 21 00 0A hex, or is cut off", nor 15 bytes beginning 22 00 0C (document 02, ticket 4); place: its byte offset; none of the
+  -- rows above given, and no earlier field is faulty
+  pub row-6 : (at : ℕ) → ((p .number ≡ 6) × (p .place ≡ at)) ↔ (Admitted ring k n (length words) × ((length book ≤ 15000) × IsFieldFault book at))
   -- "a record isn't above the one before it"; place: its byte offset; none of the rows up to 5 given, and no earlier field is faulty
-  pub row-7 : (at : ℕ) → ((p .number ≡ 7) × (p .place ≡ at)) ↔ (Admitted ring k n (length words) × ((length book ≤ 13000) × IsOrderFault book at))
-  -- Accepted exactly when none of these rows is given: the call is admitted, and the book is the book of some list of silences.
+  pub row-7 : (at : ℕ) → ((p .number ≡ 7) × (p .place ≡ at)) ↔ (Admitted ring k n (length words) × ((length book ≤ 15000) × IsOrderFault book at))
+  -- Accepted exactly when none of these rows is given: the call is admitted, and the book is a book of some list of silences.
   pub accepted : (p .number ≡ 0) ↔ (Admitted ring k n (length words) × ((ss : List Silence) × IsBook ss book))
   -- No other number is given.
   pub numbers : (p .number ≤ 7) ⊎ (p .number ≡ 12)

@@ -1,6 +1,6 @@
 // Asks the silence book for one finding, which is then hidden or shown.
 use answers::LinePlace;
-use book::is_for;
+use book::hides;
 use book::seek_on;
 use findings::Finding;
 use findings::put_finding;
@@ -33,8 +33,7 @@ pub fn address_of(cell: u32, ring_number: u16, start: LinePlace) -> Address
     }
 }
 
-// Counts one finding more: as hidden if the field sought from the held one on has its address, else as shown. No word is
-// written.
+// Counts one finding more: as hidden if the field sought from the held one on hides it, else as shown. No word is written.
 pub fn ask(
     cell: u32,
     ring_number: u16,
@@ -49,7 +48,7 @@ pub fn ask(
     let address = address_of(cell, ring_number, start);
     let before = asked.held;
     let held = seek_on(book, before, address);
-    if is_for(held, address) {
+    if hides(held, address, finding.distance) {
         let hidden = asked.hidden + 1;
         return BookAsked {
             shown: asked.shown,

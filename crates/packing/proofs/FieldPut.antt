@@ -1,15 +1,15 @@
--- Writing a field number by number: tag, length, cell, ring number, start. Each number begins where the one before it ends, and together their bytes are the
+-- Writing a field number by number: tag, length, cell, ring number, start, ceiling. Each number begins where the one before it ends, and together their bytes are the
 -- field's bytes (`fieldOf-is`).
 use Prim.Native.Nat.{ℕ, _+_, _≤_}
 use mathlib.Core.Path.{_≡_, sym, ap, _∙_}
-use mathlib.Core.List.{List, _++_, append-assoc, append-nil}
+use mathlib.Core.List.{List, _++_, append-assoc}
 use native.Mathlib.Omega.{arith}
 use lib.ListN.{length, length-append}
 use Rattle.lists.specs.Areas.{writtenAt}
 use Rattle.lists.proofs.Areas.{writtenAt-append}
 use Rattle.fields.specs.Numbers.{bytesOf}
 use Rattle.fields.specs.Tagged.{tagBytes, lengthBytes}
-use Rattle.silences.specs.Silences.{Silence, cellBytes, ringNumberBytes, startBytes}
+use Rattle.silences.specs.Silences.{Silence, cellBytes, ringNumberBytes, startBytes, ceilingBytes}
 use Rattle.silences.specs.Layout.{packedTag, packedKind, valueLength, addressValue, valueOf, fieldOf}
 use Rattle.packing.specs.Putting.{AreBytesPut}
 use Rattle.fields.proofs.NumberBytes.{bytesOf-length}
@@ -31,22 +31,37 @@ pub number-next : {at next : ℕ} {area out : List ℕ} (count number : ℕ) →
 number-next {at} count number is-put = is-put .next-is ∙ ap (λ (n : ℕ). at + n) (bytesOf-length count number)
 
 module _ (s : Silence) where
-  -- a field is its numbers, each in its bytes
-  field-numbers : bytesOf tagBytes packedTag ++ bytesOf lengthBytes (valueLength packedKind) ++ bytesOf cellBytes (s .address .cell) ++ bytesOf ringNumberBytes (s .address .ringNumber) ++ bytesOf startBytes (s .address .start) ≡ fieldOf s
-  unfolding bytesOf valueOf addressValue
-  field-numbers = simp (fieldOf-is s, append-assoc, append-nil)
+  -- the bytes of a field up to its length, up to its cell, and so on
+  abbrev head : List ℕ
+  head = bytesOf tagBytes packedTag ++ bytesOf lengthBytes (valueLength packedKind)
 
-  -- If the five numbers of a field are written one after the other, the field is written.
-  pub field-put : {at length-at value-at ring-at start-at next : ℕ} {area a b c d out : List ℕ} → at + length (fieldOf s) ≤ length area
-      → AreBytesPut at (bytesOf tagBytes packedTag) area length-at a → AreBytesPut length-at (bytesOf lengthBytes (valueLength packedKind)) a value-at b → AreBytesPut value-at (bytesOf cellBytes (s .address .cell)) b ring-at c
-      → AreBytesPut ring-at (bytesOf ringNumberBytes (s .address .ringNumber)) c start-at d → AreBytesPut start-at (bytesOf startBytes (s .address .start)) d next out → AreBytesPut at (fieldOf s) area next out
-  field-put {at} {area = area} {out = out} room tag long cell ring start =
-      let head : List ℕ = bytesOf tagBytes packedTag ++ bytesOf lengthBytes (valueLength packedKind) in
-      let to-cell : List ℕ = head ++ bytesOf cellBytes (s .address .cell) in
-      let to-ring : List ℕ = to-cell ++ bytesOf ringNumberBytes (s .address .ringNumber) in
-      let all : at + length (to-ring ++ bytesOf startBytes (s .address .start)) ≤ length area = omega (arith, room, ap length field-numbers) in
+  abbrev to-cell : List ℕ
+  to-cell = head ++ bytesOf cellBytes (s .address .cell)
+
+  abbrev to-ring : List ℕ
+  to-ring = to-cell ++ bytesOf ringNumberBytes (s .address .ringNumber)
+
+  abbrev to-start : List ℕ
+  to-start = to-ring ++ bytesOf startBytes (s .address .start)
+
+  -- a field is its numbers, each in its bytes
+  field-numbers : to-start ++ bytesOf ceilingBytes (s .ceiling) ≡ fieldOf s
+  unfolding bytesOf valueOf addressValue
+  field-numbers = simp (fieldOf-is s, append-assoc)
+
+  -- If the six numbers of a field are written one after the other, the field is written.
+  pub field-put : {at length-at value-at ring-at start-at ceiling-at next : ℕ} {area a b c d e out : List ℕ} → at + length (fieldOf s) ≤ length area
+      → AreBytesPut at (bytesOf tagBytes packedTag) area length-at a → AreBytesPut length-at (bytesOf lengthBytes (valueLength packedKind)) a value-at b
+      → AreBytesPut value-at (bytesOf cellBytes (s .address .cell)) b ring-at c → AreBytesPut ring-at (bytesOf ringNumberBytes (s .address .ringNumber)) c start-at d
+      → AreBytesPut start-at (bytesOf startBytes (s .address .start)) d ceiling-at e → AreBytesPut ceiling-at (bytesOf ceilingBytes (s .ceiling)) e next out
+      → AreBytesPut at (fieldOf s) area next out
+  field-put {at} {area = area} {out = out} room tag long cell ring start ceiling =
+      let all : at + length (to-start ++ bytesOf ceilingBytes (s .ceiling)) ≤ length area = omega (arith, room, ap length field-numbers) in
+      let start-room : at + length to-start ≤ length area = omega (arith, length-append to-start (bytesOf ceilingBytes (s .ceiling))) in
       let ring-room : at + length to-ring ≤ length area = omega (arith, length-append to-ring (bytesOf startBytes (s .address .start))) in
       let cell-room : at + length to-cell ≤ length area = omega (arith, length-append to-cell (bytesOf ringNumberBytes (s .address .ringNumber))) in
       let head-room : at + length head ≤ length area = omega (arith, length-append head (bytesOf cellBytes (s .address .cell))) in
-      let tag-room : at + length (bytesOf tagBytes packedTag) ≤ length area = omega (arith, length-append (bytesOf tagBytes packedTag) (bytesOf lengthBytes (valueLength packedKind))) in
-      rw field-numbers at (put-append ring-room (put-append cell-room (put-append head-room (put-append tag-room tag long) cell) ring) start)
+      let tag-room : at + length (bytesOf tagBytes packedTag) ≤ length area =
+      omega (arith, length-append (bytesOf tagBytes packedTag) (bytesOf lengthBytes (valueLength packedKind))) in
+      rw field-numbers at
+      (put-append start-room (put-append ring-room (put-append cell-room (put-append head-room (put-append tag-room tag long) cell) ring) start) ceiling)

@@ -66,7 +66,7 @@ module _ {words area : List ℕ} where
               ∙ now .whole-is;
         }
 
-    -- When fewer than three words are left, the whole layout is written.
+    -- When fewer than four words are left, the whole layout is written.
     pub fields-end : length words < at + recordWords → out ≡ written (layout (silencesOf words)) area
     unfolding numbersOfEach
     fields-end h =

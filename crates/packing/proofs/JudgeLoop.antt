@@ -14,7 +14,7 @@ use lib.Seq.{append-snoc}
 use Rattle.lists.specs.Records.{numbersOfEach}
 use Rattle.lists.proofs.Records.{each-more}
 use Rattle.answers.specs.declared.refusals.Refusal.{Refusal}
-use Rattle.answers.specs.declared.refusals.Refusal.the-variants.{NotAbove, RingNumber}
+use Rattle.answers.specs.declared.refusals.Refusal.the-variants.{NotAbove, NumberInRecord}
 use Rattle.answers.specs.Paper.{Answer, accepted, refused}
 use Rattle.answers.specs.Rows.{firstGiven, answerBy}
 use Rattle.silences.specs.Silences.{Address, Silence, isAbove}
@@ -84,7 +84,7 @@ module _ {words : List ℕ} where
           }
 
       -- If a number of this record is too large, refusal 9 with its number is the answer.
-      pub judge-too-large : TooLarge (silenceFrom words at) → refused (RingNumber records) ≡ judgement words
+      pub judge-too-large : TooLarge (silenceFrom words at) → refused (NumberInRecord records) ≡ judgement words
       judge-too-large high = sym (judged-by words (packs-as-is (stopped-number stands-here high)))
 
       module _ (fit : NumbersFit (silenceFrom words at)) where
@@ -119,7 +119,7 @@ module _ {words : List ℕ} where
                   );
             }
 
-    -- When fewer than three words are left, the sizes counted are the answer.
+    -- When fewer than four words are left, the sizes counted are the answer.
     pub judge-end : length words < at + recordWords → accepted (sized records bytes) ≡ judgement words
     judge-end h =
         let all : silencesOf words ≡ now .passed =

@@ -1,30 +1,35 @@
 -- Round trips, for any answers that meet the contracts. If `pack` accepts words and `unpack` is given the book that it wrote, with room, then `unpack` accepts
--- and writes those words (`pack-unpack`). If `unpack` accepts a book and `pack` is given the words that it wrote, with room, then `pack` accepts and writes
--- that book (`unpack-pack`). Both return the same number of records. The definitions undo each other by RoundTrips of crates/silences; what an accepted call
--- returns and writes is proved once for both calls (`gives-records`, `gave`).
-use Prim.Native.Nat.{ℕ, _*_, _≤_}
+-- and writes those words (`pack-unpack`). If `unpack` accepts a book of at most 1,000 records and `pack` is given the words that it wrote, with room, then `pack`
+-- accepts and writes a book of the same silences, and the same bytes where tag 21 is absent (`unpack-pack`). Both return the same number of records. Of more
+-- records `pack` refuses the words by row 8 (`unpack-pack-many`). By RoundTrips of crates/silences; what an accepted call returns and writes is proved once for
+-- both calls (`gives-records`, `gave`).
+use Prim.Native.Nat.{ℕ, _*_, _≤_, _<_}
 use mathlib.Core.Path.{_≡_, refl, sym, ap, _∙_}
 use mathlib.Core.List.{List}
-use mathlib.Core.Option.{Option, none}
+use mathlib.Core.Option.{Option, none, some}
 use native.Mathlib.Omega.{arith}
 use lib.ListN.{length, take}
 use Rattle.lists.specs.Bounds.{IsBytes, IsWords}
 use Rattle.answers.specs.declared.refusals.Refusal.{Refusal}
+use Rattle.answers.specs.declared.refusals.Refusal.the-variants.{WordCount}
 use Rattle.answers.specs.Paper.{Answer, accepted}
 use Rattle.answers.specs.Rows.{answerBy}
 use Rattle.answers.proofs.AnswerByRows.{answer-gives-iff}
 use Rattle.silences.specs.Silences.{Silence}
 use Rattle.silences.specs.Layout.{fieldLength, layout, mostSilences}
-use Rattle.silences.specs.Reading.{silencesRead}
+use Rattle.silences.specs.Reading.{silencesRead, readBook}
 use Rattle.silences.specs.Packing.{wordsOfSilences, recordWords, silencesOf, areaAtExit, packRefusal, packed, unpackRefusal, unpacked}
+use Rattle.silences.specs.Books.{LaidDown, NoTag21}
 use Rattle.silences.proofs.LayoutRead.{layout-length}
 use Rattle.silences.proofs.WordsOfSilences.{words-length}
 use Rattle.silences.proofs.AreaAtExit.{area-front}
-use Rattle.silences.proofs.RoundTrips.{packed-unpacked, packed-words-are, unpacked-book, unpacked-packed, unpacked-layout-is}
+use Rattle.silences.proofs.RoundTrips.{packed-unpacked, packed-words-are, unpacked-packed, many-refused, unpacked-read-back, unpacked-bytes}
+use Rattle.silences.proofs.UnpackRows.{unpacked-accepted-iff}
 use Rattle.book.specs.declared.answering.BookAnswer.{BookAnswer}
-use Rattle.book.specs.declared.answering.BookAnswer.the-variants.{Records}
+use Rattle.book.specs.declared.answering.BookAnswer.the-variants.{Records, Refused}
 use Rattle.book.specs.Calls.{paperOf, recordsPaper, IsUnpacked}
 use Rattle.book.proofs.RowNumbers.{records-iff}
+use Rattle.book.proofs.OneAnswer.{paper-unique}
 use Rattle.packing.specs.Calls.{IsPacked}
 
 module _ (output : List Silence → List ℕ) (each : ℕ) (length-is : (ss : List Silence) → length (output ss) ≡ each * length ss) (o : Option Refusal)
@@ -45,7 +50,7 @@ module _ (output : List Silence → List ℕ) (each : ℕ) (length-is : (ss : Li
       let is = answer-gives-iff ss ss o .1 (has .0, refl) in
       (is, has .1, gives-records ss is (has .1) (Records n) paper .1)
 
--- If `pack` returned n records, `unpack` with room, given the 13·n bytes that `pack` wrote, returns n records and writes the same words.
+-- If `pack` returned n records, `unpack` with room, given the 15·n bytes that `pack` wrote, returns n records and writes the same words.
 pub pack-unpack : (words area : List ℕ) (n : ℕ) (out : List ℕ) → IsWords words → IsPacked words area (Records n) out
     → (area′ : List ℕ) (r : BookAnswer) (out′ : List ℕ) → recordWords * n ≤ length area′ → IsUnpacked (take (fieldLength * n) out) area′ r out′
     → (r ≡ Records n) × (take (recordWords * n) out′ ≡ words)
@@ -63,20 +68,34 @@ pack-unpack words area n out are-words pack area′ r out′ room unpack =
     (unpack .paper) in
     (back .0, back .1 ∙ words-are)
 
--- If `unpack` returned n records, `pack` with room, given the 3·n words that `unpack` wrote, returns n records and writes the same book.
-pub unpack-pack : (book area : List ℕ) (n : ℕ) (out : List ℕ) → IsBytes book → IsUnpacked book area (Records n) out
+-- If `unpack` returned n records, at most 1,000, `pack` with room, given the 4·n words that `unpack` wrote, returns n records, and the 15·n bytes that it writes
+-- read back as the same silences. They are the same bytes if the book has no field of tag 21.
+pub unpack-pack : (book area : List ℕ) (n : ℕ) (out : List ℕ) → IsBytes book → IsUnpacked book area (Records n) out → n ≤ mostSilences
     → (area′ : List ℕ) (r : BookAnswer) (out′ : List ℕ) → fieldLength * n ≤ length area′ → IsPacked (take (recordWords * n) out) area′ r out′
-    → (r ≡ Records n) × (take (fieldLength * n) out′ ≡ book)
+    → (r ≡ Records n) × (readBook (take (fieldLength * n) out′) ≡ readBook book) × (LaidDown NoTag21 (silencesRead book) book → take (fieldLength * n) out′ ≡ book)
 unfolding packed unpacked
-unpack-pack book area n out are-bytes unpack area′ r out′ room pack =
+unpack-pack book area n out are-bytes unpack few area′ r out′ room pack =
     let ss : List Silence = silencesRead book in
     let words : List ℕ = take (recordWords * n) out in
     let was = gave wordsOfSilences recordWords words-length (unpackRefusal book (length area)) ss area n out (unpack .written) (unpack .paper) in
-    let layout-is : layout ss ≡ book = unpacked-layout-is book are-bytes (length area) ss (was .0) in
     let enough : length (layout ss) ≤ length area′ = omega (arith, layout-length ss, was .1) in
-    let few : length ss ≤ mostSilences = omega (arith, ap length layout-is, layout-length ss, unpacked-book book are-bytes (length area) ss (was .0) .length-le) in
+    let few-read : length ss ≤ mostSilences = omega (arith, was .1) in
     let accepts : packed words (length area′) ≡ accepted ss =
-    ap (λ (l : List ℕ). packed l (length area′)) (was .2) ∙ unpacked-packed book are-bytes (length area) ss (was .0) few (length area′) enough in
+    ap (λ (l : List ℕ). packed l (length area′)) (was .2) ∙ unpacked-packed book are-bytes (length area) ss (was .0) few-read (length area′) enough in
     let back =
     gives-records layout fieldLength layout-length (packRefusal words (length area′)) (silencesOf words) area′ n out′ (pack .written) ss accepts (was .1) r (pack .paper) in
-    (back .0, back .1 ∙ layout-is)
+    let reads-back = unpacked-read-back book are-bytes (length area) ss (was .0) few-read in
+    let reads : readBook book ≡ accepted ss = unpacked-accepted-iff book (length area) ss .0 (was .0) .0 in
+    (back .0, ap readBook (back .1) ∙ reads-back ∙ sym reads, λ laid. back .1 ∙ unpacked-bytes book are-bytes (length area) ss (was .0) laid)
+
+-- If `unpack` returned more than 1,000 records, `pack`, given the words that it wrote, refuses them by row 8.
+pub unpack-pack-many : (book area : List ℕ) (n : ℕ) (out : List ℕ) → IsUnpacked book area (Records n) out → mostSilences < n
+    → (area′ : List ℕ) (r : BookAnswer) (out′ : List ℕ) → IsPacked (take (recordWords * n) out) area′ r out′ → r ≡ Refused WordCount
+unfolding packed unpacked
+unpack-pack-many book area n out unpack many area′ r out′ pack =
+    let ss : List Silence = silencesRead book in
+    let words : List ℕ = take (recordWords * n) out in
+    let was = gave wordsOfSilences recordWords words-length (unpackRefusal book (length area)) ss area n out (unpack .written) (unpack .paper) in
+    let refuses : packRefusal words (length area′) ≡ some WordCount =
+    ap (λ (l : List ℕ). packRefusal l (length area′)) (was .2) ∙ many-refused ss (omega (arith, was .1)) (length area′) in
+    paper-unique r (Refused WordCount) (pack .paper ∙ ap (λ (o : Option Refusal). recordsPaper (answerBy o (silencesOf words))) refuses)

@@ -10,7 +10,7 @@ use native.Mathlib.Omega.{arith}
 use lib.ListN.{length}
 use Rattle.lists.specs.Areas.{written}
 use Rattle.answers.specs.declared.refusals.Refusal.{Refusal}
-use Rattle.answers.specs.declared.refusals.Refusal.the-variants.{NotAbove, WordCount, RingNumber, OutputRoom}
+use Rattle.answers.specs.declared.refusals.Refusal.the-variants.{NotAbove, WordCount, NumberInRecord, OutputRoom}
 use Rattle.answers.specs.Refusals.{numberOf}
 use Rattle.answers.specs.Paper.{answerPaper}
 use Rattle.answers.specs.Rows.{answerBy}
@@ -42,7 +42,7 @@ module _ (words area : List ℕ) (r : BookAnswer) (out : List ℕ) (meets : IsPa
   unfolding packed
   paper = paper-by o (silencesOf words) (meets .paper)
 
-  -- Row 8 is given exactly when the "words to pack aren't a multiple of 3, or exceed 3,000".
+  -- Row 8 is given exactly when the words to pack are not "a multiple of 4, at most 4,000".
   pub pack-row-8 : (paperOf r .number ≡ 8) ↔ HasWrongCount words
   pack-row-8 = Iff·trans (row-number-iff 0 records o paper WordCount (omega arith)) (pack-8-iff words (length area))
 
@@ -50,9 +50,9 @@ module _ (words area : List ℕ) (r : BookAnswer) (out : List ℕ) (meets : IsPa
   pub pack-row-8-place : paperOf r .number ≡ 8 → paperOf r .place ≡ 0
   pack-row-8-place = refusal-place-is 0 (answerBy o records) paper WordCount (omega arith)
 
-  -- Row 9, "a ring number to pack is above 65,535", is given at record number i exactly if row 8 is not and it is the first fault.
+  -- Row 9, a ring number or a ceiling above 65,535, is given at record number i exactly if row 8 is not and it is the first fault.
   pub pack-row-9 : (i : ℕ) → ((paperOf r .number ≡ 9) × (paperOf r .place ≡ i)) ↔ (HasWordCount words × IsNumberFault words i)
-  pack-row-9 i = Iff·trans (row-place-iff 0 records o paper (RingNumber i)) (pack-9-iff words (length area) i)
+  pack-row-9 i = Iff·trans (row-place-iff 0 records o paper (NumberInRecord i)) (pack-9-iff words (length area) i)
 
   -- Row 7, "a record isn't above the one before it", is given at record number i exactly if row 8 is not and it is the first fault.
   pub pack-row-7 : (i : ℕ) → ((paperOf r .number ≡ 7) × (paperOf r .place ≡ i)) ↔ (HasWordCount words × IsRecordFault words i)

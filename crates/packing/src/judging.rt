@@ -15,13 +15,17 @@ ghost use Rattle.packing.specs.Judging.{judgedOf, sizes};
 // "a ring number to pack is above 65,535": the largest ring number.
 const MOST_RING_NUMBER: u32 = 65535;
 
+// "9 also for a ceiling above 65,535": the largest ceiling.
+const MOST_CEILING: u32 = 65535;
+
 // What `judge` returns: how many records and bytes the output has, or the refusal of the first faulty record.
 pub enum Judged {
     Accepted { records: usize, bytes: usize },
     Refused(Refusal),
 }
 
-// Tests each record, "9 before 7", and counts it and the bytes of its field. One or two words left over are no record.
+// Tests each record, "9 before 7", and counts it and the bytes of its field. One to three words left over are no
+// record.
 pub fn judge(words: &[u32]) -> Judged
     requires { ⌜ length (now words) ≤ mostWords ⌝ }
     ensures { λ r. ⌜ judgedOf r ≡ answerBy (recordFault (now (words .entry))) (sizes (silencesOf (now (words .entry)))) ⌝ }
@@ -34,8 +38,12 @@ pub fn judge(words: &[u32]) -> Judged
         let cell = words[at];
         let ring_number = words[at + 1];
         let start = words[at + 2];
+        let ceiling = words[at + 3];
         if MOST_RING_NUMBER < ring_number {
-            return Judged::Refused(Refusal::RingNumber(records));
+            return Judged::Refused(Refusal::NumberInRecord(records));
+        }
+        if MOST_CEILING < ceiling {
+            return Judged::Refused(Refusal::NumberInRecord(records));
         }
         let here = Address {
             cell: cell,

@@ -1,11 +1,12 @@
 // Writing a book's bytes: numbers, fields of numbers, and a book of fields.
 use fields::LENGTH_BYTES;
 use fields::TAG_BYTES;
+use silences::CEILING_BYTES;
+use silences::CEILING_TAG;
 use silences::CELL_BYTES;
 use silences::RECORD_WORDS;
 use silences::RING_NUMBER_BYTES;
 use silences::SILENCE_LENGTH;
-use silences::SILENCE_TAG;
 use silences::START_BYTES;
 ghost use mathlib.Core.Path.{_≡_};
 ghost use Prim.Native.Nat.{_+_, _≤_};
@@ -33,16 +34,25 @@ fn put_number(out: &mut [u8], at: usize, count: usize, number: u32) -> usize
     at + count
 }
 
-// Writes a silence's field from `at` on: "one-byte tag, two-byte length, value". Returns the byte offset just past it.
-fn put_field(out: &mut [u8], at: usize, cell: u32, ring_number: u32, start: u32) -> usize
-    requires { ⌜ at + length (fieldOf (silence (address cell «ring_number» start) 0)) ≤ length (now out) ⌝ }
-    ensures { λ r. ⌜ AreBytesPut at (fieldOf (silence (address cell «ring_number» start) 0)) (now (out .entry)) r (now (out .exit)) ⌝ }
+// Writes a silence's field from `at` on: "tag 22, length 12, the old ten bytes and a two-byte distance". Returns the byte
+// offset just past it.
+fn put_field(
+    out: &mut [u8],
+    at: usize,
+    cell: u32,
+    ring_number: u32,
+    start: u32,
+    ceiling: u32,
+) -> usize
+    requires { ⌜ at + length (fieldOf (silence (address cell «ring_number» start) ceiling)) ≤ length (now out) ⌝ }
+    ensures { λ r. ⌜ AreBytesPut at (fieldOf (silence (address cell «ring_number» start) ceiling)) (now (out .entry)) r (now (out .exit)) ⌝ }
 {
-    let length_at = put_number(out, at, TAG_BYTES, SILENCE_TAG as u32);
+    let length_at = put_number(out, at, TAG_BYTES, CEILING_TAG as u32);
     let value_at = put_number(out, length_at, LENGTH_BYTES, SILENCE_LENGTH as u32);
     let ring_number_at = put_number(out, value_at, CELL_BYTES, cell);
     let start_at = put_number(out, ring_number_at, RING_NUMBER_BYTES, ring_number);
-    put_number(out, start_at, START_BYTES, start)
+    let ceiling_at = put_number(out, start_at, START_BYTES, start);
+    put_number(out, ceiling_at, CEILING_BYTES, ceiling)
 }
 
 // Writes the field of each silence of the words, one after the other from the area's first byte on.
@@ -53,7 +63,14 @@ pub fn put_fields(words: &[u32], out: &mut [u8])
     let mut at: usize = 0;
     let mut to: usize = 0;
     while RECORD_WORDS <= words.len() - at {
-        to = put_field(out, to, words[at], words[at + 1], words[at + 2]);
+        to = put_field(
+            out,
+            to,
+            words[at],
+            words[at + 1],
+            words[at + 2],
+            words[at + 3],
+        );
         at += RECORD_WORDS;
     }
 }

@@ -12,7 +12,7 @@ use Rattle.meaning.specs.Rules.{readEdge, readLeft, readWindow, windowsFrom, ca
 use Rattle.meaning.specs.Looks.{readLooks, tallyLooks, verifyLooks}
 use Rattle.lists.specs.Texts.{ascii}
 use Rattle.fields.specs.Numbers.{numberAt, bytesOf}
-use Rattle.silences.specs.Silences.{isBelow, isSame, names}
+use Rattle.silences.specs.Silences.{isBelow, isSame, covers, hides}
 use Rattle.fields.specs.Tagged.{isWhole}
 use Rattle.silences.specs.Layout.{kindByTag}
 use Rattle.silences.specs.Reading.{addressAt, silenceAt, fieldBy, fieldAt, fieldsFrom, readFrom, bookRows, readBook}
@@ -42,7 +42,7 @@ printed letters = letters ++ lf ∷ []
 -- "Output, whole": the text for the sample's input. Document 02, ticket 1, adds the ties to a finding's line.
 sample-right : answerText (sampleFields ++ sampleBook)
     ≡ printed (ascii "cell 7 ring 2 edges 2 allow 0") ++ (printed (ascii "0 0 0 2") ++ printed (ascii "found 2 hidden 1 looks 12"))
-unfolding sampleFields sampleBook ascii answerText requestOf inputFault firstFault partsFrom isFieldAt numberAt requestText reportLines firstLine findingLine findingLines lastLine digitsWithin decimal reportRows limitRows admitRows holdsMark firstGiven bookRows readBook readFrom fieldsFrom fieldAt fieldBy kindByTag isWhole addressAt silenceAt isBelow isSame names takenBy findingsBelow foundAt window lowestRotation rotationsReaching lowest distance count differs readLooks tallyLooks verifyLooks windowsFrom candidatesOf readWindow readLeft readEdge begins fits someBelow
+unfolding sampleFields sampleBook ascii answerText requestOf inputFault firstFault partsFrom isFieldAt numberAt requestText reportLines firstLine findingLine findingLines lastLine digitsWithin decimal reportRows limitRows admitRows holdsMark firstGiven bookRows readBook readFrom fieldsFrom fieldAt fieldBy kindByTag isWhole addressAt silenceAt isBelow isSame covers hides takenBy findingsBelow foundAt window lowestRotation rotationsReaching lowest distance count differs readLooks tallyLooks verifyLooks windowsFrom candidatesOf readWindow readLeft readEdge begins fits someBelow
 sample-right = refl
 
 -- The sample's input is this request, laid down.

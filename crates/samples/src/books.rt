@@ -1,18 +1,19 @@
 // Silences and books for the rows. A book is laid out here byte by byte, with a fault if the row gives one; the packer
-// is not used. A row gives a book in four fields: the words of its silences, how many bytes of their layout the book
-// has, and the byte offset and the byte of a fault, if there is one.
+// is not used. A row gives a book in four fields: its silences or its bytes, how many bytes of their layout the book has,
+// and the byte offset and the byte of a fault, if there is one.
 use crate::area;
 use crate::edges;
 use crate::filling;
 use crate::filling::ByteKind;
 use crate::filling::WordKind;
 use crate::table;
+use silences::CEILING_BYTES;
 use silences::FIELD_LENGTH;
 use silences::MOST_SILENCES;
 use silences::RECORD_WORDS;
-ghost use Prim.Native.Nat.{_<_};
+ghost use Prim.Native.Nat.{_≤_, _<_, _^_};
 
-// The most records that a row gives: 1,001, one more than a book may have.
+// The most records of tag 22 that a row gives: 1,001, one more than can be packed.
 const ROW_RECORDS: usize = MOST_SILENCES + 1;
 
 // The most words that a row gives.
@@ -21,6 +22,11 @@ pub const MOST_ROW_WORDS: usize = RECORD_WORDS * ROW_RECORDS;
 // The bytes of the book of these records. If a row gives no fault, this is its offset: no book has a byte there, so
 // nothing is written.
 const MOST_ROW_BOOK: usize = FIELD_LENGTH * ROW_RECORDS;
+
+// The words of a record that is laid out under tag 21, and the bytes of its field.
+const EXACT_WORDS: usize = 3;
+
+const EXACT_LENGTH: usize = FIELD_LENGTH - CEILING_BYTES;
 
 // The number mod 2^32.
 pub fn cut_to_word(number: usize) -> u32 {
@@ -32,17 +38,33 @@ pub fn cut_to_ring_number(number: usize) -> u16 {
     (number % 65536) as u16
 }
 
-// The word at place `at` of the words that a field gives: the numbers in it. A field `*` gives 1,001 records of cell 7,
-// ring number 2 and the starts 0, 1, 2 and so on.
+// A word of record number `record` of cell 7, ring number 2 and the starts 0, 1, 2 and so on. Its start is its ceiling.
+fn rising_word(record: usize, place: usize) -> u32 {
+    match place {
+        0 => 7,
+        1 => 2,
+        _ => cut_to_word(record),
+    }
+}
+
+// The word at place `at` of the words that a field gives: the numbers in it, four for each record. A field `*` gives
+// 1,001 rising records.
 pub fn word_of(field: &[u8], at: usize) -> u32 {
     if table::begins(field, b'*') {
-        match at % RECORD_WORDS {
-            0 => 7,
-            1 => 2,
-            _ => cut_to_word(at / RECORD_WORDS),
-        }
+        rising_word(at / RECORD_WORDS, at % RECORD_WORDS)
     } else {
         cut_to_word(table::nth_number(field, at))
+    }
+}
+
+// A word of a record under tag 21: three numbers for each record stand behind the `-`. A field `-` gives rising records.
+fn exact_word(field: &[u8], record: usize, place: usize) -> u32
+    requires { ⌜ («record» ≤ 2 ^ 60) × (place ≤ 2) ⌝ }
+{
+    if field.len() <= 1 {
+        rising_word(record, place)
+    } else {
+        cut_to_word(table::nth_number(field, EXACT_WORDS * record + place))
     }
 }
 
@@ -72,19 +94,46 @@ fn byte_of(number: u32, above: usize) -> u8 {
     }
 }
 
-// The byte at an offset of the layout of the silences that a field gives: "tag 21 hex, length 10, cell (4 bytes), ring
-// number (2), start (4)", "numbers high byte first".
-pub fn layout_byte(field: &[u8], at: usize) -> u8 {
-    let first = at / FIELD_LENGTH * RECORD_WORDS;
-    let place = at % FIELD_LENGTH;
+// The byte at an offset of silences laid out under tag 21: "tag 21 hex, length 10, cell (4 bytes), ring number (2), start
+// (4)", "numbers high byte first".
+fn exact_byte(field: &[u8], at: usize) -> u8 {
+    let record = at / EXACT_LENGTH;
+    let place = at % EXACT_LENGTH;
     match place {
         0 => 0x21,
         1 => 0,
         2 => 10,
+        3..=6 => byte_of(exact_word(field, record, 0), 6 - place),
+        7..=8 => byte_of(exact_word(field, record, 1), 8 - place),
+        _ => byte_of(exact_word(field, record, 2), 12 - place),
+    }
+}
+
+// The byte at an offset of silences laid out under tag 22: "tag 22, length 12, the old ten bytes and a two-byte distance".
+fn ceiling_byte(field: &[u8], at: usize) -> u8 {
+    let first = at / FIELD_LENGTH * RECORD_WORDS;
+    let place = at % FIELD_LENGTH;
+    match place {
+        0 => 0x22,
+        1 => 0,
+        2 => 12,
         3..=6 => byte_of(word_of(field, first), 6 - place),
         7..=8 => byte_of(word_of(field, first + 1), 8 - place),
-        _ => byte_of(word_of(field, first + 2), 12 - place),
+        9..=12 => byte_of(word_of(field, first + 2), 12 - place),
+        _ => byte_of(word_of(field, first + 3), 14 - place),
     }
+}
+
+// The byte at an offset of the book that a field gives: `#` begins its bytes, `-` silences under tag 21; else they are
+// under tag 22.
+pub fn book_byte(field: &[u8], at: usize) -> u8 {
+    if table::begins(field, b'#') {
+        return edges::cut_to_code(table::nth_number(field, at));
+    }
+    if table::begins(field, b'-') {
+        return exact_byte(field, at);
+    }
+    ceiling_byte(field, at)
 }
 
 // Writes the byte of a fault at its offset. Past the end of the book it writes nothing.

@@ -4,7 +4,7 @@ use crate::books;
 use crate::edges;
 use crate::table;
 
-// What a field gives as bytes: codes that rise, a list of codes, letters, or silences, whose layout is filled in.
+// What a field gives as bytes: codes that rise, a list of codes, letters, or a book.
 pub enum ByteKind {
     Rising { first: u8, last: u8 },
     Codes,
@@ -18,7 +18,7 @@ fn byte_to_fill(what: ByteKind, field: &[u8], at: usize) -> u8 {
         ByteKind::Rising { first, last } => edges::rising(first, last, at),
         ByteKind::Codes => edges::cut_to_code(table::nth_number(field, at)),
         ByteKind::Letters => area::byte_at(field, at),
-        ByteKind::Book => books::layout_byte(field, at),
+        ByteKind::Book => books::book_byte(field, at),
     }
 }
 

@@ -42,13 +42,15 @@ pub const RING_NUMBER_LABEL: usize = 8;
 
 pub const START_LABEL: usize = 9;
 
-pub const NEXT_LABEL: usize = 10;
+pub const CEILING_LABEL: usize = 10;
 
-const WRITTEN_LABEL: usize = 11;
+pub const NEXT_LABEL: usize = 11;
 
-const CHECKSUM_LABEL: usize = 12;
+const WRITTEN_LABEL: usize = 12;
 
-const JOINED_LABEL: usize = 13;
+const CHECKSUM_LABEL: usize = 13;
+
+const JOINED_LABEL: usize = 14;
 
 // Prints a text.
 pub fn print_text(bytes: &[u8]) {
@@ -59,7 +61,7 @@ pub fn print_text(bytes: &[u8]) {
 // tenths of a second.
 pub fn print_number(label: usize, value: usize) {
     let labels =
-        b" number | place | records | found | hidden | looks | from | cell | ring number | start | next | written | checksum | joined ";
+        b" number | place | records | found | hidden | looks | from | cell | ring number | start | ceiling | next | written | checksum | joined ";
     print_text(table::field(labels, label));
     io::print_decimal(1, value as u64);
 }

@@ -1,8 +1,10 @@
 // Rows for `seek`, in whole and faulty books. A row gives its name, its book (books.rt says how), the byte offset to
-// seek from, and the address. Printed are the address of the field that is found and the byte offset just past it.
+// seek from, and the address. Printed are the address and the ceiling of the field that is found, and the
+// byte offset just past it.
 use crate::area;
 use crate::books;
 use crate::printing;
+use crate::printing::CEILING_LABEL;
 use crate::printing::CELL_LABEL;
 use crate::printing::FROM_LABEL;
 use crate::printing::NEXT_LABEL;
@@ -24,10 +26,15 @@ fn address_of(field: &[u8]) -> Address {
 // Prints the field that was found, or that there is none.
 fn print_sought(sought: Sought) {
     match sought {
-        Sought::Field { address, next } => {
+        Sought::Field {
+            address,
+            ceiling,
+            next,
+        } => {
             printing::print_number(CELL_LABEL, address.cell as usize);
             printing::print_number(RING_NUMBER_LABEL, address.ring_number as usize);
             printing::print_number(START_LABEL, address.start as usize);
+            printing::print_number(CEILING_LABEL, ceiling as usize);
             printing::print_number(NEXT_LABEL, next);
         }
         Sought::Nothing => printing::print_text(b" nothing"),

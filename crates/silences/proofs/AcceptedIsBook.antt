@@ -1,4 +1,4 @@
--- A book is accepted exactly when it lays down a strictly ascending list of silences in range and has at most 13,000 bytes (`accepted-iff`). An accepted book
+-- A book is accepted exactly when it lays down a strictly ascending list of silences in range and has at most 15,000 bytes (`accepted-iff`). An accepted book
 -- was read to its end (`ReadsAs`), so all of it lays down what was read. Conversely what lays down such silences is read to its end.
 use Prim.Native.Nat.{ℕ, _≤_}
 use mathlib.Core.Logic.{⊎-elim, _↔_, Iff·symm, Iff·trans}
@@ -11,18 +11,18 @@ use lib.Seq.{take-all}
 use Rattle.lists.proofs.Cases.{le-or-lt}
 use Rattle.answers.specs.Paper.{accepted}
 use Rattle.silences.specs.Silences.{Silence}
-use Rattle.silences.specs.Layout.{mostBytes}
+use Rattle.silences.specs.Layout.{mostBytes, mostRecords}
 use Rattle.silences.specs.Reading.{silencesRead, bookRefusal, readBook}
 use Rattle.lists.specs.Bounds.{IsBytes}
 use Rattle.silences.specs.Books.{LaidDown, AnyTag, IsBook}
 use Rattle.silences.specs.Faults.{IsFineBefore}
-use Rattle.answers.proofs.AnswerCases.{accepted-not-refused}
+use Rattle.answers.proofs.AnswerCases.{accepted-not-refused, accepted-unique}
 use Rattle.silences.proofs.ReadFrom.{readBook-long, readBook-fields}
 use Rattle.silences.proofs.FieldsRead.{FieldsRead, ReadsAs, read-all, reads-as, reads-as-is}
 use Rattle.silences.proofs.BookRows.{book-accepted-iff}
-use Rattle.silences.proofs.LayoutRead.{read-fine, fine-read}
+use Rattle.silences.proofs.LayoutRead.{laid-length-le, read-fine, fine-read}
 
--- The book has at most 13,000 bytes, and reading its fields to its end gives the silences `ss`.
+-- The book has at most 15,000 bytes, and reading its fields to its end gives the silences `ss`.
 pub record IsReadWhole (ss : List Silence) (book : List ℕ) : Type 0 where
   pub book-le : length book ≤ mostBytes
   pub stop : ℕ
@@ -33,7 +33,7 @@ pub record IsReadWhole (ss : List Silence) (book : List ℕ) : Type 0 where
 whole-of-walk : (book : List ℕ) (ss : List Silence) → length book ≤ mostBytes → ReadsAs book none 0 (accepted ss) → IsReadWhole ss book
 whole-of-walk book ss h (read-all {stop = stop} f l) = record { book-le = h; stop = stop; fields = f; stop-ge = l }
 
--- A book is accepted with `ss` exactly when it has at most 13,000 bytes and reading its fields to its end gives `ss`.
+-- A book is accepted with `ss` exactly when it has at most 15,000 bytes and reading its fields to its end gives `ss`.
 pub accepted-whole-iff : (book : List ℕ) (ss : List Silence) → (readBook book ≡ accepted ss) ↔ IsReadWhole ss book
 accepted-whole-iff book ss = (
   λ e. ⊎-elim
@@ -67,10 +67,18 @@ book-accepted book ss b =
       stop-ge = omega arith;
     })
 
--- Bytes are accepted as a book and give the silences `ss` exactly when they are a book of `ss`: they lay them down in at most 13,000 bytes, and `ss` ascend
+-- Bytes are accepted as a book and give the silences `ss` exactly when they are a book of `ss`: they lay them down in at most 15,000 bytes, and `ss` ascend
 -- strictly and are in range.
 pub accepted-iff : (book : List ℕ) (ss : List Silence) → IsBytes book → (readBook book ≡ accepted ss) ↔ IsBook ss book
 accepted-iff book ss bytes = (λ e. whole-book book ss bytes (accepted-whole-iff book ss .0 e), book-accepted book ss)
+
+-- A book has at most 1,153 records.
+pub records-le : (ss : List Silence) (book : List ℕ) → IsBook ss book → length ss ≤ mostRecords
+records-le ss book b = omega (arith, laid-length-le (b .laid-down), b .length-le)
+
+-- A book has one list of silences.
+pub book-silences-unique : (ss ts : List Silence) (book : List ℕ) → IsBook ss book → IsBook ts book → ss ≡ ts
+book-silences-unique ss ts book b c = accepted-unique (book-accepted book ss b) (book-accepted book ts c)
 
 module _ (book : List ℕ) (bytes : IsBytes book) where
   -- none of a book's rows is given, and these silences are read, exactly when it is a book of them

@@ -1,4 +1,4 @@
--- When reading a book gives row 5, 6 or 7, and at which byte offset: row 5 exactly for a book longer than 13,000 bytes, else row 6 or 7 exactly at the first
+-- When reading a book gives row 5, 6 or 7, and at which byte offset: row 5 exactly for a book longer than 15,000 bytes, else row 6 or 7 exactly at the first
 -- faulty field; no other row. Reading stops at that field (`ReadsAs`), and everything before it is fine. The laws are about `bookRefusal`, the first row
 -- that is given, because a report uses it too; `book-refused-iff` carries them over to `readBook`.
 use Prim.Native.Nat.{ℕ, _+_, _≤_, _<_}
@@ -54,7 +54,7 @@ module _ (book : List ℕ) where
   pub book-accepted-iff : (ss : List Silence) → (readBook book ≡ accepted ss) ↔ ((bookRefusal book ≡ none) × (silencesRead book ≡ ss))
   book-accepted-iff ss = Iff·trans (λ e. sym book-answer-is ∙ e, λ e. book-answer-is ∙ e) (answer-gives-iff (silencesRead book) ss (bookRefusal book))
 
-  -- Row 5 is given exactly if the book is longer than 13,000 bytes, and not given exactly if it is not.
+  -- Row 5 is given exactly if the book is longer than 15,000 bytes, and not given exactly if it is not.
   pub is-row-5 : IsRow (row (isRow5 book) BookLength) BookLength (mostBytes < length book) (length book ≤ mostBytes)
   is-row-5 = is-row (lt-iff mostBytes (length book)) (λ short long. omega arith) (λ not. omega arith)
 
@@ -66,7 +66,7 @@ module _ (book : List ℕ) where
       go _ (stopped-faulty {stop = stop} f h n) = six stop
       go _ (stopped-order {stop = stop} f n o) = seven stop
 
-  -- Row 5 is the first row that is given exactly for a "book longer than 13,000 bytes".
+  -- Row 5 is the first row that is given exactly for a "book longer than 15,000 bytes".
   pub refusal-5-iff : (bookRefusal book ≡ some BookLength) ↔ (mostBytes < length book)
   unfolding bookRows
   refusal-5-iff = at-row is-row-5 (each (fault-has (OtherNumber BookLength) (λ at e. omega arith) (λ at e. omega arith)) end) .exactly

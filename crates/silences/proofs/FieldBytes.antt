@@ -17,7 +17,7 @@ use Rattle.silences.specs.Silences.{Address, Silence, silence, cellBytes
 use Rattle.silences.specs.Layout.{Kind, kindByTag, addressBytes, addressValue, valueLength, valueOf, CanSay, packedTag, packedKind, fieldLength, fieldOf}
 use Rattle.silences.specs.Reading.{addressAt, silenceAt, whole, fieldAt}
 use Rattle.silences.specs.Books.{IsFieldOf}
-use Rattle.silences.proofs.FieldTest.{kind-length-lt, kind-ceiling-lt, IsTested, IsWholeField, field-whole-is, field-is-whole}
+use Rattle.silences.proofs.FieldTest.{kind-length-le, kind-ceiling, kind-ceiling-lt, IsTested, IsWholeField, field-whole-is, field-is-whole}
 
 -- an address has 10 bytes
 address-length : (a : Address) → length (addressValue a) ≡ addressBytes
@@ -43,10 +43,10 @@ fieldOf-is s = ap (λ (n : ℕ). packedTag ∷ bytesOf lengthBytes n ++ valueOf 
 
 -- The field that packing writes says its silence, if a field of its kind can.
 pub packed-field : (s : Silence) → CanSay packedKind s → IsFieldOf packedTag s (fieldOf s)
-unfolding fieldOf kindByTag
-packed-field s can = record { kind = packedKind; kind-is = refl; can-say = can; bytes-are = refl }
+unfolding fieldOf
+packed-field s can = record { kind = packedKind; kind-is = kind-ceiling; can-say = can; bytes-are = refl }
 
--- "Each silence is one field of 13 bytes."
+-- A field that packing writes has 15 bytes.
 pub field-length : (s : Silence) → length (fieldOf s) ≡ fieldLength
 unfolding bytesOf
 field-length s = ap length (fieldOf-is s) ∙ omega (arith, value-length packedKind s)
@@ -102,7 +102,7 @@ field-of-silence {tag} {s} {here} f in-range book at rest laid-here =
     let tested : IsTested book at kind =
     record {
       kind-is = ap kindByTag (laid-tag book at tag (valueOf kind s) rest laid) ∙ f .kind-is;
-      long-is = laid-long book at tag (valueOf kind s) rest laid (omega (arith, kind-length-lt tag kind (f .kind-is))) ∙ long;
+      long-is = laid-long book at tag (valueOf kind s) rest laid (omega (arith, kind-length-le tag kind (f .kind-is))) ∙ long;
       within = omega (arith, laid-within book at tag (valueOf kind s) rest laid);
     } in
     field-is-whole book at kind tested (λ i. record { address = sym address-is i; ceiling = sym ceiling-is i }) (omega (arith, field-of-length f))

@@ -1,8 +1,8 @@
--- `fieldAt` decides row 6: it gives a whole field exactly where 13 bytes begin 21 00 0A hex and are not cut off (`IsField`). It makes three tests (`IsTested`):
--- the tag has a kind, the two length bytes say the length of that kind, which they do only as 00 and that length, and the field ends within the book.
+-- `fieldAt` decides row 6: it gives a whole field exactly where 13 bytes begin 21 00 0A hex, or 15 begin 22 00 0C, and are not cut off (`IsField`). It makes three
+-- tests (`IsTested`): the tag has a kind, the two length bytes say the length of that kind, which they do only as 00 and that length, and the field ends within the book.
 use Prim.Native.Nat.{ℕ, _+_, _*_, _^_, _≤_, _<_}
-use mathlib.Core.Logic.{_↔_, Iff·trans}
-use mathlib.Core.Path.{_≡_, refl, sym, ap, ap₂, _∙_}
+use mathlib.Core.Logic.{_⊎_, inl, inr, ⊎-elim, _↔_}
+use mathlib.Core.Path.{_≡_, refl, sym, ap, ap₂, subst, _∙_}
 use mathlib.Core.Bool.{Bool, true, false, cond}
 use mathlib.Core.List.{List, [], _∷_}
 use mathlib.Core.Option.{Option, none, some}
@@ -18,7 +18,7 @@ use Rattle.lists.proofs.SizesTested.{le-iff, eq-iff, and-iff}
 use Rattle.fields.specs.Numbers.{numberAt}
 use Rattle.fields.specs.Tagged.{headLength, lengthAt, fieldEnd, isWhole}
 use Rattle.silences.specs.Silences.{Silence, ceilingBytes}
-use Rattle.silences.specs.Layout.{Kind, exactTag, exactKind, kindByTag, valueLength}
+use Rattle.silences.specs.Layout.{Kind, exactTag, exactKind, ceilingTag, ceilingKind, kindByTag, valueLength}
 use Rattle.silences.specs.Reading.{silenceAt, FieldAt, whole, faulty, fieldBy, fieldAt}
 use Rattle.silences.specs.Books.{BeginsField, IsField}
 
@@ -34,21 +34,47 @@ whole-silence-unique e = cc
 pub whole-next-unique : {s t : Silence} {i j : ℕ} → whole s i ≡ whole t j → i ≡ j
 whole-next-unique e = cc
 
--- A tag with a kind is 21 hex, and its kind is that of an exact silence.
-pub kind-cases : (tag : ℕ) (kind : Kind) → kindByTag tag ≡ some kind → (tag ≡ exactTag) × (kind ≡ exactKind)
+-- The two tags of the table: a tag with a kind is 21 hex, with the kind of an exact silence, or 22 hex, with the kind that has a ceiling.
+pub kind-cases : (tag : ℕ) (kind : Kind) → kindByTag tag ≡ some kind → ((tag ≡ exactTag) × (kind ≡ exactKind)) ⊎ ((tag ≡ ceilingTag) × (kind ≡ ceilingKind))
 unfolding kindByTag
 kind-cases tag kind =
-    by-test (λ (o : Option Kind). o ≡ some kind → (tag ≡ exactTag) × (kind ≡ exactKind)) (eqb tag exactTag)
-    (λ t e. (eq-iff tag exactTag .0 t, cc))
-    (λ t e. absurd (let z : _≡_ {A = ℕ} 0 1 = cc in omega arith))
+    by-test (λ (o : Option Kind). o ≡ some kind → ((tag ≡ exactTag) × (kind ≡ exactKind)) ⊎ ((tag ≡ ceilingTag) × (kind ≡ ceilingKind))) (eqb tag exactTag)
+    (λ t e. inl (eq-iff tag exactTag .0 t, cc))
+    (λ _.
+    by-test (λ (o : Option Kind). o ≡ some kind → ((tag ≡ exactTag) × (kind ≡ exactKind)) ⊎ ((tag ≡ ceilingTag) × (kind ≡ ceilingKind))) (eqb tag ceilingTag)
+    (λ t e. inr (eq-iff tag ceilingTag .0 t, cc))
+    (λ t e. absurd (let z : _≡_ {A = ℕ} 0 1 = cc in omega arith)))
 
--- A value of any kind is shorter than two bytes can say.
-pub kind-length-lt : (tag : ℕ) (kind : Kind) → kindByTag tag ≡ some kind → valueLength kind < 256 ^ 2
-kind-length-lt tag kind e = rw (kind-cases tag kind e .1) (omega arith)
+-- A tag has one kind.
+pub kind-unique : {o : Option Kind} {kind kind′ : Kind} → o ≡ some kind → o ≡ some kind′ → kind ≡ kind′
+kind-unique e e′ = cc
+
+-- A tag without a kind has none.
+pub kind-none : {o : Option Kind} {kind : Kind} → o ≡ none → o ≡ some kind → ⊥
+kind-none e e′ = let z : _≡_ {A = ℕ} 0 1 = cc in omega arith
+
+-- What holds for both kinds of the table holds for the kind of any tag.
+pub by-kind : (P : Kind → Type 0) → P exactKind → P ceilingKind → (tag : ℕ) (kind : Kind) → kindByTag tag ≡ some kind → P kind
+by-kind P exact with-ceiling tag kind e =
+    ⊎-elim (λ h. subst P (sym (h .1)) exact) (λ h. subst P (sym (h .1)) with-ceiling) (kind-cases tag kind e)
+
+-- The two entries of the table.
+pub kind-exact : kindByTag exactTag ≡ some exactKind
+unfolding kindByTag
+kind-exact = refl
+
+pub kind-ceiling : kindByTag ceilingTag ≡ some ceilingKind
+unfolding kindByTag
+kind-ceiling = refl
+
+-- A value of any kind has 10 to 12 bytes.
+pub kind-length-le : (tag : ℕ) (kind : Kind) → kindByTag tag ≡ some kind → (valueLength exactKind ≤ valueLength kind) × (valueLength kind ≤ valueLength ceilingKind)
+kind-length-le =
+    by-kind (λ (kind : Kind). (valueLength exactKind ≤ valueLength kind) × (valueLength kind ≤ valueLength ceilingKind)) (omega arith, omega arith) (omega arith, omega arith)
 
 -- A number that fits the ceiling of any kind fits the ceiling of a silence in range.
 pub kind-ceiling-lt : (tag : ℕ) (kind : Kind) → kindByTag tag ≡ some kind → (n : ℕ) → n < 256 ^ kind .ceilingBytes → n < 256 ^ ceilingBytes
-kind-ceiling-lt tag kind e n lt = rw (kind-cases tag kind e .1) at lt
+kind-ceiling-lt = by-kind (λ (kind : Kind). (n : ℕ) → n < 256 ^ kind .ceilingBytes → n < 256 ^ ceilingBytes) (λ n lt. omega arith) (λ n lt. lt)
 
 -- The field at `at` passes the three tests for this kind: it is the kind of its tag, its length bytes say the kind's length, and it ends within the book.
 pub record IsTested (book : List ℕ) (at : ℕ) (kind : Kind) : Type 0 where
@@ -144,15 +170,26 @@ module _ (book : List ℕ) (at : ℕ) where
     ),
   )
 
+  -- the field of one tag of the table
+  begins-tested : (tag : ℕ) (kind : Kind) → kindByTag tag ≡ some kind → BeginsField (tag ∷ 0x00 ∷ valueLength kind ∷ []) (headLength + valueLength kind) book at
+      → IsTested book at kind
+  begins-tested tag kind is f =
+      let t = begins-iff tag (valueLength kind) (omega (arith, kind-length-le tag kind is)) .1 f in
+      record { kind-is = ap kindByTag (t .0) ∙ is; long-is = t .1; within = t .2 }
+
+  -- and the converse
+  tested-begins : (tag : ℕ) (kind : Kind) → valueLength kind < 256 → getD book at 0 ≡ tag → IsTested book at kind
+      → BeginsField (tag ∷ 0x00 ∷ valueLength kind ∷ []) (headLength + valueLength kind) book at
+  tested-begins tag kind lt is t = begins-iff tag (valueLength kind) lt .0 (is, t .long-is, t .within)
+
   -- The three tests pass for some kind exactly where row 6 sees a field.
   pub tested-iff : ((kind : Kind) × IsTested book at kind) ↔ IsField book at
-  unfolding kindByTag
   tested-iff = (
-    λ h. let cases = kind-cases (getD book at 0) (h .0) (h .1 .kind-is) in
-        let t : IsTested book at exactKind = rw (cases .1) at (h .1) in
-        begins-iff exactTag (valueLength exactKind) (omega arith) .0 (cases .0, t .long-is, t .within),
-    λ f. let t = begins-iff exactTag (valueLength exactKind) (omega arith) .1 f in
-        (exactKind, record { kind-is = rw (t .0) refl; long-is = t .1; within = t .2 }),
+    λ h. ⊎-elim
+        (λ c. inl (tested-begins exactTag exactKind (omega arith) (c .0) (subst (IsTested book at) (c .1) (h .1))))
+        (λ c. inr (tested-begins ceilingTag ceilingKind (omega arith) (c .0) (subst (IsTested book at) (c .1) (h .1))))
+        (kind-cases (getD book at 0) (h .0) (h .1 .kind-is)),
+    ⊎-elim (λ f. (exactKind, begins-tested exactTag exactKind kind-exact f)) (λ f. (ceilingKind, begins-tested ceilingTag ceilingKind kind-ceiling f)),
   )
 
   -- `fieldAt` gives a whole field exactly where `IsField` holds, and its address is the one behind its head.
@@ -162,7 +199,7 @@ module _ (book : List ℕ) (at : ℕ) where
     λ f. let t = tested-iff .1 f in (silenceAt (t .0) book (at + headLength), fieldEnd at (valueLength (t .0)), field-is-whole (t .0) (t .1) refl refl),
   )
 
-  -- Row 6 for one field: it is faulty exactly where no whole "13 bytes beginning 21 00 0A hex" stand.
+  -- Row 6 for one field: it is faulty exactly where no whole "13 bytes beginning 21 00 0A hex" stand, and no 15 beginning 22 00 0C.
   pub field-faulty-iff : (fieldAt book at ≡ faulty) ↔ (IsField book at → ⊥)
   field-faulty-iff = (
     λ e f. let w = field-whole-iff .1 f in faulty-not-whole (sym e ∙ w .2),

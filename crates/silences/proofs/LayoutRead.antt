@@ -11,17 +11,18 @@ use lib.Seq.{take-at, drop-drop, drop-append-seam, length-take-le}
 use Rattle.lists.specs.Bounds.{IsBytes}
 use Rattle.lists.specs.Records.{numbersOfEach}
 use Rattle.lists.proofs.Records.{each-length}
+use Rattle.fields.specs.Tagged.{headLength}
 use Rattle.silences.specs.Silences.{Address, Silence, AllInRange}
-use Rattle.silences.specs.Layout.{fieldLength, fieldOf, layout, packedTag}
+use Rattle.silences.specs.Layout.{exactKind, valueLength, fieldLength, fieldOf, layout, packedTag}
 use Rattle.silences.specs.Reading.{whole, fieldAt}
 use Rattle.silences.specs.Books.{IsFieldOf, LaidDown, no-field, one-field, AnyTag}
 use Rattle.silences.specs.Faults.{IsFineBefore}
-use Rattle.silences.proofs.FieldTest.{field-ends}
-use Rattle.silences.proofs.FieldBytes.{field-length, packed-field, field-of-silence, FieldStands, silence-of-field}
+use Rattle.silences.proofs.FieldTest.{kind-length-le, field-ends}
+use Rattle.silences.proofs.FieldBytes.{field-of-length, field-length, packed-field, field-of-silence, FieldStands, silence-of-field}
 use Rattle.silences.proofs.AscendingAfter.{AscendingAfter, ascending-after-iff}
 use Rattle.silences.proofs.FieldsRead.{FieldsRead, none-read, one-read}
 
--- What packing writes has 13 bytes for each silence.
+-- What packing writes has 15 bytes for each silence.
 pub layout-length : (ss : List Silence) → length (layout ss) ≡ fieldLength * length ss
 layout-length = each-length fieldOf fieldLength field-length
 
@@ -30,6 +31,18 @@ pub layout-laid-down : {Allowed : ℕ → Type 0} → Allowed packedTag → (ss 
 unfolding numbersOfEach
 layout-laid-down allowed [] in-range = no-field
 layout-laid-down allowed (s ∷ ss) in-range = one-field allowed (packed-field s (in-range .0 .ceiling-lt)) (layout-laid-down allowed ss (in-range .1))
+
+-- What lays down silences has at least 13 bytes for each.
+pub laid-length-le : {Allowed : ℕ → Type 0} {ss : List Silence} {bytes : List ℕ} → LaidDown Allowed ss bytes
+    → (headLength + valueLength exactKind) * length ss ≤ length bytes
+laid-length-le no-field = omega arith
+laid-length-le (one-field {tag = tag} {here = here} {rest = rest} allowed f more) =
+    omega (arith, laid-length-le more, field-of-length f, kind-length-le tag (f .kind) (f .kind-is), length-append here rest)
+
+-- What lays down silences under some tags lays them down under any.
+pub laid-any : {Allowed : ℕ → Type 0} {ss : List Silence} {bytes : List ℕ} → LaidDown Allowed ss bytes → LaidDown AnyTag ss bytes
+laid-any no-field = no-field
+laid-any (one-field allowed f more) = one-field tt f (laid-any more)
 
 -- The silences that are read ascend, the first above `last`.
 pub read-ascends : {book : List ℕ} {last : Option Address} {at : ℕ} {ss : List Silence} {stop : ℕ} → FieldsRead book last at ss stop → AscendingAfter last ss

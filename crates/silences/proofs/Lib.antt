@@ -2,18 +2,18 @@
 -- field/field_at/Proof.antt. The theorems to read first (their heads name what they use):
 --
 --   AcceptedIsBook              which books are accepted
---   NamesIff, ZeroIsOrdinary    which addresses silences name
+--   HidesIff, ZeroIsOrdinary    which findings silences hide
 --   BookRows, PackRows, UnpackRows    when each refusal is given, and where
---   RoundTrips                  packing and unpacking undo each other
+--   RoundTrips                  packing and unpacking undo each other, and where they do not
 --   OneAnswer                   each contract has one answer
 --
 -- The modules below stand in groups; a group uses only itself and those before it.
 
--- the order of addresses
+-- the order of addresses, and what silences hide
 pub mod SilenceOrder
 pub mod StrictOrder
 pub mod AscendingAfter
-pub mod NamesIff
+pub mod HidesIff
 pub mod ZeroIsOrdinary
 -- one field: the test of row 6, its bytes and its silence, induction from field to field
 pub mod FieldTest
@@ -33,5 +33,6 @@ pub mod PackRows
 pub mod UnpackRows
 pub mod AreaAtExit
 pub mod RoundTrips
+pub mod ExactBook
 -- each function has one answer
 pub mod OneAnswer

@@ -14,12 +14,12 @@ use Rattle.silences.specs.Addresses.{addressOf, lastOf, soughtOf}
 
 -- the inverse of `soughtOf`
 abbrev soughtBack : FieldAt → Sought
-soughtBack (whole s next) = Field (record { cell = s .address .cell; «ring_number» = s .address .ringNumber; start = s .address .start }) next
+soughtBack (whole s next) = Field (record { cell = s .address .cell; «ring_number» = s .address .ringNumber; start = s .address .start }) (s .ceiling) next
 soughtBack faulty = Nothing
 
 -- it gives the `Sought` back
 sought-back : (r : Sought) → soughtBack (soughtOf r) ≡ r
-sought-back (Field address next) = refl
+sought-back (Field address ceiling next) = refl
 sought-back Nothing = refl
 
 -- A `Sought` is determined by its field.

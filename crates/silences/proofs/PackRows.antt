@@ -10,7 +10,7 @@ use lib.ListN.{length}
 use Rattle.lists.proofs.Cases.{le-or-lt}
 use Rattle.lists.proofs.SizesTested.{lt-iff, eq-iff, or-iff, not-iff}
 use Rattle.answers.specs.declared.refusals.Refusal.{Refusal}
-use Rattle.answers.specs.declared.refusals.Refusal.the-variants.{NotAbove, WordCount, RingNumber, OutputRoom}
+use Rattle.answers.specs.declared.refusals.Refusal.the-variants.{NotAbove, WordCount, NumberInRecord, OutputRoom}
 use Rattle.answers.specs.Paper.{accepted}
 use Rattle.answers.specs.Rows.{row, firstGiven}
 use Rattle.answers.proofs.RowsExactly.{OtherNumber, IsRow, is-row, end, each, row-has, first-has, at-fault, past-fault, no-fault, at-row, past-row, no-row, no-last-row}
@@ -21,7 +21,7 @@ use Rattle.silences.specs.Packing.{recordWords, mostWords, silencesOf, i
 use Rattle.silences.specs.Faults.{HasWordCount, IsNumberFault, IsRecordFault, IsPackable}
 use Rattle.silences.proofs.RecordRows.{records-have, records-none-iff, records-9-iff, records-7-iff}
 
--- Row 8: the words to pack "aren't a multiple of 3, or exceed 3,000".
+-- Row 8: the words to pack "aren't a multiple of" 4, "or exceed" 4,000.
 abbrev pub HasWrongCount : List ℕ → Type 0
 HasWrongCount words = (length words % recordWords ≡ 0 → ⊥) ⊎ (mostWords < length words)
 
@@ -47,18 +47,18 @@ module _ (words : List ℕ) (room : ℕ) where
   is-row-10 = is-room-row (layout (silencesOf words)) room
 
   -- What holds of rows 8, 9, 7 and 10 holds of the first row that is given: packing gives no other.
-  pub pack-has : (P : Refusal → Type 0) → P WordCount → ((j : ℕ) → P (RingNumber j)) → ((j : ℕ) → P (NotAbove j)) → P OutputRoom
+  pub pack-has : (P : Refusal → Type 0) → P WordCount → ((j : ℕ) → P (NumberInRecord j)) → ((j : ℕ) → P (NotAbove j)) → P OutputRoom
       → (q : Refusal) → packRefusal words room ≡ some q → P q
   unfolding packRows
   pack-has P eight nine seven ten = first-has (row-has is-row-8 eight (each (records-have words P nine seven) (row-has is-row-10 ten end)))
 
-  -- Row 8 is the first row given exactly when the words "aren't a multiple of 3, or exceed 3,000".
+  -- Row 8 is the first row given exactly when the words "aren't a multiple of" 4, "or exceed" 4,000.
   pub pack-8-iff : (packRefusal words room ≡ some WordCount) ↔ HasWrongCount words
   unfolding packRows
   pack-8-iff = at-row is-row-8 (each (records-have words (OtherNumber WordCount) (λ j e. omega arith) (λ j e. omega arith)) (row-has is-row-10 (λ e. omega arith) end)) .exactly
 
   -- Row 9 is given at record number j exactly when row 8 is not given, all records before j are fine, and a number of record j is too large.
-  pub pack-9-iff : (j : ℕ) → (packRefusal words room ≡ some (RingNumber j)) ↔ (HasWordCount words × IsNumberFault words j)
+  pub pack-9-iff : (j : ℕ) → (packRefusal words room ≡ some (NumberInRecord j)) ↔ (HasWordCount words × IsNumberFault words j)
   unfolding packRows
   pack-9-iff j = past-row is-row-8 (λ e. omega arith) (at-fault (records-9-iff words j) (row-has is-row-10 (λ e. omega arith) end)) .exactly
 

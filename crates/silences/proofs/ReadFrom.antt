@@ -69,12 +69,12 @@ module _ (book : List ℕ) where
       pub readFrom-above : isAbove last (s .address) ≡ true → readFrom book last at ≡ before s (readFrom book (some (s .address)) next)
       readFrom-above above = read-whole true above
 
-  -- A book longer than 13,000 bytes is refused by row 5.
+  -- A book longer than 15,000 bytes is refused by row 5.
   pub readBook-long : mostBytes < length book → readBook book ≡ refused BookLength
   unfolding readBook bookRows firstGiven
   readBook-long long = rw (lt-ltb mostBytes (length book) long)
 
-  -- A book of at most 13,000 bytes is read field by field from its first byte.
+  -- A book of at most 15,000 bytes is read field by field from its first byte.
   pub readBook-fields : length book ≤ mostBytes → readBook book ≡ readFrom book none 0
   unfolding readBook bookRows firstGiven
   readBook-fields short = rw (le-ltb mostBytes (length book) short) (same (readFrom book none 0))

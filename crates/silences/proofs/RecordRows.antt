@@ -7,7 +7,7 @@ use mathlib.Core.List.{List}
 use mathlib.Core.Option.{Option, none, some}
 use native.Mathlib.Omega.{arith}
 use Rattle.answers.specs.declared.refusals.Refusal.{Refusal}
-use Rattle.answers.specs.declared.refusals.Refusal.the-variants.{NotAbove, RingNumber}
+use Rattle.answers.specs.declared.refusals.Refusal.the-variants.{NotAbove, NumberInRecord}
 use Rattle.silences.specs.Silences.{Silence, Ascending}
 use Rattle.silences.specs.Packing.{silencesOf, recordFault}
 use Rattle.silences.specs.Faults.{AllFit, IsRecord, IsNumberFault, IsRecordFault}
@@ -27,7 +27,7 @@ module _ (words : List ℕ) where
   )
 
   -- What holds of rows 9 and 7 holds of the refusal that the records give: they give no other.
-  pub records-have : (P : Refusal → Type 0) → ((j : ℕ) → P (RingNumber j)) → ((j : ℕ) → P (NotAbove j)) → (q : Refusal) → recordFault words ≡ some q → P q
+  pub records-have : (P : Refusal → Type 0) → ((j : ℕ) → P (NumberInRecord j)) → ((j : ℕ) → P (NotAbove j)) → (q : Refusal) → recordFault words ≡ some q → P q
   records-have P nine seven q e = go q (packs (some q) e)
     where
       go : (q : Refusal) → PacksAs none 0 (silencesOf words) (some q) → P q
@@ -42,10 +42,10 @@ module _ (words : List ℕ) where
       fine (packed-all fit ascends) = (fit, ascending-after-iff (silencesOf words) .1 ascends)
 
   -- The records give row 9 at record j exactly when all before it are fine and a number of it is too large.
-  pub records-9-iff : (j : ℕ) → (recordFault words ≡ some (RingNumber j)) ↔ IsNumberFault words j
-  records-9-iff j = (λ e. fault j (packs (some (RingNumber j)) e), λ f. packs-as-is (stopped-number (record-iff .1 (f .is-record)) (f .too-large)))
+  pub records-9-iff : (j : ℕ) → (recordFault words ≡ some (NumberInRecord j)) ↔ IsNumberFault words j
+  records-9-iff j = (λ e. fault j (packs (some (NumberInRecord j)) e), λ f. packs-as-is (stopped-number (record-iff .1 (f .is-record)) (f .too-large)))
     where
-      fault : (i : ℕ) → PacksAs none 0 (silencesOf words) (some (RingNumber i)) → IsNumberFault words i
+      fault : (i : ℕ) → PacksAs none 0 (silencesOf words) (some (NumberInRecord i)) → IsNumberFault words i
       fault i (stopped-number {fine = fine} {s = s} r g) = record { fine = fine; here = s; is-record = record-iff .0 r; too-large = g }
 
   -- The records give row 7 at record j exactly when all before it are fine, its numbers fit, and it isn't above the one before it.

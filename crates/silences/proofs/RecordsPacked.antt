@@ -10,7 +10,7 @@ use native.Mathlib.Omega.{arith}
 use lib.ListN.{length}
 use Rattle.lists.proofs.SizesTested.{lt-iff, or-iff}
 use Rattle.answers.specs.declared.refusals.Refusal.{Refusal}
-use Rattle.answers.specs.declared.refusals.Refusal.the-variants.{NotAbove, RingNumber}
+use Rattle.answers.specs.declared.refusals.Refusal.the-variants.{NotAbove, NumberInRecord}
 use Rattle.answers.specs.Rows.{firstGiven}
 use Rattle.silences.specs.Silences.{Address, Silence, isAbove}
 use Rattle.silences.specs.Packing.{mostRingNumber, mostCeiling, isTooLarge, recordRows}
@@ -28,7 +28,7 @@ pub record RecordStands (last : Option Address) (i : ℕ) (ss fine : List Silenc
 -- The first row that the records `ss` give: none if all are fine, else row 9 or row 7 at the first that is not. They are numbered from `i` on, after `last`.
 pub data PacksAs (last : Option Address) (i : ℕ) (ss : List Silence) : Option Refusal → Type 0 where
   packed-all : AllFit ss → AscendingAfter last ss → PacksAs last i ss none
-  stopped-number : {fine : List Silence} {j : ℕ} {s : Silence} → RecordStands last i ss fine j s → TooLarge s → PacksAs last i ss (some (RingNumber j))
+  stopped-number : {fine : List Silence} {j : ℕ} {s : Silence} → RecordStands last i ss fine j s → TooLarge s → PacksAs last i ss (some (NumberInRecord j))
   stopped-record : {fine : List Silence} {j : ℕ} {s : Silence} → RecordStands last i ss fine j s → NumbersFit s
       → isAbove (lastAfter last fine) (s .address) ≡ false
       → PacksAs last i ss (some (NotAbove j))
@@ -59,7 +59,7 @@ module _ (last : Option Address) (i : ℕ) where
 
   module _ (s : Silence) (ss : List Silence) where
     -- row 9: a number that is too large
-    first-number : TooLarge s → first (s ∷ ss) ≡ some (RingNumber i)
+    first-number : TooLarge s → first (s ∷ ss) ≡ some (NumberInRecord i)
     unfolding recordRows firstGiven
     first-number h = rw (too-large-iff s .1 h)
 

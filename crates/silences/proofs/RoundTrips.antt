@@ -1,26 +1,30 @@
 -- Round trips of the definitions. Words that packing accepts come back from unpacking, word for word: what packing writes is a book of their silences
--- (AcceptedIsBook), which have the words (WordsOfSilences). A book that unpacking accepts comes back from packing as a book of the same silences.
-use Prim.Native.Nat.{ℕ, _*_, _≤_}
+-- (AcceptedIsBook), which have the words (WordsOfSilences). A book of at most 1,000 records that unpacking accepts comes back from packing as a book of the same
+-- silences, and as the same bytes if it has no field of tag 21. The words of a longer book are refused by row 8.
+use Prim.Native.Nat.{ℕ, _*_, _≤_, _<_}
+use mathlib.Core.Logic.{_⊎_, inl, inr}
 use mathlib.Core.Path.{_≡_, refl, sym, ap, ap₂, subst, _∙_}
 use mathlib.Core.List.{List, _++_}
 use mathlib.Core.Option.{some}
 use native.Mathlib.Omega.{arith}
 use lib.ListN.{length}
+use Rattle.answers.specs.declared.refusals.Refusal.the-variants.{WordCount}
 use Rattle.answers.specs.Paper.{accepted}
 use Rattle.silences.specs.Silences.{Silence, AllInRange, Ascending}
-use Rattle.silences.specs.Layout.{Kind, kindByTag, valueOf, packedTag, packedKind, fieldOf, layout, mostSilences}
-use Rattle.silences.specs.Packing.{wordsOfSilences, silencesOf, recordWords, packed, unpacked}
+use Rattle.silences.specs.Layout.{exactTag, exactKind, ceilingTag, ceilingKind, valueOf, packedTag, packedKind, fieldOf, layout, mostSilences}
+use Rattle.silences.specs.Reading.{readBook}
+use Rattle.silences.specs.Packing.{wordsOfSilences, silencesOf, recordWords, packRefusal, packed, unpacked}
 use Rattle.lists.specs.Bounds.{IsBytes, IsWords}
 use Rattle.lists.specs.Records.{numbersOfEach}
 use Rattle.fields.specs.Tagged.{field}
-use Rattle.silences.specs.Books.{LaidDown, no-field, one-field, IsBook}
+use Rattle.silences.specs.Books.{LaidDown, no-field, one-field, NoTag21, IsBook}
 use Rattle.silences.specs.Faults.{AllFit, IsPackable}
 use Rattle.silences.proofs.FieldTest.{kind-cases}
 use Rattle.silences.proofs.LayoutRead.{layout-length, layout-laid-down}
 use Rattle.silences.proofs.AcceptedIsBook.{book-accepted, accepted-iff}
 use Rattle.silences.proofs.WordsOfSilences.{words-length, silences-of-words, words-of-silences, silences-length, silences-in-range, in-range-fit}
 use Rattle.silences.proofs.UnpackRows.{unpacked-accepted-iff}
-use Rattle.silences.proofs.PackRows.{packed-accepted-iff}
+use Rattle.silences.proofs.PackRows.{pack-8-iff, packed-accepted-iff}
 
 -- If the words can be packed, what packing writes is a book of their silences.
 pub packable-book : (words : List ℕ) → IsWords words → IsPackable words → IsBook (silencesOf words) (layout (silencesOf words))
@@ -38,7 +42,7 @@ module _ (ss : List Silence) (book : List ℕ) (b : IsBook ss book) where
   -- The words of a book's silences can be packed, if these are at most 1,000.
   pub few-packable : length ss ≤ mostSilences → IsPackable (wordsOfSilences ss)
   few-packable few =
-      let same : ss ≡ silencesOf (wordsOfSilences ss) = sym (silences-of-words ss (b .in-range)) in
+      let same : ss ≡ silencesOf (wordsOfSilences ss) = sym (silences-of-words ss) in
       record {
         word-count = record { multiple = omega (arith, words-length ss); words-le = omega (arith, words-length ss) };
         all-fit = subst AllFit same (in-range-fit ss (b .in-range));
@@ -65,14 +69,21 @@ packed-words-are words room ss e =
     let a : IsPackable words × (ss ≡ silencesOf words) × (length (layout ss) ≤ room) = packed-accepted-iff words room ss .0 e in
     ap wordsOfSilences (a .1) ∙ words-of-silences words (a .0 .word-count .multiple)
 
--- Bytes that lay down silences under packing's own tag alone are what packing writes for them.
-pub laid-layout : {Allowed : ℕ → Type 0} → ((tag : ℕ) (kind : Kind) → Allowed tag → kindByTag tag ≡ some kind → (tag ≡ packedTag) × (kind ≡ packedKind))
-    → {ss : List Silence} {book : List ℕ} → LaidDown Allowed ss book → book ≡ layout ss
+-- Bytes that lay down silences without tag 21 are what packing writes for them.
+pub laid-layout : {ss : List Silence} {book : List ℕ} → LaidDown NoTag21 ss book → book ≡ layout ss
 unfolding numbersOfEach fieldOf
-laid-layout own no-field = refl
-laid-layout own (one-field {tag = tag} {s = s} allowed f more) =
-    let is = own tag (f .kind) allowed (f .kind-is) in
-    ap₂ (λ (a b : List ℕ). a ++ b) (f .bytes-are ∙ (λ i. field (is .0 i) (valueOf (is .1 i) s))) (laid-layout own more)
+laid-layout no-field = refl
+laid-layout (one-field {tag = tag} {s = s} {here = here} not-exact f more) =
+    ap₂ (λ (a b : List ℕ). a ++ b) (f .bytes-are ∙ own (kind-cases tag (f .kind) (f .kind-is))) (laid-layout more)
+  where
+    own : ((tag ≡ exactTag) × (f .kind ≡ exactKind)) ⊎ ((tag ≡ ceilingTag) × (f .kind ≡ ceilingKind))
+        → field tag (valueOf (f .kind) s) ≡ field packedTag (valueOf packedKind s)
+    own (inl is) = absurd (not-exact (is .0))
+    own (inr is) = λ i. field (is .0 i) (valueOf (is .1 i) s)
+
+-- Packing refuses the words of more than 1,000 silences by row 8, whatever the room is.
+pub many-refused : (ss : List Silence) → mostSilences < length ss → (room : ℕ) → packRefusal (wordsOfSilences ss) room ≡ some WordCount
+many-refused ss many room = pack-8-iff (wordsOfSilences ss) room .1 (inr (omega (arith, words-length ss)))
 
 module _ (book : List ℕ) (bytes : IsBytes book) (room : ℕ) (ss : List Silence) (e : unpacked book room ≡ accepted ss) where
   -- What unpacking accepts is a book.
@@ -83,8 +94,12 @@ module _ (book : List ℕ) (bytes : IsBytes book) (room : ℕ) (ss : List Silenc
   pub unpacked-packed : length ss ≤ mostSilences → (room′ : ℕ) → length (layout ss) ≤ room′ → packed (wordsOfSilences ss) room′ ≡ accepted ss
   unpacked-packed few room′ fits =
       packed-accepted-iff (wordsOfSilences ss) room′ ss .1
-      (few-packable ss book unpacked-book few, sym (silences-of-words ss (unpacked-book .in-range)), fits)
+      (few-packable ss book unpacked-book few, sym (silences-of-words ss), fits)
 
-  -- If unpacking a book gives `ss`, the layout of `ss` is the book.
-  pub unpacked-layout-is : layout ss ≡ book
-  unpacked-layout-is = sym (laid-layout (λ tag kind allowed is. kind-cases tag kind is) (unpacked-book .laid-down))
+  -- If unpacking a book gives at most 1,000 silences, what packing writes for them reads back as the same silences.
+  pub unpacked-read-back : length ss ≤ mostSilences → readBook (layout ss) ≡ accepted ss
+  unpacked-read-back few = book-accepted (layout ss) ss (few-book ss book unpacked-book few)
+
+  -- If a book without tag 21 lays down the silences that unpacking gives, what packing writes for them is that book.
+  pub unpacked-bytes : LaidDown NoTag21 ss book → layout ss ≡ book
+  unpacked-bytes laid = sym (laid-layout laid)

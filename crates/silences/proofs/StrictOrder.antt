@@ -48,14 +48,6 @@ not-below-iff a b = (λ e h. false≢true (sym e ∙ isBelow-iff a b .1 h), λ h
 pub above-isBelow : (a b : Address) → Below b a → isBelow a b ≡ false
 above-isBelow a b h = not-below-iff a b .1 (λ l. below-irreflexive a (below-trans a b a l h))
 
--- If a and b differ and a is not below b, then b is below a.
-pub above-of-not : (a b : Address) → isBelow a b ≡ false → isSame a b ≡ false → Below b a
-above-of-not a b h d = go (isBelow b a) refl
-  where
-    go : (t : Bool) → isBelow b a ≡ t → Below b a
-    go true e = isBelow-iff b a .0 e
-    go false e = absurd (false≢true (sym d ∙ isSame-iff a b .1 (below-total a b (not-below-iff a b .0 h) (not-below-iff b a .0 e))))
-
 -- If a is below b, the test `isSame` fails for a and b, and for b and a.
 pub below-not-same : (a b : Address) → Below a b → (isSame a b ≡ false) × (isSame b a ≡ false)
 below-not-same a b h = (
@@ -70,6 +62,14 @@ below-not-below s a b h not-below = go (isBelow a b) refl
     go : (t : Bool) → isBelow a b ≡ t → Below s b
     go true e = below-trans s a b h (isBelow-iff a b .0 e)
     go false e = subst (Below s) (below-total a b (not-below-iff a b .0 e) not-below) h
+
+-- If b is below c and not below a, then a is below c. So what comes after a field that is not below a is above a.
+pub above-not-below : (b c a : Address) → Below b c → (Below b a → ⊥) → Below a c
+above-not-below b c a h not-below = go (isBelow a c) refl
+  where
+    go : (t : Bool) → isBelow a c ≡ t → Below a c
+    go true e = isBelow-iff a c .0 e
+    go false e = absurd (not-below (below-not-below b c a h (not-below-iff a c .0 e)))
 
 -- If a and b have equal cells and equal ring numbers and a's start is at most b's, then b is not below a.
 pub start-not-below : (a b : Address) → a .cell ≡ b .cell → a .ringNumber ≡ b .ringNumber → a .start ≤ b .start → Below b a → ⊥

@@ -26,7 +26,7 @@ module _ (book : List ℕ) (room : ℕ) where
   abbrev words : List ℕ
   words = wordsOfSilences (silencesRead book)
 
-  -- Row 10 is given exactly if there is less room than three words for each silence read.
+  -- Row 10 is given exactly if there is less room than four words for each silence read.
   pub is-row-10 : IsRow (roomRow words room) OutputRoom (room < recordWords * length (silencesRead book)) (recordWords * length (silencesRead book) ≤ room)
   is-row-10 = rw (sym (words-length (silencesRead book))) (is-room-row words room)
 
@@ -49,7 +49,7 @@ module _ (book : List ℕ) (room : ℕ) where
   unfolding unpackRows
   unpack-row-iff q other = early-iff (bookRows book) (roomRow words room ∷ []) q (λ e. first-has {P = OtherNumber q} (row-has is-row-10 other end) q e refl)
 
-  -- Row 10 is the first row given exactly when none of the book's rows is given and there is less room than three words for each silence read.
+  -- Row 10 is the first row given exactly when none of the book's rows is given and there is less room than four words for each silence read.
   pub unpack-10-iff : (unpackRefusal book room ≡ some OutputRoom) ↔ ((bookRefusal book ≡ none) × (room < recordWords * length (silencesRead book)))
   unfolding unpackRows
   unpack-10-iff =
@@ -58,7 +58,7 @@ module _ (book : List ℕ) (room : ℕ) where
       not-book : bookRefusal book ≡ some OutputRoom → ⊥
       not-book e = refusal-has book (OtherNumber OutputRoom) (λ h. omega arith) (λ at h. omega arith) (λ at h. omega arith) OutputRoom e refl
 
-  -- No row is given exactly when none of the book's rows is given and there is room for three words for each silence read.
+  -- No row is given exactly when none of the book's rows is given and there is room for four words for each silence read.
   pub unpack-none-iff : (unpackRefusal book room ≡ none) ↔ ((bookRefusal book ≡ none) × (recordWords * length (silencesRead book) ≤ room))
   unfolding unpackRows
   unpack-none-iff = Iff·trans (none-append-iff (bookRows book) (roomRow words room ∷ [])) (Iff·and Iff·rfl (no-last-row is-row-10 .exactly))

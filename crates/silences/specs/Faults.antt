@@ -1,4 +1,4 @@
--- Document 01, the table of refusals, rows 6 to 9: the column "Given exactly when" as propositions, without `readFrom` and `recordRows`. "Within a book the
+-- Document 01, the table of refusals, rows 6 to 9, as document 02, ticket 4, reads them: the column "Given exactly when" as propositions, without `readFrom` and `recordRows`. "Within a book the
 -- first faulty field decides", so a fault also says that everything before it is fine. Rows 5 and 10 are one comparison each and need no definition.
 -- That each row is given exactly then is proved for the definitions in proofs/BookRows.antt, PackRows.antt and UnpackRows.antt, and for the calls in
 -- RowsOfReading.antt and RowsOfUnpacking.antt of crates/book and RowsOfPacking.antt of crates/packing.
@@ -8,7 +8,7 @@
 --   IsFieldFault      row 6
 --   IsOrderFault      row 7, reading
 --   HasWordCount      row 8 is not given
---   NumbersFit, AllFit    no ring number is above 65,535, and no ceiling above the largest: of one record, of all
+--   NumbersFit, AllFit    no ring number and no ceiling is above 65,535: of one record, of all
 --   TooLarge          one of the two is
 --   IsRecord          record number i of the words to pack; all records before it are fine
 --   IsNumberFault     row 9
@@ -39,7 +39,8 @@ pub record IsNotAbove (ss : List Silence) (a : Address) : Type 0 where
   pub before-it : ss ≡ earlier ++ previous ∷ []
   pub not-above : Below (previous .address) a → ⊥
 
--- Row 6 at byte offset `at`: everything before it is fine, the book goes on, and "a field isn't 13 bytes beginning 21 00 0A hex, or is cut off" there.
+-- Row 6 at byte offset `at`: everything before it is fine, the book goes on, and no field stands there: "a field isn't 13 bytes
+-- beginning 21 00 0A hex, or is cut off", and 6 "admits both fields".
 pub record IsFieldFault (book : List ℕ) (at : ℕ) : Type 0 where
   pub fine : List Silence
   pub fine-before : IsFineBefore book at fine
@@ -53,12 +54,12 @@ pub record IsOrderFault (book : List ℕ) (at : ℕ) : Type 0 where
   pub field : IsField book at
   pub not-above : IsNotAbove fine (addressAt book (at + headLength))
 
--- Row 8 is not given: the words to pack are "a multiple of 3", and they don't "exceed 3,000".
+-- Row 8 is not given: the words to pack are "a multiple of 4, at most 4,000".
 pub record HasWordCount (words : List ℕ) : Type 0 where
   pub multiple : length words % recordWords ≡ 0
   pub words-le : length words ≤ mostWords
 
--- The record's ring number is not "above 65,535", nor its ceiling above the largest.
+-- Neither the record's ring number nor its ceiling is "above 65,535".
 pub record NumbersFit (s : Silence) : Type 0 where
   pub ring-number-le : s .address .ringNumber ≤ mostRingNumber
   pub ceiling-le : s .ceiling ≤ mostCeiling
@@ -68,7 +69,7 @@ abbrev pub AllFit : List Silence → Type 0
 AllFit [] = Unit {0}
 AllFit (s ∷ ss) = NumbersFit s × AllFit ss
 
--- The record's ring number is "above 65,535", or its ceiling is above the largest.
+-- The record's ring number is "above 65,535", or its ceiling is.
 abbrev pub TooLarge : Silence → Type 0
 TooLarge s = (mostRingNumber < s .address .ringNumber) ⊎ (mostCeiling < s .ceiling)
 
@@ -80,7 +81,7 @@ pub record IsRecord (words : List ℕ) (i : ℕ) (fine : List Silence) (s : Sile
   pub all-fit : AllFit fine
   pub ascending : Ascending fine
 
--- Row 9 at record number `i`: all records before it are fine, and a number of it is too large.
+-- Row 9 at record number `i`: all records before it are fine, and its ring number or its ceiling is "above 65,535".
 pub record IsNumberFault (words : List ℕ) (i : ℕ) : Type 0 where
   pub fine : List Silence
   pub here : Silence

@@ -1,6 +1,6 @@
--- Document 01, "What each call returns", rows 7 to 10: silences as words, what packing and unpacking give, and what they write into the lent area.
+-- Document 01, "What each call returns", rows 7 to 10, and document 02, ticket 4: silences as words, what packing and unpacking give, and what they write into the lent area.
 --
---   silenceWords, wordsOfSilences             silences as words, three each: cell, ring number, start
+--   silenceWords, wordsOfSilences             silences as words, four each: cell, ring number, start, ceiling
 --   recordWords, silenceOfWords, silencesOf   words as silences
 --   mostWords, isRow8                         row 8
 --   mostRingNumber, mostCeiling, isTooLarge   the largest ring number and ceiling; row 9 for one record
@@ -11,7 +11,7 @@
 --   packed, unpacked                          what packing and unpacking give
 --   areaAtExit                                the lent area at exit
 --
--- The order of a record's words is our reading: document 01 lists cell, ring number and start in this order, and gives no other.
+-- The order of a record's words is our reading: the documents list cell, ring number, start and ceiling in this order, and give no other.
 use Prim.Native.Nat.{ℕ, suc, _*_, _%_, _^_}
 use mathlib.Core.Path.{_≡_, refl}
 use mathlib.Core.Bool.{Bool, not, _||_}
@@ -22,42 +22,42 @@ use lib.ListN.{length, getD}
 use Rattle.lists.specs.Areas.{written}
 use Rattle.lists.specs.Records.{numbersOfEach, recordsOf}
 use Rattle.answers.specs.declared.refusals.Refusal.{Refusal}
-use Rattle.answers.specs.declared.refusals.Refusal.the-variants.{NotAbove, WordCount, RingNumber, OutputRoom}
+use Rattle.answers.specs.declared.refusals.Refusal.the-variants.{NotAbove, WordCount, NumberInRecord, OutputRoom}
 use Rattle.answers.specs.Paper.{Answer, accepted, refused}
 use Rattle.answers.specs.Rows.{row, firstGiven, answerBy}
 use Rattle.silences.specs.Silences.{Address, address, Silence, silence, ringNumberBytes, ceilingBytes, isAbove}
 use Rattle.silences.specs.Layout.{layout, mostSilences}
 use Rattle.silences.specs.Reading.{silencesRead, bookRows}
 
--- The words of a silence: cell, ring number, start.
+-- The words of a silence: cell, ring number, start, ceiling.
 abbrev pub silenceWords : Silence → List ℕ
-silenceWords s = s .address .cell ∷ s .address .ringNumber ∷ s .address .start ∷ []
+silenceWords s = s .address .cell ∷ s .address .ringNumber ∷ s .address .start ∷ s .ceiling ∷ []
 
 -- The words of a list of silences, one after the other.
 abbrev pub wordsOfSilences : List Silence → List ℕ
 wordsOfSilences = numbersOfEach silenceWords
 
--- "words to pack aren't a multiple of 3": the number of words of a record.
+-- "Packed words are four a record" (document 02, ticket 4): the number of words of a record.
 abbrev pub recordWords : ℕ
-recordWords = 3
+recordWords = 4
 
--- The silence of a record's three words. Its ceiling is 0.
+-- The silence of a record's four words.
 abbrev pub silenceOfWords : List ℕ → Silence
-silenceOfWords words = silence (address (getD words 0 0) (getD words 1 0) (getD words 2 0)) 0
+silenceOfWords words = silence (address (getD words 0 0) (getD words 1 0) (getD words 2 0)) (getD words 3 0)
 
--- The silences of a list of words, three words each. One or two words left over at the end are no record.
+-- The silences of a list of words, four words each. One to three words left over at the end are no record.
 abbrev pub silencesOf : List ℕ → List Silence
 silencesOf = recordsOf recordWords silenceOfWords
 
--- "or exceed 3,000": the most words that can be packed.
+-- "8 a multiple of 4, at most 4,000" (document 02, ticket 4): the most words that can be packed.
 abbrev pub mostWords : ℕ
 mostWords = recordWords * mostSilences
 
--- "3,000"
-most-words-is : mostWords ≡ 3000
+-- "4,000"
+most-words-is : mostWords ≡ 4000
 most-words-is = refl
 
--- Row 8: "words to pack aren't a multiple of 3, or exceed 3,000".
+-- Row 8: "words to pack aren't a multiple of" 4, "or exceed" 4,000 (document 01 has 3 and 3,000; document 02, ticket 4, makes it 4 and 4,000).
 abbrev pub isRow8 : List ℕ → Bool
 isRow8 words = not (eqb (length words % recordWords) 0) || ltb mostWords (length words)
 
@@ -69,15 +69,15 @@ mostRingNumber = 65535
 most-ring-number-is : suc mostRingNumber ≡ 256 ^ ringNumberBytes
 most-ring-number-is = refl
 
--- The largest ceiling: the largest number that the bytes of a ceiling hold.
+-- "9 also for a ceiling above 65,535" (document 02, ticket 4): the largest ceiling.
 abbrev pub mostCeiling : ℕ
-mostCeiling = 0
+mostCeiling = 65535
 
--- It is.
+-- It is the largest number that the two bytes of a ceiling hold.
 most-ceiling-is : suc mostCeiling ≡ 256 ^ ceilingBytes
 most-ceiling-is = refl
 
--- Row 9 for one record: "a ring number to pack is above 65,535", or its ceiling is above the largest.
+-- Row 9 for one record: "a ring number to pack is above 65,535"; "9 also for a ceiling above 65,535" (document 02, ticket 4).
 abbrev pub isTooLarge : Silence → Bool
 isTooLarge s = ltb mostRingNumber (s .address .ringNumber) || ltb mostCeiling (s .ceiling)
 
@@ -85,7 +85,7 @@ isTooLarge s = ltb mostRingNumber (s .address .ringNumber) || ltb mostCeiling (s
 unfoldable pub recordRows : Option Address → ℕ → List Silence → List (Option Refusal)
 recordRows last i [] = []
 recordRows last i (s ∷ ss) =
-    row (isTooLarge s) (RingNumber i)
+    row (isTooLarge s) (NumberInRecord i)
     ∷ row (not (isAbove last (s .address))) (NotAbove i)
     ∷ recordRows (some (s .address)) (suc i) ss
 

@@ -1,4 +1,4 @@
--- Document 01, "Silence book" and rows 5, 6 and 7: what reading a book's bytes gives, whatever bytes they are.
+-- Document 01, "Silence book" and rows 5, 6 and 7, with document 02, ticket 4: what reading a book's bytes gives, whatever bytes they are.
 --
 --   addressAt, silenceAt              the address, and the silence, whose value stands at a byte offset
 --   FieldAt, fieldBy, fieldAt         what stands at a byte offset: a whole field, or a faulty one (row 6)
@@ -11,7 +11,7 @@
 --
 -- `readFrom` goes from field to field, so its recursion needs a number that falls: `fieldsFrom` counts down the bytes left. Two equations hide this count, and
 -- nothing after them uses it; read them instead: `readFrom-end` and `readFrom-step` of proofs/ReadFrom.antt. Places count from the book's first byte.
--- Nothing here is stricter than document 01. Past the book's end `readFrom` reads nothing and accepts.
+-- Nothing here is stricter than the documents. Past the book's end `readFrom` reads nothing and accepts.
 use Prim.Native.Nat.{ℕ, zero, suc, _+_, _-_}
 use mathlib.Core.Bool.{Bool, cond}
 use mathlib.Core.List.{List, [], _∷_}
@@ -52,7 +52,8 @@ fieldBy (some kind) book at =
     let here : FieldAt = whole (silenceAt kind book (at + headLength)) (fieldEnd at (valueLength kind)) in
     cond (isWhole book at (valueLength kind)) here faulty
 
--- The field at `at`. It is faulty where row 6 says so: "a field isn't 13 bytes beginning 21 00 0A hex, or is cut off". Past the last byte it is faulty too.
+-- The field at `at`. It is faulty where row 6 says so: "a field isn't 13 bytes beginning 21 00 0A hex, or is cut off", and is not
+-- 15 bytes beginning 22 00 0C hex either. Past the last byte it is faulty too.
 unfoldable pub fieldAt : List ℕ → ℕ → FieldAt
 fieldAt book at = fieldBy (kindByTag (getD book at 0)) book at
 
@@ -94,7 +95,7 @@ silencesIn (refused refusal) = []
 abbrev pub fieldFault : List ℕ → Option Refusal
 fieldFault book = faultIn (readFrom book none 0)
 
--- Row 5: "book longer than 13,000 bytes".
+-- Row 5: "book longer than" 15,000 "bytes" (document 01 has 13,000; document 02, ticket 4, makes it 15,000).
 abbrev pub isRow5 : List ℕ → Bool
 isRow5 book = ltb mostBytes (length book)
 

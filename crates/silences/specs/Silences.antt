@@ -1,23 +1,25 @@
--- Document 01, "Silence book": an address, a silence, the order of records, and which addresses a list of silences names. The order and the names look at the
--- address alone. The bytes of a silence are in Layout; here are only their numbers, which bound the values.
+-- Document 01, "Silence book", and document 02, ticket 4: an address, a silence, the order of records, and which findings a list of silences hides. The order
+-- looks at the address alone. The bytes of a silence are in Layout; here are only their numbers, which bound the values.
 --
---   cellBytes, ringNumberBytes, startBytes, ceilingBytes   "cell (4 bytes), ring number (2), start (4)"; a ceiling has none
+--   cellBytes, ringNumberBytes, startBytes, ceilingBytes   "cell (4 bytes), ring number (2), start (4)", "a two-byte distance"
 --   Address, address       cell, ring number, start
---   Silence, silence       an address, and the ceiling that a silence has there
+--   Silence, silence       an address and a ceiling
 --   InRange, AllInRange    the numbers fit their bytes; those of each silence of a list do
 --   isBelow, Below         "by cell, then ring number, then start", as a test and as a proposition
 --   isAbove                whether a record is above the one before it, if there is one
 --   Ascending              "Records ascend strictly"
 --   isSame                 whether two addresses are equal
---   names, Names           a list of silences names an address, as a test and as a proposition
+--   covers                 whether a silence hides a finding with this address and this distance
+--   hides, Hides           some silence of a list does, as a test and as a proposition
 --
--- "Zero is an ordinary cell, ring number and start; no value means 'all'": every test below only compares numbers, and no number is treated specially.
-use Prim.Native.Nat.{ℕ, _<_, _^_}
+-- "Zero is an ordinary cell, ring number and start; no value means 'all'": every test below only compares numbers, and no number is treated specially. Nor is a
+-- ceiling of 0: it hides exact copies.
+use Prim.Native.Nat.{ℕ, _≤_, _<_, _^_}
 use mathlib.Core.Path.{_≡_}
 use mathlib.Core.Bool.{Bool, true, false, _&&_, _||_}
 use mathlib.Core.List.{List, [], _∷_, List·Memᴰ}
 use mathlib.Core.Option.{Option, none, some}
-use lib.Dec.{ltb, eqb}
+use lib.Dec.{ltb, leb, eqb}
 
 -- "cell (4 bytes)"
 abbrev pub cellBytes : ℕ
@@ -31,9 +33,9 @@ ringNumberBytes = 2
 abbrev pub startBytes : ℕ
 startBytes = 4
 
--- A ceiling has no bytes in a book of document 01: it is 0.
+-- "a two-byte distance" (document 02, ticket 4)
 abbrev pub ceilingBytes : ℕ
-ceilingBytes = 0
+ceilingBytes = 2
 
 -- An address: the cell, the ring number and the start that a silence is for.
 pub record Address : Type 0 where
@@ -45,7 +47,7 @@ pub record Address : Type 0 where
 abbrev pub address : ℕ → ℕ → ℕ → Address
 address cell ringNumber start = record { cell = cell; ringNumber = ringNumber; start = start }
 
--- A silence: its address, and its ceiling there.
+-- A silence: the address that it is for, and its ceiling, the largest distance that it hides there. "A silence gets a ceiling" (document 02, ticket 4).
 pub record Silence : Type 0 where
   pub address : Address
   pub ceiling : ℕ
@@ -54,7 +56,7 @@ pub record Silence : Type 0 where
 abbrev pub silence : Address → ℕ → Silence
 silence a ceiling = record { address = a; ceiling = ceiling }
 
--- A silence that a book can hold: "cell (4 bytes), ring number (2), start (4)", and the ceiling in its bytes.
+-- A silence that a book can hold: "cell (4 bytes), ring number (2), start (4)" and "a two-byte distance".
 pub record InRange (s : Silence) : Type 0 where
   pub cell-lt : s .address .cell < 256 ^ cellBytes
   pub ring-number-lt : s .address .ringNumber < 256 ^ ringNumberBytes
@@ -85,7 +87,8 @@ abbrev pub isAbove : Option Address → Address → Bool
 isAbove none a = true
 isAbove (some last) a = isBelow last a
 
--- "Records ascend strictly by cell, then ring number, then start": each address is below the next. So no two records share an address.
+-- "Records ascend strictly by cell, then ring number, then start": each address is below the next. So "No two records share an address" (document 02,
+-- ticket 4), whatever their ceilings are.
 unfoldable pub Ascending : List Silence → Type 0
 Ascending [] = Unit {0}
 Ascending (s ∷ []) = Unit {0}
@@ -95,15 +98,22 @@ Ascending (s ∷ t ∷ ss) = Below (s .address) (t .address) × Ascending (t ∷
 unfoldable pub isSame : Address → Address → Bool
 isSame a b = eqb (a .cell) (b .cell) && (eqb (a .ringNumber) (b .ringNumber) && eqb (a .start) (b .start))
 
--- Whether some silence of the list has this address. The empty list names nothing.
-unfoldable pub names : List Silence → Address → Bool
-names [] a = false
-names (s ∷ ss) a = isSame (s .address) a || names ss a
+-- "It hides a finding at its address only up to that distance" (document 02, ticket 4): whether this is the silence's address, and the distance at most its
+-- ceiling.
+unfoldable pub covers : Silence → Address → ℕ → Bool
+covers s a distance = isSame (s .address) a && leb distance (s .ceiling)
 
--- Some silence of the list has this cell, ring number and start, as a proposition: `named` is such a silence, and it stands in the list.
-pub record Names (ss : List Silence) (cell ringNumber start : ℕ) : Type 0 where
-  pub named : Silence
-  pub among : List·Memᴰ named ss
-  pub cell-is : named .address .cell ≡ cell
-  pub ring-number-is : named .address .ringNumber ≡ ringNumber
-  pub start-is : named .address .start ≡ start
+-- Whether some silence of the list hides a finding with this address and this distance. The empty list hides nothing.
+unfoldable pub hides : List Silence → Address → ℕ → Bool
+hides [] a distance = false
+hides (s ∷ ss) a distance = covers s a distance || hides ss a distance
+
+-- Some silence of the list hides a finding with this cell, ring number, start and distance, as a proposition: `silenced-by` is such a silence, and it stands in
+-- the list.
+pub record Hides (ss : List Silence) (cell ringNumber start distance : ℕ) : Type 0 where
+  pub silenced-by : Silence
+  pub among : List·Memᴰ silenced-by ss
+  pub cell-is : silenced-by .address .cell ≡ cell
+  pub ring-number-is : silenced-by .address .ringNumber ≡ ringNumber
+  pub start-is : silenced-by .address .start ≡ start
+  pub distance-le : distance ≤ silenced-by .ceiling

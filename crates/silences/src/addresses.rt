@@ -7,9 +7,13 @@ pub struct Address {
     pub start: u32,
 }
 
-// The result of reading a field at a byte offset, or of seeking one: its address and the byte offset just past it,
-// where reading or seeking goes on; or that there is no such field.
+// The result of reading a field at a byte offset, or of seeking one: its address, its ceiling and the byte offset just
+// past it, where reading or seeking goes on; or that there is no such field.
 pub enum Sought {
-    Field { address: Address, next: usize },
+    Field {
+        address: Address,
+        ceiling: u16,
+        next: usize,
+    },
     Nothing,
 }

@@ -22,7 +22,7 @@ abbrev μ-loop : tie.MeasureT-loop
 
 -- the field that `field_at` returned is the field at `at`
 field-is : (c : tie.After-field Inv-loop μ-loop)
-    → whole (silence (addressOf (c .field .given .0 .0)) 0) (c .field .given .0 .1 .0)
+    → whole (silence (addressOf (c .field .given .0 .0)) (c .field .given .0 .1 .0)) (c .field .given .0 .1 .1 .0)
     ≡ fieldAt (c .before .before .before .before .before .before .args .book .now) (c .before .before .before .before .loop .at)
 field-is c = rw (c .field .given .1) at (c .before .before .field-at .ensures)
 

@@ -1,5 +1,5 @@
--- `book::unpacking::put_record` meets its contract: three stores, one after the other.
-use native.Mathlib.Numerals.{add-one, add-two}
+-- `book::unpacking::put_record` meets its contract: four stores, one after the other.
+use native.Mathlib.Numerals.{add-one, add-two, add-three}
 use native.Mathlib.Omega.{arith}
 use borrow.Author.Needs.{needs}
 use lib.ListN.{length-set}
@@ -33,11 +33,20 @@ mul-words-3 c = search needs
 slice-write-words-3 : tie.Need-slice-write-words-3
 slice-write-words-3 c = simp length-set (omega arith)
 
+add-words-3 : tie.Need-add-words-3
+add-words-3 c = omega arith
+
+mul-words-4 : tie.Need-mul-words-4
+mul-words-4 c = search needs
+
+slice-write-words-4 : tie.Need-slice-write-words-4
+slice-write-words-4 c = simp length-set (omega arith)
+
 same-length : tie.Need-same-length
 same-length c = simp length-set
 
 returns : tie.Need-returns
-returns c = simp (add-one, add-two)
+returns c = simp (add-one, add-two, add-three)
 
 pub put-record-spec : {M : Type 1} → statement M
 put-record-spec =
@@ -52,5 +61,8 @@ put-record-spec =
     add-words-2
     mul-words-3
     slice-write-words-3
+    add-words-3
+    mul-words-4
+    slice-write-words-4
     same-length
     returns)

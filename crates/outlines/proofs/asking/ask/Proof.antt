@@ -11,8 +11,8 @@ address-of-requires c κs = search needs
 seek-on-requires : tie.Need-seek-on-requires
 seek-on-requires c κs = search needs
 
-is-for-requires : tie.Need-is-for-requires
-is-for-requires c κs = search needs
+hides-requires : tie.Need-hides-requires
+hides-requires c κs = search needs
 
 add-hidden : tie.Need-add-hidden
 add-hidden c = search needs
@@ -22,7 +22,7 @@ returns : tie.Need-returns
 returns c =
     let sought = c .before .before .before in
     let args = sought .before .before .before .before .args in
-    ask-hidden (args .asked) (args .cell) (args .ring-number) (findingOf (args .finding)) (sought .seek-on .ensures) (c .before .before .is-for .ensures)
+    ask-hidden (args .asked) (args .cell) (args .ring-number) (findingOf (args .finding)) (sought .seek-on .ensures) (c .before .before .hides .ensures)
     (cc (sought .before .address-of .ensures)) (c .before .if1 .taken)
 
 add-shown : tie.Need-add-shown
@@ -33,8 +33,8 @@ returns-2 : tie.Need-returns-2
 returns-2 c =
     let sought = c .before .before .before in
     let args = sought .before .before .before .before .args in
-    ask-shown (args .asked) (args .cell) (args .ring-number) (findingOf (args .finding)) (sought .seek-on .ensures) (c .before .before .is-for .ensures)
+    ask-shown (args .asked) (args .cell) (args .ring-number) (findingOf (args .finding)) (sought .seek-on .ensures) (c .before .before .hides .ensures)
     (cc (sought .before .address-of .ensures)) (c .before .if1 .left)
 
 pub ask-spec : {M : Type 1} → statement M
-ask-spec = tie.close (tie.spec address-of-requires seek-on-requires is-for-requires add-hidden returns add-shown returns-2)
+ask-spec = tie.close (tie.spec address-of-requires seek-on-requires hides-requires add-hidden returns add-shown returns-2)

@@ -2,7 +2,7 @@
 -- the record there, or that none is left. The number of words left falls.
 use Prim.Native.Nat.{_-_}
 use mathlib.Core.Path.{sym, _∙_}
-use mathlib.Core.Logic.{inl}
+use mathlib.Core.Logic.{inl, inr}
 use native.Mathlib.Omega.{arith}
 use lib.ListN.{length}
 use borrow.Author.Tests.{not-true, not-false}
@@ -48,23 +48,41 @@ mul-start c = omega arith
 shared-slice-read-start : tie.Need-shared-slice-read-start Inv-loop μ-loop
 shared-slice-read-start c = omega arith
 
--- row 9 at this record
+add-ceiling : tie.Need-add-ceiling Inv-loop μ-loop
+add-ceiling c = omega arith
+
+mul-ceiling : tie.Need-mul-ceiling Inv-loop μ-loop
+mul-ceiling c = omega arith
+
+shared-slice-read-ceiling : tie.Need-shared-slice-read-ceiling Inv-loop μ-loop
+shared-slice-read-ceiling c = omega arith
+
+-- row 9 at this record, by its ring number
 returns : tie.Need-returns Inv-loop μ-loop
 returns c =
-    let at-loop = c .before .before .before .before .before in
+    let at-loop = c .before .before .before .before .before .before in
     judge-too-large (at-loop .loop .inv) (omega arith) (inl (omega (arith, c .if1 .taken)))
 
-cast-t18 : tie.Need-cast-t18 Inv-loop μ-loop
-cast-t18 c = omega arith
+-- row 9 at this record, by its ceiling
+returns-2 : tie.Need-returns-2 Inv-loop μ-loop
+returns-2 c =
+    let at-loop = c .before .before .before .before .before .before .before in
+    judge-too-large (at-loop .loop .inv) (omega arith) (inr (omega (arith, c .if2 .taken)))
+
+cast-t21 : tie.Need-cast-t21 Inv-loop μ-loop
+cast-t21 c = omega arith
 
 is-above-requires : tie.Need-is-above-requires Inv-loop μ-loop
 is-above-requires c κs = tt
 
 -- row 7 at this record
-returns-2 : tie.Need-returns-2 Inv-loop μ-loop
-returns-2 c =
-    let at-loop = c .before .before .before .before .before .before .before in
-    judge-not-above (at-loop .loop .inv) (omega arith) (record { ring-number-le = omega (arith, c .before .before .if1 .left); ceiling-le = omega arith }) (sym (c .before .is-above .ensures) ∙ not-true _ (c .if2 .taken))
+returns-3 : tie.Need-returns-3 Inv-loop μ-loop
+returns-3 c =
+    let at-order = c .before in
+    let at-ceiling = at-order .before in
+    let at-loop = at-ceiling .before .before .before .before .before .before .before in
+    judge-not-above (at-loop .loop .inv) (omega arith) (record { ring-number-le = omega (arith, at-ceiling .before .if1 .left); ceiling-le = omega (arith, at-ceiling .if2 .left) })
+    (sym (at-order .is-above .ensures) ∙ not-true _ (c .if3 .taken))
 
 add-records : tie.Need-add-records Inv-loop μ-loop
 add-records c = omega arith
@@ -81,12 +99,15 @@ loop-less c = omega arith
 -- this record is passed
 loop-again : tie.Need-loop-again Inv-loop μ-loop
 loop-again c =
-    let at-loop = c .before .before .before .before .before .before .before in
-    judge-turn (at-loop .loop .inv) (omega arith) (record { ring-number-le = omega (arith, c .before .before .if1 .left); ceiling-le = omega arith }) (sym (c .before .is-above .ensures) ∙ not-false _ (c .if2 .left)) (field-length _)
+    let at-order = c .before in
+    let at-ceiling = at-order .before in
+    let at-loop = at-ceiling .before .before .before .before .before .before .before in
+    judge-turn (at-loop .loop .inv) (omega arith) (record { ring-number-le = omega (arith, at-ceiling .before .if1 .left); ceiling-le = omega (arith, at-ceiling .if2 .left) })
+    (sym (at-order .is-above .ensures) ∙ not-false _ (c .if3 .left)) (field-length _)
 
 -- no record is left
-returns-3 : tie.Need-returns-3 Inv-loop μ-loop
-returns-3 c = judge-end (c .before .loop .inv) (omega arith)
+returns-4 : tie.Need-returns-4 Inv-loop μ-loop
+returns-4 c = judge-end (c .before .loop .inv) (omega arith)
 
 pub judge-spec : {M : Type 1} → statement M
 judge-spec =
@@ -104,13 +125,17 @@ judge-spec =
     add-start
     mul-start
     shared-slice-read-start
+    add-ceiling
+    mul-ceiling
+    shared-slice-read-ceiling
     returns
-    cast-t18
-    is-above-requires
     returns-2
+    cast-t21
+    is-above-requires
+    returns-3
     add-records
     add-bytes
     add-at
     loop-less
     loop-again
-    returns-3)
+    returns-4)

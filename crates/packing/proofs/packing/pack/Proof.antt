@@ -11,11 +11,11 @@ use Rattle.packing.proofs.packing.pack.Tie as tie
 judged : (c : tie.After-judge) → WordsJudged (c .before .before .before .before .before .args .words .now) (c .judge .result)
 judged c = record { word-count = record { multiple = c .before .before .if1 .left; words-le = omega (arith, c .before .if2 .left) }; is = c .judge .ensures }
 
--- not a multiple of 3: row 8
+-- not a multiple of 4: row 8
 returns : tie.Need-returns
 returns c = pack-word-count _ _ (inl (c .if1 .taken))
 
--- more than 3,000 words: row 8
+-- more than 4,000 words: row 8
 returns-2 : tie.Need-returns-2
 returns-2 c = pack-word-count _ _ (inr (omega (arith, c .if2 .taken)))
 

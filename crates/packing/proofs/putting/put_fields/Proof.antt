@@ -43,9 +43,18 @@ mul-put-field-3 c = omega arith
 shared-slice-read-put-field-3 : tie.Need-shared-slice-read-put-field-3 Inv-loop μ-loop
 shared-slice-read-put-field-3 c = omega arith
 
+add-put-field-3 : tie.Need-add-put-field-3 Inv-loop μ-loop
+add-put-field-3 c = omega arith
+
+mul-put-field-4 : tie.Need-mul-put-field-4 Inv-loop μ-loop
+mul-put-field-4 c = omega arith
+
+shared-slice-read-put-field-4 : tie.Need-shared-slice-read-put-field-4 Inv-loop μ-loop
+shared-slice-read-put-field-4 c = omega arith
+
 put-field-requires : tie.Need-put-field-requires Inv-loop μ-loop
 put-field-requires c κs =
-    let at-loop = c .before .before .before .before .before in
+    let at-loop = c .before .before .before .before .before .before in
     fields-room (at-loop .loop .inv) (omega arith)
 
 add-at : tie.Need-add-at Inv-loop μ-loop
@@ -57,7 +66,7 @@ loop-less c = omega arith
 loop-again : tie.Need-loop-again Inv-loop μ-loop
 loop-again c =
     let at-put-field = c .before .before in
-    let at-loop = at-put-field .before .before .before .before .before .before in
+    let at-loop = at-put-field .before .before .before .before .before .before .before in
     fields-turn (at-loop .loop .inv) (omega arith) (at-put-field .put-field .kept .0) (at-put-field .put-field .ensures)
 
 same-length : tie.Need-same-length Inv-loop μ-loop
@@ -82,6 +91,9 @@ put-fields-spec =
     add-put-field-2
     mul-put-field-3
     shared-slice-read-put-field-3
+    add-put-field-3
+    mul-put-field-4
+    shared-slice-read-put-field-4
     put-field-requires
     add-at
     loop-less
