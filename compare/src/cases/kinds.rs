@@ -3,10 +3,10 @@
 use super::call::{in_turn, Call, Search};
 use super::draw::Draw;
 use super::{
-    books, bounds, closed_kinds, closed_limits, faults, input_faults, inputs, long, mark_places, marks, nulls, packing,
+    books, bounds, closed_kinds, closed_limits, faults, input_faults, inputs, long, mark_places, marks, nulls,
 };
-use super::{searches, ties, Kind, Make};
-use crate::second::samples::{self, Sample, SAMPLES, SILENCED, THE_SILENCE};
+use super::{packing, searches, ties, Kind, Make};
+use crate::second::samples::{self, silenced, Sample, SAMPLES, SILENCED};
 
 pub static CALLS: &[Kind] = &[
     kind("samples printed in document 01, second program", samples::COUNT as u64, Make::Sample(samples::holds)),
@@ -76,9 +76,9 @@ pub const fn kind(name: &'static str, count: u64, make: Make) -> Kind {
 }
 
 const SEARCHES: u64 = 3 * SAMPLES.len() as u64;
-const LIBRARY_SAMPLES: u64 = SEARCHES + SILENCED.len() as u64;
+const LIBRARY_SAMPLES: u64 = SEARCHES + SILENCED as u64;
 
-/// P1 to P12 as survey, scan and report; then P2 with its silence.
+/// P1 to P12 as survey, scan and report; then P2 with its silence, under each tag.
 fn sample(index: u64, draw: &mut Draw) -> Call {
     let search = |sample: &Sample| {
         let (ring, line) = (sample.ring.as_bytes().to_vec(), sample.line.as_bytes().to_vec());
@@ -87,6 +87,6 @@ fn sample(index: u64, draw: &mut Draw) -> Call {
     if index < SEARCHES {
         return in_turn(index, draw, search(&SAMPLES[(index / 3) as usize]));
     }
-    let (cell, _, _) = SILENCED[(index - SEARCHES) as usize];
-    Call::Report { cell, ring_number: 2, search: search(&SAMPLES[1]), book: THE_SILENCE.field() }
+    let (book, cell) = silenced((index - SEARCHES) as usize);
+    Call::Report { cell, ring_number: 2, search: search(&SAMPLES[1]), book }
 }

@@ -21,6 +21,7 @@ mod marks;
 mod nulls;
 mod packing;
 mod searches;
+mod silences;
 mod ties;
 
 use crate::memory::Placement;
