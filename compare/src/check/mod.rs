@@ -1,5 +1,6 @@
 //! The comparison: the library and the program on one side, the second program on the other.
 
+mod bonds;
 pub mod calls;
 mod closed_ledger;
 pub mod compared;
@@ -12,3 +13,4 @@ pub mod spoil;
 mod spoil_closed;
 mod spoil_marks;
 pub mod trial;
+mod trips;
