@@ -1,6 +1,7 @@
 //! The comparison: the library and the program on one side, the second program on the other.
 
 mod bonds;
+mod book_ledger;
 pub mod calls;
 mod closed_ledger;
 pub mod compared;

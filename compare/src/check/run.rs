@@ -86,7 +86,11 @@ impl<'a> Worker<'a> {
                 each.or_else(|| unbound(*bond, calls, &compared))
             }
             Case::RoundTrip(words) => trips::of_words(words),
-            Case::BookTrip(book) => trips::of_book(book).1,
+            Case::BookTrip(book) => {
+                let (trip, difference) = trips::of_book(book);
+                self.ledger.add_trip(trip);
+                difference
+            }
             Case::Input(input) => {
                 let program = self.plan.program.as_ref().expect("inputs are planned with a program only");
                 let given = program::run(program, input, &self.post.child);
