@@ -11,6 +11,7 @@ mod misread;
 pub mod program;
 pub mod run;
 pub mod spoil;
+mod spoil_books;
 mod spoil_closed;
 mod spoil_marks;
 pub mod trial;
