@@ -1,6 +1,7 @@
 //! Every peer, and the rules in C and in Rust, compared with the definitions on many rings. These cases have what no row of
 //! the benchmark has: rings of one edge, lines shorter than the ring, allowances up to m - 1, widths at a word's end,
 //! refusals, marks at every place.
+mod books;
 mod closed;
 mod common;
 mod marks;
