@@ -94,7 +94,7 @@ fn the_longest_books() {
     }
 }
 
-/// A field with its header changed, or cut, behind a whole one: refusal 6 at its offset. The last row is good.
+/// A field with its header changed, or cut, behind a whole one: refusal 6 at its offset. Unchanged it is read.
 #[test]
 fn fields_by_hand() {
     let whole = field(7, 2, 0, Some(1));
@@ -114,12 +114,14 @@ fn fields_by_hand() {
     }
 }
 
-/// Words to pack and what comes of them: the bytes, or a refusal.
+/// Words to pack, the bytes lent, and the packed bytes or the refusal.
+type PackedRow<'a> = (&'a [u32], usize, Result<Vec<u8>, Refused>);
+
 #[test]
 fn packing_by_hand() {
     let fields = |records: &[Vec<u8>]| Ok(records.concat());
     let refused = |number, place| Err(Refused { number, place });
-    let rows: [(&[u32], usize, Result<Vec<u8>, Refused>); 17] = [
+    let rows: [PackedRow; 17] = [
         (&[], 0, Ok(Vec::new())),
         (&[7, 2, 10, 1], 15, Ok(vec![0x22, 0, 12, 0, 0, 0, 7, 0, 2, 0, 0, 0, 10, 0, 1])),
         (&[7, 2, 10, 1], 14, refused(10, 0)),
