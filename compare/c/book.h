@@ -1,4 +1,4 @@
-// The silence book: fields of 13 bytes, read in place.
+// The silence book: fields of 13 and of 15 bytes, read in place.
 #ifndef BOOK_H
 #define BOOK_H
 
@@ -7,10 +7,12 @@
 #include <stdint.h>
 
 enum {
-    MOST_BOOK = 13000,   // "book longer than 13,000 bytes"
+    MOST_BOOK = 15000,   // "5 at 15,000 bytes"
     HEAD_LENGTH = 3,     // "one-byte tag, two-byte length"
-    SILENCE_TAG = 0x21,
-    SILENCE_LENGTH = 10,
+    OLD_TAG = 0x21,
+    SILENCE_TAG = 0x22,
+    ADDRESS_LENGTH = 10, // "the old ten bytes and a two-byte distance"
+    CEILING_LENGTH = 2,
 };
 
 struct book {
@@ -24,10 +26,12 @@ struct address {
     uint32_t start;
 };
 
-// A field and the byte offset just past it. `there` is false where no whole field of a silence stands.
+// A field and the byte offset just past it. `there` is false where no whole field of a silence stands. The old tag has the
+// ceiling 0.
 struct field {
     bool there;
     struct address address;
+    size_t ceiling;
     size_t next;
 };
 
@@ -40,17 +44,27 @@ static uint32_t number_at(const uint8_t *bytes, size_t count)
     return number;
 }
 
+// The bytes of the value that a tag goes with, or 0 for any other tag.
+static size_t value_length(uint8_t tag)
+{
+    if (tag == SILENCE_TAG)
+        return ADDRESS_LENGTH + CEILING_LENGTH;
+    return tag == OLD_TAG ? ADDRESS_LENGTH : 0;
+}
+
 static struct field field_at(struct book book, size_t at)
 {
-    struct field none = {false, {0, 0, 0}, 0};
-    if (book.length <= at || book.length - at < HEAD_LENGTH + SILENCE_LENGTH)
+    struct field none = {false, {0, 0, 0}, 0, 0};
+    if (book.length <= at || book.length - at < HEAD_LENGTH + ADDRESS_LENGTH)
         return none;
     const uint8_t *bytes = book.bytes + at;
-    if (bytes[0] != SILENCE_TAG || number_at(bytes + 1, 2) != SILENCE_LENGTH)
+    size_t length = value_length(bytes[0]);
+    if (length == 0 || number_at(bytes + 1, 2) != length || book.length - at < HEAD_LENGTH + length)
         return none;
     const uint8_t *value = bytes + HEAD_LENGTH;
     struct address address = {number_at(value, 4), (uint16_t)number_at(value + 4, 2), number_at(value + 6, 4)};
-    return (struct field){true, address, at + HEAD_LENGTH + SILENCE_LENGTH};
+    size_t ceiling = number_at(value + ADDRESS_LENGTH, length - ADDRESS_LENGTH);
+    return (struct field){true, address, ceiling, at + HEAD_LENGTH + length};
 }
 
 // "By cell, then ring number, then start."
@@ -74,7 +88,7 @@ static size_t read_book(struct book book, size_t *place)
     *place = 0;
     if (book.length > MOST_BOOK)
         return 5;
-    struct field last = {false, {0, 0, 0}, 0};
+    struct field last = {false, {0, 0, 0}, 0, 0};
     for (size_t at = 0; at < book.length; at = last.next) {
         struct field field = field_at(book, at);
         *place = at;
@@ -96,12 +110,13 @@ static void seek(struct book book, struct field *held, size_t at, struct address
         *held = field_at(book, held->next);
 }
 
-// Whether the book has the address. The caller asks for rising addresses and keeps the field held, so no field is read twice.
-static bool ask(struct book book, struct field *held, struct address address)
+// Whether the book hides a finding at the address: "only up to that distance". The caller asks for rising addresses and keeps the
+// field held, so no field is read twice.
+static bool ask(struct book book, struct field *held, struct address address, size_t distance)
 {
     if (held->there && is_below(held->address, address))
         seek(book, held, held->next, address);
-    return held->there && is_same(held->address, address);
+    return held->there && is_same(held->address, address) && distance <= held->ceiling;
 }
 
 #endif

@@ -230,7 +230,7 @@ struct rules_answer rules_report(uint32_t cell, uint16_t ring_number, const uint
     while (at.start + m <= n) {
         if (!sweep_window(&search, &at, &finding))
             continue;
-        if (ask(book, &held, (struct address){cell, ring_number, (uint32_t)finding.start}))
+        if (ask(book, &held, (struct address){cell, ring_number, (uint32_t)finding.start}, finding.distance))
             answer.hidden++;
         else
             put_finding(words, answer.found - answer.hidden, finding);

@@ -31,7 +31,8 @@ struct rules_answer rules_scan_closed(const uint8_t *ring, size_t m, const uint8
 struct rules_answer rules_survey_closed(const uint8_t *ring, size_t m, const uint8_t *line, size_t n, size_t k,
                                         uint32_t *words, size_t room);
 
-// The quick scan; each finding is looked up in the silence book before it is written.
+// The quick scan; each finding is looked up in the silence book before it is written. It is hidden up to the distance that its
+// silence gives.
 struct rules_answer rules_report(uint32_t cell, uint16_t ring_number, const uint8_t *ring, size_t m,
                                  const uint8_t *line, size_t n, size_t k, const uint8_t *book, size_t length,
                                  uint32_t *words, size_t room);

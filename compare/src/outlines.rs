@@ -6,8 +6,13 @@ use std::ptr;
 /// distance, and ties is how many rotations reach it.
 pub const FINDING_WORDS: usize = 4;
 
-/// Words of a silence, packed and unpacked, in this order: cell, ring number, start.
-pub const SILENCE_WORDS: usize = 3;
+/// Words of a silence, packed and unpacked, in this order: cell, ring number, start, ceiling. It hides the finding at that
+/// place of that cell and ring up to a distance of the ceiling.
+pub const SILENCE_WORDS: usize = 4;
+
+/// Bytes of a silence in a packed book. A book of silences without ceilings, of 13 bytes each, is still read: they unpack with
+/// the ceiling 0 and hide exact copies alone. A packed book has at most 1,000 silences; one of 13 bytes each may have 1,153.
+pub const SILENCE_BYTES: usize = 15;
 
 /// The struct that each call of the interface returns.
 #[repr(C)]
@@ -107,7 +112,7 @@ pub enum Refusal {
     Field = 6,
     Order = 7,
     WordsToPack = 8,
-    RingNumberToPack = 9,
+    NumberToPack = 9,
     RoomForOutput = 10,
     ProgramInput = 11,
     MarkInRing = 12,
@@ -123,7 +128,7 @@ impl Refusal {
         Refusal::Field,
         Refusal::Order,
         Refusal::WordsToPack,
-        Refusal::RingNumberToPack,
+        Refusal::NumberToPack,
         Refusal::RoomForOutput,
         Refusal::ProgramInput,
         Refusal::MarkInRing,
@@ -260,8 +265,8 @@ pub fn scan(search: Search, words: &mut [u32]) -> Result<Counts, Refused> {
     ask(Request::Scan(search, words), Empty::AsLent).result()
 }
 
-/// Writes the words of `survey` for the findings that the book does not hide. The words lent must hold as many findings as
-/// there all the same.
+/// Writes the words of `survey` for the findings that the book does not hide: those without a silence at their place, and
+/// those whose distance is above its ceiling. The words lent must hold as many findings as there all the same.
 pub fn report(
     (cell, ring_number): (u32, u16),
     search: Search,
@@ -296,7 +301,7 @@ pub fn report_closed(
     ask(Request::ReportClosed(cell, ring_number, search, book, join, words), Empty::AsLent).result()
 }
 
-/// Packs silences of `SILENCE_WORDS` words each.
+/// Packs silences of `SILENCE_WORDS` words each into `SILENCE_BYTES` bytes each.
 pub fn pack(words: &[u32], bytes: &mut [u8]) -> Result<Counts, Refused> {
     ask(Request::Pack(words, bytes), Empty::AsLent).result()
 }

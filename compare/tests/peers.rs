@@ -1,6 +1,7 @@
 //! Every peer, and the rules in C and in Rust, compared with the definitions on many rings. These cases have what no row of
 //! the benchmark has: rings of one edge, lines shorter than the ring, allowances up to m - 1, widths at a word's end,
 //! refusals, marks at every place.
+mod books;
 mod closed;
 mod common;
 mod marks;
@@ -42,15 +43,24 @@ fn check_rules(ring: &[u8], line: &[u8], k: usize, wanted: &[Finding], quick_loo
     }
 }
 
-/// A report with every second finding silenced, beside silences of other cells and rings.
+/// A report with every second finding named, beside silences of other cells and rings. Their ceilings: that of tag 21, the
+/// distance, one less, and one whose low byte is 0.
 fn check_reports(ring: &[u8], line: &[u8], k: usize, wanted: &[Finding], looks: usize) {
-    let mut book = [field(0, 2, 0), field(7, 1, 0)].concat();
-    let silenced = wanted.iter().step_by(2).take(990);
-    silenced.for_each(|finding| book.extend(field(7, 2, finding[0])));
-    book.extend(field(7, 3, 0));
-    let hidden = wanted.len().div_ceil(2).min(990);
-    let is_shown = |at: usize| at % 2 == 1 || at >= 2 * 990;
-    let shown: Vec<_> = (0..wanted.len()).filter(|&at| is_shown(at)).map(|at| wanted[at]).collect();
+    let mut book = [field(0, 2, 0, None), field(7, 1, 0, Some(9))].concat();
+    let mut shown = Vec::new();
+    for (at, finding) in wanted.iter().enumerate() {
+        let [start, _, distance, _] = *finding;
+        let (named, less) = (at % 2 == 0 && at < 2 * 990, distance.saturating_sub(1) as u16);
+        let ceiling = [None, Some(distance as u16), Some(less), Some(256)][at / 2 % 4];
+        if named {
+            book.extend(field(7, 2, start, ceiling));
+        }
+        if !named || distance > ceiling.map_or(0, u32::from) {
+            shown.push(*finding);
+        }
+    }
+    book.extend(field(7, 3, 0, Some(0)));
+    let hidden = wanted.len() - shown.len();
     for version in VERSIONS {
         let mut words = vec![UNWRITTEN; FINDING_WORDS * line.len() + 5];
         let question = Question { cell: 7, ring_number: 2, ring, line, k, book: &book };
@@ -157,16 +167,20 @@ fn check_refused((ring, line, k, room, book, refusal, place): RefusedRow) {
 #[test]
 fn refusals_are_the_same() {
     let long = vec![1; 65_537];
-    let book = [field(7, 2, 5), field(7, 2, 5)].concat();
-    let rows: [RefusedRow; 16] = [
+    let old = [field(7, 2, 5, None), field(7, 2, 5, None)].concat();
+    let book = [field(7, 2, 5, Some(1)), field(7, 2, 5, Some(2))].concat();
+    let rows: [RefusedRow; 19] = [
         (&[], &[1], 0, 9, &[], 1, 0),
         (&long[..257], &[1], 0, 9, &[], 1, 0),
         (&[1], &[1], 1, 9, &[], 2, 0),
         (&[1], &long, 0, 9, &[], 3, 0),
         (&[1], &[1, 1], 0, 2 * FINDING_WORDS - 1, &[], 4, 0),
-        (&[1], &[1], 0, 9, &long[..13_001], 5, 0),
-        (&[1], &[1], 0, 9, &book[..14], 6, 13),
-        (&[1, 2], &[1], 0, 9, &book, 7, 13),
+        (&[1], &[1], 0, 9, &long[..15_001], 5, 0),
+        (&[1], &[1], 0, 9, &long[..15_000], 6, 0),
+        (&[1], &[1], 0, 9, &old[..14], 6, 13),
+        (&[1, 2], &[1], 0, 9, &old, 7, 13),
+        (&[1], &[1], 0, 9, &book[..29], 6, 15),
+        (&[1, 2], &[1], 0, 9, &book, 7, 15),
         (&[1], &[1], 0, 9, &[0x22], 6, 0),
         (&[255], &[1], 0, 9, &[], 12, 0),
         (&[1, 255], &[1], 0, 9, &[], 12, 0),

@@ -1,14 +1,15 @@
 //! Every answer is compared before anything is timed.
 use super::contenders::{Call, Contender, Version};
-use super::inputs::Input;
+use super::inputs::{Input, FIELD_LENGTH};
 use crate::peers::{Answer, FINDING_WORDS};
 
 /// A word that no finding has: it shows where a contender wrote.
 const UNWRITTEN: u32 = u32::MAX;
 
-/// The findings that the book of an input does not hide, computed without a report.
+/// The findings that the book of an input does not hide, computed without a report. It hides every finding that it names.
 fn shown(findings: &[u32], book: &[u8]) -> Vec<u32> {
-    let starts: Vec<u32> = book.chunks(13).map(|f| u32::from_be_bytes([f[9], f[10], f[11], f[12]])).collect();
+    let fields = book.chunks(FIELD_LENGTH);
+    let starts: Vec<u32> = fields.map(|f| u32::from_be_bytes([f[9], f[10], f[11], f[12]])).collect();
     let kept = findings.chunks(FINDING_WORDS).filter(|finding| starts.binary_search(&finding[0]).is_err());
     kept.flatten().copied().collect()
 }

@@ -7,7 +7,7 @@ pub const CELL: u32 = 7;
 pub const RING_NUMBER: u16 = 2;
 pub const MOST_LINE: usize = 65_536;
 const COPIES: usize = 10;
-/// As many silences as a book holds.
+/// As many silences as can be packed.
 const SILENCES: usize = 1000;
 
 /// Which table an input belongs to.
@@ -41,7 +41,7 @@ pub struct Input {
     pub line: Vec<u8>,
     pub k: usize,
     /// A book of 1,000 silences for this cell and ring number; every second finding, at most 1,000 of them, is among
-    /// them.
+    /// them. Their ceiling is k, so each hides its finding.
     pub book: Vec<u8>,
 }
 
@@ -60,13 +60,17 @@ impl Input {
         let others: Vec<u32> = spread.filter(|start| !starts.contains(start)).take(SILENCES - starts.len()).collect();
         starts.extend(others);
         starts.sort_unstable();
-        self.book = starts.into_iter().flat_map(field).collect();
+        let ceiling = self.k as u16;
+        self.book = starts.into_iter().flat_map(|start| field(start, ceiling)).collect();
     }
 }
 
-/// "tag 21 hex, length 10, cell (4 bytes), ring number (2), start (4)."
-fn field(start: u32) -> Vec<u8> {
-    [&[0x21, 0, 10], &CELL.to_be_bytes()[..], &RING_NUMBER.to_be_bytes(), &start.to_be_bytes()].concat()
+/// "tag 22, length 12, the old ten bytes and a two-byte distance": cell (4 bytes), ring number (2), start (4), ceiling (2).
+pub const FIELD_LENGTH: usize = 15;
+
+fn field(start: u32, ceiling: u16) -> Vec<u8> {
+    let (cell, ring_number) = (CELL.to_be_bytes(), RING_NUMBER.to_be_bytes());
+    [&[0x22, 0, 12], &cell[..], &ring_number, &start.to_be_bytes(), &ceiling.to_be_bytes()].concat()
 }
 
 fn random_edges(numbers: &mut Numbers, length: usize, codes: usize) -> Vec<u8> {

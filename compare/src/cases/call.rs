@@ -1,7 +1,7 @@
 //! A call of the library with all it is given.
 
 use super::draw::Draw;
-use crate::second::book::Silence;
+use super::silences::{book_of, silences};
 use crate::second::line::Line;
 use crate::second::meaning::FINDING_WORDS;
 
@@ -89,34 +89,6 @@ pub fn closed_room(m: usize, n: usize) -> usize {
 /// The bytes of the join area that a closed search of a line not shorter than the ring requires.
 pub fn join_bytes(m: usize) -> usize {
     (2 * m).saturating_sub(2)
-}
-
-/// The book of these silences in rising order, each once.
-pub fn book_of(mut silences: Vec<Silence>) -> Vec<u8> {
-    silences.sort();
-    silences.dedup();
-    silences.iter().flat_map(Silence::field).collect()
-}
-
-/// Silences about a cell and a ring: most name them, the others lie one beside them or at zero.
-pub fn silences(draw: &mut Draw, cell: u32, ring_number: u16, starts: usize, count: usize) -> Vec<Silence> {
-    let one = |draw: &mut Draw| {
-        let beside = draw.one(&[1, u32::MAX]);
-        let other_cell = draw.one(&[cell.wrapping_add(beside), 0]);
-        let other_ring = draw.one(&[ring_number.wrapping_add(beside as u16), 0]);
-        let cell = if draw.chance(5) { other_cell } else { cell };
-        let ring_number = if draw.chance(5) { other_ring } else { ring_number };
-        let start = if draw.chance(12) { draw.number() as u32 } else { draw.below(starts.max(1) + 1) as u32 };
-        Silence { cell, ring_number, start }
-    };
-    (0..count).map(|_| one(draw)).collect()
-}
-
-/// Rising records as words.
-pub fn rising_words(mut records: Vec<Silence>) -> Vec<u32> {
-    records.sort();
-    records.dedup();
-    records.iter().flat_map(Silence::words).collect()
 }
 
 /// The cell and the ring number of a report.

@@ -1,10 +1,11 @@
 //! Closed lines: the open cases with their line closed, rows counted by hand, copies across the seam, every small line.
 
-use super::call::{book_of, cell_and_ring, join_bytes, silences, Call, Search};
+use super::call::{cell_and_ring, join_bytes, Call, Search};
 use super::draw::{Draw, CODES};
 use super::mark_places::{small_lines, small_rings, small_search};
 use super::marks::put;
 use super::searches::{repeated, ring_and_line, ABOUT_WORDS};
+use super::silences::{any_ceiling, book_of, silences};
 use crate::second::book::{self, Silence};
 use crate::second::by_hand::{edges, ByHand, BY_HAND};
 use crate::second::meaning::MARK;
@@ -59,7 +60,9 @@ pub fn in_turn_naming(index: u64, draw: &mut Draw, search: Search, places: &[usi
             let count = draw.one(&[0, 1, 3, 10]);
             let mut named = silences(draw, cell, ring_number, search.line.len(), count);
             if draw.chance(2) {
-                named.extend(places.iter().map(|&place| Silence { cell, ring_number, start: place as u32 }));
+                let silence =
+                    |&place: &usize| Silence { cell, ring_number, start: place as u32, ceiling: any_ceiling(draw) };
+                named.extend(places.iter().map(silence));
             }
             Call::Report { cell, ring_number, search, book: book_of(named) }
         }

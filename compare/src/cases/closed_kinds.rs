@@ -2,7 +2,7 @@
 
 use super::kinds::kind;
 use super::{books, Call, Draw, Kind, Make};
-use super::{bounds, closed, closed_faults, closed_limits, closed_places, marks, searches, ties};
+use super::{bounds, ceilings, closed, closed_faults, closed_limits, closed_places, marks, searches, ties};
 use crate::second::by_hand;
 use closed::close;
 
@@ -35,6 +35,7 @@ pub static CLOSED: &[Kind] = &[
     kind("closed: silences at each place", closed_places::SILENCED, Make::Call(closed_places::silenced)),
     kind("closed: silences that hide and that do not", 3_000, Make::Call(hiding)),
     kind("closed: silences that name windows with marks", 1_500, Make::Call(hiding_nothing)),
+    kind("closed: silenced copies that an edit makes worse", 600, Make::Two(ceilings::closed_made_worse)),
     kind("closed: null pointers for empty slices", 20 * closed_places::NULLS, Make::NullCall(closed_places::nulls)),
     kind(LONG, 20, Make::Three(closed_limits::long)),
 ];

@@ -1,11 +1,12 @@
 //! Limits of the closed calls: lengths, room and join area; the longest lines; long rings and lines.
 
-use super::call::{book_of, closed_room, join_bytes, Call, Search};
+use super::call::{closed_room, join_bytes, Call, Search};
 use super::closed::{closed, crossing, in_turn_naming, join_area, plant};
 use super::draw::{Draw, CODES};
 use super::long;
 use super::marks::put;
 use super::searches::{repeated, ring_and_line};
+use super::silences::{any_ceiling, book_of, ceiling_about};
 use crate::second::book::{self, Silence};
 use crate::second::refusals::{LONGEST_LINE, LONGEST_RING};
 
@@ -61,8 +62,13 @@ pub fn longest(index: u64, draw: &mut Draw) -> [Call; 3] {
         put(&mut line, [n - m / 4 - 2, 40_000]);
     }
     let search = Search::new(ring, line, allowance).closed(join_area(draw, &codes, join_bytes(m)));
-    let silence = |&start: &usize| Silence { cell: 7, ring_number: 2, start: start as u32 };
-    let book = book_of(starts.iter().map(silence).collect());
+    let silence = |start: usize| Silence {
+        cell: 7,
+        ring_number: 2,
+        start: start as u32,
+        ceiling: ceiling_about(draw, allowance),
+    };
+    let book = book_of(starts.map(silence).to_vec());
     three(search, (7, 2), book)
 }
 
@@ -77,7 +83,7 @@ pub fn long(index: u64, draw: &mut Draw) -> [Call; 3] {
         let (start, edits) = (crossing(draw, m, n), draw.below(search.allowance + 2));
         plant(draw, &search.ring, &mut search.line, start, edits);
         if draw.chance(2) {
-            named.push(Silence { cell, ring_number, start: start as u32 });
+            named.push(Silence { cell, ring_number, start: start as u32, ceiling: any_ceiling(draw) });
         }
     }
     let search = closed(draw, search);

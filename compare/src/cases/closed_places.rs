@@ -1,9 +1,10 @@
 //! Closed lines with each place in turn marked or silenced, and join areas of each length.
 
-use super::call::{book_of, join_bytes, Call, Search};
+use super::call::{join_bytes, Call, Search};
 use super::closed::{closed, in_turn_naming, join_area};
 use super::draw::Draw;
 use super::searches::ring_and_line;
+use super::silences::{any_ceiling, book_of};
 use crate::second::book::Silence;
 use crate::second::meaning::MARK;
 
@@ -42,13 +43,14 @@ pub fn marked(index: u64, draw: &mut Draw) -> Call {
     in_turn_naming(index, draw, search, &[start])
 }
 
-/// Every place is a finding, and the book names one place, or all but one. Places from n on name nothing.
+/// Every place is an exact copy, which each silence of it hides. The book names one place, or all but one. Places from n on
+/// name nothing.
 pub fn silenced(index: u64, draw: &mut Draw) -> Call {
     let (m, n, place) = lengths_and_place(index / 2 % PLACES);
     let past = draw.below(m);
     let place = if place == n { n + past } else { place };
     let named = |start: &usize| if index % 2 == 0 { *start == place } else { *start != place };
-    let silence = |start| Silence { cell: 7, ring_number: 2, start: start as u32 };
+    let silence = |start| Silence { cell: 7, ring_number: 2, start: start as u32, ceiling: any_ceiling(draw) };
     let book = book_of((0..n + m).filter(named).map(silence).collect());
     let allowance = draw.allowance(m);
     let search = closed(draw, Search::new(vec![9; m], vec![9; n], allowance));
@@ -100,7 +102,7 @@ pub fn nulls(index: u64, draw: &mut Draw) -> Call {
     let allowance = draw.below(m);
     let mut search = Search::new(ring, line, allowance).closed(join);
     search.room = full(2, search.room.max(1));
-    let book = Silence { cell: 7, ring_number: 2, start: n as u32 - 1 }.field();
+    let book = Silence { cell: 7, ring_number: 2, start: n as u32 - 1, ceiling: any_ceiling(draw) }.field();
     match which {
         0 => Call::Survey(search),
         1 => Call::Scan(search),

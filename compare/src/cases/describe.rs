@@ -43,7 +43,11 @@ impl Display for Case {
         match self {
             Case::Call(call, placement) => write!(f, "{call} placed {placement:?}"),
             Case::Three(calls, placement) => write!(f, "survey, scan, {} placed {placement:?}", calls[2]),
+            Case::Two([first, second], bond, placement) => {
+                write!(f, "{first} and {second}: {bond:?}, placed {placement:?}")
+            }
             Case::RoundTrip(given) => write!(f, "round trip {}", words(given)),
+            Case::BookTrip(book) => write!(f, "round trip of the book {}", hex(book)),
             Case::Input(input) => write!(f, "input {} {:?}", hex(&input.bytes), input.manner),
             Case::Sample(_, index) => write!(f, "sample {index}"),
         }

@@ -1,10 +1,11 @@
 //! Every refusal alone and every two at once, for each call.
 
-use super::call::{book_of, cell_and_ring, rising_words, room, silences, Call, Search};
+use super::call::{cell_and_ring, room, Call, Search};
 use super::draw::Draw;
 use super::marks::mark_ring;
 use super::searches::ring_and_line;
-use crate::second::book::{FIELD, SILENCE_WORDS};
+use super::silences::{rising, rising_words, silences};
+use crate::second::book::{self, Silence, FIELD, OLD_FIELD, SILENCE_WORDS};
 use crate::second::meaning::FINDING_WORDS;
 
 const OF_SEARCH: [u32; 5] = [1, 12, 2, 3, 4];
@@ -43,42 +44,54 @@ pub fn faulty_search(draw: &mut Draw, faults: [u32; 2]) -> Search {
     search
 }
 
-/// A field that is not 13 bytes beginning 21 00 0A.
-fn spoil_field(draw: &mut Draw, book: &mut Vec<u8>) {
-    let field = FIELD * draw.below(book.len() / FIELD);
-    match draw.below(5) {
-        0 => book[field] ^= 1 << draw.below(8),
-        1 => book[field + 1] = draw.between(1, 255) as u8,
-        2 => book[field + 2] = draw.one(&[0, 9, 11, 10 + 13, 255]),
-        3 => book.truncate(field + draw.between(1, FIELD - 1)),
-        _ => drop(book.remove(field + draw.below(FIELD))),
+/// A field that is neither 13 bytes beginning 21 00 0A nor 15 bytes beginning 22 00 0C.
+fn spoil_field(draw: &mut Draw, fields: &mut Vec<Vec<u8>>) {
+    let at = draw.below(fields.len());
+    let field = &mut fields[at];
+    let length = field.len();
+    match draw.below(7) {
+        0 => field[0] ^= 1 << draw.below(8),
+        1 => field[1] = draw.between(1, 255) as u8,
+        2 => field[2] = draw.one(&[0, 9, 11, 13, 10 + 13, 255]),
+        // The other tag with this tag's length, and this tag with the other's.
+        3 => field[0] ^= 0x21 ^ 0x22,
+        4 => field[2] ^= 10 ^ 12,
+        5 => {
+            field.truncate(draw.between(1, length - 1));
+            fields.truncate(at + 1);
+        }
+        _ => drop(field.remove(draw.below(length))),
     }
 }
 
-/// Two neighbours that do not rise: equal ones, or one of them the wrong way round.
-fn spoil_order(draw: &mut Draw, book: &mut [u8]) {
-    let fields = book.len() / FIELD;
-    let later = FIELD * draw.between(1, fields - 1);
-    if draw.chance(2) {
-        book.copy_within(later - FIELD..later, later);
+/// Two neighbours that do not rise: the wrong way round, or at one address, equal or of another tag or ceiling.
+fn spoil_order(draw: &mut Draw, records: &mut [Silence]) {
+    let later = draw.between(1, records.len() - 1);
+    let before = records[later - 1];
+    let ceiling = before.ceiling();
+    let (higher, lower) = (ceiling.saturating_add(1), ceiling.saturating_sub(1));
+    let other = draw.one(&[before.ceiling, None, Some(ceiling), Some(higher), Some(lower), Some(65_535)]);
+    if draw.chance(3) {
+        records.swap(later - 1, later);
     } else {
-        let (front, behind) = book.split_at_mut(later);
-        front[later - FIELD..].swap_with_slice(&mut behind[..FIELD]);
+        records[later] = Silence { ceiling: other, ..before };
     }
 }
 
 /// A book of several records with the faults 5, 6 and 7 among those named.
 pub fn faulty_book(draw: &mut Draw, faults: [u32; 2], cell: u32, ring_number: u16) -> Vec<u8> {
-    let count = if faults.contains(&5) { 1_200 } else { draw.between(8, 20) };
-    let mut book = book_of(silences(draw, cell, ring_number, 100_000, count));
+    let count = if faults.contains(&5) { 1_300 } else { draw.between(8, 20) };
+    let mut records = rising(silences(draw, cell, ring_number, 100_000, count));
     if faults.contains(&7) {
-        spoil_order(draw, &mut book);
+        spoil_order(draw, &mut records);
     }
+    let mut fields: Vec<Vec<u8>> = records.iter().map(Silence::field).collect();
     if faults.contains(&6) {
-        spoil_field(draw, &mut book);
+        spoil_field(draw, &mut fields);
     }
+    let mut book = fields.concat();
     if faults.contains(&5) {
-        book.resize(draw.one(&[13_001, 13_012, 13_013, 13_026]), 0);
+        book.resize(draw.one(&[15_001, 15_002, 15_012, 15_013, 15_015, 15_030]), 0);
     }
     book
 }
@@ -112,10 +125,24 @@ pub fn of_report_without_start(index: u64, draw: &mut Draw) -> Call {
 pub fn of_unpack(index: u64, draw: &mut Draw) -> Call {
     let faults = pair(&OF_UNPACK, index);
     let book = faulty_book(draw, faults, 7, 2);
-    let needed = SILENCE_WORDS * book.len().div_ceil(FIELD);
+    let records = book::read(&book).map_or(book.len().div_ceil(OLD_FIELD), |records| records.len());
+    let needed = SILENCE_WORDS * records;
     let one_short = needed - SILENCE_WORDS;
     let room = if faults.contains(&10) { draw.one(&[needed - 1, one_short, 2, 0]) } else { needed };
     Call::Unpack { book, room }
+}
+
+/// Changes words that rise so that one record is not above the one before it: it has the same address or a lower start, and
+/// any ceiling.
+fn spoil_word_order(draw: &mut Draw, words: &mut [u32]) {
+    let later = SILENCE_WORDS * draw.below(words.len() / SILENCE_WORDS);
+    if later == 0 {
+        return;
+    }
+    words.copy_within(later - SILENCE_WORDS..later, later);
+    words[later + 2] -= draw.below(2).min(words[later + 2] as usize) as u32;
+    let ceiling = words[later + 3];
+    words[later + 3] = draw.one(&[ceiling, ceiling + 1, ceiling.saturating_sub(1), 0, 65_535]).min(65_535);
 }
 
 pub fn of_pack(index: u64, draw: &mut Draw) -> Call {
@@ -123,20 +150,21 @@ pub fn of_pack(index: u64, draw: &mut Draw) -> Call {
     let count = draw.between(5, 12);
     let mut words = rising_words(silences(draw, 7, 2, 100_000, count));
     let records = words.len() / SILENCE_WORDS;
-    let later = SILENCE_WORDS * draw.below(records);
-    if faults.contains(&7) && later > 0 {
-        words.copy_within(later - SILENCE_WORDS..later, later);
-        words[later + 2] -= draw.below(2).min(words[later + 2] as usize) as u32;
+    if faults.contains(&7) {
+        spoil_word_order(draw, &mut words);
     }
     if faults.contains(&9) {
+        // The ring number, the ceiling, or both.
         let record = SILENCE_WORDS * draw.below(records);
-        words[record + 1] = draw.one(&[65_536, 65_537, 65_538, 131_072 + 2, u32::MAX]);
+        for &place in draw.one(&[&[1][..], &[3], &[1, 3]]) {
+            words[record + place] = draw.one(&[65_536, 65_537, 65_538, 131_072 + 2, u32::MAX]);
+        }
     }
     let needed = FIELD * records;
     if faults.contains(&8) {
-        let length = draw.one(&[words.len() - 1, words.len() - 2, 3_001, 3_003, 4_000]);
-        words.resize(length, 5);
+        let length = words.len();
+        words.resize(draw.one(&[length - 1, length - 2, length - 3, length + 1, 4_001, 4_004, 5_000]), 5);
     }
-    let room = if faults.contains(&10) { draw.one(&[needed - 1, needed - FIELD, 12, 0]) } else { FIELD * words.len() };
+    let room = if faults.contains(&10) { draw.one(&[needed - 1, needed - FIELD, 14, 0]) } else { FIELD * words.len() };
     Call::Pack { words, room }
 }

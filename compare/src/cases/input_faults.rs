@@ -1,6 +1,6 @@
 //! Inputs with a fault: in each of the first five fields, in the book, and two refusals at once.
 
-use super::call::{book_of, silences};
+use super::books::mixed_book;
 use super::draw::Draw;
 use super::faults::{faulty_book, pair, OF_BOOK};
 use super::input::{Fields, Input, Manner};
@@ -45,15 +45,14 @@ pub fn field_faults(index: u64, draw: &mut Draw) -> Input {
     Input { bytes, manner: Manner::Whole }
 }
 
-/// Good books up to 1,000 records, and damaged ones.
+/// Good books of both tags up to the longest, and damaged ones.
 pub fn books(index: u64, draw: &mut Draw) -> Input {
     let mut fields = right_fields(draw);
     fields.book = match index % 4 {
         0 => {
-            let count = draw.one(&[1, 2, 10, 100, 900, 1_000]);
-            let mut book = book_of(silences(draw, 7, 2, 1 << 20, 2 * count));
-            book.truncate(13 * count);
-            book
+            let records = [(0, 1), (1, 0), (1, 1), (50, 50), (0, 900), (0, 1_000), (1_153, 0), (15, 987)];
+            let (old, new) = draw.one(&records);
+            mixed_book(draw, old, new)
         }
         _ => faulty_book(draw, pair(&OF_BOOK, index / 4), 7, 2),
     };

@@ -1,10 +1,11 @@
 //! Right inputs, long ones, missing ones, and ones that come in pieces.
 
-use super::call::{book_of, silences};
 use super::draw::{Draw, CODES};
 use super::input::{asked, Asked, Fields, Input, Manner};
 use super::searches::{plant, ring_and_line};
-use crate::second::samples::EXAMPLE_INPUT;
+use super::silences::{book_of, silences};
+use crate::second::book::FIELD;
+use crate::second::samples::{example_of_tag_22, EXAMPLE_INPUT};
 
 /// A right input. Most are short, because each costs a process.
 pub fn right_fields(draw: &mut Draw) -> Fields {
@@ -60,8 +61,8 @@ pub fn long(index: u64, draw: &mut Draw) -> Input {
     let missing = total - fields.bytes().len();
     match shape {
         0 => fields.set_value(3, vec![1; (3 + missing).min(65_535)]),
-        1 => fields.book = book_of(silences(draw, 7, 2, 1 << 30, missing / 13)),
-        2 => fields.book = vec![0x21; missing],
+        1 => fields.book = book_of(silences(draw, 7, 2, 1 << 30, missing / FIELD)),
+        2 => fields.book = vec![draw.one(&[0x21, 0x22]); missing],
         _ => fields.five[1].tag = 0,
     }
     let mut bytes = fields.bytes();
@@ -95,13 +96,25 @@ pub fn none(index: u64, _: &mut Draw) -> Input {
 
 const VALUES: u64 = 8;
 const EXAMPLE: u64 = EXAMPLE_INPUT.len() as u64;
-/// Document 01's example: each byte changed to several values, cut at each length, and whole.
-pub const EXAMPLES: u64 = EXAMPLE * VALUES + EXAMPLE + 1;
+/// The same example with its silence of tag 22, which has two bytes more.
+const EXAMPLE_22: u64 = EXAMPLE + 2;
+
+/// An example with each byte changed to several values, cut at each length, and whole.
+const fn changed_and_cut(length: u64) -> u64 {
+    length * VALUES + length + 1
+}
+
+/// Document 01's example under both tags.
+pub const EXAMPLES: u64 = changed_and_cut(EXAMPLE) + changed_and_cut(EXAMPLE_22);
 
 pub fn example(index: u64, draw: &mut Draw) -> Input {
-    let mut bytes = EXAMPLE_INPUT.to_vec();
-    if index >= EXAMPLE * VALUES {
-        bytes.truncate((index - EXAMPLE * VALUES) as usize);
+    let (mut bytes, index) = match index.checked_sub(changed_and_cut(EXAMPLE)) {
+        None => (EXAMPLE_INPUT.to_vec(), index),
+        Some(index) => (example_of_tag_22(), index),
+    };
+    let changed = bytes.len() as u64 * VALUES;
+    if index >= changed {
+        bytes.truncate((index - changed) as usize);
     } else {
         let place = (index / VALUES) as usize;
         let (before, any) = (bytes[place], draw.below(256) as u8);

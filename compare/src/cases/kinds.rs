@@ -3,10 +3,11 @@
 use super::call::{in_turn, Call, Search};
 use super::draw::Draw;
 use super::{
-    books, bounds, closed_kinds, closed_limits, faults, input_faults, inputs, long, mark_places, marks, nulls, packing,
+    books, bounds, ceilings, closed_kinds, closed_limits, faults, input_faults, inputs, long, mark_places, marks, nulls,
 };
-use super::{searches, ties, Kind, Make};
-use crate::second::samples::{self, Sample, SAMPLES, SILENCED, THE_SILENCE};
+use super::{packing, searches, ties, Kind, Make};
+use crate::second::ceilings_by_hand;
+use crate::second::samples::{self, silenced, Sample, SAMPLES, SILENCED};
 
 pub static CALLS: &[Kind] = &[
     kind("samples printed in document 01, second program", samples::COUNT as u64, Make::Sample(samples::holds)),
@@ -41,11 +42,19 @@ pub static CALLS: &[Kind] = &[
     kind("books damaged at each byte", books::DAMAGED, Make::Call(books::damaged)),
     kind("books cut at each length", books::CUT, Make::Call(books::cut)),
     kind("whole books", 2_000, Make::Call(books::whole)),
-    kind("silences that hide and that do not", 10_000, Make::Call(books::hiding)),
+    kind("silences that hide and that do not", 8_000, Make::Call(books::hiding)),
     kind("silences that name windows with marks", 3_000, Make::Call(books::hiding_nothing)),
+    kind("ceilings by hand, second program", ceilings_by_hand::COUNT as u64, Make::Sample(ceilings_by_hand::holds)),
+    kind("ceilings by hand, library", ceilings::LIBRARY_BY_HAND, Make::Call(ceilings::by_hand)),
+    kind("ceilings about each distance", ceilings::EACH_DISTANCE, Make::Call(ceilings::each_distance)),
+    kind("one address twice", ceilings::ONE_ADDRESS, Make::Call(ceilings::one_address)),
+    kind("fields of each tag and length", ceilings::HEADERS, Make::Call(ceilings::headers)),
+    kind("silences under either tag", 600, Make::Two(ceilings::either_tag)),
+    kind("silenced copies that an edit makes worse", 600, Make::Two(ceilings::made_worse)),
     kind("words to pack", 6_000, Make::Call(packing::packing)),
     kind("null pointers for empty slices", 30 * nulls::CHOICES, Make::NullCall(nulls::each_choice)),
-    kind("round trips of pack and unpack", 2_000, Make::RoundTrip(packing::round_trip)),
+    kind("round trips of pack and unpack", 1_500, Make::RoundTrip(packing::round_trip)),
+    kind("round trips of whole books", 500, Make::BookTrip(ceilings::book_trip)),
     kind("long rings and lines", 200, Make::Three(long::long)),
 ];
 
@@ -76,9 +85,9 @@ pub const fn kind(name: &'static str, count: u64, make: Make) -> Kind {
 }
 
 const SEARCHES: u64 = 3 * SAMPLES.len() as u64;
-const LIBRARY_SAMPLES: u64 = SEARCHES + SILENCED.len() as u64;
+const LIBRARY_SAMPLES: u64 = SEARCHES + SILENCED as u64;
 
-/// P1 to P12 as survey, scan and report; then P2 with its silence.
+/// P1 to P12 as survey, scan and report; then P2 with its silence, under each tag.
 fn sample(index: u64, draw: &mut Draw) -> Call {
     let search = |sample: &Sample| {
         let (ring, line) = (sample.ring.as_bytes().to_vec(), sample.line.as_bytes().to_vec());
@@ -87,6 +96,6 @@ fn sample(index: u64, draw: &mut Draw) -> Call {
     if index < SEARCHES {
         return in_turn(index, draw, search(&SAMPLES[(index / 3) as usize]));
     }
-    let (cell, _, _) = SILENCED[(index - SEARCHES) as usize];
-    Call::Report { cell, ring_number: 2, search: search(&SAMPLES[1]), book: THE_SILENCE.field() }
+    let (book, cell) = silenced((index - SEARCHES) as usize);
+    Call::Report { cell, ring_number: 2, search: search(&SAMPLES[1]), book }
 }

@@ -13,10 +13,11 @@
 //! The second program's time sets the shares: on average it takes some 60 ms for a search, and 0.8 s for the longest with
 //! every window a candidate.
 
-use super::call::{book_of, cell_and_ring, silences, Call, Search};
+use super::call::{cell_and_ring, Call, Search};
 use super::draw::{Draw, CODES};
 use super::marks::{mark_seams, strew};
 use super::searches::{repeated, ABOUT_WORDS};
+use super::silences::{book_of, ceiling_about, silences};
 use crate::second::book::Silence;
 use crate::second::meaning::nearest;
 use crate::second::refusals::{LONGEST_LINE, LONGEST_RING};
@@ -144,13 +145,17 @@ impl Copies<'_> {
     }
 }
 
-/// A book of some of the starts at which copies were planted, of the starts beside them, and of strays.
-fn book(draw: &mut Draw, cell: u32, ring_number: u16, planted: &[usize], n: usize) -> Vec<u8> {
+/// A book of some of the starts at which copies were planted, of the starts beside them, and of strays. A copy has up to k + 1
+/// edits, and its ceiling lies about one of these distances.
+fn book(draw: &mut Draw, (cell, ring_number): (u32, u16), planted: &[usize], k: usize, n: usize) -> Vec<u8> {
     let mut named = Vec::new();
     if !planted.is_empty() {
         for _ in 0..draw.one(&[0, 3, 30, 300]) {
             let start = draw.one(planted) + draw.one(&[0, 0, 0, 1]);
-            named.push(Silence { cell, ring_number, start: start as u32 });
+            let any = draw.below(k + 1);
+            let distance = draw.one(&[0, k, k, any]);
+            let ceiling = ceiling_about(draw, distance);
+            named.push(Silence { cell, ring_number, start: start as u32, ceiling });
         }
     }
     let strays = draw.one(&[0, 1, 10, 100]);
@@ -172,7 +177,7 @@ pub fn long(index: u64, draw: &mut Draw) -> [Call; 3] {
     let foreign = any.iter().copied().find(|code| !ring.contains(code)).unwrap_or(any[0]);
     let planted = Copies { ring: &ring, allowance, foreign, marked }.plant_all(draw, &mut line);
     let (cell, ring_number) = cell_and_ring(draw);
-    let book = book(draw, cell, ring_number, &planted, n);
+    let book = book(draw, (cell, ring_number), &planted, allowance, n);
     let mut search = Search::new(ring, line, allowance);
     search.room += draw.one(&[0, 0, 1, 9]);
     [Call::Survey(search.clone()), Call::Scan(search.clone()), Call::Report { cell, ring_number, search, book }]

@@ -3,6 +3,7 @@
 mod books;
 mod bounds;
 pub mod call;
+mod ceilings;
 mod closed;
 mod closed_faults;
 mod closed_kinds;
@@ -21,6 +22,7 @@ mod marks;
 mod nulls;
 mod packing;
 mod searches;
+mod silences;
 mod ties;
 
 use crate::memory::Placement;
@@ -28,12 +30,25 @@ pub use call::Call;
 use draw::Draw;
 pub use input::Input;
 
+/// What must hold between the answers of two reports.
+#[derive(Clone, Copy, Debug, PartialEq, Eq)]
+pub enum Bond {
+    /// The same answer and the same words.
+    Same,
+    /// The first hides the finding at this start, the second shows it.
+    ShownAgain(u32),
+}
+
 pub enum Case {
     Call(Call, Placement),
     /// Survey, scan and report of one search.
     Three([Call; 3], Placement),
+    /// Two reports, and what must hold between their answers.
+    Two([Call; 2], Bond, Placement),
     /// Words packed by the library and unpacked by it again.
     RoundTrip(Vec<u32>),
+    /// A good book unpacked by the library, packed and unpacked again.
+    BookTrip(Vec<u8>),
     Input(Input),
     /// Whether the second program gives what document 01 prints, or what was counted by hand; and the sample's number.
     Sample(fn(usize) -> bool, usize),
@@ -45,7 +60,9 @@ impl Case {
         match self {
             Case::Call(..) => (1, 0),
             Case::Three(..) => (3, 0),
+            Case::Two(..) => (2, 0),
             Case::RoundTrip(_) => (2, 0),
+            Case::BookTrip(_) => (3, 0),
             Case::Input(_) => (0, 1),
             Case::Sample(..) => (0, 0),
         }
@@ -56,7 +73,9 @@ enum Make {
     Call(fn(u64, &mut Draw) -> Call),
     NullCall(fn(u64, &mut Draw) -> Call),
     Three(fn(u64, &mut Draw) -> [Call; 3]),
+    Two(fn(u64, &mut Draw) -> ([Call; 2], Bond)),
     RoundTrip(fn(u64, &mut Draw) -> Vec<u32>),
+    BookTrip(fn(u64, &mut Draw) -> Vec<u8>),
     Input(fn(u64, &mut Draw) -> Input),
     Sample(fn(usize) -> bool),
 }
@@ -119,8 +138,14 @@ impl Kind {
                 let placement = placement(&mut draw);
                 Case::Three(make(index, &mut draw), placement)
             }
+            Make::Two(make) => {
+                let placement = placement(&mut draw);
+                let (calls, bond) = make(index, &mut draw);
+                Case::Two(calls, bond, placement)
+            }
             Make::NullCall(make) => Case::Call(make(index, &mut draw), Placement::Null),
             Make::RoundTrip(make) => Case::RoundTrip(make(index, &mut draw)),
+            Make::BookTrip(make) => Case::BookTrip(make(index, &mut draw)),
             Make::Input(make) => Case::Input(make(index, &mut draw)),
             Make::Sample(holds) => Case::Sample(holds, index as usize),
         }

@@ -2,6 +2,7 @@
 
 use super::call::{room, Call, Search};
 use super::draw::Draw;
+use super::silences::any_ceiling;
 use crate::second::book::{Silence, FIELD, SILENCE_WORDS};
 
 /// Slices of survey, scan, report, pack and unpack.
@@ -22,7 +23,7 @@ pub fn each_choice(index: u64, draw: &mut Draw) -> Call {
     let (ring, line) = (vec![4; full(0, m)], vec![4; full(1, n)]);
     let needed = room(ring.len(), line.len()).max(1);
     let search = Search { room: full(2, needed), ring, line, allowance: draw.below(m), join: None };
-    let book = Silence { cell: 7, ring_number: 2, start: 1 }.field();
+    let book = Silence { cell: 7, ring_number: 2, start: 1, ceiling: any_ceiling(draw) }.field();
     match which {
         0 => Call::Survey(search),
         1 => Call::Scan(search),

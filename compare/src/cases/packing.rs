@@ -1,8 +1,9 @@
-//! Words to pack: rising and not, with ring numbers too great, with short rooms; and round trips.
+//! Words to pack: rising and not, with ring numbers and ceilings too great, with short rooms; and round trips.
 
-use super::call::{rising_words, silences, Call};
+use super::call::Call;
 use super::draw::Draw;
-use crate::second::book::{FIELD, SILENCE_WORDS};
+use super::silences::{rising_words, silences};
+use crate::second::book::{Silence, FIELD, SILENCE_WORDS};
 
 /// Small numbers, so that equal and falling neighbours come up in each word of a record.
 fn any_order(draw: &mut Draw, count: usize) -> Vec<u32> {
@@ -22,11 +23,11 @@ pub fn packing(index: u64, draw: &mut Draw) -> Call {
         2 => any_order(draw, few % 8),
         _ => {
             let count = draw.one(&[998, 999, 1_000, 1_001]);
-            (0..count).flat_map(|start| [9, 9, start]).collect()
+            (0..count).flat_map(|start| [9, 9, start, 65_535 - start]).collect()
         }
     };
     if draw.chance(6) {
-        words.push(1);
+        words.extend(vec![1; draw.between(1, 3)]);
     }
     if draw.chance(6) && words.len() > 1 {
         let place = draw.below(words.len());
@@ -40,10 +41,10 @@ pub fn packing(index: u64, draw: &mut Draw) -> Call {
 /// Rising words over the whole range of each number.
 pub fn round_trip(_: u64, draw: &mut Draw) -> Vec<u32> {
     let count = draw.one(&[0, 1, 2, 10, 100]);
-    let mut records: Vec<[u32; SILENCE_WORDS]> = (0..count)
-        .map(|_| [draw.number() as u32 >> draw.below(32), draw.below(65_536) as u32, draw.number() as u32])
-        .collect();
-    records.sort();
-    records.dedup();
-    records.concat()
+    let record = |draw: &mut Draw| {
+        let (cell, start) = (draw.number() as u32 >> draw.below(32), draw.number() as u32);
+        let [ring_number, ceiling] = [draw.below(65_536), draw.below(65_536) >> draw.below(16)].map(|any| any as u16);
+        Silence { cell, ring_number, start, ceiling: Some(ceiling) }
+    };
+    rising_words((0..count).map(|_| record(draw)).collect())
 }

@@ -4,8 +4,9 @@ use super::compared::{Compared, Left, Lent, Side};
 use crate::cases::call::{Call, Search};
 use crate::memory::{bytes_of, Area, Placement, WORD};
 use crate::outlines::{self, ask, Answer, Empty, Request};
-use crate::second::book::SILENCE_WORDS;
+use crate::second::book::{FIELD, SILENCE_WORDS};
 use crate::second::calls::{self, Answered, Outcome};
+use crate::second::ceilings::Ceilings;
 use crate::second::meaning::{FINDING_WORDS, MARK};
 use crate::second::refusals::LONGEST_LINE;
 use crate::second::rules::Marks;
@@ -13,7 +14,7 @@ use crate::second::seam::Seam;
 
 // The numbers that outlines.rs names to its users are those of the second program.
 const _: () = assert!(outlines::FINDING_WORDS == FINDING_WORDS && outlines::SILENCE_WORDS == SILENCE_WORDS);
-const _: () = assert!(outlines::MARK == MARK);
+const _: () = assert!(outlines::MARK == MARK && outlines::SILENCE_BYTES == FIELD);
 
 /// More than any ring, line and book of a case has, refused ones included.
 const MOST_RING: usize = 4_096;
@@ -159,7 +160,7 @@ fn answer_of<T>(outcome: &Outcome<T>) -> Answer {
 }
 
 /// The second program's answer, the bytes that it writes at the beginning of the lent area and of the join area, and what it
-/// met of marks and at the seam.
+/// met of marks, at the seam and of ceilings.
 #[derive(Default)]
 struct Second {
     answer: Answer,
@@ -167,14 +168,15 @@ struct Second {
     joined: Vec<u8>,
     marks: Marks,
     seam: Seam,
+    ceilings: Ceilings,
 }
 
 fn of_outcome<T>(outcome: Outcome<T>, bytes: impl Fn(Vec<T>) -> Vec<u8>) -> Second {
     let answer = answer_of(&outcome);
-    let Ok(Answered { written, joined, marks, seam, .. }) = outcome else {
+    let Ok(Answered { written, joined, marks, seam, ceilings, .. }) = outcome else {
         return Second { answer, ..Second::default() };
     };
-    Second { answer, written: bytes(written), joined, marks, seam }
+    Second { answer, written: bytes(written), joined, marks, seam, ceilings }
 }
 
 fn of_words(outcome: Outcome<u32>) -> Second {
@@ -204,14 +206,14 @@ fn ask_second(call: &Call, search: Option<&calls::Search>) -> Second {
 
 fn compare_with(search: Option<&calls::Search>, call: &Call, placement: Placement, areas: &mut Areas) -> Compared {
     let (given, before) = ask_library(call, placement, areas);
-    let Second { answer, written, joined, marks, seam } = ask_second(call, search);
+    let Second { answer, written, joined, marks, seam, ceilings } = ask_second(call, search);
     let mut lent = before.clone();
     lent.words.write(&written);
     lent.join.write(&joined);
     // Only an accepted call is compared with the open one, whose refusals are others.
     let open = if answer.refusal == 0 { opened(call) } else { None };
     let opened = open.map(|open| ask_library(&open, placement, areas).0);
-    Compared { expected: Left { answer, lent, inputs_kept: true }, given, before, opened, marks, seam }
+    Compared { expected: Left { answer, lent, inputs_kept: true }, given, before, opened, marks, seam, ceilings }
 }
 
 pub fn compare(call: &Call, placement: Placement, areas: &mut Areas) -> Compared {

@@ -20,6 +20,7 @@ enum Sum {
     Found,
     Last,
     Hidden,
+    Above,
     Marked,
     MarkedBehind,
     Exact,
@@ -29,7 +30,7 @@ enum Sum {
 }
 
 /// A name for each sum. A run with every kind of case fails if one of them is 0.
-const SUMS: [&str; 14] = [
+const SUMS: [&str; 15] = [
     "closed calls compared with the open call on the longer line",
     "closed calls whose longer line is above 65,536",
     "closed scans at the look bound",
@@ -38,6 +39,7 @@ const SUMS: [&str; 14] = [
     "findings across the seam",
     "findings at the last place",
     "hidden findings across the seam",
+    "findings across the seam shown above their ceiling",
     "windows with marks across the seam",
     "windows with marks behind the seam alone",
     "join areas of exactly 2·m − 2 bytes",
@@ -80,6 +82,7 @@ impl Closed {
             (Sum::Found, seam.found),
             (Sum::Last, seam.last),
             (Sum::Hidden, seam.hidden),
+            (Sum::Above, seam.above),
             (Sum::Marked, seam.marked),
             (Sum::MarkedBehind, seam.marked_behind),
             (Sum::Exact, u64::from(n >= m && m > 1 && bytes == join_bytes(m))),
@@ -99,7 +102,7 @@ impl Closed {
     }
 
     pub fn print(&self) {
-        let [opened, longer, at_bound, length_of_ring, one_more, found, last, hidden, ..] = self.sums;
+        let [opened, longer, at_bound, length_of_ring, one_more, found, last, hidden, above, ..] = self.sums;
         let [.., marked, marked_behind, exact, spare, one_edge, no_start] = self.sums;
         println!(
             "closed calls compared with the open call on the longer line: {opened}; with one above 65,536: {longer}"
@@ -107,7 +110,9 @@ impl Closed {
         println!(
             "closed lines with n = m: {length_of_ring}, n = m + 1: {one_more}; scans at their look bound: {at_bound}"
         );
-        println!("findings across the seam: {found}, of them at the last place: {last}, hidden: {hidden}");
+        println!(
+            "findings across the seam: {found}, of them at the last place: {last}, hidden: {hidden}, shown above a ceiling: {above}"
+        );
         println!("windows with a mark across the seam: {marked}, of them with marks behind it alone: {marked_behind}");
         println!("join areas of accepted calls: exact {exact}, longer {spare}, empty for m = 1 {one_edge}, kept for n < m {no_start}");
         let listed = |answers: &BTreeMap<u32, u64>| {

@@ -3,6 +3,7 @@
 use crate::cases::call::{Call, Search};
 use crate::memory::WORD;
 use crate::outlines::Answer;
+use crate::second::ceilings::Ceilings;
 use crate::second::meaning::FINDING_WORDS;
 use crate::second::rules::Marks;
 use crate::second::samples::bound;
@@ -76,9 +77,10 @@ pub struct Compared {
     /// What the library's open call left on the line followed by its first m − 1 edges, if the call is closed and accepted and
     /// the open one takes that line.
     pub opened: Option<Left>,
-    /// What the second program met of marks in this call, and at the seam of a closed line.
+    /// What the second program met of marks in this call, at the seam of a closed line, and of ceilings.
     pub marks: Marks,
     pub seam: Seam,
+    pub ceilings: Ceilings,
 }
 
 /// The library's looks compared with document 01's own formulas. For a closed line they read "with n + m − 1 in place of n"

@@ -1,7 +1,9 @@
 //! What was compared: counts for each kind, and the first differences in words.
 
+use super::book_ledger::Books;
 use super::closed_ledger::Closed;
 use super::compared::Compared;
+use super::trips::Trip;
 use crate::cases::call::Call;
 use crate::cases::{Case, Kind};
 use crate::memory::Placement;
@@ -93,6 +95,7 @@ pub struct Ledger {
     kinds: BTreeMap<usize, Counts>,
     sums: [u64; SUMS.len()],
     closed: Closed,
+    books: Books,
     answers: Answers,
     outputs: Answers,
     told: Vec<String>,
@@ -123,6 +126,7 @@ impl Ledger {
         self.add(Sum::AtBound, u64::from(at_bound(call, answer)));
         self.add(Sum::Longest, u64::from(longest(call) && answer.refusal == 0));
         self.closed.add_call(call, compared);
+        self.books.add_call(call, compared);
         if let Some(search) = call.search() {
             self.add(Sum::Found, answer.found);
             self.add(Sum::Hidden, answer.hidden);
@@ -144,6 +148,10 @@ impl Ledger {
         self.add(Sum::LeftAfterBreaks, compared.marks.after_breaks);
         self.add(Sum::LeftAtFirst, compared.marks.at_first);
         self.add(Sum::Passed, compared.marks.passed);
+    }
+
+    pub fn add_trip(&mut self, trip: Trip) {
+        self.books.add_trip(trip);
     }
 
     pub fn add_output(&mut self, text: &[u8]) {
@@ -168,6 +176,7 @@ impl Ledger {
         other.kinds.into_iter().for_each(|(kind, counts)| self.join_kind(kind, counts));
         self.sums.iter_mut().zip(other.sums).for_each(|(sum, more)| *sum += more);
         self.closed.join(other.closed);
+        self.books.join(other.books);
         for (mine, others) in [(&mut self.answers, other.answers), (&mut self.outputs, other.outputs)] {
             others.into_iter().for_each(|(number, count)| *mine.entry(number).or_default() += count);
         }
@@ -218,6 +227,7 @@ impl Ledger {
             "windows left at a mark: {left}, of them after k > 0 breaks: {after_breaks}, at j = m > 1: {at_first}"
         );
         println!("windows with a mark that surveys moved through: {passed}");
+        self.books.print();
         self.closed.print();
     }
 
@@ -230,6 +240,6 @@ impl Ledger {
         let refusals = library.map(|number| format!("refusal {number}"));
         let of_program = program.map(|number| format!("refusal {number} of the program"));
         let sums = sums.map(|(name, _)| name.to_string());
-        refusals.chain(of_program).chain(sums).chain(self.closed.missing()).collect()
+        refusals.chain(of_program).chain(sums).chain(self.books.missing()).chain(self.closed.missing()).collect()
     }
 }

@@ -1,12 +1,12 @@
 //! The whole run: two workers over all cases, and a watch that ends the process if a case does not end.
 
+use super::bonds::unbound;
 use super::calls::{compare, compare_three, Areas};
 use super::crash;
 use super::ledger::Ledger;
 use super::program::{self, Program, Slot};
+use super::trips;
 use crate::cases::{kinds, locate, Case, Choice, Kind};
-use crate::outlines::{self, Counts};
-use crate::second::book::{FIELD, SILENCE_WORDS};
 use std::panic::{catch_unwind, AssertUnwindSafe};
 use std::sync::atomic::{AtomicU64, Ordering::Relaxed};
 use std::thread;
@@ -58,16 +58,6 @@ pub struct Worker<'a> {
     pub ledger: Ledger,
 }
 
-fn round_trip(words: &[u32]) -> Option<String> {
-    let records = words.len() / SILENCE_WORDS;
-    let due = Ok(Counts { found: records as u64, hidden: 0, looks: 0 });
-    let (mut book, mut back) = (vec![0; FIELD * records], vec![0; words.len()]);
-    let packed = outlines::pack(words, &mut book);
-    let unpacked = outlines::unpack(&book, &mut back);
-    let whole = packed == due && unpacked == due && back == words;
-    (!whole).then(|| format!("packed {packed:?}, unpacked {unpacked:?}, the words came back: {}", back == words))
-}
-
 impl<'a> Worker<'a> {
     pub fn new(plan: &'a Plan, post: &'a Post) -> Worker<'a> {
         Worker { plan, post, areas: Areas::new(), ledger: Ledger::default() }
@@ -87,7 +77,20 @@ impl<'a> Worker<'a> {
                 }
                 calls.iter().zip(compared).find_map(|(call, compared)| compared.difference(call))
             }
-            Case::RoundTrip(words) => round_trip(words),
+            Case::Two(calls, bond, placement) => {
+                let compared = calls.each_ref().map(|call| compare(call, *placement, &mut self.areas));
+                for (call, compared) in calls.iter().zip(&compared) {
+                    self.ledger.add_call(call, *placement, compared);
+                }
+                let each = calls.iter().zip(&compared).find_map(|(call, compared)| compared.difference(call));
+                each.or_else(|| unbound(*bond, calls, &compared))
+            }
+            Case::RoundTrip(words) => trips::of_words(words),
+            Case::BookTrip(book) => {
+                let (trip, difference) = trips::of_book(book);
+                self.ledger.add_trip(trip);
+                difference
+            }
             Case::Input(input) => {
                 let program = self.plan.program.as_ref().expect("inputs are planned with a program only");
                 let given = program::run(program, input, &self.post.child);

@@ -3,7 +3,7 @@
 use super::compared::{Compared, Left, DISTANCE, ROTATION, TIES};
 use crate::cases::call::Call;
 use crate::memory::WORD;
-use crate::second::book::{FIELD, SILENCE_WORDS};
+use crate::second::book::{self, FIELD, SILENCE_WORDS};
 use crate::second::meaning::FINDING_WORDS;
 
 /// A way returns whether there was anything to spoil.
@@ -42,7 +42,8 @@ pub static OF_REFUSALS_AND_BOOKS: &[Way] = &[
     way("a refusal that writes", refusal_writes),
     way("a refusal taken for accepted", refusal_accepted),
     way("a byte of a packed book changed", packed_byte),
-    way("a word of an unpacked book changed", unpacked_word),
+    way("a word of an unpacked book changed", |call, spoilt| unpacked_word(call, spoilt, 1)),
+    way("a ceiling of an unpacked book changed", |call, spoilt| unpacked_word(call, spoilt, 3)),
 ];
 
 /// The words of the shown findings.
@@ -121,7 +122,8 @@ fn found_too_many(_: &Call, spoilt: &mut Compared) -> bool {
 
 fn hidden_from_records(call: &Call, spoilt: &mut Compared) -> bool {
     let Call::Report { book, .. } = call else { return false };
-    let (answer, records) = (&mut spoilt.given.answer, (book.len() / FIELD) as u64);
+    let records = book::read(book).map_or(0, |records| records.len() as u64);
+    let answer = &mut spoilt.given.answer;
     let differs = answer.refusal == 0 && answer.hidden != records;
     if differs {
         answer.hidden = records;
@@ -196,9 +198,10 @@ fn packed_byte(call: &Call, spoilt: &mut Compared) -> bool {
     packed
 }
 
-fn unpacked_word(call: &Call, spoilt: &mut Compared) -> bool {
-    let records = spoilt.given.answer.found as usize;
-    matches!(call, Call::Unpack { .. }) && records > 0 && set_word(spoilt, SILENCE_WORDS * records - 2, 70_000)
+/// No ring number and no ceiling is 70,000.
+fn unpacked_word(call: &Call, spoilt: &mut Compared, which: usize) -> bool {
+    let last = (spoilt.given.answer.found as usize).checked_sub(1).filter(|_| matches!(call, Call::Unpack { .. }));
+    last.is_some_and(|last| set_word(spoilt, SILENCE_WORDS * last + which, 70_000))
 }
 
 fn input_written(_: &Call, spoilt: &mut Compared) -> bool {

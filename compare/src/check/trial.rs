@@ -6,6 +6,7 @@ use super::crash;
 use super::program::{self, Slot};
 use super::run::Plan;
 use super::spoil::{Way, OF_REFUSALS_AND_BOOKS, OF_SEARCHES};
+use super::spoil_books::OF_BOOKS;
 use super::spoil_closed::{OF_CLOSED, OF_LONGEST};
 use super::spoil_marks::OF_MARKS;
 use crate::cases::{Call, Case};
@@ -194,7 +195,7 @@ fn spoil_lines(samples: Lines) -> Vec<bool> {
 
 /// Prints a line for each way; returns the ways that passed and that failed.
 pub fn run_trial(plan: &Plan, samples: Option<Lines>) -> (usize, usize) {
-    let mut of_calls = [OF_SEARCHES, OF_MARKS, OF_CLOSED, OF_REFUSALS_AND_BOOKS].map(Trial::new);
+    let mut of_calls = [OF_SEARCHES, OF_MARKS, OF_CLOSED, OF_REFUSALS_AND_BOOKS, OF_BOOKS].map(Trial::new);
     let mut of_long = [OF_SEARCHES, OF_LONGEST].map(Trial::new);
     let mut text_ways = [Noticed::default(); TEXT_WAYS.len()];
     let mut areas = Areas::new();
@@ -205,6 +206,12 @@ pub fn run_trial(plan: &Plan, samples: Option<Lines>) -> (usize, usize) {
                 Case::Call(call, placement) if !long(call) => {
                     let compared = compare(call, *placement, &mut areas);
                     of_calls.iter_mut().for_each(|trial| trial.spoil(call, &compared));
+                }
+                Case::Two(calls, _, placement) => {
+                    for call in calls {
+                        let compared = compare(call, *placement, &mut areas);
+                        of_calls.iter_mut().for_each(|trial| trial.spoil(call, &compared));
+                    }
                 }
                 Case::Three(calls, placement) if number < share_of(calls) => {
                     let compared = compare_three(calls, *placement, &mut areas);

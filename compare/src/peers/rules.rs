@@ -8,7 +8,7 @@ mod tally;
 
 use super::findings::{Findings, FINDING_WORDS};
 use super::{doubled, lengthened, Answer, Question, Rules, MARK};
-use book::{is_for, read, seek, seek_on, Address};
+use book::{hides, read, seek, seek_on, Address};
 use sweep::Sweep;
 use tally::{Tally, MOST_RING};
 
@@ -124,7 +124,7 @@ fn report(q: &Question, words: &mut [u32]) -> Answer {
     for finding in &mut sweep {
         let here = address(finding.start as u32);
         held = seek_on(q.book, held, here);
-        if is_for(held, here) {
+        if hides(held, here, finding.distance) {
             hidden += 1;
         } else {
             shown.put(finding);

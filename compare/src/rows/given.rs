@@ -1,10 +1,7 @@
 //! What a row gives to its call: edges, words and books.
 
 use super::table::{number, Row};
-use crate::second::book::{Silence, SILENCE_WORDS};
-
-/// The records for which `*` stands.
-const ALL_RECORDS: u32 = 1_001;
+use crate::second::book::{Address, Silence, SILENCE_WORDS};
 
 /// "In a ring or a line, letters stand for their codes; `#` begins a list of codes; `*` begins three numbers: the first
 /// code, the last code and how many edges there are. The codes then rise by one from the first to the last and begin
@@ -20,23 +17,66 @@ pub fn edges(text: &str) -> Vec<u8> {
     std::iter::successors(Some(first), next).map(|code| code as u8).take(count).collect()
 }
 
-/// "In words, `*` stands for 1,001 records of cell 7, ring number 2 and the starts 0, 1, 2 and so on."
+/// The records for which `*` and `-` stand: cell 7, ring number 2 and the starts 0, 1, 2 and so on.
+fn records(count: u32, ceiling: impl Fn(u32) -> Option<u16>) -> Vec<Silence> {
+    (0..count).map(|start| Silence { cell: 7, ring_number: 2, start, ceiling: ceiling(start) }).collect()
+}
+
+fn of_tag_22() -> Vec<Silence> {
+    records(1_001, |start| Some(start as u16))
+}
+
+fn of_tag_21() -> Vec<Silence> {
+    records(1_154, |_| None)
+}
+
+/// "In words to pack, `*` stands for 1,001 records of cell 7, ring number 2, the starts 0, 1, 2 and so on, and for each its start
+/// as the ceiling."
 pub fn words(row: &Row) -> Vec<u32> {
     if row.text("words") == "*" {
-        return (0..ALL_RECORDS).flat_map(|start| [7, 2, start]).collect();
+        return of_tag_22().iter().flat_map(Silence::words).collect();
     }
     row.numbers("words").into_iter().map(|word| word as u32).collect()
 }
 
-pub fn silence(words: &[u32]) -> Silence {
-    Silence { cell: words[0], ring_number: words[1] as u16, start: words[2] }
+pub fn address(row: &Row) -> Address {
+    let [cell, ring_number, start] = row.numbers("address")[..] else { panic!("an address of three numbers") };
+    (cell as u32, ring_number as u16, start as u32)
 }
 
-/// The first bytes of the layout of the words, as many as the row says, with one of them changed where the row gives a
-/// fault. A book that is left out is empty.
+/// Records of four numbers each, or of three without a ceiling.
+fn listed(list: &str, each: usize) -> Vec<Silence> {
+    let numbers: Vec<usize> = list.split(' ').map(number).collect();
+    assert!(numbers.len() % each == 0, "{list}: not {each} numbers a record");
+    let record = |numbers: &[usize]| Silence {
+        cell: numbers[0] as u32,
+        ring_number: numbers[1] as u16,
+        start: numbers[2] as u32,
+        ceiling: numbers.get(3).map(|&ceiling| ceiling as u16),
+    };
+    numbers.chunks(each).map(record).collect()
+}
+
+/// "In a book, numbers are records of four words each, laid out under tag 22, and `*` stands for the records above; `-` begins
+/// records of three words each, laid out under tag 21, and alone it stands for 1,154 records of cell 7, ring number 2 and the
+/// starts 0, 1, 2 and so on; `#` begins a list of the book's bytes."
+fn layout(text: &str) -> Vec<u8> {
+    let records = match (text, text.strip_prefix('-')) {
+        ("", _) => Vec::new(),
+        ("*", _) => of_tag_22(),
+        ("-", _) => of_tag_21(),
+        (_, Some(list)) => listed(list, SILENCE_WORDS - 1),
+        _ if text.starts_with('#') => return edges(text),
+        _ => listed(text, SILENCE_WORDS),
+    };
+    records.iter().flat_map(Silence::field).collect()
+}
+
+/// The first bytes of the layout, as many as the row says, with one of them changed where the row gives a fault. A book that is
+/// left out is empty.
 pub fn book(row: &Row) -> Vec<u8> {
     let length = row.number("bytes of their layout").unwrap_or(0);
-    let mut book: Vec<u8> = words(row).chunks(SILENCE_WORDS).flat_map(|record| silence(record).field()).collect();
+    let mut book = layout(row.text("words"));
     assert!(length <= book.len(), "a book of {length} bytes has more than its layout");
     book.truncate(length);
     if let (Some(offset), Some(byte)) = (row.number("offset of a fault"), row.number("its byte")) {

@@ -1,8 +1,8 @@
 //! The line of a row: the answer's numbers with their names, then what the call wrote.
 
-use super::given::{book, edges, silence, words};
+use super::given::{address, book, edges, words};
 use super::table::Row;
-use crate::second::book::{read, Silence, FIELD, SILENCE_WORDS};
+use crate::second::book::{read, Address, Silence, SILENCE_WORDS};
 use crate::second::calls::{pack, unpack, Answered, Outcome, Search};
 use crate::second::meaning::FINDING_WORDS;
 use crate::second::program::output;
@@ -101,22 +101,21 @@ fn has_read(row: &Row) -> String {
 
 /// The first field at or behind the offset that is not below the address, and the offset behind it. Document 01 has no such
 /// call: the report uses it to search the book.
-fn sought(book: &[u8], from: usize, address: Silence) -> Option<(Silence, usize)> {
-    let field = book.get(from..)?.get(..FIELD)?;
-    let found = *read(field).ok()?.first()?;
-    if found < address {
-        return sought(book, from + FIELD, address);
+fn sought(book: &[u8], from: usize, address: Address) -> Option<(Silence, usize)> {
+    let (found, length) = Silence::first_of(book.get(from..)?)?;
+    if found.address() < address {
+        return sought(book, from + length, address);
     }
-    Some((found, from + FIELD))
+    Some((found, from + length))
 }
 
 fn seek(row: &Row) -> String {
     let from = row.number("from").expect("a seek has an offset");
-    let address: Vec<u32> = row.numbers("address").into_iter().map(|word| word as u32).collect();
-    let found = match sought(&book(row), from, silence(&address)) {
+    let found = match sought(&book(row), from, address(row)) {
         None => "nothing".to_string(),
-        Some((Silence { cell, ring_number, start }, next)) => {
-            format!("cell {cell} ring number {ring_number} start {start} next {next}")
+        Some((silence, next)) => {
+            let [cell, ring_number, start, ceiling] = silence.words();
+            format!("cell {cell} ring number {ring_number} start {start} ceiling {ceiling} next {next}")
         }
     };
     format!(" from {from} {found}")

@@ -1,12 +1,14 @@
 //! What each call returns and what it writes into the lent areas.
 
-use super::book::{self, Silence, FIELD, SILENCE_WORDS};
+use super::book::{self, Address, Silence, FIELD, SILENCE_WORDS};
+use super::ceilings::Ceilings;
 use super::line::{join, Line};
 use super::meaning::{findings, Finding};
 use super::refusals::{self, refuse_if, Refused};
 use super::rules::{plain_survey, quick_scan, Marks, Searched};
 use super::seam::Seam;
 use std::cell::OnceCell;
+use std::collections::BTreeMap;
 
 #[derive(Clone, Debug, Default, PartialEq, Eq)]
 pub struct Answered<T> {
@@ -16,9 +18,10 @@ pub struct Answered<T> {
     pub written: Vec<T>,
     /// The bytes written at the beginning of the join area; none by an open call.
     pub joined: Vec<u8>,
-    /// No call returns these two: they are for the comparison's ledger.
+    /// No call returns these three: they are for the comparison's ledger.
     pub marks: Marks,
     pub seam: Seam,
+    pub ceilings: Ceilings,
 }
 
 pub type Outcome<T> = Result<Answered<T>, Refused>;
@@ -74,35 +77,39 @@ impl<'a> Search<'a> {
         self.scanned.get_or_init(|| self.checked(quick_scan(self.ring, self.line, self.allowance)))
     }
 
-    /// The answer of an accepted call that hides these of its findings.
-    fn answered(&self, searched: &Searched, is_hidden: impl Fn(&Finding) -> bool) -> Answered<u32> {
+    /// The answer of an accepted call, with the silence at the address of each finding.
+    fn answered(&self, searched: &Searched, at: impl Fn(&Finding) -> Option<Silence>) -> Answered<u32> {
         let Searched { findings, looks, marks, .. } = searched;
+        let is_hidden = |finding: &Finding| at(finding).is_some_and(|silence| silence.hides(finding.distance));
         let (hidden, shown): (Vec<Finding>, Vec<Finding>) = findings.iter().partition(|finding| is_hidden(finding));
+        let named: Vec<(Finding, Silence)> =
+            findings.iter().filter_map(|finding| Some((*finding, at(finding)?))).collect();
         let (joined, seam) = if self.line.closed {
-            (join(self.line.edges, self.ring.len()), Seam::of(self.line, self.ring.len(), &shown, &hidden))
+            (join(self.line.edges, self.ring.len()), Seam::of(self.line, self.ring.len(), findings, &named))
         } else {
             Default::default()
         };
-        let (found, hidden) = (findings.len(), hidden.len());
-        Answered { found, hidden, looks: *looks, written: words(&shown), joined, marks: *marks, seam }
+        let (found, hidden, ceilings) = (findings.len(), hidden.len(), Ceilings::of(&named));
+        Answered { found, hidden, looks: *looks, written: words(&shown), joined, marks: *marks, seam, ceilings }
     }
 
     pub fn survey(&self) -> Outcome<u32> {
         self.refusals()?;
         let searched = self.checked(plain_survey(self.ring, self.line, self.allowance));
-        Ok(self.answered(&searched, |_| false))
+        Ok(self.answered(&searched, |_| None))
     }
 
     pub fn scan(&self) -> Outcome<u32> {
         self.refusals()?;
-        Ok(self.answered(self.scanned(), |_| false))
+        Ok(self.answered(self.scanned(), |_| None))
     }
 
     pub fn report(&self, cell: u32, ring_number: u16, book: &[u8]) -> Outcome<u32> {
         self.refusals()?;
         let silences = book::read(book)?;
-        let silent = |f: &Finding| silences.contains(&Silence { cell, ring_number, start: f.start as u32 });
-        Ok(self.answered(self.scanned(), silent))
+        let by_address: BTreeMap<Address, Silence> = silences.into_iter().map(|s| (s.address(), s)).collect();
+        let at = |finding: &Finding| by_address.get(&(cell, ring_number, finding.start as u32)).copied();
+        Ok(self.answered(self.scanned(), at))
     }
 }
 

@@ -1,9 +1,11 @@
-//! The second program: written from document 01 and tickets 1 to 3 of document 02 alone, word for word, and slow where that
+//! The second program: written from document 01 and tickets 1 to 4 of document 02 alone, word for word, and slow where that
 //! is plainer.
 
 pub mod book;
 pub mod by_hand;
 pub mod calls;
+pub mod ceilings;
+pub mod ceilings_by_hand;
 pub mod line;
 pub mod meaning;
 pub mod program;

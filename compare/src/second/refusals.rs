@@ -10,8 +10,9 @@ pub struct Refused {
 
 pub const LONGEST_RING: usize = 256;
 pub const LONGEST_LINE: usize = 65_536;
-pub const LONGEST_BOOK: usize = 13_000;
-pub const MOST_WORDS_TO_PACK: usize = 3_000;
+/// "5 at 15,000 bytes; [..] 8 a multiple of 4, at most 4,000" (ticket 4).
+pub const LONGEST_BOOK: usize = 15_000;
+pub const MOST_WORDS_TO_PACK: usize = 4_000;
 
 pub fn refuse_if(given: bool, number: u32, place: usize) -> Result<(), Refused> {
     if given {

@@ -47,17 +47,36 @@ pub const SAMPLES: [Sample; 12] = [
     sample("P12", ("abcdef", "bcdfab", 3), &[[0, 1, 3, 2]], Some(42)),
 ];
 
-pub const THE_SILENCE: Silence = Silence { cell: 7, ring_number: 2, start: 10 };
+/// The one silence (7, 2, 10) of tag 21, and of tag 22 with the least and the greatest ceiling: start 10 is an exact copy.
+const THE_SILENCE: [Silence; 3] = [the_silence(None), the_silence(Some(0)), the_silence(Some(65_535))];
+
+const fn the_silence(ceiling: Option<u16>) -> Silence {
+    Silence { cell: 7, ring_number: 2, start: 10, ceiling }
+}
 
 /// P2 with that one silence, as ring 2: the report's cell, the shown findings, hidden.
-pub const SILENCED: [(u32, &[Printed], usize); 2] =
+const AS_CELL: [(u32, &[Printed], usize); 2] =
     [(7, &[[9, 3, 1, 1], [11, 5, 1, 1]], 1), (8, &[[9, 3, 1, 1], [10, 4, 0, 1], [11, 5, 1, 1]], 0)];
+
+/// Each silence as each cell.
+pub const SILENCED: usize = THE_SILENCE.len() * AS_CELL.len();
+
+/// The book and the cell of a silenced P2.
+pub fn silenced(index: usize) -> (Vec<u8>, u32) {
+    (THE_SILENCE[index / AS_CELL.len()].field(), AS_CELL[index % AS_CELL.len()].0)
+}
 
 pub const EXAMPLE_INPUT: [u8; 40] = [
     0x34, 0x00, 0x04, 0x00, 0x00, 0x00, 0x07, 0x35, 0x00, 0x02, 0x00, 0x02, 0x33, 0x00, 0x01, 0x00, 0x31, 0x00, 0x02,
     0x61, 0x61, 0x32, 0x00, 0x03, 0x61, 0x61, 0x61, 0x21, 0x00, 0x0A, 0x00, 0x00, 0x00, 0x07, 0x00, 0x02, 0x00, 0x00,
     0x00, 0x01,
 ];
+
+/// The same input with the ceiling 0 in its silence, which is then of tag 22.
+pub fn example_of_tag_22() -> Vec<u8> {
+    let (fields, book) = EXAMPLE_INPUT.split_at(27);
+    [fields, &[0x22, 0x00, 0x0C], &book[3..], &[0x00, 0x00]].concat()
+}
 
 pub const EXAMPLE_OUTPUT: &str = "cell 7 ring 2 edges 2 allow 0\n0 0 0 2\nfound 2 hidden 1 looks 12\n";
 
@@ -85,21 +104,23 @@ impl Sample {
     }
 }
 
-pub fn silenced(index: usize) -> bool {
-    let (cell, shown, hidden) = SILENCED[index];
-    let answered = SAMPLES[1].search().report(cell, 2, &THE_SILENCE.field()).expect("a sample is accepted");
+fn silenced_holds(index: usize) -> bool {
+    let (book, cell) = silenced(index);
+    let (_, shown, hidden) = AS_CELL[index % AS_CELL.len()];
+    let answered = SAMPLES[1].search().report(cell, 2, &book).expect("a sample is accepted");
     answered.written == shown.concat() && answered.hidden == hidden && answered.found == 3
 }
 
-/// P1 to P12, the two silenced ones, the program's example.
-pub const COUNT: usize = SAMPLES.len() + SILENCED.len() + 1;
+/// P1 to P12, the silenced ones, the program's example under both tags.
+pub const COUNT: usize = SAMPLES.len() + SILENCED + 2;
 
 /// Whether the second program gives what document 01 prints.
 pub fn holds(index: usize) -> bool {
     let behind = index.checked_sub(SAMPLES.len());
     match behind {
         None => SAMPLES[index].holds(),
-        Some(silent) if silent < SILENCED.len() => silenced(silent),
-        Some(_) => program::output(&EXAMPLE_INPUT) == EXAMPLE_OUTPUT,
+        Some(silent) if silent < SILENCED => silenced_holds(silent),
+        Some(SILENCED) => program::output(&EXAMPLE_INPUT) == EXAMPLE_OUTPUT,
+        Some(_) => program::output(&example_of_tag_22()) == EXAMPLE_OUTPUT,
     }
 }

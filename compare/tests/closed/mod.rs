@@ -133,7 +133,7 @@ fn refusals_of_closed_lines() {
 /// Silences name places from 0 to n − 1; 10 comes before the book, and a book that is refused leaves the join area alone.
 #[test]
 fn closed_reports_of_the_second_program() {
-    let silence = |start: u32| crate::common::field(7, 2, start);
+    let silence = |start: u32| crate::common::field(7, 2, start, [None, Some(0), Some(1)][start as usize % 3]);
     let search = Search::closed(b"abc", b"bca", 0, 12, 4);
     for hidden in 0..3 {
         let given = search.report(7, 2, &silence(hidden)).expect("no refusal");

@@ -95,9 +95,10 @@ pub fn looks_by_rules(ring: &[u8], line: &[u8], k: usize) -> usize {
     looks
 }
 
-/// A silence as a field of the book.
-pub fn field(cell: u32, ring_number: u16, start: u32) -> Vec<u8> {
-    let head = [0x21, 0, 10];
-    let parts = [&head[..], &cell.to_be_bytes(), &ring_number.to_be_bytes(), &start.to_be_bytes()];
-    parts.concat()
+/// A silence as a field of the book: of tag 22, or without a ceiling of tag 21.
+pub fn field(cell: u32, ring_number: u16, start: u32, ceiling: Option<u16>) -> Vec<u8> {
+    let head = if ceiling.is_some() { [0x22, 0, 12] } else { [0x21, 0, 10] };
+    let address = [&cell.to_be_bytes()[..], &ring_number.to_be_bytes(), &start.to_be_bytes()].concat();
+    let ceiling: Vec<u8> = ceiling.iter().flat_map(|ceiling| ceiling.to_be_bytes()).collect();
+    [&head[..], &address, &ceiling].concat()
 }

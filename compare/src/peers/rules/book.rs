@@ -1,10 +1,15 @@
-//! The silence book: fields of 13 bytes, read in place.
+//! The silence book: fields of 13 and of 15 bytes, read in place.
 
-/// "book longer than 13,000 bytes"
-const MOST_BOOK: usize = 13_000;
+/// "5 at 15,000 bytes"
+const MOST_BOOK: usize = 15_000;
 /// "tag 21 hex, length 10", the length high byte first.
-const HEAD: [u8; 3] = [0x21, 0, 10];
-const FIELD_LENGTH: usize = 13;
+const OLD_HEAD: [u8; 3] = [0x21, 0, 10];
+/// "tag 22, length 12"
+const HEAD: [u8; 3] = [0x22, 0, 12];
+const HEAD_LENGTH: usize = 3;
+/// "the old ten bytes and a two-byte distance"
+const ADDRESS_LENGTH: usize = 10;
+const CEILING_LENGTH: usize = 2;
 
 /// The order of the fields is document 01's: "by cell, then ring number, then start".
 #[derive(Clone, Copy, PartialEq, Eq, PartialOrd, Ord)]
@@ -14,10 +19,11 @@ pub struct Address {
     pub start: u32,
 }
 
-/// A field of the book and the byte offset just past it.
+/// A field of the book and the byte offset just past it. Tag 21 has the ceiling 0.
 #[derive(Clone, Copy)]
 pub struct Field {
     address: Address,
+    ceiling: u16,
     next: usize,
 }
 
@@ -25,12 +31,23 @@ fn word_at(bytes: &[u8], at: usize) -> u32 {
     u32::from_be_bytes([bytes[at], bytes[at + 1], bytes[at + 2], bytes[at + 3]])
 }
 
+fn short_at(bytes: &[u8], at: usize) -> u16 {
+    u16::from_be_bytes([bytes[at], bytes[at + 1]])
+}
+
+fn address_of(value: &[u8]) -> Address {
+    Address { cell: word_at(value, 0), ring_number: short_at(value, 4), start: word_at(value, 6) }
+}
+
 fn field_at(book: &[u8], at: usize) -> Option<Field> {
-    let field = book.get(at..at + FIELD_LENGTH)?;
-    let value = field.strip_prefix(&HEAD)?;
-    let ring_number = u16::from_be_bytes([value[4], value[5]]);
-    let address = Address { cell: word_at(value, 0), ring_number, start: word_at(value, 6) };
-    Some(Field { address, next: at + FIELD_LENGTH })
+    let rest = book.get(at..)?;
+    if let Some(value) = rest.strip_prefix(&HEAD) {
+        let value = value.get(..ADDRESS_LENGTH + CEILING_LENGTH)?;
+        let next = at + HEAD_LENGTH + ADDRESS_LENGTH + CEILING_LENGTH;
+        return Some(Field { address: address_of(value), ceiling: short_at(value, ADDRESS_LENGTH), next });
+    }
+    let value = rest.strip_prefix(&OLD_HEAD)?.get(..ADDRESS_LENGTH)?;
+    Some(Field { address: address_of(value), ceiling: 0, next: at + HEAD_LENGTH + ADDRESS_LENGTH })
 }
 
 /// Refusal 5, 6 or 7 of a book and its place, or 0 and 0.
@@ -70,6 +87,7 @@ pub fn seek_on(book: &[u8], held: Option<Field>, address: Address) -> Option<Fie
     }
 }
 
-pub fn is_for(held: Option<Field>, address: Address) -> bool {
-    held.is_some_and(|field| field.address == address)
+/// Whether the field held hides a finding: "at its address only up to that distance".
+pub fn hides(held: Option<Field>, address: Address, distance: usize) -> bool {
+    held.is_some_and(|field| field.address == address && distance <= field.ceiling as usize)
 }
