@@ -8,7 +8,7 @@
 static const uint8_t ring[] = {3, 1, 4, 1, 5};
 /* From place 7 on stands 4 1 5, and after the last edge it goes on with the first ones, 3 1: the ring from its edge 2 on. */
 static const uint8_t line[] = {3, 1, 7, 7, 7, 7, 7, 4, 1, 5};
-static const uint32_t silence[] = {7, 2, 7}; /* cell, ring number, start */
+static const uint32_t silence[] = {7, 2, 7, 0}; /* cell, ring number, start, ceiling: the copy is exact */
 
 static void print(const char *which, struct outlines_answer answer, const uint32_t *words) {
     printf("%s: refusal %u found %u hidden %u looks %u\n", which, (unsigned)answer.refusal, (unsigned)answer.found, (unsigned)answer.hidden,

@@ -9,13 +9,30 @@
  * at least one rotation. A finding has four numbers: the start, the lowest rotation with the least distance, that distance, and the ties: how many
  * rotations have that distance, itself included, 1 to m (equal turns of a periodic ring each count). Places and rotations count from 0.
  *
- * Marks are new. Up to change request 1 byte 255 was an edge code like any other: a line in which it means an edge is searched differently now, and a
- * ring with that edge is refused. Books are as before; a silence that names a place which is no start any more hides nothing.
+ * Marks came with change request 2. Before, byte 255 was an edge code like any other: a line in which it means an edge is searched differently now, and a
+ * ring with that edge is refused. A silence at a place that is no start any more hides nothing.
+ *
+ * Silences. A silence has an address, which is a cell, a ring number and a start, and a ceiling, which is a distance. In a report of that cell and that
+ * ring number it hides the finding at that start exactly if the finding's distance is at most the ceiling. So a copy that an edit made worse than what
+ * was signed is shown again. A ceiling of 0 hides exact copies only. A book has a record for each silence, in strictly rising order by cell, then ring
+ * number, then start. Ceilings play no part in the order, so no two records have the same address. A record is a field of one of two kinds. Its first
+ * byte, the tag, says which; numbers have their high byte first:
+ *   22 00 0C hex, cell (4 bytes), ring number (2), start (4), ceiling (2)   tag 22, 15 bytes; outlines_pack writes this kind only
+ *   21 00 0A hex, cell (4 bytes), ring number (2), start (4)                tag 21, 13 bytes; read with ceiling 0
+ * Both kinds may stand in one book. A book that is read has at most 15,000 bytes, and so at most 1,153 records (all of tag 21: 15,000 / 13), which are
+ * 4,612 words to unpack. To pack there are at most 1,000 records, 4,000 words.
+ *
+ * Ceilings came with change request 4, and they change what old books hide. Before, there was tag 21 only, and a silence hid the finding at its address
+ * whatever its distance. A book of tag 21 is still read, but from now on it hides exact copies only: a finding at one of its addresses with a distance of
+ * 1 or more is shown. To hide such findings again, unpack the book, set each record's fourth word to the distance that was signed, and pack the words. A
+ * report by a book of tag 21 is the report by the same addresses with ceiling 0 under tag 22. A record to pack or unpack has four words now; it had
+ * three.
  *
  * One stored copy can be several findings. If an exact copy of the ring stands at start i, a window that begins s edges before or after it has a distance
  * of at most s. So every start from i - k to i + k is a finding, and the copy gives at least 2 k + 1 findings. There are fewer near the ends of an open
  * line, near marks, and in a closed line of fewer than 2 k + 1 places. With a mark just before it and another just behind it the copy gives one. A
- * reviewer who accepts that copy needs as many silences: 5 at k = 2, so that a book of 1,000 silences is full after some 200 separate copies.
+ * reviewer who accepts that copy needs as many silences, each with its own finding's distance as ceiling: 5 at k = 2, so that a book of 1,000 silences is
+ * full after some 200 separate copies.
  *
  * A closed line. A cell may deliver one boundary alone; its line is then a ring itself, and a copy may lie across its first vertex. The calls that end in
  * _closed search such a line: if n >= m, every place i from 0 to n - 1 has a window, the line's bytes at places i, i + 1, .. i + m - 1 mod n, and i is a
@@ -45,28 +62,31 @@ extern "C" {
 #define OUTLINES_MOST_LINE 65536    /* most bytes of a line, marks included; the least is 0 */
 #define OUTLINES_MARK 255           /* the byte that is a boundary mark */
 #define OUTLINES_FINDING_WORDS 4    /* words of a finding: start, rotation, distance, ties */
-#define OUTLINES_SILENCE_WORDS 3    /* words of a silence: cell, ring number, start */
-#define OUTLINES_SILENCE_BYTES 13   /* bytes of a silence in a book */
-#define OUTLINES_MOST_SILENCES 1000 /* most silences of a book */
-#define OUTLINES_MOST_BOOK 13000    /* most bytes of a book */
+#define OUTLINES_SILENCE_WORDS 4    /* words of a silence: cell, ring number, start, ceiling */
+#define OUTLINES_SILENCE_BYTES 15   /* bytes of a silence that outlines_pack writes */
+#define OUTLINES_MOST_SILENCES 1000 /* most silences to pack */
+#define OUTLINES_MOST_RECORDS 1153  /* most records of a book that is read: all of tag 21; 4,612 words to unpack */
+#define OUTLINES_MOST_BOOK 15000    /* most bytes of a book */
 
 /* Refusals: the condition of each, and its place. If several conditions hold, the call gives the first in the order stated at the call. Record numbers
  * count from 0. */
 enum outlines_refusal {
     OUTLINES_ACCEPTED = 0,
-    OUTLINES_RING = 1,          /* the ring has no edge, or more than 256; place 0 */
-    OUTLINES_ALLOWANCE = 2,     /* k is m or more; place 0 */
-    OUTLINES_LINE = 3,          /* the line has more than 65,536 bytes; place 0 */
-    OUTLINES_FINDINGS_ROOM = 4, /* n >= m, and fewer than 4 (n - m + 1) words are lent for the findings, 4 n if the line is closed; place 0 */
-    OUTLINES_BOOK_LENGTH = 5,   /* the book has more than 13,000 bytes; place 0 */
-    OUTLINES_FIELD = 6,         /* a field of the book does not begin with 21 00 0A hex, or has fewer than 13 bytes; place: the field's byte offset */
-    OUTLINES_NOT_ABOVE = 7,     /* a record is not above the one before it; place: its byte offset (the reports, unpack) or its record number (pack) */
-    OUTLINES_WORD_COUNT = 8,    /* the number of words to pack is not a multiple of 3, or is above 3,000; place 0 */
-    OUTLINES_RING_NUMBER = 9,   /* a word to pack as a ring number is above 65,535; place: its record number */
-    OUTLINES_OUTPUT_ROOM = 10,  /* the area lent to pack or unpack is too small for the whole output; or, in a closed call, n >= m and the join area has
-                                 * fewer than 2 m - 2 bytes; place 0 */
-    OUTLINES_INPUT = 11,        /* the report program's input is not laid out as SPEC, section 8, says; no call declared here gives it */
-    OUTLINES_RING_MARK = 12     /* the ring holds 255, a boundary mark; place 0 */
+    OUTLINES_RING = 1,             /* the ring has no edge, or more than 256; place 0 */
+    OUTLINES_ALLOWANCE = 2,        /* k is m or more; place 0 */
+    OUTLINES_LINE = 3,             /* the line has more than 65,536 bytes; place 0 */
+    OUTLINES_FINDINGS_ROOM = 4,    /* n >= m, and fewer than 4 (n - m + 1) words are lent for the findings, 4 n if the line is closed; place 0 */
+    OUTLINES_BOOK_LENGTH = 5,      /* the book has more than 15,000 bytes; place 0 */
+    OUTLINES_FIELD = 6,            /* a field of the book is neither 13 bytes that begin with 21 00 0A hex nor 15 bytes that begin with 22 00 0C hex, or
+                                    * is cut off; place: the field's byte offset */
+    OUTLINES_NOT_ABOVE = 7,        /* a record's address is not above that of the record before it, whatever their ceilings are; place: its byte offset
+                                    * (the reports, unpack) or its record number (pack) */
+    OUTLINES_WORD_COUNT = 8,       /* the number of words to pack is not a multiple of 4, or is above 4,000; place 0 */
+    OUTLINES_NUMBER_IN_RECORD = 9, /* a word to pack as a ring number or a ceiling is above 65,535; place: its record number */
+    OUTLINES_OUTPUT_ROOM = 10,     /* the area lent to pack or unpack is too small for the whole output; or, in a closed call, n >= m and the join area
+                                    * has fewer than 2 m - 2 bytes; place 0 */
+    OUTLINES_INPUT = 11,           /* the report program's input is not laid out as SPEC, section 8, says; no call declared here gives it */
+    OUTLINES_RING_MARK = 12        /* the ring holds 255, a boundary mark; place 0 */
 };
 
 /* What every call returns. A look is one byte of the line read by the quick scan, a mark too, or one comparison of a byte of the line with a ring edge in
@@ -95,11 +115,11 @@ struct outlines_answer outlines_scan(const uint8_t *ring, size_t ring_length, co
                                      size_t words_length);
 
 /* The report: the quick scan, without the findings that the book hides. A finding is hidden exactly if the book has a record of this cell, this ring
- * number and the finding's start. Zero is a value like any other in all three, and no value stands for all. A record whose
- * address has no finding hides nothing.
+ * number and the finding's start, and the finding's distance is at most that record's ceiling. Zero is a value like any other in all four, and no value
+ * stands for all. A record whose address has no finding hides nothing.
  *   cell, ring_number     the cell that the line is of, and the number of the ring; C cuts a larger number to 32 and 16 bits before the call, so test
  *                         it first
- *   book, book_length     a silence book, as outlines_pack writes it: 0 to 13,000 bytes; an empty book is valid
+ *   book, book_length     a silence book: 0 to 15,000 bytes, records of tag 22, as outlines_pack writes them, and of tag 21; an empty book is valid
  *   the others            as for outlines_scan, with the same room for findings however many are hidden
  * Returns found (hidden ones included), hidden, and the looks of the scan. Writes the words of the shown findings only, found - hidden of them, by
  * rising start and without a gap, and no word behind them. Refusals, in order: 1, 12, 2, 3, 4, 5, then the first faulty
@@ -122,7 +142,7 @@ struct outlines_answer outlines_scan_closed(const uint8_t *ring, size_t ring_len
                                             size_t join_length, uint32_t *words, size_t words_length);
 
 /* The report of a closed line: outlines_scan_closed without the findings that the book hides. A record of this cell and ring number hides the finding at
- * its start, whichever of the places 0 to n - 1 that is.
+ * its start, whichever of the places 0 to n - 1 that is, if the finding's distance is at most the record's ceiling.
  *   cell, ring_number, book, book_length   as for outlines_report
  *   the others                             as for outlines_survey_closed
  * As many words are needed however many findings are hidden. Returns found (hidden ones included), hidden, and the looks of the closed scan. Refusals, in
@@ -133,18 +153,19 @@ struct outlines_answer outlines_report_closed(uint32_t cell, uint16_t ring_numbe
                                               uint32_t *words, size_t words_length);
 
 /* Packs silences into a book.
- *   words, words_length   three words for each silence (cell, ring number, start): at most 3,000 words, in strictly rising order by cell, then ring
- *                         number, then start; a ring number is at most 65,535
- *   bytes, bytes_length   lent for the book: at least 13 bytes for each silence
- * Returns the number of records in found. Writes 13 bytes for each silence: 21 00 0A hex, cell (4 bytes), ring number (2), start (4), numbers high
- * byte first; no byte behind them. Refusals, in order: 8, then the first faulty record, 9 before 7, then 10. */
+ *   words, words_length   four words for each silence (cell, ring number, start, ceiling): at most 4,000 words, in strictly rising order by cell, then
+ *                         ring number, then start; a ring number and a ceiling are at most 65,535
+ *   bytes, bytes_length   lent for the book: at least 15 bytes for each silence
+ * Returns the number of records in found. Writes 15 bytes for each silence: 22 00 0C hex, cell (4 bytes), ring number (2), start (4), ceiling (2),
+ * numbers high byte first; no byte behind them. Refusals, in order: 8, then the first faulty record, 9 before 7, then 10. */
 struct outlines_answer outlines_pack(const uint32_t *words, size_t words_length, uint8_t *bytes, size_t bytes_length);
 
-/* Unpacks a book into words. Unpacking a packed book gives the words back, and packing unpacked words gives the book back.
- *   book, book_length     a silence book: 0 to 13,000 bytes; an empty book is valid
- *   words, words_length   lent for the silences: at least three words for each record
- * Returns the number of records in found. Writes three words for each record (cell, ring number, start), and no word behind
- * them. Refusals, in order: 5, then the first faulty field of the book, 6 before 7, then 10. */
+/* Unpacks a book into words. Unpacking a packed book gives the words back, word for word. A book of at most 1,000 records, unpacked and packed, reads back
+ * to the same values, and has the same bytes if no record is of tag 21. The words of more than 1,000 records are refused by outlines_pack (8).
+ *   book, book_length     a silence book: 0 to 15,000 bytes, records of tag 21 and tag 22; an empty book is valid
+ *   words, words_length   lent for the silences: at least four words for each record; 4 OUTLINES_MOST_RECORDS, which is 4,612, suffice for every book
+ * Returns the number of records in found. Writes four words for each record (cell, ring number, start, ceiling), the ceiling 0 for tag 21, and no word
+ * behind them. Refusals, in order: 5, then the first faulty field of the book, 6 before 7, then 10. */
 struct outlines_answer outlines_unpack(const uint8_t *book, size_t book_length, uint32_t *words, size_t words_length);
 
 #ifdef __cplusplus
