@@ -11,7 +11,7 @@ use silences::CEILING_BYTES;
 use silences::FIELD_LENGTH;
 use silences::MOST_SILENCES;
 use silences::RECORD_WORDS;
-ghost use Prim.Native.Nat.{_≤_, _<_, _^_};
+ghost use Prim.Native.Nat.{_<_};
 
 // The most records of tag 22 that a row gives: 1,001, one more than can be packed.
 const ROW_RECORDS: usize = MOST_SILENCES + 1;
@@ -57,14 +57,13 @@ pub fn word_of(field: &[u8], at: usize) -> u32 {
     }
 }
 
-// A word of a record under tag 21: three numbers for each record stand behind the `-`. A field `-` gives rising records.
-fn exact_word(field: &[u8], record: usize, place: usize) -> u32
-    requires { ⌜ («record» ≤ 2 ^ 60) × (place ≤ 2) ⌝ }
-{
+// The word at place `at` of records under tag 21: three numbers for each record stand behind the `-`. A field `-` gives
+// rising records.
+fn exact_word(field: &[u8], at: usize) -> u32 {
     if field.len() <= 1 {
-        rising_word(record, place)
+        rising_word(at / EXACT_WORDS, at % EXACT_WORDS)
     } else {
-        cut_to_word(table::nth_number(field, EXACT_WORDS * record + place))
+        cut_to_word(table::nth_number(field, at))
     }
 }
 
@@ -97,15 +96,15 @@ fn byte_of(number: u32, above: usize) -> u8 {
 // The byte at an offset of silences laid out under tag 21: "tag 21 hex, length 10, cell (4 bytes), ring number (2), start
 // (4)", "numbers high byte first".
 fn exact_byte(field: &[u8], at: usize) -> u8 {
-    let record = at / EXACT_LENGTH;
+    let first = at / EXACT_LENGTH * EXACT_WORDS;
     let place = at % EXACT_LENGTH;
     match place {
         0 => 0x21,
         1 => 0,
         2 => 10,
-        3..=6 => byte_of(exact_word(field, record, 0), 6 - place),
-        7..=8 => byte_of(exact_word(field, record, 1), 8 - place),
-        _ => byte_of(exact_word(field, record, 2), 12 - place),
+        3..=6 => byte_of(exact_word(field, first), 6 - place),
+        7..=8 => byte_of(exact_word(field, first + 1), 8 - place),
+        _ => byte_of(exact_word(field, first + 2), 12 - place),
     }
 }
 
