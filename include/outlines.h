@@ -25,8 +25,8 @@
  * Ceilings came with change request 4, and they change what old books hide. Before, there was tag 21 only, and a silence hid the finding at its address
  * whatever its distance. A book of tag 21 is still read, but from now on it hides exact copies only: a finding at one of its addresses with a distance of
  * 1 or more is shown. To hide such findings again, unpack the book, set each record's fourth word to the distance that was signed, and pack the words. A
- * report by a book of tag 21 is the report by the same addresses with ceiling 0 under tag 22. A record to pack or unpack has four words now; it had
- * three.
+ * report by a book of tag 21 alone, of at most 1,000 records, is the report by the same addresses with ceiling 0 under tag 22. A record to pack or unpack
+ * has four words now; it had three.
  *
  * One stored copy can be several findings. If an exact copy of the ring stands at start i, a window that begins s edges before or after it has a distance
  * of at most s. So every start from i - k to i + k is a finding, and the copy gives at least 2 k + 1 findings. There are fewer near the ends of an open
