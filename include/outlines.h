@@ -115,8 +115,8 @@ struct outlines_answer outlines_scan(const uint8_t *ring, size_t ring_length, co
                                      size_t words_length);
 
 /* The report: the quick scan, without the findings that the book hides. A finding is hidden exactly if the book has a record of this cell, this ring
- * number and the finding's start, and the finding's distance is at most that record's ceiling. Zero is a value like any other in all four, and no value
- * stands for all. A record whose address has no finding hides nothing.
+ * number and the finding's start, and the finding's distance is at most that record's ceiling. Zero is a cell, ring number, start and ceiling like any
+ * other, and no value stands for all. A record whose address has no finding hides nothing.
  *   cell, ring_number     the cell that the line is of, and the number of the ring; C cuts a larger number to 32 and 16 bits before the call, so test
  *                         it first
  *   book, book_length     a silence book: 0 to 15,000 bytes, records of tag 22, as outlines_pack writes them, and of tag 21; an empty book is valid

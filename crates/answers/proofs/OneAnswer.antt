@@ -1,6 +1,6 @@
--- Number and place determine the refusal, and the paper determines the answer, whatever its counts are. `refusalOf` and `answerWith` compute the refusal and the
--- answer back, so two with the same paper are equal. So any two answers that meet a contract on the paper are equal. The last four laws are about the functions
--- of this crate, whose contracts are one equation each.
+-- Number and place determine the refusal, and the paper determines the answer, whatever its counts are. `refusalOf` and `answerWith` compute the refusal and
+-- the answer back, so two with the same paper are equal. So any two answers that meet a contract on the paper are equal. The last four laws are about the
+-- functions of this crate, whose contracts are one equation each.
 use Prim.Native.Nat.{ℕ, _≤_}
 use mathlib.Core.Path.{_≡_, refl, sym, ap, ap₂, _∙_}
 use mathlib.Core.Bool.{cond}

@@ -1,5 +1,5 @@
--- Document 01's table and row 12 of document 02 once more, as rows of name, number and place, and a test that the definitions give each row. antt computes it, so
--- a wrong number or place in the definitions is refused here. Rows 6, 7, 9 and 11 have four different places, so that no two can be confused.
+-- Document 01's table and row 12 of document 02 once more, as rows of name, number and place, and a test that the definitions give each row. antt computes it,
+-- so a wrong number or place in the definitions is refused here. Rows 6, 7, 9 and 11 have four different places, so that no two can be confused.
 use Prim.Native.Nat.{ℕ}
 use mathlib.Core.Path.{_≡_, refl}
 use mathlib.Core.Bool.{Bool, true, _&&_}

@@ -10,13 +10,13 @@ pub enum Refusal {
     Allowance,
     // 3: n > 65,536
     Line,
-    // 4: n ≥ m and fewer than 4·(n − m + 1) words are lent for findings (document 02, ticket 1), or 4·n on a closed line
-    // (ticket 3)
+    // 4: n ≥ m and fewer than 4·(n − m + 1) words are lent for findings (document 02, ticket 1), or 4·n on a closed
+    // line (ticket 3)
     FindingsRoom,
     // 5: book longer than 15,000 bytes (document 02, ticket 4)
     BookLength,
-    // 6: a field isn't 13 bytes beginning 21 00 0A hex, nor 15 bytes beginning 22 00 0C (document 02, ticket 4), or is cut
-    // off; its byte offset
+    // 6: a field isn't 13 bytes beginning 21 00 0A hex, nor 15 bytes beginning 22 00 0C (document 02, ticket 4), or is
+    // cut off; its byte offset
     Field(usize),
     // 7: a record isn't above the one before it; byte offset (reading) or record number from 0 (packing)
     NotAbove(usize),
@@ -25,8 +25,8 @@ pub enum Refusal {
     // 9: a number of a record to pack, its ring number or its ceiling (document 02, ticket 4), is above 65,535; record
     // number
     NumberInRecord(usize),
-    // 10: packing or unpacking lacks room for its whole output, or on a closed line n ≥ m and the join area is below 2·m − 2
-    // bytes (document 02, ticket 3)
+    // 10: packing or unpacking lacks room for its whole output, or on a closed line n ≥ m and the join area is below
+    // 2·m − 2 bytes (document 02, ticket 3)
     OutputRoom,
     // 11: the program's input isn't as laid down; the offset where the first such field begins or should begin, or 0 if
     // the input is too long

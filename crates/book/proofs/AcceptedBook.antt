@@ -38,8 +38,8 @@ has-refusal (accepted ss) r e = absurd (accepted-not-refused refl e)
 has-refusal (refused q) r e = cc
 
 module _ (book : List ℕ) where
-  -- An accepted book has at most 15,000 records: a weak bound, for a list of any numbers, and enough against overflow. (Of bytes it has at most 1,153: `records-le` of
-  -- AcceptedIsBook in crates/silences.)
+  -- An accepted book has at most 15,000 records: a weak bound, for a list of any numbers, and enough against overflow. (Of bytes it has at most 1,153:
+  -- `records-le` of AcceptedIsBook in crates/silences.)
   pub records-le : (records : ℕ) → recordCount (readBook book) ≡ accepted records → records ≤ mostBytes
   records-le records e =
       let has : HasRecords (readBook book) records = has-records (readBook book) records e in

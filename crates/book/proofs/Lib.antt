@@ -1,7 +1,7 @@
 -- The theorems about the calls on a book, and the laws that the proofs of functions cite. The theorems about the definitions are in crates/silences/proofs. A
 -- function's own proof is in a folder by its file and name, as reading/read/Proof.antt. The theorems to read first (their heads name what they use):
 --
---   SeekHides           seeking decides which addresses a book names
+--   SeekHides           seeking decides which findings a book hides
 --   SoughtRising        so do `seek` and `seek_on` with rising addresses, as the report calls them
 --   RowsOfReading, RowsOfUnpacking    when each refusal is given, and where
 --   OneAnswer           each contract has one answer

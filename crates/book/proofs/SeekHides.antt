@@ -73,8 +73,8 @@ seek-hides book ss a distance e =
     let w : IsReadWhole ss book = accepted-whole-iff book ss .0 e in
     seek-read a distance book (w .fields) (w .stop-ge)
 
--- In an accepted book, what seeking finds from the first byte on hides a finding exactly when some silence of the book has its cell, ring number and start, and its
--- distance is at most the ceiling of that silence.
+-- In an accepted book, what seeking finds from the first byte on hides a finding exactly when some silence of the book has its cell, ring number and start, and
+-- its distance is at most the ceiling of that silence.
 pub seek-iff : (book : List ℕ) (ss : List Silence) (cell ringNumber start distance : ℕ) → readBook book ≡ accepted ss
     → (isHiding (address cell ringNumber start) distance (seekFrom book (address cell ringNumber start) 0) ≡ true) ↔ Hides ss cell ringNumber start distance
 seek-iff book ss cell ringNumber start distance e =

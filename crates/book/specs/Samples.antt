@@ -10,8 +10,9 @@ use Rattle.silences.specs.Layout.{kindByTag}
 use Rattle.silences.specs.Samples.{example, ceiled}
 use Rattle.book.specs.Seeking.{seekFields, seekFrom, isHiding}
 
--- Seeking starts 0, 1 and 2 of cell 7, ring 2 in the example, whose one silence is (7, 2, 1) with ceiling 0: its field is found for starts 0 and 1 and passed for
--- start 2. From byte 5, inside the field, nothing is found. In a book of both tags the second field, of tag 22, is found behind the first, with its ceiling.
+-- Seeking starts 0, 1 and 2 of cell 7, ring 2 in the example, whose one silence is (7, 2, 1) with ceiling 0: its field is found for starts 0 and 1 and passed
+-- for start 2. From byte 5, inside the field, nothing is found. In a book of both tags the second field, of tag 22, is found behind the first, with its
+-- ceiling.
 sought-right : (seekFrom example (address 7 2 0) 0 ≡ whole (silence (address 7 2 1) 0) 13)
     × (seekFrom example (address 7 2 1) 0 ≡ whole (silence (address 7 2 1) 0) 13)
     × (seekFrom example (address 7 2 2) 0 ≡ faulty)

@@ -1,9 +1,9 @@
 // Reading a book: how many records it has, or the refusal of its first fault.
 use crate::answering::BookAnswer;
 use answers::Refusal;
-use silences::FIELD_LENGTH;
 use silences::Last;
 use silences::MOST_SILENCES;
+use silences::PACKED_LENGTH;
 use silences::Sought;
 use silences::field_at;
 use silences::is_above;
@@ -13,7 +13,7 @@ ghost use Rattle.silences.specs.Reading.{readFrom};
 ghost use Rattle.book.specs.Calls.{answerOf, recordCount, IsRead};
 
 // "book longer than" 15,000 "bytes": the most bytes that a book may have.
-const MOST_BOOK_LENGTH: usize = FIELD_LENGTH * MOST_SILENCES;
+const MOST_BOOK_LENGTH: usize = PACKED_LENGTH * MOST_SILENCES;
 
 // Reads the fields of a book one after the other. "Within a book the first faulty field decides, 6 before 7."
 fn read_fields(book: &[u8]) -> BookAnswer

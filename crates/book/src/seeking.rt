@@ -53,8 +53,8 @@ pub fn seek_on(book: &[u8], held: Sought, address: Address) -> Sought
     }
 }
 
-// Whether `sought` hides a finding with this address and this distance: it is a field, its address is the finding's, and
-// the distance is at most its ceiling.
+// Whether `sought` hides a finding with this address and this distance: it is a field, its address is the finding's,
+// and the distance is at most its ceiling.
 pub fn hides(sought: Sought, address: Address, distance: usize) -> bool
     ensures { λ r. ⌜ IsHidingAsked sought address distance r ⌝ }
 {

@@ -1,6 +1,6 @@
--- `outlines_unpack` and `outlines_pack` meet the demands. Both answer by their rows, so demand 1 follows as for every call (RowsAgree). A book is accepted exactly when it
--- lays down silences (`accepted-iff` of crates/silences). Unpacking gives back the words that were packed; packing what was unpacked, up to 1,000 records, gives a book
--- of the same silences.
+-- `outlines_unpack` and `outlines_pack` meet the demands. Both answer by their rows, so demand 1 follows as for every call (RowsAgree). A book is accepted
+-- exactly when it lays down silences (`accepted-iff` of crates/silences). Unpacking gives back the words that were packed; packing what was unpacked, up to
+-- 1,000 records, gives a book of the same silences.
 use Prim.Native.Nat.{ℕ, _*_, _≤_, _<_}
 use mathlib.Core.Path.{_≡_, refl, sym, ap, subst, _∙_}
 use mathlib.Core.Logic.{_↔_, _⊎_, inl, inr, Iff·trans}
@@ -18,13 +18,13 @@ use Rattle.answers.specs.Rows.{firstGiven, answerBy, areaBy}
 use Rattle.answers.proofs.OneAnswer.{number-in}
 use Rattle.answers.proofs.AnswerCases.{accepted-unique}
 use Rattle.silences.specs.Silences.{Silence}
-use Rattle.silences.specs.Layout.{fieldLength, layout, mostSilences}
+use Rattle.silences.specs.Layout.{packedLength, layout, mostSilences}
 use Rattle.silences.specs.Books.{IsBook}
 use Rattle.silences.specs.Reading.{silencesRead, bookRows, readBook}
 use Rattle.silences.specs.Packing.{recordWords, silencesOf, wordsOfSilences, areaAtExit, roomRow, packRows, packRefusal, packed, unpackRows, unpackRefusal, unpacked}
 use Rattle.silences.specs.Faults.{IsPackable}
 use Rattle.silences.proofs.LayoutRead.{layout-length}
-use Rattle.silences.proofs.AcceptedIsBook.{book-accepted, accepted-iff}
+use Rattle.silences.proofs.AcceptedIsBook.{book-accepted, accepted-iff, book-silences-unique}
 use Rattle.silences.proofs.RoundTrips.{packable-book, few-packable, few-book, laid-layout}
 use Rattle.silences.proofs.WordsOfSilences.{words-length, words-of-silences, silences-of-words}
 use Rattle.silences.proofs.BookRows.{is-row-5, fault-has, fault-6-iff, fault-7-iff, book-accepted-iff}
@@ -78,7 +78,7 @@ module _ (book area : List ℕ) {out : List ℕ} {r : AnswerStruct} (bytes : IsB
   the-book : (ss : List Silence) → IsBook ss book → r .refusal ≡ 0 → GivesRecords wordsOfSilences ss area r out
   the-book ss is-book zero-is =
       let h = unpacked-has zero-is in
-      let same : h .0 ≡ ss = accepted-unique (book-accepted book (h .0) (h .1)) (book-accepted book ss is-book) in
+      let same : h .0 ≡ ss = book-silences-unique (h .0) ss book (h .1) is-book in
       book-given ss is-book (subst (λ (l : List Silence). length (wordsOfSilences l) ≤ length area) same (h .2))
 
   -- `outlines_unpack` meets demand 2.
@@ -128,10 +128,10 @@ pack-unpack words area {out} {r} are-words e zero-is area′ {out′} {r′} roo
       front-is = written-front (wordsOfSilences ss) area′ (given .written-is) (length words) (ap length back) ∙ back;
     }
 
--- The words that an accepted `outlines_unpack` of at most 1,000 records wrote, packed with room, give a book of the same silences, and the same bytes where tag 21 is
--- absent.
+-- The words that an accepted `outlines_unpack` of at most 1,000 records wrote, packed with room, give a book of the same silences, and the same bytes where tag
+-- 21 is absent.
 pub unpack-pack : (book area : List ℕ) {out : List ℕ} {r : AnswerStruct} → IsBytes book → IsUnpackExported book area r out → r .refusal ≡ 0 → r .found ≤ mostSilences
-    → (area′ : List ℕ) {out′ : List ℕ} {r′ : AnswerStruct} → fieldLength * r .found ≤ length area′ → IsPackExported (take (recordWords * r .found) out) area′ r′ out′
+    → (area′ : List ℕ) {out′ : List ℕ} {r′ : AnswerStruct} → packedLength * r .found ≤ length area′ → IsPackExported (take (recordWords * r .found) out) area′ r′ out′
     → ReadsBack book r r′ out′
 unpack-pack book area {out} {r} bytes e zero-is few area′ {out′} {r′} room e′ =
     let has = unpacked-has book area bytes e zero-is in
@@ -149,6 +149,7 @@ unpack-pack book area {out} {r} bytes e zero-is few area′ {out′} {r′} room
       silences = ss;
       was-book = has .1;
       front = layout ss;
+      front-length = omega (arith, layout-length ss, given .found-is);
       front-is = written-front (layout ss) area′ (given .written-is) (length (layout ss)) refl;
       is-book = few-book ss book (has .1) few-read;
       same-bytes = λ laid. sym (laid-layout laid);

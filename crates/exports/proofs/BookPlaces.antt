@@ -1,5 +1,5 @@
--- The places of the calls on a book fit 32 bits. A byte offset is at most the book's length, which is at most 15,000 where an offset is given. A record number is
--- at most the number of records, which is at most 1,000.
+-- The places of the calls on a book fit 32 bits. A byte offset is at most the book's length, which is at most 15,000 where an offset is given. A record number
+-- is at most the number of records, which is at most 1,000.
 use Prim.Native.Nat.{ℕ, _≤_, _<_}
 use mathlib.Core.Logic.{⊎-elim}
 use mathlib.Core.Path.{_≡_, refl, sym, ap}

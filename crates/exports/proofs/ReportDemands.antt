@@ -1,5 +1,6 @@
--- `outlines_report` meets the demands. It answers by the rows of a report, so demand 1 follows as for every call (RowsAgree). Where it is accepted, the book is the
--- book of the silences read (`accepted-iff` of crates/silences), so a finding is shown exactly when the book's bytes do not hide it. Its looks are the scan's.
+-- `outlines_report` meets the demands. It answers by the rows of a report, so demand 1 follows as for every call (RowsAgree). Where it is accepted, the book is
+-- the book of the silences read (`accepted-iff` of crates/silences), so a finding is shown exactly when the book's bytes do not hide it. Its looks are the
+-- scan's.
 use Prim.Native.Nat.{ℕ, _<_}
 use mathlib.Core.Path.{_≡_, refl, ap, subst}
 use mathlib.Core.Logic.{_↔_, Iff·trans, Iff·and, Iff·rfl}

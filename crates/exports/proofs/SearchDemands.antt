@@ -43,8 +43,8 @@ unfolding admitRows
 search-agrees ring k n room =
     agree-append (limitRows ring k n) (limitTable ring k n) _ _ (limits-agree ring k n) (λ _. (row-agrees (is-row-4 ring k n room) refl, λ _. tt))
 
--- For a ring that is not empty: if the findings are exactly the shown and the hidden ones, then a start is among these exactly when some rotation differs in at most k
--- places.
+-- For a ring that is not empty: if the findings are exactly the shown and the hidden ones, then a start is among these exactly when some rotation differs in at
+-- most k places.
 pub start-listed-iff : {ring line : List ℕ} {k : ℕ} {shown hidden : List Finding} → 0 < length ring
     → ((f : Finding) → List·Memᴰ f (findings ring line k) ↔ (List·Memᴰ f shown ⊎ List·Memᴰ f hidden))
     → (i : ℕ) → ((f : Finding) × (f .start ≡ i) × (List·Memᴰ f shown ⊎ List·Memᴰ f hidden))

@@ -93,8 +93,8 @@ abbrev pub bookTable : List ℕ → List Row
 bookTable book =
     -- "book longer than" 15,000 "bytes": "5 at 15,000 bytes" (document 02, ticket 4)
     rowOf 5 (15000 < length book)
-    -- "a field isn't 13 bytes beginning 21 00 0A hex, or is cut off", where "6 admits both fields" (document 02, ticket 4); or "a record isn't above the one before
-    -- it"; "its byte offset"
+    -- "a field isn't 13 bytes beginning 21 00 0A hex, or is cut off", where "6 admits both fields" (document 02, ticket 4); or "a record isn't above the one
+    -- before it"; "its byte offset"
     ∷ (λ number place. ((number ≡ 6) × IsFieldFault book place) ⊎ ((number ≡ 7) × IsOrderFault book place))
     ∷ []
 
@@ -119,15 +119,15 @@ abbrev pub packTable : List ℕ → ℕ → List Row
 packTable words room =
     -- "words to pack aren't a multiple of" 4, "or exceed" 4,000: "8 a multiple of 4, at most 4,000" (document 02, ticket 4)
     rowOf 8 ((length words % 4 ≡ 0 → ⊥) ⊎ (4000 < length words))
-    -- "a ring number to pack is above 65,535", "9 also for a ceiling above 65,535" (document 02, ticket 4); or "a record isn't above the one before it"; "record
-    -- number"
+    -- "a ring number to pack is above 65,535", "9 also for a ceiling above 65,535" (document 02, ticket 4); or "a record isn't above the one before it";
+    -- "record number"
     ∷ (λ number place. ((number ≡ 9) × IsNumberFault words place) ⊎ ((number ≡ 7) × IsRecordFault words place))
     -- "packing or unpacking lacks room for its whole output"
     ∷ rowOf 10 (room < length (layout (silencesOf words)))
     ∷ []
 
--- Demand 1: a call is accepted, or refused with a number of the table under exactly the condition given there; a refusal has zero in every count and writes nothing.
--- `rows` are the call's rows, `area` its lent area at entry and `out` the same area at exit.
+-- Demand 1: a call is accepted, or refused with a number of the table under exactly the condition given there; a refusal has zero in every count and writes
+-- nothing. `rows` are the call's rows, `area` its lent area at entry and `out` the same area at exit.
 pub record Demand1 (rows : List Row) (r : AnswerStruct) (area out : List ℕ) : Type 0 where
   -- The answer's refusal is 0 exactly when no row is given, and then its place is 0.
   pub accepted-iff : (r .refusal ≡ 0) ↔ NoRow rows
@@ -141,8 +141,8 @@ pub record Demand1 (rows : List Row) (r : AnswerStruct) (area out : List ℕ) : 
   -- "writes nothing to any lent area"
   pub untouched : 0 < r .refusal → out ≡ area
 
--- The book's bytes hide a finding with this cell, ring number, start and distance: they are a book of silences, and one of these has that cell, ring number and start,
--- and a ceiling of at least that distance: "It hides a finding at its address only up to that distance, and demand 2 reads so" (document 02, ticket 4).
+-- "It hides a finding at its address only up to that distance, and demand 2 reads so" (document 02, ticket 4). The book's bytes are a book of silences, and one
+-- of these has this cell, ring number and start, and a ceiling of at least this distance.
 pub record BookHides (book : List ℕ) (cell ringNumber start distance : ℕ) : Type 0 where
   pub silences : List Silence
   pub is-book : IsBook silences book
@@ -152,17 +152,18 @@ pub record BookHides (book : List ℕ) (cell ringNumber start distance : ℕ) : 
 abbrev pub NeverHidden : ℕ → ℕ → Type 0
 NeverHidden start distance = ⊥
 
--- Demand 2 on an accepted survey, scan or report: it writes exactly the findings that the book does not hide. `Hidden` says which starts and distances it hides.
+-- Demand 2 on an accepted survey, scan or report: it writes exactly the findings that the book does not hide. `Hidden` says which starts and distances it
+-- hides.
 pub record Demand2 (Hidden : ℕ → ℕ → Type 0) (ring line : List ℕ) (k : ℕ) (words : List ℕ) (r : AnswerStruct) (out : List ℕ) : Type 0 where
   pub shown : List Finding
   pub hidden : List Finding
-  -- A start ("a window holding" a mark "isn't a start", document 02, ticket 2) is among the shown or the hidden exactly when some rotation differs from its window in
-  -- at most k places.
+  -- A start ("a window holding" a mark "isn't a start", document 02, ticket 2) is among the shown or the hidden exactly when some rotation differs from its
+  -- window in at most k places.
   pub start-iff : (i : ℕ)
       → ((f : Finding) × (f .start ≡ i) × (List·Memᴰ f shown ⊎ List·Memᴰ f hidden))
       ↔ (IsStart ring line i × ((q : ℕ) × (q < length ring) × (distance ring line i q ≤ k)))
-  -- A finding is among the shown exactly when the book does not hide it; by `IsFinding` it carries "the least distance, and the lowest r that reaches it", and ties,
-  -- "how many rotations reach the least distance" (document 02, ticket 1).
+  -- A finding is among the shown exactly when the book does not hide it; by `IsFinding` it carries "the least distance, and the lowest r that reaches it", and
+  -- ties, "how many rotations reach the least distance" (document 02, ticket 1).
   pub shown-iff : (f : Finding) → List·Memᴰ f shown ↔ (IsFinding ring line k f × (Hidden (f .start) (f .distance) → ⊥))
   -- A finding is among the hidden exactly when the book hides its start at its distance.
   pub hidden-iff : (f : Finding) → List·Memᴰ f hidden ↔ (IsFinding ring line k f × Hidden (f .start) (f .distance))
@@ -219,8 +220,8 @@ pub record ClosedDemand2 (Hidden : ℕ → ℕ → Type 0) (ring line : List ℕ
   pub start-iff : (i : ℕ)
       → ((f : Finding) × (f .start ≡ i) × (List·Memᴰ f shown ⊎ List·Memᴰ f hidden))
       ↔ (IsClosedStart ring line i × ((q : ℕ) × (q < length ring) × (closedDistance ring line i q ≤ k)))
-  -- A finding is among the shown exactly when the book does not hide it; by `IsClosedFinding` it carries the least distance, the lowest rotation that reaches it,
-  -- and ties.
+  -- A finding is among the shown exactly when the book does not hide it; by `IsClosedFinding` it carries the least distance, the lowest rotation that reaches
+  -- it, and ties.
   pub shown-iff : (f : Finding) → List·Memᴰ f shown ↔ (IsClosedFinding ring line k f × (Hidden (f .start) (f .distance) → ⊥))
   -- A finding is among the hidden exactly when the book hides its start at its distance.
   pub hidden-iff : (f : Finding) → List·Memᴰ f hidden ↔ (IsClosedFinding ring line k f × Hidden (f .start) (f .distance))
@@ -243,22 +244,23 @@ pub record ClosedDemand3 (ring line : List ℕ) (k : ℕ) (r : AnswerStruct) : T
   -- "for n < m there are none, and no look"
   pub no-looks : length line < length ring → r .looks ≡ 0
 
--- Demand 2 on packing and unpacking in turn: the second call gives back what the first was given (`given`). It accepts what the first wrote, counts as many records,
--- and its area at exit (`out`) begins with `given`.
+-- Demand 2 on packing and unpacking in turn: the second call gives back what the first was given (`given`). It accepts what the first wrote, counts as many
+-- records, and its area at exit (`out`) begins with `given`.
 pub record GivesBack (given : List ℕ) (first second : AnswerStruct) (out : List ℕ) : Type 0 where
   pub accepted : second .refusal ≡ 0
   pub found-is : second .found ≡ first .found
   pub front-is : take (length given) out ≡ given
 
--- Demand 2 on unpacking and packing in turn, for a book of at most 1,000 records: "the round trip is then of values, and of bytes where tag 21 is absent" (document 02,
--- ticket 4). The second call accepts the words that the first wrote and counts as many records. Its area at exit (`out`) begins with a book of the same silences, and
--- with the same bytes if no field of `book` has tag 21.
+-- Demand 2 on unpacking and packing in turn, for a book of at most 1,000 records: "the round trip is then of values, and of bytes where tag 21 is absent"
+-- (document 02, ticket 4). The second call accepts the words that the first wrote and counts as many records. Its area at exit (`out`) begins with a book of
+-- the same silences, and with the same bytes if no field of `book` has tag 21.
 pub record ReadsBack (book : List ℕ) (first second : AnswerStruct) (out : List ℕ) : Type 0 where
   pub accepted : second .refusal ≡ 0
   pub found-is : second .found ≡ first .found
   pub silences : List Silence
   pub was-book : IsBook silences book
   pub front : List ℕ
+  pub front-length : length front ≡ 15 * second .found
   pub front-is : take (length front) out ≡ front
   pub is-book : IsBook silences front
   pub same-bytes : LaidDown NoTag21 silences book → front ≡ book
@@ -276,8 +278,8 @@ pub record ScanMeets (ring line : List ℕ) (k : ℕ) (words : List ℕ) (r : An
   pub demand-2 : r .refusal ≡ 0 → Demand2 NeverHidden ring line k words r out
   pub demand-3 : r .refusal ≡ 0 → Demand3 ring line k r
 
--- Demand 3: the quick scan lists exactly the survey's findings. For the same ring, line, allowance and lent words, survey and scan return the same refusal, place and
--- found, and leave the same words.
+-- Demand 3: the quick scan lists exactly the survey's findings. For the same ring, line, allowance and lent words, survey and scan return the same refusal,
+-- place and found, and leave the same words.
 pub record SurveyScanSame (survey scan : AnswerStruct) (survey-out scan-out : List ℕ) : Type 0 where
   pub refusal-is : scan .refusal ≡ survey .refusal
   pub place-is : scan .place ≡ survey .place

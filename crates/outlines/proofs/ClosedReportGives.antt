@@ -17,9 +17,9 @@ use Rattle.answers.specs.Paper.{accepted}
 use Rattle.answers.specs.Rows.{areaBy}
 use Rattle.silences.specs.Silences.{Silence, address}
 use Rattle.silences.specs.Layout.{layout, mostSilences}
-use Rattle.silences.specs.Books.{LaidDown, OnlyTag21, IsBook}
+use Rattle.silences.specs.Books.{LaidDown, OnlyTag21, IsBook, withCeilings}
 use Rattle.silences.proofs.AcceptedIsBook.{book-accepted}
-use Rattle.silences.proofs.ExactBook.{withCeilings, exact-read}
+use Rattle.silences.proofs.ExactBook.{exact-read}
 use Rattle.silences.specs.Reading.{readBook, silencesRead, bookRefusal}
 use Rattle.silences.proofs.BookRows.{book-accepted-iff}
 use Rattle.findings.specs.declared.searching.Searched.{Searched}
@@ -107,8 +107,8 @@ module _ (cell ringNumber : ℕ) (s : Silence) (xs ys : List Silence) (ring line
       ≤ length (hidden (xs ++ ys) cell ringNumber (findings ring (closedLine (length ring) line) k)) + 1
   closed-hides-one-le = silence-hides-one-le cell ringNumber s xs ys ring (closedLine (length ring) line) k
 
-  -- "A silence that names no finding hides nothing", nor does one whose ceiling is too low: without it the report on the closed line is the same, its words and its
-  -- join area too.
+  -- "A silence that names no finding hides nothing", nor does one whose ceiling is too low: without it the report on the closed line is the same, its words and
+  -- its join area too.
   pub closed-idle-silence-same : {book book′ join words : List ℕ} {r r′ : Reported} {joined joined′ out out′ : List ℕ}
       → readBook book ≡ accepted (xs ++ s ∷ ys) → readBook book′ ≡ accepted (xs ++ ys)
       → IsClosedReported cell ringNumber ring line k book join words r joined out → IsClosedReported cell ringNumber ring line k book′ join words r′ joined′ out′

@@ -1,6 +1,6 @@
--- A report by a book of tag 21 alone, of at most 1,000 records, is the report by the same addresses with ceiling 0 under tag 22: both books have the same silences
--- (ExactBook of crates/silences), and reports whose books hide the same findings give the same answer (SilencesAlike). For the rows of any search that accept no
--- empty ring, so for the report and for the report on a closed line.
+-- A report by a book of tag 21 alone, of at most 1,000 records, is the report by the same addresses with ceiling 0 under tag 22: both books have the same
+-- silences (ExactBook of crates/silences), and reports whose books hide the same findings give the same answer (SilencesAlike). For the rows of any search that
+-- accept no empty ring, so for the report and for the report on a closed line.
 use Prim.Native.Nat.{ℕ, _≤_, _<_}
 use mathlib.Core.Path.{_≡_, refl}
 use mathlib.Core.List.{List}
@@ -10,9 +10,9 @@ use Rattle.answers.specs.declared.refusals.Refusal.{Refusal}
 use Rattle.answers.specs.Rows.{firstGiven}
 use Rattle.silences.specs.Silences.{Silence}
 use Rattle.silences.specs.Layout.{layout, mostSilences}
-use Rattle.silences.specs.Books.{LaidDown, OnlyTag21, IsBook}
+use Rattle.silences.specs.Books.{LaidDown, OnlyTag21, IsBook, withCeilings}
 use Rattle.silences.proofs.AcceptedIsBook.{book-accepted}
-use Rattle.silences.proofs.ExactBook.{withCeilings, exact-read}
+use Rattle.silences.proofs.ExactBook.{exact-read}
 use Rattle.outlines.specs.declared.reporting.Reported.{Reported}
 use Rattle.outlines.specs.Report.{IsReportedBy}
 use Rattle.outlines.proofs.SilencesAlike.{reports-same}

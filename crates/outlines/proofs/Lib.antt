@@ -1,6 +1,6 @@
--- The laws of this crate, one module for each idea, in the order in which they build on each other. The proofs that the functions meet their contracts cite them;
--- each stands in a folder with the function's name, as quick/scan_windows. The statements to read are those of ScanGives and SameFindings, ShownExactly and
--- ShownAndHidden, and from RowsOfReport on.
+-- The laws of this crate, one module for each idea, in the order in which they build on each other. The proofs that the functions meet their contracts cite
+-- them; each stands in a folder with the function's name, as quick/scan_windows. The statements to read are those of ScanGives and SameFindings, ShownExactly
+-- and ShownAndHidden, and from RowsOfReport on.
 --
 -- What follows for every answer of a scan; survey and scan give the same findings.
 pub mod ScanGives

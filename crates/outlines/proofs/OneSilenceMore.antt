@@ -1,13 +1,15 @@
--- One silence more in a book. It hides at one address more, and each start has at most one finding, so it hides at most one finding more. A silence that has the
--- address of no finding, or a ceiling below the distance of the finding there, changes nothing. Neither does one of another cell or ring number. The laws hold
--- for the rows of any search that accept no empty ring.
+-- One silence more in a book. It hides at one address more, and each start has at most one finding, so it hides at most one finding more. A silence that has
+-- the address of no finding, or a ceiling below the distance of the finding there, changes nothing. Neither does one of another cell or ring number. The laws
+-- hold for the rows of any search that accept no empty ring.
 use Prim.Native.Nat.{ℕ, suc, _+_, _≤_, _<_}
 use mathlib.Core.Path.{_≡_, refl, ap, _∙_}
+use mathlib.Core.Logic.{_⊎_, _↔_, Iff·rfl}
 use mathlib.Core.Bool.{Bool, true, false, cond, _||_, not-eq-not}
 use mathlib.Core.List.{List, [], _∷_, _++_}
 use mathlib.Core.Option.{Option, none}
 use native.Mathlib.Omega.{arith}
 use lib.ListN.{length}
+use Rattle.lists.proofs.SizesTested.{or-iff}
 use Rattle.meaning.specs.Findings.{Finding, IsFinding, findings}
 use Rattle.meaning.specs.Findings.{Rising}
 use Rattle.meaning.proofs.Rising.{rising-from, findings-rising}
@@ -57,6 +59,14 @@ module _ (cell ringNumber : ℕ) (s : Silence) (xs ys : List Silence) where
       ap (λ (t : Bool). covers z a distance || t) (hides-one-more zs a distance)
       ∙ or-other (covers z a distance) (covers s a distance) (hides (zs ++ ys) a distance)
 
+  -- One silence more hides at most its own address: with s among them the silences hide a finding exactly when s has its address and a ceiling of at least its
+  -- distance, or they hide it without s.
+  pub silence-more-iff : (f : Finding) → (isHidden (xs ++ s ∷ ys) cell ringNumber f ≡ true)
+      ↔ (((s .address ≡ address cell ringNumber (f .start)) × (f .distance ≤ s .ceiling)) ⊎ (isHidden (xs ++ ys) cell ringNumber f ≡ true))
+  silence-more-iff f =
+      rw (hides-one-more xs (address cell ringNumber (f .start)) (f .distance))
+      (or-iff (covers-iff s (address cell ringNumber (f .start)) (f .distance)) Iff·rfl)
+
   -- a finding that s does not cover is hidden with s exactly when it is hidden without it
   hidden-alike : (f : Finding) → covered f ≡ false → isHidden (xs ++ s ∷ ys) cell ringNumber f ≡ isHidden (xs ++ ys) cell ringNumber f
   hidden-alike f e = hides-one-more xs (address cell ringNumber (f .start)) (f .distance) ∙ ap (λ (t : Bool). t || isHidden (xs ++ ys) cell ringNumber f) e
@@ -93,8 +103,8 @@ module _ (cell ringNumber : ℕ) (s : Silence) (xs ys : List Silence) where
         (is : readBook book ≡ accepted (xs ++ s ∷ ys)) (is′ : readBook book′ ≡ accepted (xs ++ ys))
         (r r′ : Reported) (out out′ : List ℕ) (p : IsReportedBy rows cell ringNumber ring line k book words r out)
         (p′ : IsReportedBy rows cell ringNumber ring line k book′ words r′ out′) where
-      -- "A silence that names no finding hides nothing", nor does one whose ceiling is below the distance of the finding that it names: without it the report is
-      -- the same.
+      -- "A silence that names no finding hides nothing", nor does one whose ceiling is below the distance of the finding that it names: without it the report
+      -- is the same.
       pub idle-silence-same : ((f : Finding) → IsFinding ring line k f → s .address ≡ address cell ringNumber (f .start) → f .distance ≤ s .ceiling → ⊥)
           → (r ≡ r′) × (out ≡ out′)
       idle-silence-same idle =

@@ -158,21 +158,21 @@ module _ {cell ringNumber : ℕ} {ring doubled table : List ℕ} {p : Parts} {k 
 
               go : (t : Bool) → isHidden ss cell ringNumber f ≡ t → hidesFinding cell ringNumber book f (soughtOf (asked .held)) ≡ t
                   → QuickLoop cell ringNumber ring doubled table p k book counts₀ area next asked′ counts′ out
-              go true named same =
+              go true is-hidden same =
                   let shown-is : asked′ .shown ≡ asked .shown = rw same at (asks .shown-is) in
                   next-loop
-                  (rw (taken-more-no (isShown ss cell ringNumber) (h .so-far) f (ap not named), shown-is, put .hidden-same (omega arith)) (h .in-words))
+                  (rw (taken-more-no (isShown ss cell ringNumber) (h .so-far) f (ap not is-hidden), shown-is, put .hidden-same (omega arith)) (h .in-words))
                   (rw same at (asks .hidden-is)
                   ∙ omega (
                     arith,
                     h .hidden-is,
-                    ap (λ (l : List Finding). length l) (taken-more-yes (isHidden ss cell ringNumber) (h .so-far) f named),
+                    ap (λ (l : List Finding). length l) (taken-more-yes (isHidden ss cell ringNumber) (h .so-far) f is-hidden),
                     length-append (hidden ss cell ringNumber (h .so-far)) (f ∷ []),
                   ))
-              go false named same =
+              go false is-hidden same =
                   let shown-is : asked′ .shown ≡ asked .shown + 1 = rw same at (asks .shown-is) in
                   next-loop
-                  (rw (taken-more-yes (isShown ss cell ringNumber) (h .so-far) f (ap not named), shown-is)
+                  (rw (taken-more-yes (isShown ss cell ringNumber) (h .so-far) f (ap not is-hidden), shown-is)
                   (so-far-more (h .in-words) room-behind (turn .found f e .are-words) (put .shown-put (omega arith))))
                   (rw same at (asks .hidden-is) ∙ h .hidden-is
-                  ∙ ap (λ (l : List Finding). length l) (sym (taken-more-no (isHidden ss cell ringNumber) (h .so-far) f named)))
+                  ∙ ap (λ (l : List Finding). length l) (sym (taken-more-no (isHidden ss cell ringNumber) (h .so-far) f is-hidden)))

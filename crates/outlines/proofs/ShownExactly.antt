@@ -1,5 +1,5 @@
--- A finding of ring and line is hidden exactly when some silence has its cell, ring number and start, and a ceiling of at least its distance (`Hides`); it is shown
--- exactly when none does. Both lists are made by the test `isHidden` (`taken-iff`), which decides that (`hides-iff` of crates/silences).
+-- A finding of ring and line is hidden exactly when some silence has its cell, ring number and start, and a ceiling of at least its distance (`Hides`); it is
+-- shown exactly when none does. Both lists are made by the test `isHidden` (`taken-iff`), which decides that (`hides-iff` of crates/silences).
 use Prim.Native.Nat.{ℕ, _<_}
 use mathlib.Core.Path.{_≡_, refl, sym, _∙_}
 use mathlib.Core.Bool.{Bool, true, false, not, false≢true}

@@ -37,8 +37,8 @@ module _ (ss ts : List Silence) (cell ringNumber : ℕ) where
   module _ (rows : List (Option Refusal)) (ring line : List ℕ) (some-edge : firstGiven rows ≡ none → 0 < length ring) (k : ℕ) (book book′ words : List ℕ)
       (is : readBook book ≡ accepted ss) (is′ : readBook book′ ≡ accepted ts)
       (alike : (f : Finding) → IsFinding ring line k f → isHidden ss cell ringNumber f ≡ isHidden ts cell ringNumber f) where
-    -- Both books are accepted, so the refusal of the search's rows decides what a report returns and writes. If there is none, the silences decide. So any value
-    -- `by` that is the same for each refusal, and for equal shown and hidden findings, is the same for the two reports.
+    -- Both books are accepted, so the refusal of the search's rows decides what a report returns and writes. If there is none, the silences decide. So any
+    -- value `by` that is the same for each refusal, and for equal shown and hidden findings, is the same for the two reports.
     given : {A : Type 0} (by : Option Refusal → List Silence → A)
         → ((q : Refusal) → by (some q) ss ≡ by (some q) ts)
         → (shown ss cell ringNumber (findings ring line k) ≡ shown ts cell ringNumber (findings ring line k)

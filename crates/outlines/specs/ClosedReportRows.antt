@@ -41,8 +41,8 @@ pub record ClosedReportRows (ring line : List ℕ) (k : ℕ) (book join words : 
       × ((length line ≤ 65536) × ((length ring ≤ length line) × ((4 * length line ≤ length words) × (length join < 2 * length ring - 2)))))))
   -- "book longer than" 15,000 "bytes" (document 02, ticket 4), none of the rows above given
   pub row-5 : (p .number ≡ 5) ↔ (ClosedAdmitted ring k (length line) (length words) (length join) × (15000 < length book))
-  -- "a field isn't 13 bytes beginning 21 00 0A hex, or is cut off", nor 15 bytes beginning 22 00 0C (document 02, ticket 4); place: its byte offset; none of the
-  -- rows above given, and no earlier field is faulty
+  -- "a field isn't 13 bytes beginning 21 00 0A hex", nor 15 bytes beginning 22 00 0C (document 02, ticket 4), "or is cut off"; place: its byte offset; none of
+  -- the rows above given, and no earlier field is faulty
   pub row-6 : (at : ℕ)
       → ((p .number ≡ 6) × (p .place ≡ at))
       ↔ (ClosedAdmitted ring k (length line) (length words) (length join) × ((length book ≤ 15000) × IsFieldFault book at))

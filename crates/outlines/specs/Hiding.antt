@@ -1,5 +1,5 @@
--- Contracts of the private functions of src/asking.rt: the book is asked for one finding, which is then hidden or shown. Findings come by rising start and a book's
--- records ascend, so the loop keeps the field found last ("held") and goes on from it, never back.
+-- Contracts of the private functions of src/asking.rt: the book is asked for one finding, which is then hidden or shown. Findings come by rising start and a
+-- book's records ascend, so the loop keeps the field found last ("held") and goes on from it, never back.
 --
 --   findingAddress     the address of a finding: cell, ring number, start
 --   heldFor            the first field of the book, from the field held on, that is not below this address; `faulty` if a faulty field or the book's end comes first
@@ -7,7 +7,7 @@
 --   CanAsk             the precondition of `ask`
 --   IsHiddenOrShown    the contract of `ask`
 --   IsShownPut         the contract of `put_shown`
-use Prim.Native.Nat.{ℕ, _+_, _≤_, _<_, _^_}
+use Prim.Native.Nat.{ℕ, _+_, _≤_, _<_}
 use mathlib.Core.Path.{_≡_}
 use mathlib.Core.Bool.{Bool, cond}
 use mathlib.Core.List.{List}
@@ -24,8 +24,8 @@ use Rattle.outlines.specs.declared.asking.BookAsked.{BookAsked}
 abbrev pub findingAddress : ℕ → ℕ → Finding → Address
 findingAddress cell ringNumber f = address cell ringNumber (f .start)
 
--- The field for a finding, given the field held: the held one if it is not below the finding's address, else the first field behind it that is not; `faulty` if a
--- faulty field or the book's end comes first, or if the held one is `faulty`.
+-- The field for a finding, given the field held: the held one if it is not below the finding's address, else the first field behind it that is not; `faulty` if
+-- a faulty field or the book's end comes first, or if the held one is `faulty`.
 abbrev pub heldFor : ℕ → ℕ → List ℕ → Finding → FieldAt → FieldAt
 heldFor cell ringNumber book f held = seekField (findingAddress cell ringNumber f) held (seekFrom book (findingAddress cell ringNumber f))
 
@@ -45,8 +45,8 @@ pub record IsHiddenOrShown (cell ringNumber : ℕ) (book : List ℕ) (so-far : B
   pub shown-is : r .shown ≡ cond (hidesFinding cell ringNumber book f (soughtOf (so-far .held))) (so-far .shown) (so-far .shown + 1)
   pub hidden-is : r .hidden ≡ cond (hidesFinding cell ringNumber book f (soughtOf (so-far .held))) (so-far .hidden + 1) (so-far .hidden)
 
--- The contract of `put_shown`; `before` and `now-shown` are the numbers of shown findings before and after the finding was counted. If it was counted as shown, its
--- words are put behind those of the shown ones before it; else no word changes.
+-- The contract of `put_shown`; `before` and `now-shown` are the numbers of shown findings before and after the finding was counted. If it was counted as shown,
+-- its words are put behind those of the shown ones before it; else no word changes.
 pub record IsShownPut (words : List ℕ) (before now-shown : ℕ) (f : Finding) (out : List ℕ) : Type 0 where
   pub shown-put : before < now-shown → IsFindingPut words before f out
   pub hidden-same : now-shown ≤ before → out ≡ words

@@ -8,7 +8,7 @@
 --   ClosedReportRows   its rows once more, in plain comparisons: 1, 12, 2, 3, 4, 10, 5, 6, 7; and the join area
 --   Hiding             contracts of the private functions of src/asking.rt, which ask the book for one finding
 --   LineScan           contracts of the private functions of src/quick.rt, which scan a line with a book
---   ReportSamples      document 01's samples with silences, computed
+--   ReportSamples      document 01's samples with silences, and samples of ceilings, computed
 pub mod Scan
 pub mod Report
 pub mod ReportRows

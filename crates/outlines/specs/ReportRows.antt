@@ -1,7 +1,7 @@
--- Document 01, "What each call returns": rows 1 to 7 of the table as they read for the report, with "Given exactly when", number and place written out, in their
--- order; and row 12 of document 02, ticket 2, "after 1 and before 2". The contract uses `reportRows` of specs/Report.antt. This is the same table in plain
--- comparisons, and proofs/RowsOfReport.antt proves it for every answer that meets the contract, if the book is a list of bytes. The number is one of 0 to 7, or 12,
--- so exactly one of the nine conditions holds.
+-- Document 01, "What each call returns": rows 1 to 7 of the table as they read for the report, with "Given exactly when", number and place written out, in
+-- their order; and row 12 of document 02, ticket 2, "after 1 and before 2". The contract uses `reportRows` of specs/Report.antt. This is the same table in
+-- plain comparisons, and proofs/RowsOfReport.antt proves it for every answer that meets the contract, if the book is a list of bytes. The number is one of 0 to
+-- 7, or 12, so exactly one of the nine conditions holds.
 --
 --   ReportRows    the table, for an answer's paper and the words at exit
 use Prim.Native.Nat.{ℕ, _+_, _-_, _*_, _≤_, _<_}
@@ -35,8 +35,8 @@ pub record ReportRows (ring : List ℕ) (k n : ℕ) (book words : List ℕ) (p :
       × ((HoldsMark ring → ⊥) × ((k < length ring) × ((n ≤ 65536) × ((length ring ≤ n) × (length words < 4 * (n - length ring + 1)))))))
   -- "book longer than" 15,000 "bytes" (document 02, ticket 4), none of the rows above given
   pub row-5 : (p .number ≡ 5) ↔ (Admitted ring k n (length words) × (15000 < length book))
-  -- "a field isn't 13 bytes beginning 21 00 0A hex, or is cut off", nor 15 bytes beginning 22 00 0C (document 02, ticket 4); place: its byte offset; none of the
-  -- rows above given, and no earlier field is faulty
+  -- "a field isn't 13 bytes beginning 21 00 0A hex", nor 15 bytes beginning 22 00 0C (document 02, ticket 4), "or is cut off"; place: its byte offset; none of
+  -- the rows above given, and no earlier field is faulty
   pub row-6 : (at : ℕ) → ((p .number ≡ 6) × (p .place ≡ at)) ↔ (Admitted ring k n (length words) × ((length book ≤ 15000) × IsFieldFault book at))
   -- "a record isn't above the one before it"; place: its byte offset; none of the rows up to 5 given, and no earlier field is faulty
   pub row-7 : (at : ℕ) → ((p .number ≡ 7) × (p .place ≡ at)) ↔ (Admitted ring k n (length words) × ((length book ≤ 15000) × IsOrderFault book at))

@@ -1,6 +1,6 @@
--- Samples of the report, computed by antt. Document 01, "Sample rings": "P2 with the one silence (7, 2, 10): as cell 7, ring 2 it shows starts 9 and 11, hidden 1; as
--- cell 8 all three." Also the example of the report program, with the silence (7, 2, 1), a silence for cell 0, which hides in cell 0 alone, and
--- ceilings (document 02, ticket 4).
+-- Samples of the report, computed by antt. Document 01, "Sample rings": "P2 with the one silence (7, 2, 10): as cell 7, ring 2 it shows starts 9 and 11, hidden
+-- 1; as cell 8 all three." Also the example of the report program, with the silence (7, 2, 1), a silence for cell 0, which hides in cell 0 alone, and ceilings
+-- (document 02, ticket 4).
 use Prim.Native.Nat.{ℕ}
 use mathlib.Core.Path.{_≡_, refl}
 use mathlib.Core.List.{List, [], _∷_}
@@ -45,8 +45,8 @@ sample-cell-0 : (length (hidden (silence (address 0 2 10) 0 ∷ []) 7 2 (finding
 unfolding ring2 line2 takenBy isSame covers hides ascii window holdsMark count lowest someBelow differs distance lowestRotation rotationsReaching foundAt findingsBelow
 sample-cell-0 = (refl, refl)
 
--- "It hides a finding at its address only up to that distance" (document 02, ticket 4): start 9 has distance 1. With ceiling 0 it is shown, with ceilings 1 and 2
--- it is hidden.
+-- "It hides a finding at its address only up to that distance" (document 02, ticket 4): start 9 has distance 1. With ceiling 0 it is shown, with ceilings 1 and
+-- 2 it is hidden.
 sample-ceilings : (length (hidden (silence (address 7 2 9) 0 ∷ []) 7 2 (findings ring2 line2 1)) ≡ 0)
     × (length (hidden (silence (address 7 2 9) 1 ∷ []) 7 2 (findings ring2 line2 1)) ≡ 1)
     × (length (hidden (silence (address 7 2 9) 2 ∷ []) 7 2 (findings ring2 line2 1)) ≡ 1)

@@ -21,7 +21,7 @@ pub struct BookAsked {
     pub held: Sought,
 }
 
-// The address that names a start: cell, ring number and start.
+// The address of a start: cell, ring number and start.
 pub fn address_of(cell: u32, ring_number: u16, start: LinePlace) -> Address
     requires { ⌜ start .0 < 2 ^ 32 ⌝ }
     ensures { λ r. ⌜ addressOf r ≡ address cell «ring_number» (start .0) ⌝ }
@@ -33,7 +33,8 @@ pub fn address_of(cell: u32, ring_number: u16, start: LinePlace) -> Address
     }
 }
 
-// Counts one finding more: as hidden if the field sought from the held one on hides it, else as shown. No word is written.
+// Counts one finding more: as hidden if the field sought from the held one on hides it, else as shown. No word is
+// written.
 pub fn ask(
     cell: u32,
     ring_number: u16,

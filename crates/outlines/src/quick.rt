@@ -1,5 +1,5 @@
 // The quick scan, rules 1 to 5. A silence book is asked for each finding before its words are written: the report lends
-// its own book, and the scan an empty one, which names no finding.
+// its own book, and the scan an empty one, which hides no finding.
 use crate::asking::BookAsked;
 use crate::asking::address_of;
 use crate::asking::ask;

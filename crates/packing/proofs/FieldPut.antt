@@ -1,5 +1,5 @@
--- Writing a field number by number: tag, length, cell, ring number, start, ceiling. Each number begins where the one before it ends, and together their bytes are the
--- field's bytes (`fieldOf-is`).
+-- Writing a field number by number: tag, length, cell, ring number, start, ceiling. Each number begins where the one before it ends, and together their bytes
+-- are the field's bytes (`fieldOf-is`).
 use Prim.Native.Nat.{ℕ, _+_, _≤_}
 use mathlib.Core.Path.{_≡_, sym, ap, _∙_}
 use mathlib.Core.List.{List, _++_, append-assoc}

@@ -18,11 +18,11 @@ use Rattle.answers.specs.declared.refusals.Refusal.the-variants.{NotAbove, Numb
 use Rattle.answers.specs.Paper.{Answer, accepted, refused}
 use Rattle.answers.specs.Rows.{firstGiven, answerBy}
 use Rattle.silences.specs.Silences.{Address, Silence, isAbove}
-use Rattle.silences.specs.Layout.{fieldLength, fieldOf, layout}
+use Rattle.silences.specs.Layout.{packedLength, fieldOf, layout}
 use Rattle.silences.specs.Packing.{silencesOf, recordWords, recordRows, recordFault}
 use Rattle.silences.specs.Faults.{NumbersFit, AllFit, TooLarge}
 use Rattle.packing.specs.Judging.{Sizes, sized, sizes}
-use Rattle.silences.proofs.FieldBytes.{field-length}
+use Rattle.silences.proofs.FieldBytes.{packed-length}
 use Rattle.silences.proofs.WordsOfSilences.{silenceFrom, silencesOf-step, silencesOf-end}
 use Rattle.silences.proofs.AscendingAfter.{AscendingAfter, lastAfter, lastAfter-end, ascends-more}
 use Rattle.silences.proofs.RecordsPacked.{RecordStands, packed-all, stopped-number, stopped-record, all-fit-more, packs-as-is}
@@ -31,7 +31,7 @@ use Rattle.silences.proofs.RecordsPacked.{RecordStands, packed-all, stopped-num
 pub record JudgedTo (words : List ℕ) (last : Option Address) (records bytes at : ℕ) : Type 0 where
   pub at-le : at ≤ length words
   pub records-le : records ≤ at
-  pub bytes-le : bytes ≤ fieldLength * at
+  pub bytes-le : bytes ≤ packedLength * at
   pub passed : List Silence
   pub all-are : silencesOf words ≡ passed ++ silencesOf (drop at words)
   pub all-fit : AllFit passed
@@ -103,7 +103,7 @@ module _ {words : List ℕ} where
             record {
               at-le = h;
               records-le = omega (arith, now .records-le);
-              bytes-le = omega (arith, now .bytes-le, field-length here);
+              bytes-le = omega (arith, now .bytes-le, packed-length here);
               passed = now .passed ++ here ∷ [];
               all-are = all-from ∙ sym (append-snoc (now .passed) here others);
               all-fit = all-fit-more (now .passed) here (now .all-fit) fit;

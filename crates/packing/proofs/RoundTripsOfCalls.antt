@@ -1,22 +1,22 @@
 -- Round trips, for any answers that meet the contracts. If `pack` accepts words and `unpack` is given the book that it wrote, with room, then `unpack` accepts
--- and writes those words (`pack-unpack`). If `unpack` accepts a book of at most 1,000 records and `pack` is given the words that it wrote, with room, then `pack`
--- accepts and writes a book of the same silences, and the same bytes where tag 21 is absent (`unpack-pack`). Both return the same number of records. Of more
--- records `pack` refuses the words by row 8 (`unpack-pack-many`). By RoundTrips of crates/silences; what an accepted call returns and writes is proved once for
--- both calls (`gives-records`, `gave`).
+-- and writes those words (`pack-unpack`). If `unpack` accepts a book of at most 1,000 records and `pack` is given the words that it wrote, with room, then
+-- `pack` accepts and writes a book of the same silences, and the same bytes where tag 21 is absent (`unpack-pack`). Both return the same number of records. Of
+-- more records `pack` refuses the words by row 8 (`unpack-pack-many`). By RoundTrips of crates/silences; what an accepted call returns and writes is proved
+-- once for both calls (`gives-records`, `gave`).
 use Prim.Native.Nat.{ℕ, _*_, _≤_, _<_}
 use mathlib.Core.Path.{_≡_, refl, sym, ap, _∙_}
 use mathlib.Core.List.{List}
-use mathlib.Core.Option.{Option, none, some}
+use mathlib.Core.Option.{Option, some}
 use native.Mathlib.Omega.{arith}
 use lib.ListN.{length, take}
 use Rattle.lists.specs.Bounds.{IsBytes, IsWords}
 use Rattle.answers.specs.declared.refusals.Refusal.{Refusal}
 use Rattle.answers.specs.declared.refusals.Refusal.the-variants.{WordCount}
-use Rattle.answers.specs.Paper.{Answer, accepted}
+use Rattle.answers.specs.Paper.{accepted}
 use Rattle.answers.specs.Rows.{answerBy}
 use Rattle.answers.proofs.AnswerByRows.{answer-gives-iff}
 use Rattle.silences.specs.Silences.{Silence}
-use Rattle.silences.specs.Layout.{fieldLength, layout, mostSilences}
+use Rattle.silences.specs.Layout.{packedLength, layout, mostSilences}
 use Rattle.silences.specs.Reading.{silencesRead, readBook}
 use Rattle.silences.specs.Packing.{wordsOfSilences, recordWords, silencesOf, areaAtExit, packRefusal, packed, unpackRefusal, unpacked}
 use Rattle.silences.specs.Books.{LaidDown, NoTag21}
@@ -52,13 +52,13 @@ module _ (output : List Silence → List ℕ) (each : ℕ) (length-is : (ss : Li
 
 -- If `pack` returned n records, `unpack` with room, given the 15·n bytes that `pack` wrote, returns n records and writes the same words.
 pub pack-unpack : (words area : List ℕ) (n : ℕ) (out : List ℕ) → IsWords words → IsPacked words area (Records n) out
-    → (area′ : List ℕ) (r : BookAnswer) (out′ : List ℕ) → recordWords * n ≤ length area′ → IsUnpacked (take (fieldLength * n) out) area′ r out′
+    → (area′ : List ℕ) (r : BookAnswer) (out′ : List ℕ) → recordWords * n ≤ length area′ → IsUnpacked (take (packedLength * n) out) area′ r out′
     → (r ≡ Records n) × (take (recordWords * n) out′ ≡ words)
 unfolding packed unpacked
 pack-unpack words area n out are-words pack area′ r out′ room unpack =
     let ss : List Silence = silencesOf words in
-    let book : List ℕ = take (fieldLength * n) out in
-    let was = gave layout fieldLength layout-length (packRefusal words (length area)) ss area n out (pack .written) (pack .paper) in
+    let book : List ℕ = take (packedLength * n) out in
+    let was = gave layout packedLength layout-length (packRefusal words (length area)) ss area n out (pack .written) (pack .paper) in
     let words-are : wordsOfSilences ss ≡ words = packed-words-are words (length area) ss (was .0) in
     let enough : length words ≤ length area′ = omega (arith, ap length words-are, words-length ss, was .1) in
     let accepts : unpacked book (length area′) ≡ accepted ss =
@@ -68,11 +68,11 @@ pack-unpack words area n out are-words pack area′ r out′ room unpack =
     (unpack .paper) in
     (back .0, back .1 ∙ words-are)
 
--- If `unpack` returned n records, at most 1,000, `pack` with room, given the 4·n words that `unpack` wrote, returns n records, and the 15·n bytes that it writes
--- read back as the same silences. They are the same bytes if the book has no field of tag 21.
+-- If `unpack` returned n records, at most 1,000, `pack` with room, given the 4·n words that `unpack` wrote, returns n records, and the 15·n bytes that it
+-- writes read back as the same silences. They are the same bytes if the book has no field of tag 21.
 pub unpack-pack : (book area : List ℕ) (n : ℕ) (out : List ℕ) → IsBytes book → IsUnpacked book area (Records n) out → n ≤ mostSilences
-    → (area′ : List ℕ) (r : BookAnswer) (out′ : List ℕ) → fieldLength * n ≤ length area′ → IsPacked (take (recordWords * n) out) area′ r out′
-    → (r ≡ Records n) × (readBook (take (fieldLength * n) out′) ≡ readBook book) × (LaidDown NoTag21 (silencesRead book) book → take (fieldLength * n) out′ ≡ book)
+    → (area′ : List ℕ) (r : BookAnswer) (out′ : List ℕ) → packedLength * n ≤ length area′ → IsPacked (take (recordWords * n) out) area′ r out′
+    → (r ≡ Records n) × (readBook (take (packedLength * n) out′) ≡ readBook book) × (LaidDown NoTag21 (silencesRead book) book → take (packedLength * n) out′ ≡ book)
 unfolding packed unpacked
 unpack-pack book area n out are-bytes unpack few area′ r out′ room pack =
     let ss : List Silence = silencesRead book in
@@ -83,7 +83,7 @@ unpack-pack book area n out are-bytes unpack few area′ r out′ room pack =
     let accepts : packed words (length area′) ≡ accepted ss =
     ap (λ (l : List ℕ). packed l (length area′)) (was .2) ∙ unpacked-packed book are-bytes (length area) ss (was .0) few-read (length area′) enough in
     let back =
-    gives-records layout fieldLength layout-length (packRefusal words (length area′)) (silencesOf words) area′ n out′ (pack .written) ss accepts (was .1) r (pack .paper) in
+    gives-records layout packedLength layout-length (packRefusal words (length area′)) (silencesOf words) area′ n out′ (pack .written) ss accepts (was .1) r (pack .paper) in
     let reads-back = unpacked-read-back book are-bytes (length area) ss (was .0) few-read in
     let reads : readBook book ≡ accepted ss = unpacked-accepted-iff book (length area) ss .0 (was .0) .0 in
     (back .0, ap readBook (back .1) ∙ reads-back ∙ sym reads, λ laid. back .1 ∙ unpacked-bytes book are-bytes (length area) ss (was .0) laid)

@@ -16,8 +16,7 @@ use Rattle.answers.specs.Paper.{answerPaper}
 use Rattle.answers.specs.Rows.{answerBy}
 use Rattle.answers.proofs.RefusalNumbers.{refusal-place-is}
 use Rattle.answers.proofs.AnswerByRows.{row-place-iff, row-number-iff, accepted-number-iff, number-by, refused-counts, refused-area}
-use Rattle.silences.specs.Silences.{Silence}
-use Rattle.silences.specs.Layout.{fieldLength, layout}
+use Rattle.silences.specs.Layout.{packedLength, layout}
 use Rattle.silences.specs.Packing.{silencesOf, packRefusal, packed}
 use Rattle.silences.specs.Faults.{HasWordCount, IsNumberFault, IsRecordFault, IsPackable}
 use Rattle.silences.proofs.LayoutRead.{layout-length}
@@ -58,8 +57,8 @@ module _ (words area : List ℕ) (r : BookAnswer) (out : List ℕ) (meets : IsPa
   pub pack-row-7 : (i : ℕ) → ((paperOf r .number ≡ 7) × (paperOf r .place ≡ i)) ↔ (HasWordCount words × IsRecordFault words i)
   pack-row-7 i = Iff·trans (row-place-iff 0 records o paper (NotAbove i)) (pack-7-iff words (length area) i)
 
-  -- Row 10, packing "lacks room for its whole output", is given exactly for words that can be packed with less room than 13 bytes for each silence.
-  pub pack-row-10 : (paperOf r .number ≡ 10) ↔ (IsPackable words × (length area < fieldLength * records))
+  -- Row 10, packing "lacks room for its whole output", is given exactly for words that can be packed with less room than 15 bytes for each silence.
+  pub pack-row-10 : (paperOf r .number ≡ 10) ↔ (IsPackable words × (length area < packedLength * records))
   pack-row-10 =
       Iff·trans (row-number-iff 0 records o paper OutputRoom (omega arith))
       (Iff·trans (pack-10-iff words (length area))
@@ -87,17 +86,17 @@ module _ (words area : List ℕ) (r : BookAnswer) (out : List ℕ) (meets : IsPa
   pack-refused-area =
       refused-area 0 records o paper (written (layout (silencesOf words)) area) area (meets .written ∙ area-by layout area o (silencesOf words))
 
-  -- no row is given exactly for words that can be packed, with room for 13 bytes each
-  none-iff : (o ≡ none) ↔ (IsPackable words × (fieldLength * records ≤ length area))
+  -- no row is given exactly for words that can be packed, with room for 15 bytes each
+  none-iff : (o ≡ none) ↔ (IsPackable words × (packedLength * records ≤ length area))
   none-iff =
       Iff·trans (pack-none-iff words (length area))
       (Iff·and Iff·rfl (λ h. omega (arith, layout-length (silencesOf words)), λ h. omega (arith, layout-length (silencesOf words))))
 
-  -- `pack` accepts exactly words that can be packed, with room for 13 bytes for each silence.
-  pub pack-accepted : (paperOf r .number ≡ 0) ↔ (IsPackable words × (fieldLength * records ≤ length area))
+  -- `pack` accepts exactly words that can be packed, with room for 15 bytes for each silence.
+  pub pack-accepted : (paperOf r .number ≡ 0) ↔ (IsPackable words × (packedLength * records ≤ length area))
   pack-accepted = Iff·trans (accepted-number-iff 0 records o paper) none-iff
 
-  -- `pack` returns n records exactly for words of n silences that can be packed, with room for 13 bytes for each silence.
-  pub pack-records : (n : ℕ) → (r ≡ Records n) ↔ ((IsPackable words × (fieldLength * records ≤ length area)) × (records ≡ n))
+  -- `pack` returns n records exactly for words of n silences that can be packed, with room for 15 bytes for each silence.
+  pub pack-records : (n : ℕ) → (r ≡ Records n) ↔ ((IsPackable words × (packedLength * records ≤ length area)) × (records ≡ n))
   unfolding packed
   pack-records n = Iff·trans (records-iff o (silencesOf words) r (meets .paper) n) (Iff·and none-iff Iff·rfl)

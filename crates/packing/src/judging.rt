@@ -1,8 +1,8 @@
 // What packing tests before it writes a byte: rows 9 and 7, record by record. It also counts the records and the bytes.
 use answers::Refusal;
 use silences::Address;
-use silences::FIELD_LENGTH;
 use silences::Last;
+use silences::PACKED_LENGTH;
 use silences::RECORD_WORDS;
 use silences::is_above;
 ghost use mathlib.Core.Path.{_≡_};
@@ -55,7 +55,7 @@ pub fn judge(words: &[u32]) -> Judged
         }
         last = Last::Record(here);
         records += 1;
-        bytes += FIELD_LENGTH;
+        bytes += PACKED_LENGTH;
         at += RECORD_WORDS;
     }
     Judged::Accepted {

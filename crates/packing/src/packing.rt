@@ -11,8 +11,8 @@ ghost use Rattle.packing.specs.Calls.{IsPacked};
 // "8 a multiple of 4, at most 4,000": the most words that can be packed.
 const MOST_WORDS: usize = RECORD_WORDS * MOST_SILENCES;
 
-// Packs silences, four words each (cell, ring number, start, ceiling), into a book and returns the number of records; or
-// refuses with 8, 9, 7 or 10: "packer 8, then each record 9 before 7, then 10".
+// Packs silences, four words each (cell, ring number, start, ceiling), into a book and returns the number of records;
+// or refuses with 8, 9, 7 or 10: "packer 8, then each record 9 before 7, then 10".
 pub fn pack(words: &[u32], out: &mut [u8]) -> BookAnswer
     ensures { λ r. ⌜ IsPacked (now (words .entry)) (now (out .entry)) r (now (out .exit)) ⌝ }
 {

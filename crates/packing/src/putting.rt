@@ -4,9 +4,9 @@ use fields::TAG_BYTES;
 use silences::CEILING_BYTES;
 use silences::CEILING_TAG;
 use silences::CELL_BYTES;
+use silences::PACKED_VALUE_LENGTH;
 use silences::RECORD_WORDS;
 use silences::RING_NUMBER_BYTES;
-use silences::SILENCE_LENGTH;
 use silences::START_BYTES;
 ghost use mathlib.Core.Path.{_≡_};
 ghost use Prim.Native.Nat.{_+_, _≤_};
@@ -34,8 +34,8 @@ fn put_number(out: &mut [u8], at: usize, count: usize, number: u32) -> usize
     at + count
 }
 
-// Writes a silence's field from `at` on: "tag 22, length 12, the old ten bytes and a two-byte distance". Returns the byte
-// offset just past it.
+// Writes a silence's field from `at` on: "tag 22, length 12, the old ten bytes and a two-byte distance". Returns the
+// byte offset just past it.
 fn put_field(
     out: &mut [u8],
     at: usize,
@@ -48,7 +48,7 @@ fn put_field(
     ensures { λ r. ⌜ AreBytesPut at (fieldOf (silence (address cell «ring_number» start) ceiling)) (now (out .entry)) r (now (out .exit)) ⌝ }
 {
     let length_at = put_number(out, at, TAG_BYTES, CEILING_TAG as u32);
-    let value_at = put_number(out, length_at, LENGTH_BYTES, SILENCE_LENGTH as u32);
+    let value_at = put_number(out, length_at, LENGTH_BYTES, PACKED_VALUE_LENGTH as u32);
     let ring_number_at = put_number(out, value_at, CELL_BYTES, cell);
     let start_at = put_number(out, ring_number_at, RING_NUMBER_BYTES, ring_number);
     let ceiling_at = put_number(out, start_at, START_BYTES, start);

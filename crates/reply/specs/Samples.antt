@@ -1,5 +1,5 @@
--- Document 01's sample of the report program, whole, and samples of our own: refusal 11 at several places, the order of refusals, and the digits of numbers. The
--- checker computes each from the definitions.
+-- Document 01's sample of the report program, whole, and samples of our own: refusal 11 at several places, the order of refusals, and the digits of numbers.
+-- The checker computes each from the definitions.
 use Prim.Native.Nat.{ℕ}
 use mathlib.Core.Path.{_≡_, refl}
 use mathlib.Core.List.{List, [], _∷_, _++_}
@@ -50,8 +50,8 @@ sample-laid-down : laidDown (record { cell = 7; ringNumber = 2; allowance = 0; r
 unfolding sampleFields sampleBook ascii laidDown bytesOf
 sample-laid-down = refl
 
--- Refusal 11. An empty input: place 0. Cut in its first head, in its first value, behind its first field, within the ring, behind the ring. Another tag first. An
--- input of 32,769 bytes: place 0.
+-- Refusal 11. An empty input: place 0. Cut in its first head, in its first value, behind its first field, within the ring, behind the ring. Another tag first.
+-- An input of 32,769 bytes: place 0.
 row-11 : (answerText [] ≡ printed (ascii "refused 11 place 0"))
     × (answerText (take 2 sampleFields) ≡ printed (ascii "refused 11 place 0"))
     × (answerText (take 6 sampleFields) ≡ printed (ascii "refused 11 place 0"))
@@ -67,9 +67,9 @@ row-11 = (refl, refl, refl, refl, refl, refl, refl, refl)
 abbrev fieldsWith : ℕ → List ℕ → ℕ → List ℕ
 fieldsWith k ring n = laidDown (record { cell = 7; ringNumber = 2; allowance = k; ring = ring; line = replicate n 0x61; book = [] })
 
--- "Refusal 11 comes before all others": an empty ring is refused by 1, and by 11 where its line is cut as well; a line of 4,097 edges is wrongly long, so 11 at the
--- offset where its field begins. The empty ring is also 1 before 2, and the fourth sample 2 before 6. "Book places count from the book's first byte": a book of one
--- byte is refused by 6 at place 0, a book whose second field is cut by 6 at place 13, and two equal records by 7 at place 13.
+-- "Refusal 11 comes before all others": an empty ring is refused by 1, and by 11 where its line is cut as well; a line of 4,097 edges is wrongly long, so 11 at
+-- the offset where its field begins. The empty ring is also 1 before 2, and the fourth sample 2 before 6. "Book places count from the book's first byte": a
+-- book of one byte is refused by 6 at place 0, a book whose second field is cut by 6 at place 13, and two equal records by 7 at place 13.
 order-of-rows : (answerText (fieldsWith 0 [] 3) ≡ printed (ascii "refused 1 place 0"))
     × (answerText (take 21 (fieldsWith 0 [] 3)) ≡ printed (ascii "refused 11 place 19"))
     × (answerText (fieldsWith 0 (ascii "a") 4097) ≡ printed (ascii "refused 11 place 20"))
@@ -80,8 +80,8 @@ order-of-rows : (answerText (fieldsWith 0 [] 3) ≡ printed (ascii "refused 1 pl
 unfolding sampleFields sampleBook ascii laidDown bytesOf answerText requestOf inputFault firstFault partsFrom isFieldAt numberAt requestText refusalLineOf digitsWithin decimal reportRows limitRows admitRows holdsMark someBelow firstGiven bookRows readBook readFrom fieldsFrom fieldAt fieldBy kindByTag isWhole addressAt silenceAt isBelow
 order-of-rows = (refl, refl, refl, refl, refl, refl, refl)
 
--- Refusal 12, "a ring holding 255" (document 02, ticket 2): the mark is the ring's first edge, its last, its only one. It comes after 11, where the line is cut as
--- well, and "after 1 and before 2": the fourth sample has 257 edges, the last k = m and a book of one byte.
+-- Refusal 12, "a ring holding 255" (document 02, ticket 2): the mark is the ring's first edge, its last, its only one. It comes after 11, where the line is cut
+-- as well, and "after 1 and before 2": the fourth sample has 257 edges, the last k = m and a book of one byte.
 row-12 : (answerText (fieldsWith 0 (255 ∷ ascii "a") 3) ≡ printed (ascii "refused 12 place 0"))
     × (answerText (fieldsWith 0 (ascii "a" ++ 255 ∷ []) 3) ≡ printed (ascii "refused 12 place 0"))
     × (answerText (take 22 (fieldsWith 0 (255 ∷ []) 3)) ≡ printed (ascii "refused 11 place 20"))

@@ -1,8 +1,8 @@
 // The areas of a row: bytes to fill in, and areas to lend to a call. All room lent to `pack`, `unpack` and the searches
 // is canaries at first, so that the program sees which bytes or words the call wrote.
 use findings::WORDS_EACH;
-use silences::FIELD_LENGTH;
 use silences::MOST_SILENCES;
+use silences::PACKED_LENGTH;
 ghost use Prim.Native.Nat.{_≤_};
 ghost use lib.ListN.{length};
 
@@ -17,10 +17,10 @@ const CANARY_BYTE: u8 = 0xA5;
 const CANARY_WORD: u32 = 0xA5A5A5A5;
 
 // The room for a call on a book: bytes for the packer, words for the unpacker. It is more than the bytes of any book.
-pub const BOOK_ROOM: usize = FIELD_LENGTH * MOST_SILENCES + 40;
+pub const BOOK_ROOM: usize = PACKED_LENGTH * MOST_SILENCES + 40;
 
-// The words of room for a search: a finding's words for each edge of the longest line that a row gives, which is more than
-// any search requires.
+// The words of room for a search: a finding's words for each edge of the longest line that a row gives, which is more
+// than any search requires.
 pub const SEARCH_ROOM: usize = WORDS_EACH * AREA_BYTES;
 
 // Bytes to fill in. They come from a function because the check knows the length of a returned array at once, while it

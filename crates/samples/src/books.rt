@@ -1,6 +1,6 @@
 // Silences and books for the rows. A book is laid out here byte by byte, with a fault if the row gives one; the packer
-// is not used. A row gives a book in four fields: its silences or its bytes, how many bytes of their layout the book has,
-// and the byte offset and the byte of a fault, if there is one.
+// is not used. A row gives a book in four fields: its silences or its bytes, how many bytes of their layout the book
+// has, and the byte offset and the byte of a fault, if there is one.
 use crate::area;
 use crate::edges;
 use crate::filling;
@@ -8,8 +8,8 @@ use crate::filling::ByteKind;
 use crate::filling::WordKind;
 use crate::table;
 use silences::CEILING_BYTES;
-use silences::FIELD_LENGTH;
 use silences::MOST_SILENCES;
+use silences::PACKED_LENGTH;
 use silences::RECORD_WORDS;
 ghost use Prim.Native.Nat.{_<_};
 
@@ -21,12 +21,12 @@ pub const MOST_ROW_WORDS: usize = RECORD_WORDS * ROW_RECORDS;
 
 // The bytes of the book of these records. If a row gives no fault, this is its offset: no book has a byte there, so
 // nothing is written.
-const MOST_ROW_BOOK: usize = FIELD_LENGTH * ROW_RECORDS;
+const MOST_ROW_BOOK: usize = PACKED_LENGTH * ROW_RECORDS;
 
 // The words of a record that is laid out under tag 21, and the bytes of its field.
 const EXACT_WORDS: usize = 3;
 
-const EXACT_LENGTH: usize = FIELD_LENGTH - CEILING_BYTES;
+const EXACT_LENGTH: usize = PACKED_LENGTH - CEILING_BYTES;
 
 // The number mod 2^32.
 pub fn cut_to_word(number: usize) -> u32 {
@@ -93,8 +93,8 @@ fn byte_of(number: u32, above: usize) -> u8 {
     }
 }
 
-// The byte at an offset of silences laid out under tag 21: "tag 21 hex, length 10, cell (4 bytes), ring number (2), start
-// (4)", "numbers high byte first".
+// The byte at an offset of silences laid out under tag 21: "tag 21 hex, length 10, cell (4 bytes), ring number (2),
+// start (4)", "numbers high byte first".
 fn exact_byte(field: &[u8], at: usize) -> u8 {
     let first = at / EXACT_LENGTH * EXACT_WORDS;
     let place = at % EXACT_LENGTH;
@@ -108,10 +108,11 @@ fn exact_byte(field: &[u8], at: usize) -> u8 {
     }
 }
 
-// The byte at an offset of silences laid out under tag 22: "tag 22, length 12, the old ten bytes and a two-byte distance".
+// The byte at an offset of silences laid out under tag 22: "tag 22, length 12, the old ten bytes and a two-byte
+// distance".
 fn ceiling_byte(field: &[u8], at: usize) -> u8 {
-    let first = at / FIELD_LENGTH * RECORD_WORDS;
-    let place = at % FIELD_LENGTH;
+    let first = at / PACKED_LENGTH * RECORD_WORDS;
+    let place = at % PACKED_LENGTH;
     match place {
         0 => 0x22,
         1 => 0,

@@ -2,7 +2,7 @@
 -- was read to its end (`ReadsAs`), so all of it lays down what was read. Conversely what lays down such silences is read to its end.
 use Prim.Native.Nat.{ℕ, _≤_}
 use mathlib.Core.Logic.{⊎-elim, _↔_, Iff·symm, Iff·trans}
-use mathlib.Core.Path.{_≡_, refl, sym, ap, subst, _∙_}
+use mathlib.Core.Path.{_≡_, refl, sym, subst, _∙_}
 use mathlib.Core.List.{List}
 use mathlib.Core.Option.{none}
 use native.Mathlib.Omega.{arith}

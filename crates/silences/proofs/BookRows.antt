@@ -18,11 +18,11 @@ use Rattle.answers.proofs.FirstRow.{none-some}
 use Rattle.answers.proofs.RowsExactly.{OtherNumber, IsRow, is-row, end, each, row-has, first-has, at-fault, at-row, past-row}
 use Rattle.answers.proofs.AnswerByRows.{answer-refused-iff, answer-gives-iff}
 use Rattle.fields.specs.Tagged.{headLength}
-use Rattle.silences.specs.Silences.{Address, Silence}
+use Rattle.silences.specs.Silences.{Silence}
 use Rattle.silences.specs.Layout.{mostBytes}
 use Rattle.silences.specs.Reading.{addressAt, silenceAt, whole, fieldAt, readFrom, faultIn, silencesIn, fieldFault, silencesRead, isRow5, bookRows, bookRefusal, readBook}
 use Rattle.silences.specs.Faults.{IsNotAbove, IsFieldFault, IsOrderFault}
-use Rattle.silences.proofs.FieldTest.{IsWholeField, field-whole-is, field-whole-iff, field-faulty-iff}
+use Rattle.silences.proofs.FieldTest.{field-whole-is, field-whole-iff, field-faulty-iff}
 use Rattle.silences.proofs.AscendingAfter.{not-above-iff}
 use Rattle.silences.proofs.FieldsRead.{ReadsAs, stopped-faulty, stopped-order, reads-as, reads-as-is}
 use Rattle.silences.proofs.LayoutRead.{read-fine, fine-read}
@@ -66,7 +66,7 @@ module _ (book : List ℕ) where
       go _ (stopped-faulty {stop = stop} f h n) = six stop
       go _ (stopped-order {stop = stop} f n o) = seven stop
 
-  -- Row 5 is the first row that is given exactly for a "book longer than 15,000 bytes".
+  -- Row 5 is the first row that is given exactly for a book longer than 15,000 bytes.
   pub refusal-5-iff : (bookRefusal book ≡ some BookLength) ↔ (mostBytes < length book)
   unfolding bookRows
   refusal-5-iff = at-row is-row-5 (each (fault-has (OtherNumber BookLength) (λ at e. omega arith) (λ at e. omega arith)) end) .exactly

@@ -1,23 +1,19 @@
--- A book of tag 21 alone: every ceiling is 0 (`only-21-exact`), because a field of that tag has no byte for a ceiling. If it has at most 1,000 records, the same
--- addresses with ceiling 0 under tag 22, as packing writes them, are a book of the same silences (`exact-read`).
+-- A book of tag 21 alone: every ceiling is 0 (`only-21-exact`), because a field of that tag has no byte for a ceiling. If it has at most 1,000 records, the
+-- same addresses with ceiling 0 under tag 22, as packing writes them, are a book of the same silences (`exact-read`).
 use Prim.Native.Nat.{ℕ, _≤_}
 use mathlib.Core.Logic.{_⊎_, inl, inr}
-use mathlib.Core.Path.{_≡_, refl, sym, ap, ap₂, subst, _∙_}
-use mathlib.Core.List.{List, [], _∷_, map}
+use mathlib.Core.Path.{_≡_, refl, ap, ap₂, subst, _∙_}
+use mathlib.Core.List.{List, _∷_}
 use native.Mathlib.Omega.{arith}
 use lib.ListN.{length}
 use Rattle.answers.specs.Paper.{accepted}
 use Rattle.silences.specs.Silences.{Silence, silence}
 use Rattle.silences.specs.Layout.{Kind, exactTag, exactKind, ceilingTag, ceilingKind, CanSay, layout, mostSilences}
 use Rattle.silences.specs.Reading.{readBook}
-use Rattle.silences.specs.Books.{IsFieldOf, LaidDown, no-field, one-field, OnlyTag21, IsBook}
+use Rattle.silences.specs.Books.{IsFieldOf, LaidDown, no-field, one-field, OnlyTag21, IsBook, withCeilings}
 use Rattle.silences.proofs.FieldTest.{kind-cases}
 use Rattle.silences.proofs.AcceptedIsBook.{book-accepted}
 use Rattle.silences.proofs.RoundTrips.{few-book}
-
--- The same addresses, each with this ceiling.
-abbrev pub withCeilings : ℕ → List Silence → List Silence
-withCeilings ceiling ss = map (λ (s : Silence). silence (s .address) ceiling) ss
 
 -- a field of tag 21 says ceiling 0
 exact-ceiling : {tag : ℕ} {s : Silence} {here : List ℕ} → tag ≡ exactTag → IsFieldOf tag s here → 0 ≡ s .ceiling

@@ -1,20 +1,20 @@
--- A field's bytes and its silence determine each other, whatever the field's tag. The field of a silence in range, wherever it stands, is read back as that
--- silence (`field-of-silence`). Where a whole field is read, its bytes are a field that says its silence, which is in range (`silence-of-field`). Number by
--- number, by FieldLaid of crates/fields.
+-- A field's bytes determine its silence, and its silence and its tag determine the bytes. The field of a silence in range, wherever it stands, is read back as
+-- that silence (`field-of-silence`). Where a whole field is read, its bytes are a field that says its silence, which is in range (`silence-of-field`). Number
+-- by number, by FieldLaid of crates/fields.
 use Prim.Native.Nat.{ℕ, _+_, _≤_}
 use mathlib.Core.Path.{_≡_, refl, sym, ap, ap₂, subst, _∙_}
 use mathlib.Core.List.{List, _∷_, _++_, append-assoc}
-use mathlib.Core.Option.{Option, some}
+use mathlib.Core.Option.{some}
 use native.Mathlib.Omega.{arith}
 use lib.ListN.{length, getD, take, drop, length-append}
 use lib.Seq.{take-at}
 use Rattle.lists.specs.Bounds.{IsBytes}
 use Rattle.fields.specs.Numbers.{bytesOf, numberAt}
-use Rattle.fields.specs.Tagged.{lengthBytes, headLength, field, fieldEnd}
+use Rattle.fields.specs.Tagged.{lengthBytes, headLength, field}
 use Rattle.fields.proofs.NumberBytes.{bytesOf-length, numberAt-lt}
 use Rattle.fields.proofs.FieldLaid.{laid-number, laid-number-rest, laid-tag, laid-long, laid-value, laid-within, number-then, field-then}
 use Rattle.silences.specs.Silences.{Address, Silence, silence, cellBytes, ringNumberBytes, startBytes, InRange}
-use Rattle.silences.specs.Layout.{Kind, kindByTag, addressBytes, addressValue, valueLength, valueOf, CanSay, packedTag, packedKind, fieldLength, fieldOf}
+use Rattle.silences.specs.Layout.{Kind, kindByTag, addressBytes, addressValue, valueLength, valueOf, CanSay, packedTag, packedKind, packedLength, fieldOf}
 use Rattle.silences.specs.Reading.{addressAt, silenceAt, whole, fieldAt}
 use Rattle.silences.specs.Books.{IsFieldOf}
 use Rattle.silences.proofs.FieldTest.{kind-length-le, kind-ceiling, kind-ceiling-lt, IsTested, IsWholeField, field-whole-is, field-is-whole}
@@ -47,9 +47,9 @@ unfolding fieldOf
 packed-field s can = record { kind = packedKind; kind-is = kind-ceiling; can-say = can; bytes-are = refl }
 
 -- A field that packing writes has 15 bytes.
-pub field-length : (s : Silence) → length (fieldOf s) ≡ fieldLength
+pub packed-length : (s : Silence) → length (fieldOf s) ≡ packedLength
 unfolding bytesOf
-field-length s = ap length (fieldOf-is s) ∙ omega (arith, value-length packedKind s)
+packed-length s = ap length (fieldOf-is s) ∙ omega (arith, value-length packedKind s)
 
 module _ (book : List ℕ) (at : ℕ) (a : Address) (rest : List ℕ) (laid : drop at book ≡ addressValue a ++ rest) where
   -- the three numbers of an address, one after the other

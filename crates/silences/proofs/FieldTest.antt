@@ -1,15 +1,16 @@
--- `fieldAt` decides row 6: it gives a whole field exactly where 13 bytes begin 21 00 0A hex, or 15 begin 22 00 0C, and are not cut off (`IsField`). It makes three
--- tests (`IsTested`): the tag has a kind, the two length bytes say the length of that kind, which they do only as 00 and that length, and the field ends within the book.
+-- `fieldAt` decides row 6: it gives a whole field exactly where 13 bytes begin 21 00 0A hex, or 15 begin 22 00 0C, and are not cut off (`IsField`). It makes
+-- three tests (`IsTested`): the tag has a kind, the two length bytes say the length of that kind, which they do only as 00 and that length, and the field ends
+-- within the book.
 use Prim.Native.Nat.{ℕ, _+_, _*_, _^_, _≤_, _<_}
 use mathlib.Core.Logic.{_⊎_, inl, inr, ⊎-elim, _↔_}
 use mathlib.Core.Path.{_≡_, refl, sym, ap, ap₂, subst, _∙_}
-use mathlib.Core.Bool.{Bool, true, false, cond}
+use mathlib.Core.Bool.{Bool, true, cond}
 use mathlib.Core.List.{List, [], _∷_}
 use mathlib.Core.Option.{Option, none, some}
 use native.Mathlib.Nat.{add-zero}
 use native.Mathlib.Omega.{arith}
 use lib.Dec.{eqb}
-use lib.ListN.{length, getD, take, drop}
+use lib.ListN.{length, getD, drop}
 use lib.Seq.{getD-drop, getD-take}
 use Rattle.lists.proofs.Cases.{by-test}
 use Rattle.lists.specs.ByPlace.{listOf}
@@ -49,7 +50,7 @@ kind-cases tag kind =
 pub kind-unique : {o : Option Kind} {kind kind′ : Kind} → o ≡ some kind → o ≡ some kind′ → kind ≡ kind′
 kind-unique e e′ = cc
 
--- A tag without a kind has none.
+-- If a tag has no kind, it does not have this one.
 pub kind-none : {o : Option Kind} {kind : Kind} → o ≡ none → o ≡ some kind → ⊥
 kind-none e e′ = let z : _≡_ {A = ℕ} 0 1 = cc in omega arith
 
@@ -192,7 +193,7 @@ module _ (book : List ℕ) (at : ℕ) where
     ⊎-elim (λ f. (exactKind, begins-tested exactTag exactKind kind-exact f)) (λ f. (ceilingKind, begins-tested ceilingTag ceilingKind kind-ceiling f)),
   )
 
-  -- `fieldAt` gives a whole field exactly where `IsField` holds, and its address is the one behind its head.
+  -- `fieldAt` gives a whole field exactly where `IsField` holds.
   pub field-whole-iff : ((s : Silence) × (next : ℕ) × (fieldAt book at ≡ whole s next)) ↔ IsField book at
   field-whole-iff = (
     λ h. let f : IsWholeField book at (h .0) (h .1) = field-whole-is (h .0) (h .1) (h .2) in tested-iff .0 (f .kind, f .tested),

@@ -3,7 +3,7 @@
 -- its silences (`layout-laid-down`).
 use Prim.Native.Nat.{ℕ, _+_, _*_, _≤_}
 use mathlib.Core.Path.{_≡_, refl, sym, ap, subst, _∙_}
-use mathlib.Core.List.{List, [], _∷_, _++_, append-nil, append-assoc}
+use mathlib.Core.List.{List, [], _∷_, _++_, append-assoc}
 use mathlib.Core.Option.{Option, none, some}
 use native.Mathlib.Omega.{arith}
 use lib.ListN.{length, take, drop, length-append, take-append-drop}
@@ -13,18 +13,17 @@ use Rattle.lists.specs.Records.{numbersOfEach}
 use Rattle.lists.proofs.Records.{each-length}
 use Rattle.fields.specs.Tagged.{headLength}
 use Rattle.silences.specs.Silences.{Address, Silence, AllInRange}
-use Rattle.silences.specs.Layout.{exactKind, valueLength, fieldLength, fieldOf, layout, packedTag}
-use Rattle.silences.specs.Reading.{whole, fieldAt}
-use Rattle.silences.specs.Books.{IsFieldOf, LaidDown, no-field, one-field, AnyTag}
+use Rattle.silences.specs.Layout.{exactKind, valueLength, packedLength, fieldOf, layout, packedTag}
+use Rattle.silences.specs.Books.{LaidDown, no-field, one-field, AnyTag}
 use Rattle.silences.specs.Faults.{IsFineBefore}
 use Rattle.silences.proofs.FieldTest.{kind-length-le, field-ends}
-use Rattle.silences.proofs.FieldBytes.{field-of-length, field-length, packed-field, field-of-silence, FieldStands, silence-of-field}
+use Rattle.silences.proofs.FieldBytes.{field-of-length, packed-length, packed-field, field-of-silence, FieldStands, silence-of-field}
 use Rattle.silences.proofs.AscendingAfter.{AscendingAfter, ascending-after-iff}
 use Rattle.silences.proofs.FieldsRead.{FieldsRead, none-read, one-read}
 
 -- What packing writes has 15 bytes for each silence.
-pub layout-length : (ss : List Silence) → length (layout ss) ≡ fieldLength * length ss
-layout-length = each-length fieldOf fieldLength field-length
+pub layout-length : (ss : List Silence) → length (layout ss) ≡ packedLength * length ss
+layout-length = each-length fieldOf packedLength packed-length
 
 -- What packing writes for silences in range lays them down, under any tags that allow its own.
 pub layout-laid-down : {Allowed : ℕ → Type 0} → Allowed packedTag → (ss : List Silence) → AllInRange ss → LaidDown Allowed ss (layout ss)
@@ -38,11 +37,6 @@ pub laid-length-le : {Allowed : ℕ → Type 0} {ss : List Silence} {bytes : Lis
 laid-length-le no-field = omega arith
 laid-length-le (one-field {tag = tag} {here = here} {rest = rest} allowed f more) =
     omega (arith, laid-length-le more, field-of-length f, kind-length-le tag (f .kind) (f .kind-is), length-append here rest)
-
--- What lays down silences under some tags lays them down under any.
-pub laid-any : {Allowed : ℕ → Type 0} {ss : List Silence} {bytes : List ℕ} → LaidDown Allowed ss bytes → LaidDown AnyTag ss bytes
-laid-any no-field = no-field
-laid-any (one-field allowed f more) = one-field tt f (laid-any more)
 
 -- The silences that are read ascend, the first above `last`.
 pub read-ascends : {book : List ℕ} {last : Option Address} {at : ℕ} {ss : List Silence} {stop : ℕ} → FieldsRead book last at ss stop → AscendingAfter last ss

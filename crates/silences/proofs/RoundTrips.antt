@@ -1,6 +1,6 @@
 -- Round trips of the definitions. Words that packing accepts come back from unpacking, word for word: what packing writes is a book of their silences
--- (AcceptedIsBook), which have the words (WordsOfSilences). A book of at most 1,000 records that unpacking accepts comes back from packing as a book of the same
--- silences, and as the same bytes if it has no field of tag 21. The words of a longer book are refused by row 8.
+-- (AcceptedIsBook), which have the words (WordsOfSilences). A book of at most 1,000 records that unpacking accepts comes back from packing as a book of the
+-- same silences, and as the same bytes if it has no field of tag 21. The words of a longer book are refused by row 8.
 use Prim.Native.Nat.{ℕ, _*_, _≤_, _<_}
 use mathlib.Core.Logic.{_⊎_, inl, inr}
 use mathlib.Core.Path.{_≡_, refl, sym, ap, ap₂, subst, _∙_}

@@ -1,7 +1,7 @@
--- Document 01, the table of refusals, rows 6 to 9, as document 02, ticket 4, reads them: the column "Given exactly when" as propositions, without `readFrom` and `recordRows`. "Within a book the
--- first faulty field decides", so a fault also says that everything before it is fine. Rows 5 and 10 are one comparison each and need no definition.
--- That each row is given exactly then is proved for the definitions in proofs/BookRows.antt, PackRows.antt and UnpackRows.antt, and for the calls in
--- RowsOfReading.antt and RowsOfUnpacking.antt of crates/book and RowsOfPacking.antt of crates/packing.
+-- Document 01, the table of refusals, rows 6 to 9, as document 02, ticket 4, reads them: the column "Given exactly when" as propositions, without `readFrom`
+-- and `recordRows`. "Within a book the first faulty field decides", so a fault also says that everything before it is fine. Rows 5 and 10 are one comparison
+-- each and need no definition. That each row is given exactly then is proved for the definitions in proofs/BookRows.antt, PackRows.antt and UnpackRows.antt,
+-- and for the calls in RowsOfReading.antt and RowsOfUnpacking.antt of crates/book and RowsOfPacking.antt of crates/packing.
 --
 --   IsFineBefore      everything before a byte offset is fine: it lays down an ascending list of silences in range
 --   IsNotAbove        "a record isn't above the one before it"

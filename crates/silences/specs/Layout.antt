@@ -10,7 +10,7 @@
 --   addressValue, valueOf     the bytes of an address, and of a silence's value
 --   CanSay                    whether a field of this kind can say this silence
 --   packedTag, packedKind     the tag under which packing writes
---   fieldLength               15, the bytes of a field that packing writes
+--   packedLength               15, the bytes of a field that packing writes
 --   fieldOf, layout           what packing writes: a silence's field, and a book's bytes
 --   mostSilences, mostBytes, mostRecords   the most silences to pack, the longest book, and the most records of a book
 --
@@ -26,7 +26,7 @@ use Rattle.fields.specs.Numbers.{bytesOf}
 use Rattle.fields.specs.Tagged.{headLength, field}
 use Rattle.silences.specs.Silences.{Address, Silence, cellBytes, ringNumberBytes, startBytes, ceilingBytes}
 
--- A kind of field: an address, and behind it a ceiling in so many bytes. A ceiling in no bytes is 0.
+-- A kind of field: an address, and behind it a ceiling in this number of bytes. A ceiling in no bytes is 0.
 pub record Kind : Type 0 where
   pub ceilingBytes : ℕ
 
@@ -83,12 +83,12 @@ abbrev pub packedKind : Kind
 packedKind = ceilingKind
 
 -- The number of bytes of a field that packing writes: its head and its value.
-abbrev pub fieldLength : ℕ
-fieldLength = headLength + valueLength packedKind
+abbrev pub packedLength : ℕ
+packedLength = headLength + valueLength packedKind
 
 -- 3 bytes of head, "length 12"
-field-length-is : fieldLength ≡ 15
-field-length-is = refl
+packed-length-is : packedLength ≡ 15
+packed-length-is = refl
 
 -- The field that packing writes for a silence: "tag 22, length 12, the old ten bytes and a two-byte distance".
 unfoldable pub fieldOf : Silence → List ℕ
@@ -98,13 +98,13 @@ fieldOf s = field packedTag (valueOf packedKind s)
 abbrev pub layout : List Silence → List ℕ
 layout = numbersOfEach fieldOf
 
--- The most silences to pack. Document 02, ticket 4, gives this number as bytes (row 5: 15,000) and as words (row 8: 4,000).
+-- The most silences to pack. Document 02, ticket 4, gives this number as bytes (row 5: 15,000, which are 1,000 fields of tag 22) and as words (row 8: 4,000).
 abbrev pub mostSilences : ℕ
 mostSilences = 1000
 
 -- "5 at 15,000 bytes" (document 02, ticket 4): the most bytes of a book.
 abbrev pub mostBytes : ℕ
-mostBytes = fieldLength * mostSilences
+mostBytes = packedLength * mostSilences
 
 -- "15,000 bytes"
 most-bytes-is : mostBytes ≡ 15000

@@ -1,4 +1,5 @@
--- Document 01, "What each call returns", rows 7 to 10, and document 02, ticket 4: silences as words, what packing and unpacking give, and what they write into the lent area.
+-- Document 01, "What each call returns", rows 7 to 10, and document 02, ticket 4: silences as words, what packing and unpacking give, and what they write into
+-- the lent area.
 --
 --   silenceWords, wordsOfSilences             silences as words, four each: cell, ring number, start, ceiling
 --   recordWords, silenceOfWords, silencesOf   words as silences

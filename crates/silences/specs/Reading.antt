@@ -62,8 +62,8 @@ abbrev pub before : Silence → Answer (List Silence) → Answer (List Silence)
 before s (accepted ss) = accepted (s ∷ ss)
 before s (refused r) = refused r
 
--- Reads one field, at byte offset `at`; `last` is the address of the record before it, and `rest` reads on after it. A faulty field is refused by row 6, a record
--- that "isn't above the one before it" by row 7, both at `at`: "the first faulty field decides, 6 before 7".
+-- Reads one field, at byte offset `at`; `last` is the address of the record before it, and `rest` reads on after it. A faulty field is refused by row 6, a
+-- record that "isn't above the one before it" by row 7, both at `at`: "the first faulty field decides, 6 before 7".
 abbrev pub readField : Option Address → ℕ → FieldAt → (Option Address → ℕ → Answer (List Silence)) → Answer (List Silence)
 readField last at faulty rest = refused (Field at)
 readField last at (whole s next) rest =

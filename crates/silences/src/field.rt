@@ -1,4 +1,5 @@
-// Reading the field at a byte offset of a book. What it holds, and so where the next field begins, follows from its tag.
+// Reading the field at a byte offset of a book. What it holds, and so where the next field begins, follows from its
+// tag.
 use crate::addresses::Address;
 use crate::addresses::Sought;
 use crate::lengths::ADDRESS_BYTES;
@@ -19,7 +20,8 @@ ghost use Rattle.silences.specs.Layout.{kindByTag, addressBytes};
 ghost use Rattle.silences.specs.Reading.{addressAt, fieldAt};
 ghost use Rattle.silences.specs.Addresses.{kindOf, CanBeField, addressOf, soughtOf};
 
-// What a tag says of its field: it holds a silence, with so many bytes for the ceiling; or it is no silence's tag.
+// What a tag says of its field: it holds a silence, with this number of bytes for the ceiling; or it is no silence's
+// tag.
 pub enum Kind {
     Silence { ceiling_bytes: usize },
     Unknown,
@@ -57,9 +59,9 @@ fn address_at(book: &[u8], at: usize) -> Address
     }
 }
 
-// Returns the field at byte offset `at`, whose tag has this kind: `ceiling_bytes` bytes for a ceiling. It is `Nothing` if
-// the field is cut off or its length bytes say another length. A ceiling in no bytes is 0.
-fn field_of(book: &[u8], at: usize, ceiling_bytes: usize) -> Sought
+// Returns the field at byte offset `at`, whose tag has this kind: `ceiling_bytes` bytes for a ceiling. It is `Nothing`
+// if the field is cut off or its length bytes say another length. A ceiling in no bytes is 0.
+fn field_of_kind(book: &[u8], at: usize, ceiling_bytes: usize) -> Sought
     requires { ⌜ CanBeField (now book) at «ceiling_bytes» ⌝ }
     ensures { λ r. ⌜ soughtOf r ≡ fieldAt (now (book .entry)) at ⌝ }
 {
@@ -89,7 +91,7 @@ pub fn field_at(book: &[u8], at: usize) -> Sought
         return Sought::Nothing;
     }
     match kind_of(book[at]) {
-        Kind::Silence { ceiling_bytes } => field_of(book, at, ceiling_bytes),
+        Kind::Silence { ceiling_bytes } => field_of_kind(book, at, ceiling_bytes),
         Kind::Unknown => Sought::Nothing,
     }
 }

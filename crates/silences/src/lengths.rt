@@ -24,12 +24,12 @@ pub const CEILING_BYTES: usize = 2;
 pub const ADDRESS_BYTES: usize = CELL_BYTES + RING_NUMBER_BYTES + START_BYTES;
 
 // "length 12": the number of bytes of a value that packing writes.
-pub const SILENCE_LENGTH: usize = ADDRESS_BYTES + CEILING_BYTES;
+pub const PACKED_VALUE_LENGTH: usize = ADDRESS_BYTES + CEILING_BYTES;
 
 // The number of bytes of a field that packing writes: head and value.
-pub const FIELD_LENGTH: usize = HEAD_LENGTH + SILENCE_LENGTH;
+pub const PACKED_LENGTH: usize = HEAD_LENGTH + PACKED_VALUE_LENGTH;
 
-// The most silences to pack: 15,000 bytes hold as many, and so do 4,000 words.
+// The most silences to pack: 15,000 bytes are 1,000 fields of tag 22, and 4,000 words are 1,000 records.
 pub const MOST_SILENCES: usize = 1000;
 
 // The number of words of a record: cell, ring number, start, ceiling.

@@ -1,4 +1,4 @@
-// The order of silences.
+// The order of addresses.
 use crate::addresses::Address;
 ghost use mathlib.Core.Path.{_≡_};
 ghost use Rattle.silences.specs.Silences.{isBelow, isSame, isAbove};

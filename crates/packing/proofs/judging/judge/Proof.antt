@@ -7,7 +7,7 @@ use native.Mathlib.Omega.{arith}
 use lib.ListN.{length}
 use borrow.Author.Tests.{not-true, not-false}
 use Rattle.silences.specs.Addresses.{lastOf}
-use Rattle.silences.proofs.FieldBytes.{field-length}
+use Rattle.silences.proofs.FieldBytes.{packed-length}
 use Rattle.packing.proofs.JudgeLoop.{JudgedTo, judge-start, judge-too-large, judge-not-above, judge-turn, judge-end}
 use Rattle.packing.proofs.judging.judge.Statement.{statement}
 use Rattle.packing.proofs.judging.judge.Tie as tie
@@ -103,7 +103,7 @@ loop-again c =
     let at-ceiling = at-order .before in
     let at-loop = at-ceiling .before .before .before .before .before .before .before in
     judge-turn (at-loop .loop .inv) (omega arith) (record { ring-number-le = omega (arith, at-ceiling .before .if1 .left); ceiling-le = omega (arith, at-ceiling .if2 .left) })
-    (sym (at-order .is-above .ensures) ∙ not-false _ (c .if3 .left)) (field-length _)
+    (sym (at-order .is-above .ensures) ∙ not-false _ (c .if3 .left)) (packed-length _)
 
 -- no record is left
 returns-4 : tie.Need-returns-4 Inv-loop μ-loop

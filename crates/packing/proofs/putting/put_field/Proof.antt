@@ -7,7 +7,7 @@ use lib.ListN.{length}
 use Rattle.fields.specs.Tagged.{tagBytes, lengthBytes}
 use Rattle.silences.specs.Silences.{Silence, silence, address, cellBytes, ringNumberBytes, startBytes, ceilingBytes}
 use Rattle.silences.specs.Layout.{packedKind, valueLength}
-use Rattle.silences.proofs.FieldBytes.{field-length}
+use Rattle.silences.proofs.FieldBytes.{packed-length}
 use Rattle.packing.proofs.FieldPut.{number-next, field-put}
 use Rattle.packing.proofs.putting.put_field.Statement.{statement}
 use Rattle.packing.proofs.putting.put_field.Tie as tie
@@ -19,7 +19,7 @@ here c = silence (address (c .args .cell) (c .args .ring-number) (c .args .start
 -- after the tag there is room for the length and the value
 behind-tag : (c : tie.After-put-number) → c .put-number .result + lengthBytes + valueLength packedKind ≤ length (c .put-number .last .0)
 unfolding here
-behind-tag c = omega (arith, field-length (here (c .before .before .before)), number-next tagBytes _ (c .put-number .ensures))
+behind-tag c = omega (arith, packed-length (here (c .before .before .before)), number-next tagBytes _ (c .put-number .ensures))
 
 -- after each further number there is room for the rest
 behind-length : (c : tie.After-put-number2) → c .put-number2 .result + valueLength packedKind ≤ length (c .put-number2 .last .0)
@@ -39,7 +39,7 @@ cast-put-number c = search needs
 
 put-number-requires : tie.Need-put-number-requires
 unfolding here
-put-number-requires c κs = omega (arith, field-length (here (c .before .before)))
+put-number-requires c κs = omega (arith, packed-length (here (c .before .before)))
 
 cast-put-number-2 : tie.Need-cast-put-number-2
 cast-put-number-2 c = search needs

@@ -1,4 +1,5 @@
--- `silences::field::field_at` meets its contract: past the book's end and under a tag without a kind the field is faulty; under any other, `field_of` returns it.
+-- `silences::field::field_at` meets its contract: past the book's end and under a tag without a kind the field is faulty; under any other, `field_of_kind`
+-- returns it.
 use mathlib.Core.Path.{_≡_, refl, sym, ap, _∙_}
 use mathlib.Core.Option.{none}
 use native.Mathlib.Omega.{arith}
@@ -20,8 +21,8 @@ kind-of-requires c κs = tt
 enum-known-ceiling-bytes : tie.Need-enum-known-ceiling-bytes
 enum-known-ceiling-bytes c = search needs
 
-field-of-requires : tie.Need-field-of-requires
-field-of-requires c κs =
+field-of-kind-requires : tie.Need-field-of-kind-requires
+field-of-kind-requires c κs =
     let at-bytes = c .before in
     let at-kind = at-bytes .before .before in
     record { within = omega arith; kind-is = sym (at-kind .kind-of .ensures) ∙ rw (at-bytes .ceiling-bytes .given .1) refl }
@@ -31,7 +32,7 @@ enum-told c = search needs
 
 -- a silence's tag
 returns-2 : tie.Need-returns-2
-returns-2 c = c .field-of .ensures
+returns-2 c = c .field-of-kind .ensures
 
 -- another tag
 returns-3 : tie.Need-returns-3
@@ -47,7 +48,7 @@ field-at-spec =
     shared-slice-read-kind-of
     kind-of-requires
     enum-known-ceiling-bytes
-    field-of-requires
+    field-of-kind-requires
     enum-told
     returns-2
     returns-3)

@@ -1,5 +1,5 @@
--- `silences::field::field_of` meets its contract: two returns for the ways in which a field of a known kind is faulty, and one for a whole field. Its kind is the one of
--- its tag, so it has at most two bytes for a ceiling (`kind-length-le`).
+-- `silences::field::field_of_kind` meets its contract: two returns for the ways in which a field of a known kind is faulty, and one for a whole field. Its kind
+-- is the one of its tag, so it has at most two bytes for a ceiling (`kind-length-le`).
 use Prim.Native.Nat.{_≤_}
 use mathlib.Core.Path.{_≡_, sym, ap, _∙_}
 use mathlib.Core.Option.{Option, some}
@@ -9,8 +9,8 @@ use Rattle.fields.proofs.NumberWithin.{number-read}
 use Rattle.silences.specs.Layout.{Kind, kindByTag, valueLength}
 use Rattle.silences.specs.Reading.{silenceAt}
 use Rattle.silences.proofs.FieldTest.{kind-length-le, kind-ceiling-lt, kind-unique, field-is-whole, field-is-faulty}
-use Rattle.silences.proofs.field.field_of.Statement.{statement}
-use Rattle.silences.proofs.field.field_of.Tie as tie
+use Rattle.silences.proofs.field.field_of_kind.Statement.{statement}
+use Rattle.silences.proofs.field.field_of_kind.Tie as tie
 
 -- there are at most two bytes for a ceiling
 bytes-le : (c : tie.Start) → c .args .ceiling-bytes ≤ 2
@@ -83,8 +83,8 @@ returns-3 c =
       within = omega (arith, at-read .before .if1 .left, at-start .pre .within);
     }) (λ i. record { address = at-address .address-at .ensures i; ceiling = ceiling-is i }) (omega arith))
 
-pub field-of-spec : {M : Type 1} → statement M
-field-of-spec =
+pub field-of-kind-spec : {M : Type 1} → statement M
+field-of-kind-spec =
     tie.close
     (tie.spec
     add-long
