@@ -39,8 +39,8 @@ pub record IsNotAbove (ss : List Silence) (a : Address) : Type 0 where
   pub before-it : ss ≡ earlier ++ previous ∷ []
   pub not-above : Below (previous .address) a → ⊥
 
--- Row 6 at byte offset `at`: everything before it is fine, the book goes on, and no field stands there: "a field isn't 13 bytes
--- beginning 21 00 0A hex, or is cut off", and 6 "admits both fields".
+-- Row 6 at byte offset `at`: everything before it is fine, the book goes on, and no field stands there. "a field isn't 13 bytes beginning 21 00 0A hex, or is cut
+-- off", and 6 "admits both fields" (document 02, ticket 4).
 pub record IsFieldFault (book : List ℕ) (at : ℕ) : Type 0 where
   pub fine : List Silence
   pub fine-before : IsFineBefore book at fine

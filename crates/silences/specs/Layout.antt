@@ -10,7 +10,7 @@
 --   addressValue, valueOf     the bytes of an address, and of a silence's value
 --   CanSay                    whether a field of this kind can say this silence
 --   packedTag, packedKind     the tag under which packing writes
---   packedLength               15, the bytes of a field that packing writes
+--   packedLength              15, the bytes of a field that packing writes
 --   fieldOf, layout           what packing writes: a silence's field, and a book's bytes
 --   mostSilences, mostBytes, mostRecords   the most silences to pack, the longest book, and the most records of a book
 --
