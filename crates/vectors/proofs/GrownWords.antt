@@ -9,7 +9,7 @@ use native.Mathlib.Omega.{arith}
 use lib.ListN.{length, getD}
 use lib.Bits.{bitAnd, bitOr, and-le-r}
 use borrow.Author.Tests.{lt-ltb, le-ltb}
-use Rattle.vectors.specs.Bits.{wordBits, Vector, bit}
+use Rattle.vectors.specs.Bits.{wordBits, Vector}
 use Rattle.lists.specs.ByPlace.{listOf}
 use Rattle.vectors.specs.ByValue.{vectorWords, lastBitPlace, carryInto, grownWord, grownWords}
 use Rattle.lists.proofs.ByPlace.{listOf-length, listOf-at, listOf-past}
@@ -20,8 +20,8 @@ module _ (m count : ℕ) (held : List ℕ) (w : ℕ) where
   unfolding carryInto
   carry-next h = rw (lt-ltb (w + 1) count h) refl
 
-  -- What comes into the last word is what was bit 0, at the place of bit m − 1.
-  pub carry-last : count ≤ w + 1 → carryInto m count held w ≡ bit (getD held 0 0) 0 * 2 ^ lastBitPlace m % 2 ^ wordBits
+  -- What comes into the last word is word 0, with its bit 0 at the place of bit m − 1.
+  pub carry-last : count ≤ w + 1 → carryInto m count held w ≡ getD held 0 0 * 2 ^ lastBitPlace m % 2 ^ wordBits
   unfolding carryInto
   carry-last h = rw (le-ltb (w + 1) count h) refl
 

@@ -11,6 +11,7 @@ use lib.ListN.{length, getD}
 use lib.Seq.{take-all}
 use lib.Dec.{eqb}
 use Rattle.vectors.specs.Bits.{wordCount, Vector, isSet, firstBits, noBit}
+use Rattle.vectors.specs.Rotating.{WithinBits}
 use Rattle.vectors.specs.Holding.{vectorAt, Occurs, Grown}
 use Rattle.vectors.specs.ByValue.{vectorWords, vectorBits, HeldVector, grownWords, Occurrences}
 use Rattle.vectors.proofs.FirstBitsAreSet.{first-bits-is, first-bits-length, first-bits-vector, first-bits-within}
@@ -34,12 +35,12 @@ module _ (m : ℕ) (most : m ≤ vectorBits) where
   first-set r h = first-bits-is m vectorWords most .low r h
 
 module _ (m count : ℕ) (occurs held : List ℕ) (some : 0 < m) (most : m ≤ vectorBits) (few : count ≡ wordCount m) (is : HeldVector m held) where
-  -- `grown` returns a vector of m bits again.
-  grown-held : Vector occurs → HeldVector m (grownWords m count occurs held)
-  grown-held vector = record {
+  -- `grown` returns a vector of m bits again, if the occurrence vector is one.
+  grown-held : Vector occurs → WithinBits m occurs → HeldVector m (grownWords m count occurs held)
+  grown-held vector inside = record {
     size = grown-words-length m count occurs held;
     words = grown-words-vector m count occurs held vector;
-    within = grown-within m occurs held (grownWords m count occurs held) (grown-words-is m count occurs held some most few is);
+    within = grown-within m occurs held (grownWords m count occurs held) (grown-words-is m count occurs held some most few is vector inside);
   }
 
 module _ (m count : ℕ) (held : List ℕ) (few : count ≡ wordCount m) (is : HeldVector m held) where
@@ -74,8 +75,9 @@ pub grown-by-edge : (m count code : ℕ) (ring table occurs held new : List ℕ)
 grown-by-edge m count code ring table occurs held new whole some most few of-ring is-held is-occurs is-new =
     let words : Vector occurs = rw is-occurs (vector-words ring table code of-ring) in
     let edge : Occurs ring code occurs = rw is-occurs (vector-occurs ring table code of-ring (omega arith)) in
-    let turn : Grown m occurs held new = rw is-new (grown-words-is m count occurs held some most few is-held) in
+    let inside : WithinBits m occurs = record { rest = λ i h. edge .rest i (omega arith) } in
+    let turn : Grown m occurs held new = rw is-new (grown-words-is m count occurs held some most few is-held words inside) in
     record {
-      vector = rw is-new (grown-held m count occurs held some most few is-held words);
+      vector = rw is-new (grown-held m count occurs held some most few is-held words inside);
       each = λ r h. turn .each r h ∙ rw (edge .each r (omega arith)) refl;
     }

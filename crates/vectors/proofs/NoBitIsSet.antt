@@ -10,7 +10,7 @@ use native.Mathlib.Omega.{arith}
 use lib.ListN.{getD}
 use lib.Bits.{bitOr, or-add-and, and-le-l, and-le-r}
 use borrow.Author.Tests.{eqb-true, eq-eqb}
-use Rattle.vectors.specs.Bits.{wordBits, wordCount, Vector, isSet, NoBit, orBelow, noBit}
+use Rattle.vectors.specs.Bits.{wordBits, wordCount, Vector, bit, isSet, NoBit, orBelow, noBit}
 use Rattle.vectors.specs.Rotating.{WithinBits}
 use Rattle.vectors.proofs.WordBits.{bit-zero, bit-high, bits-none}
 use Rattle.vectors.proofs.VectorBits.{isSet-at, isSet-zero, bit-of-test}
@@ -19,11 +19,15 @@ use Rattle.vectors.proofs.VectorBits.{isSet-at, isSet-zero, bit-of-test
 pub no-bit-of-words : (ws : List ℕ) → ((w : ℕ) → getD ws w 0 ≡ 0) → NoBit ws
 no-bit-of-words ws zeros = record { none = λ i. isSet-zero ws i (zeros (i / wordBits)) }
 
+-- Bit j of a word is 0 if it is not set in the vector, or if a word has no such bit.
+pub bit-unset : (ws : List ℕ) → Vector ws → (w j : ℕ) → (j < wordBits → isSet ws (wordBits * w + j) ≡ false) → bit (getD ws w 0) j ≡ 0
+bit-unset ws vector w j none = dite (decLt j wordBits)
+    (λ l. bit-of-test (getD ws w 0) 0 j j (sym (isSet-at ws w j l) ∙ (none l ∙ rw (bit-zero j) refl)) ∙ bit-zero j)
+    (λ l. bit-high (getD ws w 0) wordBits j (vector .word-lt w) (omega (arith, l)))
+
 -- A word with none of its bits set is 0.
 word-none : (ws : List ℕ) → Vector ws → (w : ℕ) → ((j : ℕ) → j < wordBits → isSet ws (wordBits * w + j) ≡ false) → getD ws w 0 ≡ 0
-word-none ws vector w none = bits-none (getD ws w 0) (λ j. dite (decLt j wordBits)
-    (λ l. bit-of-test (getD ws w 0) 0 j j (sym (isSet-at ws w j l) ∙ (none j l ∙ rw (bit-zero j) refl)) ∙ bit-zero j)
-    (λ l. bit-high (getD ws w 0) wordBits j (vector .word-lt w) (omega (arith, l))))
+word-none ws vector w none = bits-none (getD ws w 0) (λ j. bit-unset ws vector w j (none j))
 
 -- If no bit is set, every word is 0.
 no-bit-words : (ws : List ℕ) → Vector ws → NoBit ws → (w : ℕ) → getD ws w 0 ≡ 0

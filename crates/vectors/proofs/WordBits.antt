@@ -1,6 +1,6 @@
 -- The bits of one word under `&`, `|`, `>>`, `<<` and the cut to a width (mod 2^width). Bit j is the lowest binary digit of the word shifted down by j, so each
--- law is the kit's law for the shift, and then one for lowest digits. The width is an argument everywhere. The last two laws say that a word is determined by
--- its bits, by induction on binary digits.
+-- law is the kit's law for the shift, and then one for lowest digits. The width is an argument everywhere. `bits-none` and `bits-unique` say that a word is
+-- determined by its bits, by induction on binary digits; the last law compares two words by them.
 use mathlib.Core.Path.{_≡_, refl, sym, _∙_}
 use mathlib.Core.Logic.{dite}
 use Prim.Native.Nat.{ℕ, suc, _+_, _-_, _*_, _/_, _%_, _^_, _≤_, _<_, min, max}
@@ -125,3 +125,26 @@ bits-unique = bin-ind (λ (x : ℕ). (y : ℕ) → ((j : ℕ) → bit x j ≡ bi
     let halves : x / 2 ≡ y / 2 = halves-unique (y / 2) (λ j. bit-shr x 1 j ∙ (same (1 + j) ∙ sym (bit-shr y 1 j))) in
     let lows : x % 2 ≡ y % 2 = sym (bit-first x) ∙ (same 0 ∙ bit-first y) in
     omega arith)
+
+-- In `(a | x << s) & o`, if o has no bit above s, only the lowest bit of x counts.
+pub and-first-only : (a x o s width : ℕ) → s < width → ((j : ℕ) → s < j → bit o j ≡ 0)
+    → bitAnd (bitOr a (x * 2 ^ s % 2 ^ width)) o ≡ bitAnd (bitOr a (bit x 0 * 2 ^ s % 2 ^ width)) o
+and-first-only a x o s width inside none = bits-unique _ _ (λ j. dite (decLt s j) (above j) (λ low. within j (omega (arith, low))))
+  where
+    -- bit j of the whole, for whatever is shifted up
+    bit-whole : (y j : ℕ) → bit (bitAnd (bitOr a (y * 2 ^ s % 2 ^ width)) o) j ≡ min (max (bit a j) (bit (y * 2 ^ s % 2 ^ width) j)) (bit o j)
+    bit-whole y j = bit-and (bitOr a (y * 2 ^ s % 2 ^ width)) o j ∙ rw (bit-or a (y * 2 ^ s % 2 ^ width) j) refl
+
+    -- above s, o has no bit
+    above : (j : ℕ) → s < j → bit (bitAnd (bitOr a (x * 2 ^ s % 2 ^ width)) o) j ≡ bit (bitAnd (bitOr a (bit x 0 * 2 ^ s % 2 ^ width)) o) j
+    above j h = bit-whole x j ∙ (rw (none j h) (omega arith) ∙ sym (bit-whole (bit x 0) j))
+
+    -- up to s, only the lowest bit comes in, at s
+    shifted-same : (j : ℕ) → j ≤ s → bit (x * 2 ^ s % 2 ^ width) j ≡ bit (bit x 0 * 2 ^ s % 2 ^ width) j
+    shifted-same j h = bit-mod (x * 2 ^ s) j width (omega arith) ∙ (dite (decLt j s)
+        (λ below. bit-shl-low x s j below ∙ sym (bit-shl-low (bit x 0) s j below))
+        (λ at. let e : j ≡ s = omega (arith, at) in rw e (rw (add-zero s) at (bit-shl-high x s 0) ∙ sym (bit-lone-there (bit x 0) s (bit-lt x 0))))
+        ∙ sym (bit-mod (bit x 0 * 2 ^ s) j width (omega arith)))
+
+    within : (j : ℕ) → j ≤ s → bit (bitAnd (bitOr a (x * 2 ^ s % 2 ^ width)) o) j ≡ bit (bitAnd (bitOr a (bit x 0 * 2 ^ s % 2 ^ width)) o) j
+    within j h = bit-whole x j ∙ (rw (shifted-same j h) refl ∙ sym (bit-whole (bit x 0) j))

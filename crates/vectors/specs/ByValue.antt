@@ -12,7 +12,7 @@ use Prim.Native.Nat.{ℕ, _+_, _-_, _*_, _/_, _%_, _^_, min}
 use lib.ListN.{length, getD, take}
 use lib.Bits.{bitAnd, bitOr}
 use lib.Dec.{ltb}
-use Rattle.vectors.specs.Bits.{wordBits, Vector, bit}
+use Rattle.vectors.specs.Bits.{wordBits, Vector}
 use Rattle.lists.specs.ByPlace.{listOf}
 use Rattle.vectors.specs.Rotating.{WithinBits}
 use Rattle.vectors.specs.Holding.{edgeCodes, OccurrenceTable}
@@ -36,11 +36,12 @@ abbrev pub lastBitPlace : ℕ → ℕ
 lastBitPlace m = (m % wordBits + (wordBits - 1)) % wordBits
 
 -- What comes into word w when the first `count` words are shifted down by one: the next word's lowest bit, at the top; into the last word, what was
--- bit 0, at the place of bit m − 1.
+-- bit 0, at the place of bit m − 1. The other bits of word 0 may come to stand above that place; in a vector of m bits no bit is there, so the AND
+-- with an occurrence vector removes them.
 unfoldable pub carryInto : ℕ → ℕ → List ℕ → ℕ → ℕ
 carryInto m count held w =
     let next : ℕ = getD held (w + 1) 0 * 2 ^ (wordBits - 1) % 2 ^ wordBits in
-    let first : ℕ = bit (getD held 0 0) 0 * 2 ^ lastBitPlace m % 2 ^ wordBits in
+    let first : ℕ = getD held 0 0 * 2 ^ lastBitPlace m % 2 ^ wordBits in
     cond (ltb (w + 1) count) next first
 
 -- Word w of the held vector grown by one edge: `(x >> 1 | carry) & occurs`; from `count` on it is 0.

@@ -127,8 +127,15 @@ bit-zero = 1 ∷ 0 ∷ 0 ∷ 0 ∷ []
 abbrev every-bit : List ℕ
 every-bit = 0xffff_ffff_ffff_ffff ∷ 0xffff_ffff_ffff_ffff ∷ 0xffff_ffff_ffff_ffff ∷ 0xffff_ffff_ffff_ffff ∷ []
 
+-- Five bits with bits 0 and 1 set, grown as the code does it. By an occurrence vector of five bits they become bits 4 and 0. By one with bits from 5 on, which no
+-- ring has, bit 5 is set too.
+pub bits-past-m-right : grownWords 5 1 (0x1f ∷ 0 ∷ 0 ∷ 0 ∷ []) (3 ∷ 0 ∷ 0 ∷ 0 ∷ []) ∷ grownWords 5 1 every-bit (3 ∷ 0 ∷ 0 ∷ 0 ∷ []) ∷ []
+    ≡ (0x11 ∷ 0 ∷ 0 ∷ 0 ∷ []) ∷ (0x31 ∷ 0 ∷ 0 ∷ 0 ∷ []) ∷ []
+unfolding grownWords grownWord carryInto listOf
+bits-past-m-right = refl
+
 -- Word counts and bit counts that no scan uses: count 0; count 7, which is taken as 4; and m = 0.
 pub other-counts-right : grownWords 5 0 every-bit bit-zero ∷ grownWords 256 7 every-bit bit-zero ∷ grownWords 0 1 every-bit bit-zero ∷ []
     ≡ (0 ∷ 0 ∷ 0 ∷ 0 ∷ []) ∷ (0 ∷ 0 ∷ 0 ∷ 0x8000_0000_0000_0000 ∷ []) ∷ (0x8000_0000_0000_0000 ∷ 0 ∷ 0 ∷ 0 ∷ []) ∷ []
-unfolding grownWords grownWord carryInto listOf bit
+unfolding grownWords grownWord carryInto listOf
 other-counts-right = refl

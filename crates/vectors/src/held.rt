@@ -54,7 +54,8 @@ fn within_words(count: usize) -> usize
 }
 
 // What comes into word w when the first `words` words are shifted down by one: the next word's lowest bit at the top, or
-// into the last word what was bit 0, at the place of bit m - 1.
+// into the last word what was bit 0, at the place of bit m - 1. Word 0 is shifted up whole: what comes to stand above that
+// place lies past bit m - 1, where no occurrence vector has a bit, so a mask would only cost time.
 fn carry_into(held: [u64; VECTOR_WORDS], m: usize, words: usize, w: usize) -> u64
     requires { ⌜ (w < vectorWords) × (words ≤ vectorWords) ⌝ }
     ensures { λ r. ⌜ r ≡ carryInto m words held w ⌝ }
@@ -63,7 +64,7 @@ fn carry_into(held: [u64; VECTOR_WORDS], m: usize, words: usize, w: usize) -> u6
         held[w + 1] << TOP
     } else {
         // 63 is added in place of subtracting 1, because m may be 0
-        (held[0] % 2) << ((m % WORD_BITS + (WORD_BITS - 1)) % WORD_BITS)
+        held[0] << ((m % WORD_BITS + (WORD_BITS - 1)) % WORD_BITS)
     }
 }
 

@@ -1,7 +1,6 @@
--- `vectors::held::carry_into` meets its contract: it returns the next word's lowest bit, or what was bit 0 (`carry-next` and `carry-last` of GrownWords).
-use mathlib.Core.Path.{refl, sym, _∙_}
+-- `vectors::held::carry_into` meets its contract: it returns the next word's lowest bit, or word 0 shifted up (`carry-next` and `carry-last` of GrownWords).
+use mathlib.Core.Path.{sym}
 use native.Mathlib.Omega.{arith}
-use Rattle.vectors.proofs.WordBits.{bit-first}
 use Rattle.vectors.proofs.GrownWords.{carry-next, carry-last}
 use borrow.Author.Needs.{needs}
 use Rattle.vectors.proofs.held.carry_into.Statement.{statement}
@@ -38,7 +37,7 @@ returns : tie.Need-returns
 returns c = sym (carry-next _ _ _ _ (omega arith))
 
 returns-2 : tie.Need-returns-2
-returns-2 c = sym (carry-last _ _ _ _ (omega arith) ∙ rw (bit-first _) refl)
+returns-2 c = sym (carry-last _ _ _ _ (omega arith))
 
 pub carry-into-spec : {M : Type 1} → statement M
 carry-into-spec =
