@@ -2,7 +2,7 @@
 -- function's own proof is in a folder by its file and name, as reading/read/Proof.antt. The theorems to read first (their heads name what they use):
 --
 --   SeekHides           seeking decides which findings a book hides
---   SoughtRising        so do `seek` and `seek_on` with rising addresses, as the report calls them
+--   SeekRising          so does going on from the field held, with rising addresses, as the report does
 --   RowsOfReading, RowsOfUnpacking    when each refusal is given, and where
 --   OneAnswer           each contract has one answer
 --
@@ -15,7 +15,6 @@ pub mod AcceptedBook
 pub mod SeekFrom
 pub mod SeekHides
 pub mod SeekRising
-pub mod SoughtRising
 -- the rows of each call
 pub mod RowNumbers
 pub mod RowsOfReading

@@ -1,60 +1,58 @@
--- The book's part of the loop's invariant. The field that the loop holds was sought for a start that is not above the next window's start. Starts rise, so
--- going on from this field to the next finding's address gives what seeking from the book's first byte would give. If the book is accepted, the field then
--- hides the finding exactly when the book does.
+-- The book's part of the loop's invariant. One step of seeking at the field that the loop holds gives, for each start that is still to come, what seeking from the
+-- book's first byte would give. That is so of the book's first field, because seeking begins there. It stays so after a finding, because starts rise. If the
+-- book is accepted, the field that the step gives hides the finding exactly when the book does.
 use Prim.Native.Nat.{ℕ, _≤_}
-use mathlib.Core.Path.{_≡_, refl, sym, subst}
+use mathlib.Core.Path.{_≡_, refl, sym, ap, _∙_}
 use mathlib.Core.List.{List}
 use mathlib.Core.Option.{none}
 use native.Mathlib.Omega.{arith}
 use Rattle.meaning.specs.Findings.{Finding}
-use Rattle.silences.specs.declared.addresses.Address.{Address as AddressStruct}
 use Rattle.silences.specs.declared.addresses.Sought.{Sought}
-use Rattle.silences.specs.Silences.{Address, address}
-use Rattle.silences.specs.Reading.{silencesRead, bookRefusal}
-use Rattle.silences.specs.Addresses.{addressOf, soughtOf}
-use Rattle.book.specs.Calls.{IsSought}
+use Rattle.silences.specs.Silences.{address}
+use Rattle.silences.specs.Reading.{FieldAt, fieldAt, silencesRead, bookRefusal}
+use Rattle.silences.specs.Addresses.{soughtOf}
 use Rattle.silences.proofs.BookRows.{book-accepted-iff}
 use Rattle.silences.proofs.StrictOrder.{start-not-below}
+use Rattle.book.specs.Seeking.{seekField, seekFrom}
+use Rattle.book.proofs.SeekFrom.{seekFrom-step}
 use Rattle.book.proofs.SeekRising.{HeldField, seeking-turn, seeking-hides}
-use Rattle.book.proofs.SoughtRising.{sought-start}
 use Rattle.outlines.specs.Report.{isHidden}
 use Rattle.outlines.specs.Hiding.{findingAddress, heldFor, hidesFinding}
 
--- The field held was sought for a start `last-asked` of at most i.
+-- One step of seeking at the field gives, for every start from i on, what seeking from the first byte would give.
 pub record HeldFrom (cell ringNumber : ℕ) (book : List ℕ) (i : ℕ) (held : Sought) : Type 0 where
-  pub last-asked : ℕ
-  pub asked-le : last-asked ≤ i
-  pub seeking : HeldField book (address cell ringNumber last-asked) (soughtOf held)
+  pub step-is : (start : ℕ) → i ≤ start
+      → seekField (address cell ringNumber start) (soughtOf held) (seekFrom book (address cell ringNumber start)) ≡ seekFrom book (address cell ringNumber start) 0
 
 module _ {cell ringNumber : ℕ} {book : List ℕ} where
-  -- The field that `seek` returns for start 0, from the book's first byte, can be held at every i.
-  pub held-start : (i : ℕ) {first : AddressStruct} {held : Sought} → addressOf first ≡ address cell ringNumber 0 → IsSought book 0 first held
-      → HeldFrom cell ringNumber book i held
-  held-start i {first} {held} zero meets = record {
-    last-asked = 0;
-    asked-le = omega arith;
-    seeking = subst (λ (a : Address). HeldField book a (soughtOf held)) zero (sought-start book first held meets);
+  -- The book's first field can be held at every i.
+  pub held-start : (i : ℕ) {held : Sought} → soughtOf held ≡ fieldAt book 0 → HeldFrom cell ringNumber book i held
+  held-start i first = record {
+    step-is = λ start l.
+        let a = address cell ringNumber start in
+        ap (λ (f : FieldAt). seekField a f (seekFrom book a)) first ∙ sym (seekFrom-step book a 0);
   }
 
   module _ {i : ℕ} {held : Sought} (h : HeldFrom cell ringNumber book i held) where
     -- A field that can be held at i can be held at every later i′.
     pub held-later : {i′ : ℕ} → i ≤ i′ → HeldFrom cell ringNumber book i′ held
-    held-later l = record { last-asked = h .last-asked; asked-le = omega (arith, h .asked-le); seeking = h .seeking }
+    held-later l = record { step-is = λ start from. h .step-is start (omega arith) }
 
     module _ (f : Finding) (from-le : i ≤ f .start) where
       -- the field for the finding is what seeking from the first byte would give
       held-next : HeldField book (findingAddress cell ringNumber f) (heldFor cell ringNumber book f (soughtOf held))
-      held-next =
-          let asked-le : h .last-asked ≤ f .start = omega (arith, h .asked-le) in
-          seeking-turn book (address cell ringNumber (h .last-asked)) (findingAddress cell ringNumber f)
-          (start-not-below (address cell ringNumber (h .last-asked)) (findingAddress cell ringNumber f) refl refl asked-le)
-          (soughtOf held) (h .seeking)
+      held-next = record { held-is = h .step-is (f .start) from-le }
 
       -- The field for a finding that starts at i or later can be held at every i′ from its start on.
       pub held-turn : {held′ : Sought} {i′ : ℕ} → soughtOf held′ ≡ heldFor cell ringNumber book f (soughtOf held) → f .start ≤ i′
           → HeldFrom cell ringNumber book i′ held′
-      held-turn is l =
-          record { last-asked = f .start; asked-le = l; seeking = subst (HeldField book (findingAddress cell ringNumber f)) (sym is) held-next }
+      held-turn is l = record {
+        step-is = λ start from.
+            let a = findingAddress cell ringNumber f in
+            let b = address cell ringNumber start in
+            ap (λ (g : FieldAt). seekField b g (seekFrom book b)) is
+            ∙ seeking-turn book a b (start-not-below a b refl refl (omega arith)) (heldFor cell ringNumber book f (soughtOf held)) held-next .held-is;
+      }
 
       -- If the book is accepted, the field for the finding hides it exactly when the book does.
       pub held-hides : bookRefusal book ≡ none → hidesFinding cell ringNumber book f (soughtOf held) ≡ isHidden (silencesRead book) cell ringNumber f

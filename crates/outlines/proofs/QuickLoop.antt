@@ -14,11 +14,9 @@ use Rattle.meaning.specs.Meanings.{FitsInLine, IsPastLine}
 use Rattle.meaning.specs.Findings.{Finding, findings, wordsOf, wordsEach}
 use Rattle.meaning.proofs.FindingsBelow.{below-length-le, findings-length-le, findings-short}
 use Rattle.meaning.proofs.ScanLoop.{scan-found-le, scan-end}
-use Rattle.silences.specs.declared.addresses.Address.{Address as AddressStruct}
-use Rattle.silences.specs.Silences.{Silence, address}
-use Rattle.silences.specs.Reading.{silencesRead}
-use Rattle.silences.specs.Addresses.{addressOf, soughtOf}
-use Rattle.book.specs.Calls.{IsSought}
+use Rattle.silences.specs.Silences.{Silence}
+use Rattle.silences.specs.Reading.{fieldAt, silencesRead}
+use Rattle.silences.specs.Addresses.{soughtOf}
 use Rattle.windows.specs.Windows.{Parts, wholeLine}
 use Rattle.findings.specs.Limits.{mostPlaces, CanSearch}
 use Rattle.findings.proofs.WordsSoFar.{WordsSoFar, so-far-none, so-far-length, so-far-more}
@@ -55,19 +53,19 @@ room-for-all ring line k within =
     (le-or-lt (length ring) (length line))
 
 module _ {cell ringNumber : ℕ} {ring doubled table : List ℕ} {p : Parts} {k : ℕ} {book counts₀ area : List ℕ} where
-  -- The invariant holds before the first window, with nothing found and the field that the book gives for start 0.
-  pub quick-start : (can : CanScan ring doubled table p k book counts₀ area) {at : Sweep} {asked : BookAsked} {first : AddressStruct}
+  -- The invariant holds before the first window, with nothing found and the book's first field.
+  pub quick-start : (can : CanScan ring doubled table p k book counts₀ area) {at : Sweep} {asked : BookAsked}
       → at .start .0 ≡ 0 → lastStart (at .last) ≡ none → at .looks ≡ 0
-      → asked .shown ≡ 0 → asked .hidden ≡ 0 → addressOf first ≡ address cell ringNumber 0 → IsSought book 0 first (asked .held)
+      → asked .shown ≡ 0 → asked .hidden ≡ 0 → soughtOf (asked .held) ≡ fieldAt book 0
       → QuickLoop cell ringNumber ring doubled table p k book counts₀ area at asked counts₀ area
   unfolding takenBy
-  quick-start can {at} s l o no-shown no-hidden zero sought = record {
+  quick-start can {at} s l o no-shown no-hidden first = record {
     can = can;
     so-far = [];
     sweep = sweep-start can s l o;
     in-words = rw no-shown (so-far-none area);
     hidden-is = no-hidden;
-    held-from = held-start (at .start .0) zero sought;
+    held-from = held-start (at .start .0) first;
   }
 
   module _ {at : Sweep} {asked : BookAsked} {counts words : List ℕ} (h : QuickLoop cell ringNumber ring doubled table p k book counts₀ area at asked counts words) where

@@ -13,8 +13,8 @@ ghost use Rattle.silences.specs.Addresses.{addressOf};
 ghost use Rattle.findings.specs.Putting.{findingOf};
 ghost use Rattle.outlines.specs.Hiding.{CanAsk, IsHiddenOrShown, IsShownPut};
 
-// How many findings were shown so far, how many were hidden, and the field that the book gave for the last start asked
-// for (at first start 0). Starts rise, so no field before that one is read again.
+// How many findings were shown so far, how many were hidden, and the field that the book gave for the last finding (at
+// first the book's first field). Starts rise, so no field before that one is read again.
 pub struct BookAsked {
     pub shown: usize,
     pub hidden: usize,
@@ -22,7 +22,7 @@ pub struct BookAsked {
 }
 
 // The address of a start: cell, ring number and start.
-pub fn address_of(cell: u32, ring_number: u16, start: LinePlace) -> Address
+fn address_of(cell: u32, ring_number: u16, start: LinePlace) -> Address
     requires { ⌜ start .0 < 2 ^ 32 ⌝ }
     ensures { λ r. ⌜ addressOf r ≡ address cell «ring_number» (start .0) ⌝ }
 {

@@ -23,17 +23,14 @@ abbrev μ-loop : tie.MeasureT-loop
 whole-length-requires : tie.Need-whole-length-requires Inv-loop μ-loop
 whole-length-requires c κs = search needs
 
-address-of-requires : tie.Need-address-of-requires Inv-loop μ-loop
-address-of-requires c κs = omega arith
-
-seek-requires : tie.Need-seek-requires Inv-loop μ-loop
-seek-requires c κs = tt
+field-at-requires : tie.Need-field-at-requires Inv-loop μ-loop
+field-at-requires c κs = search needs
 
 loop-holds : tie.Need-loop-holds Inv-loop μ-loop
 loop-holds c =
-    let long = c .before .before in
+    let long = c .before in
     let start = long .before .before .before .before .before .before .before in
-    (refl, (long .whole-length .ensures, quick-start (start .pre) refl refl refl refl refl (c .before .address-of .ensures) (c .seek .ensures)))
+    (refl, (long .whole-length .ensures, quick-start (start .pre) refl refl refl refl refl (c .field-at .ensures)))
 
 add-if1 : tie.Need-add-if1 Inv-loop μ-loop
 add-if1 c = omega (arith, c .before .loop .inv .1 .1 .sweep .start-le)
@@ -119,8 +116,7 @@ scan-windows-spec =
     Inv-loop
     μ-loop
     whole-length-requires
-    address-of-requires
-    seek-requires
+    field-at-requires
     loop-holds
     add-if1
     sweep-on-requires
