@@ -15,6 +15,7 @@ typedef uint8_t lanes __attribute__((vector_size(16)));
 typedef int8_t signed_lanes __attribute__((vector_size(16)));
 // Signed, because SSE2 has the lesser of two signed half-words and not of unsigned ones.
 typedef int16_t wide_lanes __attribute__((vector_size(16)));
+typedef int8_t narrow_lanes __attribute__((vector_size(8)));
 
 STRAIGHT lanes load(const uint8_t *bytes)
 {

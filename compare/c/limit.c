@@ -1,6 +1,7 @@
 // The parts of the limit put together: what limit.h says.
 #include "limit.h"
 
+#include "handover.h"
 #include "limit_reading.h"
 #include "padded.h"
 #include "wide.h"
@@ -21,43 +22,6 @@ static __attribute__((noinline)) size_t walk_to_finding(struct padded *tally, st
     return tally->m < MOST_RING ? walk_padded(tally, walk, true) : walk_wide(tally, walk, true);
 }
 
-static size_t count_of(const struct padded *tally, size_t slot)
-{
-    return tally->m < MOST_RING ? tally->counts[slot] : (size_t)tally->wide[slot];
-}
-
-// The first of some slots whose count is the least, or `to`.
-static size_t first_least(const struct padded *tally, size_t from, size_t to, size_t least)
-{
-    while (from < to && count_of(tally, from) != least)
-        from++;
-    return from;
-}
-
-static size_t ties_of(const struct padded *tally, size_t least)
-{
-    size_t ties = 0;
-    if (tally->m == MOST_RING) {
-        for (size_t slot = 0; slot < MOST_RING; slot++)
-            ties += tally->wide[slot] == (int16_t)least;
-        return ties;
-    }
-    uint8_t few = 0;
-    for (size_t slot = 0; slot < tally->m; slot++)
-        few += tally->counts[slot] == (uint8_t)least;
-    return few;
-}
-
-// Rotations below `turn` stand in the last slots.
-static struct finding finding_at(const struct padded *tally, size_t start, size_t least)
-{
-    size_t m = tally->m;
-    size_t split = m - tally->turn;
-    size_t slot = first_least(tally, split, m, least);
-    size_t rotation = slot < m ? slot - split : first_least(tally, 0, split, least) + tally->turn;
-    return (struct finding){start, rotation, least, ties_of(tally, least)};
-}
-
 struct rules_answer limit_scan(const uint8_t *ring, size_t m, const uint8_t *line, size_t n, size_t k,
                                uint32_t *words, size_t room)
 {
@@ -66,12 +30,12 @@ struct rules_answer limit_scan(const uint8_t *ring, size_t m, const uint8_t *lin
         return answer;
     struct occurrences table;
     struct padded tally;
-    find_occurrences(&table, ring, m);
+    find_occurrences(&table, ring, m, k);
     pad_ring(&tally, ring, m);
     bool verified = false;
     size_t last = 0;
-    struct swept swept = sweep_to_candidate(&table, line, n, k, 0);
-    for (; swept.candidate; swept = sweep_to_candidate(&table, line, n, k, swept.next)) {
+    struct swept swept = sweep_on(&table, line, n, k, 0);
+    for (; swept.candidate; swept = sweep_on(&table, line, n, k, swept.next)) {
         size_t steps = swept.start - last;
         struct walk walk = {line, last, swept.start, 0, 0};
         bool afresh = !verified || 2 * steps > m;

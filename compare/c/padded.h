@@ -22,6 +22,7 @@ static void pad_ring(struct padded *tally, const uint8_t *ring, size_t m)
     size_t length = 2 * m + LANES * BLOCK;
     tally->m = m;
     tally->turn = 0;
+    memset(tally->counts, 0, sizeof tally->counts); // vectors are loaded past the last count
     memcpy(tally->around, ring, m);
     for (size_t done = m; done < length;) {
         size_t more = done < length - done ? done : length - done;

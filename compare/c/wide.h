@@ -34,18 +34,26 @@ STRAIGHT wide_lanes take(int16_t *counts, lanes taken)
     return lesser_wide(lower, upper);
 }
 
-static size_t count_wide(struct padded *tally, const uint8_t *window)
+// Takes from some slots the matches of one part of the window.
+STRAIGHT wide_lanes take_part(int16_t *counts, const uint8_t *around, const uint8_t *window)
 {
     lanes matches[BLOCK];
+    wide_lanes least = (wide_lanes){0} + MOST_RING;
+    count_matches(matches, around, window, PART, BLOCK);
+#pragma clang loop unroll(full)
+    for (size_t v = 0; v < BLOCK; v++)
+        least = lesser_wide(least, take(counts + LANES * v, matches[v]));
+    return least;
+}
+
+static size_t count_wide(struct padded *tally, const uint8_t *window)
+{
     wide_lanes least = (wide_lanes){0} + MOST_RING;
     for (size_t r = 0; r < MOST_RING; r++)
         tally->wide[r] = MOST_RING;
     for (size_t slot = 0; slot < MOST_RING; slot += LANES * BLOCK)
-        for (size_t q = 0; q < MOST_RING; q += PART) {
-            count_matches(matches, tally->around + slot + q, window + q, PART, BLOCK);
-            for (size_t v = 0; v < BLOCK; v++)
-                least = lesser_wide(least, take(tally->wide + slot + LANES * v, matches[v]));
-        }
+        for (size_t q = 0; q < MOST_RING; q += PART)
+            least = lesser_wide(least, take_part(tally->wide + slot, tally->around + slot + q, window + q));
     return (size_t)__builtin_reduce_min(least);
 }
 
