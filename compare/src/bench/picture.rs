@@ -116,7 +116,7 @@ impl<'a> Panel<'a> {
 
 fn legend(svg: &mut String) {
     let words =
-        "Time over that of the same rules in C: left of 1 is faster. A dot is an input, a bar the geometric mean.";
+        "Time over that of the same rules in C, one line again and again: left of 1 is faster. A dot is an input, a bar the geometric mean.";
     let _ = writeln!(svg, "<text x=\"12\" y=\"20\">{words}</text>");
     for (at, (class, name)) in LEGEND.iter().enumerate() {
         let x = LEFT + 110.0 * at as f64;
@@ -129,7 +129,7 @@ fn legend(svg: &mut String) {
 }
 
 pub fn picture(results: &Results) -> String {
-    let rules = Panel::new(results, TOP, |contender| matches!(contender, Contender::Rules(..)));
+    let rules = Panel::new(results, TOP, |contender| !matches!(contender, Contender::Peer(_)));
     let peers = Panel::new(results, rules.bottom() + FOOT, |contender| matches!(contender, Contender::Peer(_)));
     let height = peers.bottom() + 30.0;
     let mut svg = format!("<svg xmlns=\"http://www.w3.org/2000/svg\" viewBox=\"0 0 {WIDTH} {height}\" role=\"img\">\n");
