@@ -95,9 +95,9 @@ fn second_runs(page: &mut String, results: &Results) {
     table(page, &head, results.seconds.iter().map(line));
 }
 
-/// The whole page. `loads` are the machine's loads before and after.
-pub fn page(results: &Results, loads: [&str; 2], picture: &str) -> String {
-    let mut page = String::from("# How fast it is\n\n");
+/// What a ratio is, and what was timed on what. `loads` are the machine's loads before and after.
+fn introduction(page: &mut String, loads: [&str; 2]) {
+    page.push_str("# How fast it is\n\n");
     page.push_str("A ratio is a time over that of *the same rules in C*: the same call in plain C (compare/c). Below 1 is faster. ");
     page.push_str("The rules in C and in Rust are built like the library but for two things: their fresh count takes one edge in each ");
     page.push_str(
@@ -114,7 +114,13 @@ pub fn page(results: &Results, loads: [&str; 2], picture: &str) -> String {
         loads[1]
     );
     let head = heads(&["", "built by"], std::iter::empty());
-    table(&mut page, &head, machine::compilers().into_iter().map(|(who, by)| vec![who.to_string(), by]));
+    table(page, &head, machine::compilers().into_iter().map(|(who, by)| vec![who.to_string(), by]));
+}
+
+/// The whole page.
+pub fn page(results: &Results, loads: [&str; 2], picture: &str) -> String {
+    let mut page = String::new();
+    introduction(&mut page, loads);
     page.push_str("## Geometric means of the ratios\n\nEach line searched again and again:\n\n");
     means(&mut page, results);
     ceilings(&mut page, results);

@@ -93,8 +93,10 @@ impl Line {
     }
 }
 
-/// Who is measured, and how.
-const MEASURED: [(&str, fn(Call) -> Contender); 4] = [
+/// A name, and the contender of a call.
+type Measured = (&'static str, fn(Call) -> Contender);
+
+const MEASURED: [Measured; 4] = [
     ("outlines", |call| Contender::Rules(Version::Ours, call)),
     ("C", |call| Contender::Rules(Version::C, call)),
     ("Rust", |call| Contender::Rules(Version::Rust, call)),

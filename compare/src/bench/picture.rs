@@ -31,7 +31,7 @@ const LEGEND: [(&str, &str); 4] = [
 ];
 
 /// Where a panel may have a line of its grid: finely about 1, then by tens.
-const FINE: [f64; 9] = [0.125, 0.25, 0.5, 0.75, 1.0, 1.3, 2.0, 4.0, 8.0];
+const FINE: [f64; 10] = [0.0625, 0.125, 0.25, 0.5, 0.75, 1.0, 1.3, 2.0, 4.0, 8.0];
 const COARSE: [f64; 9] = [0.001, 0.01, 0.1, 1.0, 10.0, 100.0, 1000.0, 10_000.0, 100_000.0];
 
 fn colour(part: Part) -> &'static str {
@@ -57,7 +57,7 @@ impl<'a> Panel<'a> {
         let ratios: Vec<f64> = lines.iter().flat_map(|&at| results.ratios(at, |_| true)).collect();
         let least = ratios.iter().copied().fold(1.0, f64::min);
         let most = ratios.iter().copied().fold(1.0, f64::max);
-        let ticks = if least > FINE[0] && most < FINE[8] { FINE } else { COARSE };
+        let ticks: &[f64] = if least > FINE[0] && most < FINE[9] { &FINE } else { &COARSE };
         let low = ticks.iter().rposition(|&tick| tick <= least).unwrap_or(0);
         let high = ticks.iter().position(|&tick| tick >= most).unwrap_or(ticks.len() - 1);
         let (low, high) = (low.min(ticks.len() - 2), high.max(low + 1));
