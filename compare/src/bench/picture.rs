@@ -1,5 +1,6 @@
-//! The picture of the ratios: a line for each contender, a dot for each row, a bar at the geometric mean. The rules and the
-//! peers have a panel each, since their ratios differ by powers of ten.
+//! The picture of the ratios: a line for each contender, a dot for each row, a bar at the geometric mean, all of
+//! one line again and again. The rules with their limit and the peers have a panel each, since their ratios differ by powers
+//! of ten.
 use super::contenders::Contender;
 use super::inputs::{Kind, Part};
 use super::results::{geometric_mean, Results};

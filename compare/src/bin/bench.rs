@@ -1,7 +1,7 @@
 //! Compares every answer, then times every contender, and writes the page and the picture to the two paths given.
 use compare::bench::agree::agree;
 use compare::bench::closed::{self, ClosedRow};
-use compare::bench::contenders::Contender;
+use compare::bench::contenders::{Call, Contender, Version};
 use compare::bench::inputs::{self, Input, MOST_LINE};
 use compare::bench::machine::load;
 use compare::bench::page::page;
@@ -87,6 +87,14 @@ fn run(page_path: &str, picture_path: &str) -> Result<(), String> {
     for (at, contender) in results.rivals() {
         let mean = geometric_mean(&results.ratios(at, |_| true));
         println!("{:40} {mean:9.2} times C's {}", contender.name(), contender.against().name());
+    }
+    for (at, name) in
+        [(Contender::place_of(Version::C, Call::Scan), "C"), (Contender::place_of_limit(Call::Scan), "limit")]
+    {
+        let pair = [Contender::place_of(Version::Ours, Call::Scan), at];
+        let [one, twelve] = MODES.map(|mode| results.mean_over(pair, &[mode]));
+        let both = results.mean_over(pair, &MODES);
+        println!("outlines scan over {name} scan: one line {one:.3}, twelve lines {twelve:.3}, both {both:.3}");
     }
     results.closed.iter().for_each(ClosedRow::print);
     Ok(())
