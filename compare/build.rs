@@ -1,4 +1,5 @@
-//! Links the library's archive, whose folder OUTLINES_ARCHIVE names, and the same rules in C, compiled by $CLANG (clang) at -O3.
+//! Links the library's archive, whose folder OUTLINES_ARCHIVE names, and the same rules in C with their limit, compiled by $CLANG
+//! (clang) at -O3.
 
 use std::path::Path;
 use std::process::Command;
@@ -28,15 +29,18 @@ fn run(program: &str, arguments: &[&str]) {
     assert!(status.is_ok_and(|s| s.success()), "{program} {arguments:?} failed");
 }
 
+/// The rules in C and their limit, one object each, with the same flags.
 fn compile_rules() {
     println!("cargo:rerun-if-changed=c");
     println!("cargo:rerun-if-env-changed=CLANG");
     let out = env::var("OUT_DIR").expect("cargo sets OUT_DIR");
     let clang = env::var("CLANG").unwrap_or_else(|_| "clang".to_string());
-    let object = Path::new(&out).join("rules.o").display().to_string();
-    let archive = Path::new(&out).join("librules.a").display().to_string();
-    run(&clang, &["-std=c11", "-O3", "-Wall", "-Wextra", "-fPIC", "-c", "c/rules.c", "-o", &object]);
-    run("ar", &["rcs", &archive, &object]);
+    let in_out = |name: &str| Path::new(&out).join(name).display().to_string();
+    let (archive, objects) = (in_out("librules.a"), [in_out("rules.o"), in_out("limit.o")]);
+    for (source, object) in ["c/rules.c", "c/limit.c"].into_iter().zip(&objects) {
+        run(&clang, &["-std=c11", "-O3", "-Wall", "-Wextra", "-fPIC", "-c", source, "-o", object]);
+    }
+    run("ar", &["rcs", &archive, &objects[0], &objects[1]]);
     println!("cargo:rustc-link-search=native={out}");
     println!("cargo:rustc-link-lib=static=rules");
     println!("cargo:rustc-env=BUILT_WITH_CLANG={}", version_of(&clang));

@@ -2,11 +2,10 @@
 // each does.
 #include "rules.h"
 
+#include "admit.h"
 #include "book.h"
 #include "reading.h"
 #include "tally.h"
-
-enum { MOST_LINE = 65536, WORDS_EACH = 4 };
 
 // A call's ring and line, and what is made of the ring once for a call.
 struct search {
@@ -20,38 +19,10 @@ struct search {
     struct tally tally;
 };
 
-struct finding {
-    size_t start;
-    size_t rotation;
-    size_t distance;
-    size_t ties;
-};
-
-// How many windows a line has, and how many it has closed.
-static size_t open_windows(size_t m, size_t n)
-{
-    return n >= m ? n - m + 1 : 0;
-}
-
+// How many windows a closed line has.
 static size_t closed_windows(size_t m, size_t n)
 {
     return n >= m ? n : 0;
-}
-
-// Refusals 1, 12, 2, 3 and 4, in this order, or 0. Each window may be a finding.
-static size_t admit(const uint8_t *ring, size_t m, size_t k, size_t n, size_t windows, size_t room)
-{
-    if (m == 0 || m > MOST_RING)
-        return 1;
-    if (memchr(ring, MARK, m) != NULL)
-        return 12;
-    if (k >= m)
-        return 2;
-    if (n > MOST_LINE)
-        return 3;
-    if (room < WORDS_EACH * windows)
-        return 4;
-    return 0;
 }
 
 // Where a sweep stands: the next window's start, the last verified start if there is one, the looks so far.
@@ -96,14 +67,6 @@ STRAIGHT bool sweep_window(struct search *search, struct sweep *at, struct findi
     }
     at->start = i + read.left + 1;
     return found;
-}
-
-static void put_finding(uint32_t *words, size_t before, struct finding finding)
-{
-    words[WORDS_EACH * before] = (uint32_t)finding.start;
-    words[WORDS_EACH * before + 1] = (uint32_t)finding.rotation;
-    words[WORDS_EACH * before + 2] = (uint32_t)finding.distance;
-    words[WORDS_EACH * before + 3] = (uint32_t)finding.ties;
 }
 
 static void prepare(struct search *search, const uint8_t *ring, size_t m, const uint8_t *line, size_t n, size_t k)

@@ -6,9 +6,8 @@
 #include <stdint.h>
 #include <string.h>
 
+#include "admit.h"
 #include "mark.h"
-
-enum { MOST_RING = 256 };
 
 // A count is at most 256, which eight bits do not hold. `past_mark` is the line place just past the last mark among the
 // edges counted, or 0: the window reached holds no mark if it begins there or later.

@@ -8,7 +8,7 @@
 #include <stdint.h>
 #include <string.h>
 
-#define STRAIGHT static inline __attribute__((always_inline))
+#include "straight.h"
 
 enum { WORD_BITS = 64, VECTOR_WORDS = 4, BYTES = 256 };
 

@@ -1,4 +1,4 @@
-//! Every peer, and the rules in C and in Rust, compared with the definitions on many rings. These cases have what no row of
+//! Every peer, the limit, and the rules in C and in Rust, compared with the definitions on many rings. These cases have what no row of
 //! the benchmark has: rings of one edge, lines shorter than the ring, allowances up to m - 1, widths at a word's end,
 //! refusals, marks at every place.
 mod books;
@@ -7,9 +7,15 @@ mod common;
 mod marks;
 
 use common::{by_definition, field, looks_by_rules, Finding, Numbers};
-use compare::peers::{c_rules, rules, Answer, Question, Rules, FINDING_WORDS, PEERS};
+use compare::peers::{c_rules, limit, rules, Answer, Question, Rules, Search, FINDING_WORDS, PEERS};
 
 const VERSIONS: [&Rules; 2] = [&c_rules::RULES, &rules::RULES];
+/// Scan and survey of each version and of the limit, which has no other call.
+const SEARCHES: [[Search; 2]; 3] = [
+    [c_rules::RULES.scan, c_rules::RULES.survey],
+    [rules::RULES.scan, rules::RULES.survey],
+    [limit::scan, limit::survey],
+];
 /// A word that no finding here has.
 const UNWRITTEN: u32 = 77_777;
 
@@ -32,8 +38,8 @@ fn check_peers(ring: &[u8], line: &[u8], k: usize, wanted: &[Finding]) {
 fn check_rules(ring: &[u8], line: &[u8], k: usize, wanted: &[Finding], quick_looks: usize) {
     let (m, n) = (ring.len(), line.len());
     let survey_looks = if n < m { 0 } else { 2 * m * n - m * m };
-    for version in VERSIONS {
-        for (call, looks) in [(version.scan, quick_looks), (version.survey, survey_looks)] {
+    for searches in SEARCHES {
+        for (call, looks) in searches.into_iter().zip([quick_looks, survey_looks]) {
             let mut words = vec![UNWRITTEN; FINDING_WORDS * n + 5];
             let answer = call(ring, line, k, &mut words);
             let right = Answer { found: wanted.len(), looks, ..Answer::default() };
@@ -157,9 +163,10 @@ fn check_refused((ring, line, k, room, book, refusal, place): RefusedRow) {
         let question = Question { cell: 7, ring_number: 2, ring, line, k, book };
         let answer = (version.report)(&question, &mut vec![0; room]);
         assert_eq!(answer, Answer { refusal, place, ..Answer::default() });
-        if refusal < 5 || refusal == 12 {
-            assert_eq!((version.scan)(ring, line, k, &mut vec![0; room]), answer);
-            assert_eq!((version.survey)(ring, line, k, &mut vec![0; room]), answer);
+    }
+    if refusal < 5 || refusal == 12 {
+        for call in SEARCHES.concat() {
+            assert_eq!(call(ring, line, k, &mut vec![0; room]), Answer { refusal, ..Answer::default() });
         }
     }
 }

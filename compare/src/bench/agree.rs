@@ -48,7 +48,9 @@ pub fn agree(contenders: &[Contender], input: &mut Input, words: &mut [u32]) -> 
     let (m, n) = (input.ring.len(), input.line.len());
     for contender in contenders {
         let (wanted, answer) = match contender {
-            Contender::Rules(_, Call::Survey) => (&findings, Answer { looks: 2 * m * n - m * m, ..scan }),
+            Contender::Rules(_, Call::Survey) | Contender::Limit(Call::Survey) => {
+                (&findings, Answer { looks: 2 * m * n - m * m, ..scan })
+            }
             Contender::Rules(_, Call::Hiding) => (&left, Answer { hidden, ..scan }),
             _ => (&findings, scan),
         };

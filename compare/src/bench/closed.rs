@@ -7,6 +7,7 @@ use super::timing::time;
 use crate::peers::{Answer, FINDING_WORDS};
 use crate::second::calls::{Answered, Search};
 use std::fmt::Write;
+use std::slice;
 
 /// Each closed call behind the open one.
 const CALLS: [Call; 4] = [Call::Scan, Call::ScanClosed, Call::Survey, Call::SurveyClosed];
@@ -55,7 +56,7 @@ pub struct ClosedRow {
 impl ClosedRow {
     pub fn timed(input: &Input, words: &mut [u32]) -> Self {
         eprintln!("timing {}, open and closed", input.name);
-        let times = time(&contenders(), input, words);
+        let times = time(&contenders(), slice::from_ref(input), words);
         ClosedRow { name: input.name.clone(), edges: input.line.len(), times }
     }
 

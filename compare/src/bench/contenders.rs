@@ -1,7 +1,7 @@
-//! Who is timed: the library, the same rules in C and in Rust, and the peers.
-use super::inputs::Input;
+//! Who is timed: the library, the same rules in C and in Rust, the limit, and the peers.
+use super::inputs::{Input, MANY_CANDIDATES};
 use super::ours::OURS;
-use crate::peers::{c_rules, rules, Answer, Peer, Rules, PEERS};
+use crate::peers::{c_rules, limit, rules, Answer, Peer, Rules, PEERS};
 
 /// A call of the rules. The report is timed with an empty book and with one of 1,000 silences. The closed calls are timed on
 /// inputs of their own.
@@ -59,22 +59,32 @@ impl Version {
     }
 }
 
+/// The peer that the bars name.
+const ACB: &str = "ACB";
+
+/// The calls that the limit has.
+pub const LIMIT_CALLS: [Call; 2] = [Call::Scan, Call::Survey];
+
 #[derive(Clone, Copy)]
 pub enum Contender {
     Rules(Version, Call),
+    /// One of `LIMIT_CALLS`.
+    Limit(Call),
     Peer(&'static Peer),
 }
 
 impl Contender {
-    /// The rules first, call by call and C before the others; then the peers.
+    /// The rules first, call by call and C before the others; then the limit, then the peers.
     pub fn all() -> Vec<Contender> {
         let rules = CALLS.iter().flat_map(|&call| VERSIONS.map(|version| Contender::Rules(version, call)));
-        rules.chain(PEERS.iter().map(Contender::Peer)).collect()
+        let limits = LIMIT_CALLS.into_iter().map(Contender::Limit);
+        rules.chain(limits).chain(PEERS.iter().map(Contender::Peer)).collect()
     }
 
     pub fn name(&self) -> String {
         match self {
             Contender::Rules(version, call) => format!("{} {}", version.name(), call.name()),
+            Contender::Limit(call) => format!("limit {}", call.name()),
             Contender::Peer(peer) => peer.name.to_string(),
         }
     }
@@ -82,7 +92,7 @@ impl Contender {
     /// The call of the rules in C that a ratio is to: the same call, and for a peer the scan.
     pub fn against(&self) -> Call {
         match self {
-            Contender::Rules(_, call) => *call,
+            Contender::Rules(_, call) | Contender::Limit(call) => *call,
             Contender::Peer(_) => Call::Scan,
         }
     }
@@ -90,6 +100,26 @@ impl Contender {
     /// The place of a call of the rules in the list of all contenders.
     pub fn place_of(version: Version, call: Call) -> usize {
         VERSIONS.len() * call as usize + version as usize
+    }
+
+    /// The place of a call of the limit.
+    pub fn place_of_limit(call: Call) -> usize {
+        VERSIONS.len() * CALLS.len() + (call == Call::Survey) as usize
+    }
+
+    /// The place of ACB.
+    pub fn place_of_acb() -> usize {
+        let before = PEERS.iter().take_while(|peer| peer.name != ACB).count();
+        VERSIONS.len() * CALLS.len() + LIMIT_CALLS.len() + before
+    }
+
+    /// Whether it is timed on an input's line begun at twelve places, too: the rules, the limit, and of the peers ACB, but for
+    /// the rows with many candidates, where a call of ACB takes seconds.
+    pub fn takes_turns(&self, input: &Input) -> bool {
+        match self {
+            Contender::Rules(..) | Contender::Limit(_) => input.is_begun_anywhere(),
+            Contender::Peer(peer) => input.is_begun_anywhere() && peer.name == ACB && input.k < MANY_CANDIDATES,
+        }
     }
 
     pub fn run(&self, input: &Input, words: &mut [u32]) -> Answer {
@@ -102,6 +132,8 @@ impl Contender {
                 Call::ScanClosed => (version.rules().scan_closed)(&input.ring, &input.line, input.k, words),
                 Call::SurveyClosed => (version.rules().survey_closed)(&input.ring, &input.line, input.k, words),
             },
+            Contender::Limit(Call::Survey) => limit::survey(&input.ring, &input.line, input.k, words),
+            Contender::Limit(_) => limit::scan(&input.ring, &input.line, input.k, words),
             Contender::Peer(peer) => {
                 let found = (peer.search)(&input.ring, &input.line, input.k, words);
                 Answer { found, ..Answer::default() }

@@ -7,6 +7,10 @@ pub const CELL: u32 = 7;
 pub const RING_NUMBER: u16 = 2;
 pub const MOST_LINE: usize = 65_536;
 const COPIES: usize = 10;
+/// The lines of the second mode, so that the branch predictor learns none of them.
+const TWELVE: usize = 12;
+/// From this allowance on a row here has many candidates.
+pub const MANY_CANDIDATES: usize = 15;
 /// As many silences as can be packed.
 const SILENCES: usize = 1000;
 
@@ -21,6 +25,8 @@ pub enum Kind {
     AllFound,
     /// For closed calls against open ones.
     Closed,
+    /// For the time of each part of a search.
+    Parts,
 }
 
 /// A part of the main rows, with a mean of its own.
@@ -34,6 +40,7 @@ pub enum Part {
     Boundaries,
 }
 
+#[derive(Clone)]
 pub struct Input {
     pub name: String,
     pub kind: Kind,
@@ -48,6 +55,18 @@ pub struct Input {
 impl Input {
     pub fn question<'a>(&'a self, book: &'a [u8]) -> Question<'a> {
         Question { cell: CELL, ring_number: RING_NUMBER, ring: &self.ring, line: &self.line, k: self.k, book }
+    }
+
+    /// Whether it is timed in the second mode, too.
+    pub fn is_begun_anywhere(&self) -> bool {
+        matches!(self.kind, Kind::Main(_) | Kind::AllFound)
+    }
+
+    /// The line begun at twelve places, as twelve inputs; the first is this one. Their books are still empty.
+    pub fn begun_at_twelve_places(&self) -> Vec<Input> {
+        let begun_at = |place: usize| [&self.line[place..], &self.line[..place]].concat();
+        let places = (0..TWELVE).map(|at| at * self.line.len() / TWELVE);
+        places.map(|place| Input { line: begun_at(place), book: Vec::new(), ..self.clone() }).collect()
     }
 
     /// Fills the book: every second finding, thinned to at most 1,000 of them; then places 65 or 66 apart, from 0 on,
@@ -73,7 +92,7 @@ fn field(start: u32, ceiling: u16) -> Vec<u8> {
     [&[0x22, 0, 12], &cell[..], &ring_number, &start.to_be_bytes(), &ceiling.to_be_bytes()].concat()
 }
 
-fn random_edges(numbers: &mut Numbers, length: usize, codes: usize) -> Vec<u8> {
+pub fn random_edges(numbers: &mut Numbers, length: usize, codes: usize) -> Vec<u8> {
     (0..length).map(|_| numbers.below(codes) as u8).collect()
 }
 
@@ -182,6 +201,6 @@ pub fn all() -> Vec<Input> {
     let mut rows = main_rows();
     rows.extend([12, 13, 14, 15, 16].map(|power| planted(Kind::GrowingLine, 26, 1 << power, 60, 2)));
     rows.extend([8, 16, 32, 64, 128, 256].map(|m| planted(Kind::GrowingRing, 26, MOST_LINE, m, 2)));
-    rows.push(constant("every start a finding", Kind::AllFound, 1, 0));
+    rows.push(constant("constant / 1 / 0", Kind::AllFound, 1, 0));
     rows
 }

@@ -55,7 +55,7 @@ fn built_with() -> String {
 pub fn compilers() -> [(&'static str, String); 3] {
     [
         ("outlines", built_with()),
-        ("the same rules in C", format!("{}, -O3", env!("BUILT_WITH_CLANG"))),
+        ("the same rules in C, the limit", format!("{}, -O3", env!("BUILT_WITH_CLANG"))),
         ("the same rules in Rust, the peers", format!("{}, opt-level 3", env!("BUILT_WITH_RUSTC"))),
     ]
 }

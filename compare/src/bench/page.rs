@@ -1,11 +1,10 @@
 //! The page of results: ratios first, then the times they come from.
-use super::closed;
-use super::contenders::{Call, Version, VERSIONS};
+use super::contenders::{Call, Contender, Version, VERSIONS};
 use super::inputs::{Kind, Part};
-use super::machine;
-use super::results::{geometric_mean, Results, Row, Second, BAR};
+use super::results::{geometric_mean, Results, Row, Second, BAR, MODES};
 use super::rows::{growth, main_row, ratios, times};
 use super::tables::{heads, short, table};
+use super::{bars, closed, machine, parts, turns};
 use std::fmt::Write;
 
 /// How the times were taken and how each peer reads its source: words that no run changes.
@@ -41,8 +40,13 @@ fn means(page: &mut String, results: &Results) {
     table(page, &head, lines);
 }
 
-/// The sliding survey stands among the peers, over the scan; here it is set against what it is a ceiling for.
-fn ceiling(page: &mut String, results: &Results) {
+/// The ceilings against what they are ceilings for. The sliding survey stands among the peers, over the scan.
+fn ceilings(page: &mut String, results: &Results) {
+    let [scan, survey] = [Call::Scan, Call::Survey].map(|call| {
+        let pair = [Contender::place_of(Version::Ours, call), Contender::place_of_limit(call)];
+        short(results.mean_over(pair, &MODES))
+    });
+    let _ = writeln!(page, "The library's scan takes {scan} times the limit's, its survey {survey}: geometric means over all rows, one line and twelve lines together.\n");
     for (at, contender) in results.contenders.iter().enumerate() {
         if contender.name() == "sliding survey" {
             let over_survey = |row: &Row| row.times[at] / row.time_of(Version::C, Call::Survey);
@@ -69,14 +73,14 @@ fn hiding(page: &mut String, results: &Results) {
 fn second_runs(page: &mut String, results: &Results) {
     let _ = writeln!(
         page,
-        "## Second runs\n\nA row whose scan took over {BAR} times the scan in C was timed once more; the second"
+        "## Second runs\n\nA row whose scan took over {BAR} times the scan in C was timed once more in that mode; the second"
     );
     page.push_str("run's times stand in the tables.\n\n");
     if results.seconds.is_empty() {
         page.push_str("No row did.\n\n");
         return;
     }
-    let head = heads(&["codes / m / k", "first", "second", "over the bar"], std::iter::empty());
+    let head = heads(&["codes / m / k", "mode", "first", "second", "over the bar"], std::iter::empty());
     let verdict = |ratio: f64| {
         if ratio > BAR {
             "confirmed"
@@ -84,19 +88,23 @@ fn second_runs(page: &mut String, results: &Results) {
             "withdrawn"
         }
     };
-    let line = |s: &Second| vec![s.name.clone(), short(s.first), short(s.second), verdict(s.second).to_string()];
+    let line = |s: &Second| {
+        let words = [s.mode.name().to_string(), short(s.first), short(s.second), verdict(s.second).to_string()];
+        heads(&[&s.name], words.into_iter())
+    };
     table(page, &head, results.seconds.iter().map(line));
 }
 
-/// The whole page. `loads` are the machine's loads before and after.
-pub fn page(results: &Results, loads: [&str; 2], picture: &str) -> String {
-    let mut page = String::from("# How fast it is\n\n");
+/// What a ratio is, and what was timed on what. `loads` are the machine's loads before and after.
+fn introduction(page: &mut String, loads: [&str; 2]) {
+    page.push_str("# How fast it is\n\n");
     page.push_str("A ratio is a time over that of *the same rules in C*: the same call in plain C (compare/c). Below 1 is faster. ");
     page.push_str("The rules in C and in Rust are built like the library but for two things: their fresh count takes one edge in each ");
     page.push_str(
         "pass, the library's four; their table of vectors is by code, the library's by word, then by code (trial 11). ",
     );
-    page.push_str("A peer is set against the scan in C.\n\n");
+    page.push_str("A peer is set against the scan in C. *The limit* is scan and survey with the same looks, as fast as we know to write them by ");
+    page.push_str("hand in C (compare/c/limit.h); it is the ceiling.\n\n");
     let _ = writeln!(
         page,
         "{}, on {}. Load of the machine {} before, {} after.\n",
@@ -106,12 +114,22 @@ pub fn page(results: &Results, loads: [&str; 2], picture: &str) -> String {
         loads[1]
     );
     let head = heads(&["", "built by"], std::iter::empty());
-    table(&mut page, &head, machine::compilers().into_iter().map(|(who, by)| vec![who.to_string(), by]));
-    page.push_str("## Geometric means of the ratios\n\n");
+    table(page, &head, machine::compilers().into_iter().map(|(who, by)| vec![who.to_string(), by]));
+}
+
+/// The whole page.
+pub fn page(results: &Results, loads: [&str; 2], picture: &str) -> String {
+    let mut page = String::new();
+    introduction(&mut page, loads);
+    page.push_str("## Geometric means of the ratios\n\nEach line searched again and again:\n\n");
     means(&mut page, results);
-    ceiling(&mut page, results);
+    ceilings(&mut page, results);
     let _ = writeln!(page, "![ratios to the same rules in C]({picture})\n");
+    bars::section(&mut page, results);
+    turns::means(&mut page, results);
+    parts::section(&mut page, &results.parts);
     ratios(&mut page, results);
+    turns::rows(&mut page, results);
     hiding(&mut page, results);
     closed::section(&mut page, &results.closed);
     second_runs(&mut page, results);

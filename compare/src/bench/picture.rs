@@ -1,5 +1,6 @@
-//! The picture of the ratios: a line for each contender, a dot for each row, a bar at the geometric mean. The rules and the
-//! peers have a panel each, since their ratios differ by powers of ten.
+//! The picture of the ratios: a line for each contender, a dot for each row, a bar at the geometric mean, all of
+//! one line again and again. The rules with their limit and the peers have a panel each, since their ratios differ by powers
+//! of ten.
 use super::contenders::Contender;
 use super::inputs::{Kind, Part};
 use super::results::{geometric_mean, Results};
@@ -31,7 +32,7 @@ const LEGEND: [(&str, &str); 4] = [
 ];
 
 /// Where a panel may have a line of its grid: finely about 1, then by tens.
-const FINE: [f64; 9] = [0.125, 0.25, 0.5, 0.75, 1.0, 1.3, 2.0, 4.0, 8.0];
+const FINE: [f64; 10] = [0.0625, 0.125, 0.25, 0.5, 0.75, 1.0, 1.3, 2.0, 4.0, 8.0];
 const COARSE: [f64; 9] = [0.001, 0.01, 0.1, 1.0, 10.0, 100.0, 1000.0, 10_000.0, 100_000.0];
 
 fn colour(part: Part) -> &'static str {
@@ -57,7 +58,7 @@ impl<'a> Panel<'a> {
         let ratios: Vec<f64> = lines.iter().flat_map(|&at| results.ratios(at, |_| true)).collect();
         let least = ratios.iter().copied().fold(1.0, f64::min);
         let most = ratios.iter().copied().fold(1.0, f64::max);
-        let ticks = if least > FINE[0] && most < FINE[8] { FINE } else { COARSE };
+        let ticks: &[f64] = if least > FINE[0] && most < FINE[9] { &FINE } else { &COARSE };
         let low = ticks.iter().rposition(|&tick| tick <= least).unwrap_or(0);
         let high = ticks.iter().position(|&tick| tick >= most).unwrap_or(ticks.len() - 1);
         let (low, high) = (low.min(ticks.len() - 2), high.max(low + 1));
@@ -116,7 +117,7 @@ impl<'a> Panel<'a> {
 
 fn legend(svg: &mut String) {
     let words =
-        "Time over that of the same rules in C: left of 1 is faster. A dot is an input, a bar the geometric mean.";
+        "Time over that of the same rules in C, one line again and again: left of 1 is faster. A dot is an input, a bar the geometric mean.";
     let _ = writeln!(svg, "<text x=\"12\" y=\"20\">{words}</text>");
     for (at, (class, name)) in LEGEND.iter().enumerate() {
         let x = LEFT + 110.0 * at as f64;
@@ -129,7 +130,7 @@ fn legend(svg: &mut String) {
 }
 
 pub fn picture(results: &Results) -> String {
-    let rules = Panel::new(results, TOP, |contender| matches!(contender, Contender::Rules(..)));
+    let rules = Panel::new(results, TOP, |contender| !matches!(contender, Contender::Peer(_)));
     let peers = Panel::new(results, rules.bottom() + FOOT, |contender| matches!(contender, Contender::Peer(_)));
     let height = peers.bottom() + 30.0;
     let mut svg = format!("<svg xmlns=\"http://www.w3.org/2000/svg\" viewBox=\"0 0 {WIDTH} {height}\" role=\"img\">\n");

@@ -2,9 +2,29 @@
 use super::closed::ClosedRow;
 use super::contenders::{Call, Contender, Version};
 use super::inputs::{Input, Kind, Part};
+use super::parts::PartsRow;
+use crate::peers::Answer;
 
 /// A scan that takes longer than this many times the scan in C misses the bar, and its row is timed once more.
-pub const BAR: f64 = 1.3;
+pub const BAR: f64 = 1.15;
+
+/// How the lines come: one line again and again, or twelve in turn.
+#[derive(Clone, Copy, PartialEq, Eq, Debug)]
+pub enum Mode {
+    One,
+    Twelve,
+}
+
+pub const MODES: [Mode; 2] = [Mode::One, Mode::Twelve];
+
+impl Mode {
+    pub fn name(self) -> &'static str {
+        match self {
+            Mode::One => "one line",
+            Mode::Twelve => "twelve lines",
+        }
+    }
+}
 
 /// One input's times, in nanoseconds of a call, in the order of the contenders.
 pub struct Row {
@@ -13,12 +33,23 @@ pub struct Row {
     pub edges: usize,
     pub found: usize,
     pub looks: usize,
+    /// On the line again and again.
     pub times: Vec<f64>,
+    /// On twelve lines in turn, of the contenders that take turns on this input. Empty if none does.
+    pub in_turn: Vec<Option<f64>>,
 }
 
 impl Row {
-    pub fn new(input: &Input, found: usize, looks: usize, times: Vec<f64>) -> Self {
-        Row { name: input.name.clone(), kind: input.kind, edges: input.line.len(), found, looks, times }
+    pub fn new(input: &Input, answer: Answer, times: Vec<f64>, in_turn: Vec<Option<f64>>) -> Self {
+        let (name, edges) = (input.name.clone(), input.line.len());
+        Row { name, kind: input.kind, edges, found: answer.found, looks: answer.looks, times, in_turn }
+    }
+
+    pub fn time(&self, at: usize, mode: Mode) -> Option<f64> {
+        match mode {
+            Mode::One => Some(self.times[at]),
+            Mode::Twelve => self.in_turn.get(at).copied().flatten(),
+        }
     }
 
     pub fn time_of(&self, version: Version, call: Call) -> f64 {
@@ -29,19 +60,31 @@ impl Row {
         self.times[at] / self.edges as f64
     }
 
+    /// One contender's time over another's, if both were timed in this mode.
+    pub fn over(&self, [at, base]: [usize; 2], mode: Mode) -> Option<f64> {
+        Some(self.time(at, mode)? / self.time(base, mode)?)
+    }
+
+    /// The same over both modes together, by their geometric mean, or over the one that there is.
+    pub fn over_both(&self, pair: [usize; 2]) -> f64 {
+        geometric_mean(&MODES.iter().filter_map(|&mode| self.over(pair, mode)).collect::<Vec<_>>())
+    }
+
     /// A contender's time over that of the same call in C, and a peer's over that of the scan in C.
     pub fn ratio(&self, at: usize, contender: &Contender) -> f64 {
         self.times[at] / self.time_of(Version::C, contender.against())
     }
 
-    pub fn scan_ratio(&self) -> f64 {
-        self.time_of(Version::Ours, Call::Scan) / self.time_of(Version::C, Call::Scan)
+    /// The library's scan over the scan in C.
+    pub fn scan_ratio(&self, mode: Mode) -> Option<f64> {
+        self.over([Version::Ours, Version::C].map(|version| Contender::place_of(version, Call::Scan)), mode)
     }
 }
 
 /// A row that missed the bar: its scan's ratio in the first run and in the second.
 pub struct Second {
     pub name: String,
+    pub mode: Mode,
     pub first: f64,
     pub second: f64,
 }
@@ -51,6 +94,7 @@ pub struct Results {
     pub rows: Vec<Row>,
     pub seconds: Vec<Second>,
     pub closed: Vec<ClosedRow>,
+    pub parts: Vec<PartsRow>,
     /// How many answers were compared before anything was timed.
     pub compared: usize,
 }
@@ -65,6 +109,14 @@ impl Results {
         let contender = &self.contenders[at];
         let main = |kind| matches!(kind, Kind::Main(part) if belongs(part));
         self.rows_of(main).map(|row| row.ratio(at, contender)).collect()
+    }
+
+    /// The geometric mean of one contender's times over another's, on the main rows that have both in both modes.
+    pub fn mean_over(&self, pair: [usize; 2], modes: &[Mode]) -> f64 {
+        let main = |kind| matches!(kind, Kind::Main(_));
+        let rows = self.rows_of(main).filter(|row| row.over(pair, Mode::Twelve).is_some());
+        let ratios: Vec<f64> = rows.flat_map(|row| modes.iter().filter_map(|&mode| row.over(pair, mode))).collect();
+        geometric_mean(&ratios)
     }
 
     /// The contenders that have a ratio: all but the rules in C, which the ratios are to.

@@ -30,8 +30,10 @@ fn values<'a>(
 /// Ratios to the same rules in C.
 pub fn ratios(page: &mut String, results: &Results) {
     let ratio = |row: &Row, at: usize| row.ratio(at, &results.contenders[at]);
-    page.push_str("## Ratios, row by row\n\nThe library and the rules in Rust, each over the same call in C:\n\n");
-    let rival = |contender: &Contender| matches!(contender, Contender::Rules(version, _) if *version != Version::C);
+    page.push_str(
+        "## Ratios, row by row\n\nThe library, the rules in Rust and the limit, each over the same call in C:\n\n",
+    );
+    let rival = |contender: &Contender| !is_peer(contender) && !matches!(contender, Contender::Rules(Version::C, _));
     values(page, results, results.rows_of(main_row), rival, ratio);
     page.push_str("Peers, over the scan in C:\n\n");
     values(page, results, results.rows_of(main_row), is_peer, ratio);
@@ -52,8 +54,8 @@ pub fn times(page: &mut String, results: &Results) {
 /// Cost against the length of the line and of the ring, in nanoseconds per line edge.
 pub fn growth(page: &mut String, results: &Results) {
     page.push_str("## How cost grows\n\nNanoseconds per line edge, 26 codes, k = 2. A longer line, m = 60:\n\n");
-    let scans = |contender: &Contender| matches!(contender, Contender::Rules(_, Call::Scan | Call::Survey));
-    let chosen = |contender: &Contender| scans(contender) || is_peer(contender);
+    let searches = |call: Call| matches!(call, Call::Scan | Call::Survey);
+    let chosen = |contender: &Contender| is_peer(contender) || searches(contender.against());
     let per_edge = |row: &Row, at: usize| row.per_edge(at);
     values(page, results, results.rows_of(|kind| kind == Kind::GrowingLine), chosen, per_edge);
     page.push_str("A longer ring, n = 65,536:\n\n");

@@ -13,23 +13,25 @@ const SAMPLE: Duration = Duration::from_micros(500);
 /// A contender that has taken this long on an input skips the remaining rounds.
 const ENOUGH: Duration = Duration::from_millis(150);
 
-/// One sample: the processor time of one call, in nanoseconds, and of all its calls.
-fn sample(contender: &Contender, input: &Input, words: &mut [u32]) -> (f64, Duration) {
+/// One sample: the processor time of one call, in nanoseconds, and of all its calls. The inputs are taken in turn.
+fn sample(contender: &Contender, inputs: &[Input], words: &mut [u32]) -> (f64, Duration) {
     let begun = Instant::now();
     let from = processor_time();
     let mut calls = 0;
     while calls == 0 || begun.elapsed() < SAMPLE {
-        black_box(contender.run(black_box(input), black_box(words)));
-        calls += 1;
+        for input in inputs {
+            black_box(contender.run(black_box(input), black_box(words)));
+        }
+        calls += inputs.len();
     }
     let taken = processor_time() - from;
     (taken.as_nanos() as f64 / calls as f64, taken)
 }
 
-/// For each contender its best time of a call, in nanoseconds. Before a sample is timed the contender runs as long untimed,
-/// unless one call takes longer than a sample: the processor learns the branches of a search, and one contender should not
-/// train it for the next. The words are not cleared between calls.
-pub fn time(contenders: &[Contender], input: &Input, words: &mut [u32]) -> Vec<f64> {
+/// For each contender its best time of a call, in nanoseconds: the mean over the inputs in its best round. Before a sample is
+/// timed the contender runs as long untimed, unless one pass over the inputs takes longer than a sample: the processor learns
+/// the branches of a search, and one contender should not train it for the next. The words are not cleared between calls.
+pub fn time(contenders: &[Contender], inputs: &[Input], words: &mut [u32]) -> Vec<f64> {
     let mut best = vec![f64::INFINITY; contenders.len()];
     let mut spent = vec![Duration::ZERO; contenders.len()];
     for round in 0..ROUNDS {
@@ -37,10 +39,10 @@ pub fn time(contenders: &[Contender], input: &Input, words: &mut [u32]) -> Vec<f
             if round >= ROUNDS_AT_LEAST && spent[at] > ENOUGH {
                 continue;
             }
-            if best[at] < SAMPLE.as_nanos() as f64 {
-                sample(contender, input, words);
+            if best[at] * (inputs.len() as f64) < SAMPLE.as_nanos() as f64 {
+                sample(contender, inputs, words);
             }
-            let (nanoseconds, taken) = sample(contender, input, words);
+            let (nanoseconds, taken) = sample(contender, inputs, words);
             best[at] = best[at].min(nanoseconds);
             spent[at] += taken;
         }

@@ -1,4 +1,5 @@
-//! Peers: what a user might pick instead of the library, and the library's own rules written again in C and in Rust.
+//! Peers: what a user might pick instead of the library, the library's own rules written again in C and in Rust, and the limit
+//! of what we can write by hand.
 //! All give the same findings: start, the lowest rotation that reaches the least distance, that distance, and how many
 //! rotations reach it. A window that holds a mark is no start.
 pub mod acb;
@@ -8,6 +9,7 @@ mod automaton;
 pub mod c_rules;
 mod filter;
 mod findings;
+pub mod limit;
 pub mod max_shift;
 pub mod naive;
 mod nearest;
