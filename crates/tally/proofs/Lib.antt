@@ -9,7 +9,7 @@ pub mod LeastSoFar
 pub mod LeastIsOne
 pub mod LowestLoop
 pub mod TiesLoop
--- The fresh count: what `double`, `count_some` and `count_edges` compute.
+-- The fresh count: what `double`, `count_some`, `count_part` and `count_edges` compute.
 pub mod DoubledLoop
 pub mod SomeCounted
 pub mod AfreshLoop

@@ -46,13 +46,13 @@ past-on window p next follows known asked =
     asked .is ∙ ap (λ (x : ℕ). pastAfter (getD window p 0) x next) known
     ∙ rw follows (past-next window 0 p p (sym (zero-add p)) ∙ ap (pastMark window 0) (sym (add-one p)))
 
-module _ (doubled window old new : List ℕ) {q past : ℕ} (can : CanCountOn doubled window old q past) where
+module _ (doubled window old new : List ℕ) {last q end past : ℕ} (can : CanCountOn doubled window old last q end past) where
   abbrev m : ℕ
   m = length window
 
   -- The edge at q is counted for every rotation.
   pub one-counted : {place looks past′ : ℕ} → place ≡ q → StoredFirst m (edgeCounted doubled old place (getD window q 0)) old new × (looks ≡ m)
-      → past′ ≡ pastMark window 0 (q + 1) → IsCountedOn doubled window q old new (record { edges = 1; looks = looks; past = past′ })
+      → past′ ≡ pastMark window 0 (q + 1) → IsCountedOn doubled window q end old new (record { edges = 1; looks = looks; past = past′ })
   unfolding count
   one-counted placed counted asked = record {
     some = omega arith;
@@ -63,9 +63,9 @@ module _ (doubled window old new : List ℕ) {q past : ℕ} (can : CanCountOn do
   }
 
   -- The edges at q, q + 1, q + 2 and q + 3 are counted for every rotation.
-  pub four-counted : {place looks past′ : ℕ} → place ≡ q → q + 3 < m
+  pub four-counted : {place looks past′ : ℕ} → place ≡ q → q + 3 < end
       → StoredFirst m (fourCounted doubled old place (getD window q 0) (getD window (q + 1) 0) (getD window (q + 2) 0) (getD window (q + 3) 0)) old new × (looks ≡ 4 * m)
-      → past′ ≡ pastMark window 0 (q + 4) → IsCountedOn doubled window q old new (record { edges = 4; looks = looks; past = past′ })
+      → past′ ≡ pastMark window 0 (q + 4) → IsCountedOn doubled window q end old new (record { edges = 4; looks = looks; past = past′ })
   four-counted placed fits counted asked = record {
     some = omega arith;
     within = omega arith;

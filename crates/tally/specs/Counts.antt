@@ -2,6 +2,7 @@
 -- the doubled ring, so no comparison takes a place mod m. Then the least count is found, the lowest rotation that has it, and how many have it.
 --
 --   mostCounts, lastCount      256: one count for each rotation of the longest ring; 65,535: the largest number that a count can hold
+--   lastPartCount              255: the largest number that a count over a part of a window can hold
 --   leastOf                    the least of the first m counts
 --   lowestFrom, lowestWith     the lowest rotation that has a given count
 --   countIs, tiesWith          whether a rotation has a given count; how many rotations have it
@@ -14,8 +15,8 @@
 --   findingWith                the finding at a start with a given least count
 --   IsComparison, IsDoubled, IsCounted, IsFindingAt   the contracts of `differing`, `double`, `count_afresh` and `finding_at`
 --   differsOver, edgeCounted, fourCounted   what one window edge adds to the count of a rotation; the count after one edge more, after four
---   IsLowestWith, IsTies, HasCounts, IsLeast, CanCountOn, IsCountedOn, IsCountedAfresh   preconditions and contracts of private functions
-use Prim.Native.Nat.{ℕ, zero, suc, _+_, _*_, _%_, _≤_, _<_, min}
+--   IsLowestWith, IsTies, HasCounts, IsLeast, CanCountOn, IsCountedOn, IsPartEnd, CanAddPart, IsCountedAfresh   preconditions and contracts of private functions
+use Prim.Native.Nat.{ℕ, zero, suc, _+_, _-_, _*_, _%_, _≤_, _<_, min}
 use mathlib.Core.Path.{_≡_}
 use mathlib.Core.Bool.{Bool, cond, _&&_}
 use mathlib.Core.List.{List}
@@ -39,6 +40,10 @@ mostCounts = mostRing
 -- The largest number that a count can hold: it has sixteen bits.
 abbrev pub lastCount : ℕ
 lastCount = 65535
+
+-- The largest number that a count over a part of a window can hold: it has eight bits.
+abbrev pub lastPartCount : ℕ
+lastPartCount = 255
 
 -- The least of the first m counts. (With m = 0 it is the first count.)
 unfoldable pub leastOf : ℕ → List ℕ → ℕ
@@ -177,23 +182,36 @@ pub record IsLeast (m : ℕ) (counts : List ℕ) (least : ℕ) : Type 0 where
   pub place-lt : place < m
   pub is : getD counts place 0 ≡ least
 
--- The precondition of `count_some`: a window can be counted and has an edge at q, each of its counts is at most 256, and `past` is the place just past the last
--- mark of its first q edges.
-pub record CanCountOn (doubled window counts : List ℕ) (q past : ℕ) : Type 0 where
+-- The precondition of `count_some` and `count_part`: a window can be counted and has an edge at q, before `end`; each of its counts can grow by the edges from q to
+-- `end` and is then at most `last`; and `past` is the place just past the last mark of its first q edges. For `count_part` `end` is the window's end.
+pub record CanCountOn (doubled window counts : List ℕ) (last q end past : ℕ) : Type 0 where
   pub can : CanCount (length window) (length counts) (length doubled)
-  pub has-edge : q < length window
-  pub each-le : (r : ℕ) → r < length window → getD counts r 0 ≤ mostCounts
+  pub has-edge : q < end
+  pub end-le : end ≤ length window
+  pub each-le : (r : ℕ) → r < length window → getD counts r 0 + (end - q) ≤ last
   pub past-is : past ≡ pastMark window 0 q
 
--- The contract of `count_some`: it counts the next `edges` edges of the window from place q on, at least one. The count of each rotation grows by the number of
--- these places where it differs from the window. Each edge costs m looks. `past` is the place just past the last mark up to there. `old` and `new` are the counts
--- at entry and exit, z is returned.
-pub record IsCountedOn (doubled window : List ℕ) (q : ℕ) (old new : List ℕ) (z : EdgesCounted) : Type 0 where
+-- The contract of `count_some` and `count_part`: the next `edges` edges of the window are counted, from place q on, at least one, and none from `end` on. The count
+-- of each rotation grows by the number of these places where it differs from the window. Each edge costs m looks. `past` is the place just past the last mark up to
+-- there. `old` and `new` are the counts at entry and exit, z is returned.
+pub record IsCountedOn (doubled window : List ℕ) (q end : ℕ) (old new : List ℕ) (z : EdgesCounted) : Type 0 where
   pub some : 0 < z .edges
-  pub within : q + z .edges ≤ length window
+  pub within : q + z .edges ≤ end
   pub stored : StoredFirst (length window) (λ r. getD old r 0 + count (differsThere doubled window r) q (z .edges)) old new
   pub looks-are : z .looks ≡ z .edges * length window
   pub past-is : z .past ≡ pastMark window 0 (q + z .edges)
+
+-- The contract of `part_end`: the part of a window of m edges that begins at `from` ends at `end`. It has an edge, and at most as many as its counts can hold.
+pub record IsPartEnd (from m end : ℕ) : Type 0 where
+  pub some : from < end
+  pub end-le : end ≤ m
+  pub fits : end ≤ from + lastPartCount
+
+-- The precondition of `add_part`: both lists have a count for each of m rotations, and sixteen bits hold each sum.
+pub record CanAddPart (m : ℕ) (counts part : List ℕ) : Type 0 where
+  pub has-counts : HasCounts m (length counts)
+  pub part-room : m ≤ length part
+  pub each-le : (r : ℕ) → r < m → getD counts r 0 + getD part r 0 ≤ lastCount
 
 -- The contract of `count_edges`: a window that can be counted is counted afresh, at m·m looks. `old` and `new` are the counts at entry and exit, z is returned.
 pub record IsCountedAfresh (doubled window old new : List ℕ) (z : Fresh) : Type 0 where

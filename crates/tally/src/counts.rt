@@ -25,7 +25,7 @@ pub struct Least {
 }
 
 // One comparison: 1 if the two edges differ, else 0. It has the edges' own width, so that the compiler compares and adds
-// sixteen at once; a caller widens it, or the sum of four, before it adds it to a count.
+// sixteen at once; the sums over a part of a window are widened before they are added to the counts.
 pub fn differing(a: u8, b: u8) -> u8
     ensures { λ r. ⌜ IsComparison a b r ⌝ }
 {

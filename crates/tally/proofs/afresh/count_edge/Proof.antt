@@ -1,5 +1,5 @@
--- `tally::afresh::count_edge` meets its contract: a turn stores rotation r's count with the comparison added (`StoreLoop` of crates/lists). A count is at most 256
--- and a comparison adds at most 1; sixteen bits hold 257. The measure is m - r.
+-- `tally::afresh::count_edge` meets its contract: a turn stores rotation r's count with the comparison added (`StoreLoop` of crates/lists). A comparison
+-- adds at most 1, and eight bits hold that by the precondition. The measure is m - r.
 use Prim.Native.Nat.{_-_, _≤_}
 use mathlib.Core.Path.{_≡_, refl}
 use native.Mathlib.Omega.{arith}
@@ -12,19 +12,16 @@ use Rattle.tally.proofs.afresh.count_edge.Statement.{statement}
 use Rattle.tally.proofs.afresh.count_edge.Tie as tie
 
 abbrev Inv-loop : tie.InvT-loop
-Inv-loop counts₀ doubled m edge first looks₀ r₀ counts looks r = (r ≤ m) × (looks ≡ r) × StoredFirst r (edgeCounted doubled counts₀ first edge) counts₀ counts
+Inv-loop part₀ doubled m edge first looks₀ r₀ part looks r = (r ≤ m) × (looks ≡ r) × StoredFirst r (edgeCounted doubled part₀ first edge) part₀ part
 
 abbrev μ-loop : tie.MeasureT-loop
-μ-loop counts₀ doubled m edge first looks₀ r₀ counts looks r = m - r
+μ-loop part₀ doubled m edge first looks₀ r₀ part looks r = m - r
 
 loop-holds : tie.Need-loop-holds Inv-loop μ-loop
 loop-holds c = (omega arith, refl, stored-start)
 
-mul-counts : tie.Need-mul-counts Inv-loop μ-loop
-mul-counts c = search needs
-
-element-copy-out-counts : tie.Need-element-copy-out-counts Inv-loop μ-loop
-element-copy-out-counts c = search needs
+element-copy-out-part : tie.Need-element-copy-out-part Inv-loop μ-loop
+element-copy-out-part c = search needs
 
 add-differing : tie.Need-add-differing Inv-loop μ-loop
 add-differing c = search needs
@@ -35,20 +32,14 @@ shared-slice-read-differing c = search needs
 differing-requires : tie.Need-differing-requires Inv-loop μ-loop
 differing-requires c κs = search needs
 
-cast-counts : tie.Need-cast-counts Inv-loop μ-loop
-cast-counts c = omega (arith, comparison-le (c .differing .ensures))
-
-add-counts : tie.Need-add-counts Inv-loop μ-loop
-add-counts c =
+add-part : tie.Need-add-part Inv-loop μ-loop
+add-part c =
     let turn = c .before .before .before in
     let pre = turn .before .before .before .pre in
     omega (arith, turn .before .loop .inv .2 .rest (turn .before .loop .r) (omega arith), pre .2 _ (turn .loop-test .taken), comparison-le (c .differing .ensures))
 
-mul-counts-2 : tie.Need-mul-counts-2 Inv-loop μ-loop
-mul-counts-2 c = search needs
-
-element-write-counts : tie.Need-element-write-counts Inv-loop μ-loop
-element-write-counts c = search needs
+element-write-part : tie.Need-element-write-part Inv-loop μ-loop
+element-write-part c = search needs
 
 add-looks : tie.Need-add-looks Inv-loop μ-loop
 add-looks c = search needs
@@ -75,15 +66,12 @@ count-edge-spec =
     Inv-loop
     μ-loop
     loop-holds
-    mul-counts
-    element-copy-out-counts
+    element-copy-out-part
     add-differing
     shared-slice-read-differing
     differing-requires
-    cast-counts
-    add-counts
-    mul-counts-2
-    element-write-counts
+    add-part
+    element-write-part
     add-looks
     add-r
     loop-less

@@ -1,5 +1,5 @@
--- `tally::afresh::count_four` meets its contract: a turn stores rotation r's count with four comparisons added (`StoreLoop` of crates/lists). Each is at most 1, so
--- eight bits hold their sum, and sixteen bits hold a count of at most 256 with 4 added. The measure is m - r.
+-- `tally::afresh::count_four` meets its contract: a turn stores rotation r's count with four comparisons added (`StoreLoop` of crates/lists). Each is at most 1, and
+-- eight bits hold a count with 4 added, by the precondition. The measure is m - r.
 use Prim.Native.Nat.{_+_, _*_, _-_, _≤_}
 use mathlib.Core.Path.{_≡_}
 use native.Mathlib.Omega.{arith}
@@ -12,11 +12,11 @@ use Rattle.tally.proofs.afresh.count_four.Statement.{statement}
 use Rattle.tally.proofs.afresh.count_four.Tie as tie
 
 abbrev Inv-loop : tie.InvT-loop
-Inv-loop counts₀ doubled m a b c d first looks₀ r₀ counts looks r =
-    (r ≤ m) × (looks ≡ 4 * r) × StoredFirst r (fourCounted doubled counts₀ first a b c d) counts₀ counts
+Inv-loop part₀ doubled m a b c d first looks₀ r₀ part looks r =
+    (r ≤ m) × (looks ≡ 4 * r) × StoredFirst r (fourCounted doubled part₀ first a b c d) part₀ part
 
 abbrev μ-loop : tie.MeasureT-loop
-μ-loop counts₀ doubled m a b c d first looks₀ r₀ counts looks r = m - r
+μ-loop part₀ doubled m a b c d first looks₀ r₀ part looks r = m - r
 
 loop-holds : tie.Need-loop-holds Inv-loop μ-loop
 loop-holds c = (omega arith, omega arith, stored-start)
@@ -78,14 +78,11 @@ differing-requires-4 c κs = search needs
 add-looks-4 : tie.Need-add-looks-4 Inv-loop μ-loop
 add-looks-4 c = search needs
 
-mul-counts : tie.Need-mul-counts Inv-loop μ-loop
-mul-counts c = search needs
-
-element-copy-out-counts : tie.Need-element-copy-out-counts Inv-loop μ-loop
-element-copy-out-counts c = search needs
+element-copy-out-part : tie.Need-element-copy-out-part Inv-loop μ-loop
+element-copy-out-part c = search needs
 
 -- The sum of the four comparisons is at most 4.
-four-le : (c : tie.After-counts Inv-loop μ-loop) →
+four-le : (c : tie.After-part Inv-loop μ-loop) →
     let fourth = c .before in
     let third = fourth .before .before in
     let second = third .before .before in
@@ -102,29 +99,23 @@ four-le c =
       comparison-le (fourth .differing4 .ensures),
     )
 
-add-counts : tie.Need-add-counts Inv-loop μ-loop
-add-counts c = omega (arith, four-le c)
+add-part : tie.Need-add-part Inv-loop μ-loop
+add-part c = omega (arith, four-le c)
 
-add-counts-2 : tie.Need-add-counts-2 Inv-loop μ-loop
-add-counts-2 c = omega (arith, four-le c)
+add-part-2 : tie.Need-add-part-2 Inv-loop μ-loop
+add-part-2 c = omega (arith, four-le c)
 
-add-counts-3 : tie.Need-add-counts-3 Inv-loop μ-loop
-add-counts-3 c = omega (arith, four-le c)
+add-part-3 : tie.Need-add-part-3 Inv-loop μ-loop
+add-part-3 c = omega (arith, four-le c)
 
-cast-counts : tie.Need-cast-counts Inv-loop μ-loop
-cast-counts c = omega (arith, four-le c)
-
-add-counts-4 : tie.Need-add-counts-4 Inv-loop μ-loop
-add-counts-4 c =
+add-part-4 : tie.Need-add-part-4 Inv-loop μ-loop
+add-part-4 c =
     let turn = c .before .before .before .before .before .before .before .before .before in
     let pre = turn .before .before .before .pre in
     omega (arith, turn .before .loop .inv .2 .rest (turn .before .loop .r) (omega arith), pre .2 _ (turn .loop-test .taken), four-le c)
 
-mul-counts-2 : tie.Need-mul-counts-2 Inv-loop μ-loop
-mul-counts-2 c = search needs
-
-element-write-counts : tie.Need-element-write-counts Inv-loop μ-loop
-element-write-counts c = search needs
+element-write-part : tie.Need-element-write-part Inv-loop μ-loop
+element-write-part c = search needs
 
 add-r : tie.Need-add-r Inv-loop μ-loop
 add-r c = search needs
@@ -182,15 +173,12 @@ count-four-spec =
     shared-slice-read-differing-4
     differing-requires-4
     add-looks-4
-    mul-counts
-    element-copy-out-counts
-    add-counts
-    add-counts-2
-    add-counts-3
-    cast-counts
-    add-counts-4
-    mul-counts-2
-    element-write-counts
+    element-copy-out-part
+    add-part
+    add-part-2
+    add-part-3
+    add-part-4
+    element-write-part
     add-r
     loop-less
     loop-again

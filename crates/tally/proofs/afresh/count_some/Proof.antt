@@ -17,14 +17,14 @@ module _ (c : tie.After-past-mark) where
 
   -- Rotation 0 has the ring's edge at q over the window's edge at q.
   place-is : c .before .before .to-ring .result .0 ≡ start .args .q
-  place-is = place-under-is _ _ _ _ _ (sym (zero-add _)) (start .pre .has-edge) (c .before .before .to-ring .ensures)
+  place-is = place-under-is _ _ _ _ _ (sym (zero-add _)) (omega (arith, start .pre .has-edge, start .pre .end-le)) (c .before .before .to-ring .ensures)
 
   -- The place just past the last mark, after the edge at q.
   past-first : c .past-mark .result ≡ pastMark (start .args .window .now) 0 (start .args .q + 1)
   past-first = past-on _ _ _ (omega arith) (start .pre .past-is) (c .past-mark .ensures)
 
 -- Four edges are left.
-four-left : (c : tie.Else1) → start (c .before) .args .q + 3 < length (start (c .before) .args .window .now)
+four-left : (c : tie.Else1) → start (c .before) .args .q + 3 < start (c .before) .args .end
 four-left c = omega (arith, c .if1 .left)
 
 to-ring-requires : tie.Need-to-ring-requires
@@ -46,7 +46,7 @@ count-edge-requires : tie.Need-count-edge-requires
 count-edge-requires c κs =
     let asked = c .before .before in
     let pre = start asked .pre in
-    (pre .can, omega (arith, place-is asked, pre .has-edge), pre .each-le)
+    (pre .can, omega (arith, place-is asked, pre .has-edge, pre .end-le), λ r l. omega (arith, pre .has-edge, pre .each-le r l))
 
 returns : tie.Need-returns
 returns c =
@@ -93,7 +93,7 @@ count-four-requires : tie.Need-count-four-requires
 count-four-requires c κs =
     let left = c .before .before .before .before .before .before .before in
     let pre = start (left .before) .pre in
-    (pre .can, omega (arith, place-is (left .before), four-left left), pre .each-le)
+    (pre .can, omega (arith, place-is (left .before), four-left left, pre .end-le), λ r l. omega (arith, four-left left, pre .each-le r l))
 
 returns-2 : tie.Need-returns-2
 returns-2 c =
