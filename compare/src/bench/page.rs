@@ -99,10 +99,9 @@ fn second_runs(page: &mut String, results: &Results) {
 fn introduction(page: &mut String, loads: [&str; 2]) {
     page.push_str("# How fast it is\n\n");
     page.push_str("A ratio is a time over that of *the same rules in C*: the same call in plain C (compare/c). Below 1 is faster. ");
-    page.push_str("The rules in C and in Rust are built like the library but for two things: their fresh count takes one edge in each ");
-    page.push_str(
-        "pass, the library's four; their table of vectors is by code, the library's by word, then by code (trial 11). ",
-    );
+    page.push_str("The rules in C and in Rust are built like the library but for three things: their fresh count takes one edge in each pass and ");
+    page.push_str("counts in sixteen bits, the library's takes four and counts in eight; their table of vectors is by code, the library's by word, ");
+    page.push_str("then by code; they mask the bit that goes round, the library does not (trials 11 and 13). ");
     page.push_str("A peer is set against the scan in C. *The limit* is scan and survey with the same looks, as fast as we know to write them by ");
     page.push_str("hand in C (compare/c/limit.h); it is the ceiling.\n\n");
     let _ = writeln!(
