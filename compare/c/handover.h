@@ -22,8 +22,8 @@ STRAIGHT lanes places(void)
     return (lanes){0, 1, 2, 3, 4, 5, 6, 7, 8, 9, 10, 11, 12, 13, 14, 15};
 }
 
-// The first slot from here on whose count is the least; `to` or a later one if none before `to` has it. Vectors are loaded as
-// they were stored: others would wait for the store.
+// The first slot from here on whose count is the least; `to` or a later one if none before `to` has it. Loads
+// begin where stores began: a load across two stores would wait for both.
 static size_t first_least(const struct padded *tally, size_t from, size_t to, size_t least)
 {
     lanes counted = (lanes)(places() >= all((uint8_t)(from % LANES)));

@@ -1,4 +1,4 @@
-// Sixteen bytes at a time by the compiler's vector types, which it maps to SSE2, NEON or what else the processor has.
+// Sixteen bytes at a time by the compiler's vector types, which it maps to SSE2 on x86-64 and to NEON on AArch64.
 #ifndef LANES_H
 #define LANES_H
 

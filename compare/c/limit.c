@@ -1,4 +1,4 @@
-// The parts of the limit put together: what limit.h says.
+// `limit_scan` and `limit_survey` of limit.h.
 #include "limit.h"
 
 #include "handover.h"

@@ -1,6 +1,7 @@
-// The same looks as fast as we know to write them by hand: the ceiling for scan and survey of open lines in docs/BENCH.md.
-// Counts and edges lie in the compiler's vectors of 16 bytes, with lanes to spare; looks are added by the edge, the step and
-// the fresh count. Answers, looks and words are those of rules.h.
+// The same looks as fast as we know to write them by hand: what scan and survey of open lines are set against in
+// docs/BENCH.md. Counts and edges lie in the compiler's vectors of 16 bytes, with lanes to spare. Looks are computed, not
+// counted: the edges read of a window, m * m for a fresh count, 2 * m for a step. Answers, looks and words are those of
+// rules.h.
 #ifndef LIMIT_H
 #define LIMIT_H
 

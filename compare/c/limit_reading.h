@@ -31,8 +31,8 @@ struct swept {
     size_t looks;
 };
 
-// Whether a branch at each break would not be learnt: the ring is of one word and has a few codes, but more than one, and a
-// window is not over at the second break already.
+// Whether to read without a branch at a break: the ring is of one word, has 2 to 15 codes, and k is 2 or more or m at most 32.
+// A branch predictor would not learn there where a stretch breaks.
 static bool is_unlearnt(const struct occurrences *table, size_t k)
 {
     size_t codes = 0;

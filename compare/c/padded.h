@@ -97,7 +97,7 @@ STRAIGHT size_t walk_slots(struct padded *tally, struct walk *walk, bool stops, 
 {
     lanes count[MOST_VECTORS];
     lanes least;
-    struct walk at = *walk; // copies: a byte that is loaded might otherwise be a part of them
+    struct walk at = *walk; // a local copy, because byte loads could alias the struct
     size_t m = tally->m;
     size_t turn = tally->turn;
     for (size_t v = 0; v < vectors; v++)

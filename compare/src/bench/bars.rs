@@ -80,7 +80,7 @@ pub fn section(page: &mut String, results: &Results) {
     let count = count_above(rows(results).filter(|row| !may_be_above(row)), over_c, BAR);
     let _ = writeln!(
         page,
-        "No row but the constant line and the ring of one edge (constant / 1 / 0) may take more than {BAR} times the scan in C. Others that do in both modes together: {count}, {}. All rows above {BAR} in either mode:\n",
+        "No row but the constant line and the ring of one edge (constant / 1 / 0) may take more than {BAR} times the scan in C. Other rows above it, both modes together: {count} ({}). All rows above {BAR} in either mode:\n",
         verdict(count == 0)
     );
     rows_above(page, results, over_c, BAR);

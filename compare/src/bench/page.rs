@@ -40,7 +40,7 @@ fn means(page: &mut String, results: &Results) {
     table(page, &head, lines);
 }
 
-/// The ceilings against what they are ceilings for. The sliding survey stands among the peers, over the scan.
+/// The library over the limit, and the sliding survey, which stands among the peers over the scan, over the survey in C.
 fn ceilings(page: &mut String, results: &Results) {
     let [scan, survey] = [Call::Scan, Call::Survey].map(|call| {
         let pair = [Contender::place_of(Version::Ours, call), Contender::place_of_limit(call)];
@@ -103,7 +103,7 @@ fn introduction(page: &mut String, loads: [&str; 2]) {
     page.push_str("counts in sixteen bits, the library's takes four and counts in eight; their table of vectors is by code, the library's by word, ");
     page.push_str("then by code; they mask the bit that goes round, the library does not (trials 11 and 13). ");
     page.push_str("A peer is set against the scan in C. *The limit* is scan and survey with the same looks, as fast as we know to write them by ");
-    page.push_str("hand in C (compare/c/limit.h); it is the ceiling.\n\n");
+    page.push_str("hand in C (compare/c/limit.h). It shows what room the rules leave; it is no strict bound: on a few rows the library's scan is faster.\n\n");
     let _ = writeln!(
         page,
         "{}, on {}. Load of the machine {} before, {} after.\n",

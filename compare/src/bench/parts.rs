@@ -187,7 +187,7 @@ impl PartsRow {
 const HOW: &str = "Nanoseconds of each part, 26 codes. Each comes from two lines that differ in that part alone:
 
 - *break*, one edge read that is a break: a line of a code that the ring lacks, k = m / 2 against k = 0, with as many windows.
-- *fit*, one edge read that fits: copies of the ring with a foreign first edge, which is read last, and a mark behind each; against a line of the foreign code with as many windows, k = 0.
+- *fit*, one edge read that fits: copies of the ring with a foreign first edge, which is read last, and a mark behind each; against a line of the foreign code with as many windows, k = 0 (every second window ends at a mark in the one, at a break in the other).
 - *fresh count*, m·m comparisons: pieces of two half rings, candidates at k = 1 but no findings, against the same with a foreign first edge.
 - *step*, 2·m comparisons: the survey of a line without findings, 65,536 edges against 32,768.
 - *hand-over* of a finding (the survey stops, finds rotation and ties, writes four words and goes on): the survey of the ring over and over, where each start is a finding, against the line without findings.

@@ -65,7 +65,7 @@ pub fn means(page: &mut String, results: &Results) {
 
 /// The second mode row by row: some contenders over C, and the library over the limit.
 pub fn rows(page: &mut String, results: &Results) {
-    page.push_str("## Twelve lines in turn, row by row\n\nRatios in the second mode, and the nanoseconds per line edge of the scan in C that they are to:\n\n");
+    page.push_str("## Twelve lines in turn, row by row\n\nRatios in the second mode, over the same call in C (ACB over the scan) or over the limit. The last column has the scan in C, in nanoseconds per line edge:\n\n");
     let rules = |version, call| Contender::place_of(version, call);
     let (scan, survey) = (rules(Version::C, Call::Scan), rules(Version::C, Call::Survey));
     let (our_scan, our_survey) = (rules(Version::Ours, Call::Scan), rules(Version::Ours, Call::Survey));

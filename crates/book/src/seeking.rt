@@ -33,7 +33,7 @@ pub fn seek(book: &[u8], from: usize, address: Address) -> Sought
     }
 }
 
-// Seeks the next of rising addresses; `held` is what was returned for the one before. If it is not below the address it
+// Seeks the next of rising addresses; `held` is what was returned for the one before, or at first the book's first field. If it is not below the address it
 // is kept, else the address is sought from just past it. If `held` is `Nothing`, so is the result.
 pub fn seek_on(book: &[u8], held: Sought, address: Address) -> Sought
     ensures { λ r. ⌜ IsSoughtOn (now (book .entry)) held address r ⌝ }

@@ -30,7 +30,8 @@ pub struct LineCounts {
 }
 
 // Goes from candidate to candidate while a window fits in the line. At first the book's first field is held, from which
-// `ask` goes on. (`seek` would do as well, but as its second caller this loop makes the compiler keep `seek` apart.)
+// `ask` goes on. (`seek` for start 0 would do as well; but then `seek` has two callers, and the compiler does not inline
+// it.)
 fn scan_windows<'a>(
     cell: u32,
     ring_number: u16,

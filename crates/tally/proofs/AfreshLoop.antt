@@ -1,4 +1,4 @@
--- The two loops of the fresh count. A turn counts some edges more, for every rotation (`IsCountedOn`): in `count_part` up to four, in `count_edges` a part. Each loop
+-- The two loops of the fresh count. A turn counts some edges more, for every rotation (`IsCountedOn`): in `count_part` one or four, in `count_edges` a part. Each loop
 -- begins with zeros, at a place `from`. When the edges from there to q are counted, the count of rotation r is the number of these places where it differs from the
 -- window. So a count is at most q - from, and eight bits hold those of a part. The looks are (q - from)·m. The place just past the last mark is that of the first q edges.
 use Prim.Native.Nat.{ℕ, _+_, _-_, _*_, _≤_, _<_}
@@ -24,7 +24,7 @@ pub record NoneCounted (doubled window zeros : List ℕ) (from end : ℕ) : Type
   pub end-le : end ≤ length window
   pub each : (r : ℕ) → r < length window → getD zeros r 0 ≡ 0
 
--- The invariant when the edges from `from` to q are counted, up to `end`: each of the m counts is that of these places, (q - from)·m looks are taken, and `past` is the
+-- The invariant of a loop over the edges from `from` to `end`, when those before q are counted: each of the m counts is that of these places, (q - from)·m looks are taken, and `past` is the
 -- place just past the last mark before q.
 pub record CountingAfresh (doubled window zeros : List ℕ) (from end : ℕ) (counts : List ℕ) (looks past q : ℕ) : Type 0 where
   pub from-le : from ≤ q

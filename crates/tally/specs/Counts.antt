@@ -182,8 +182,9 @@ pub record IsLeast (m : ℕ) (counts : List ℕ) (least : ℕ) : Type 0 where
   pub place-lt : place < m
   pub is : getD counts place 0 ≡ least
 
--- The precondition of `count_some` and `count_part`: a window can be counted and has an edge at q, before `end`; each of its counts can grow by the edges from q to
--- `end` and is then at most `last`; and `past` is the place just past the last mark of its first q edges. For `count_part` `end` is the window's end.
+-- The precondition of `count_some` and `count_part`: a window can be counted and has an edge at q, before `end`; each of its counts plus the number of edges from q to
+-- `end` is at most `last`, the largest number that a count can hold (255 in `count_some`, 65,535 in `count_part`); and `past` is the place just past the last mark of
+-- its first q edges. For `count_part` `end` is the window's end.
 pub record CanCountOn (doubled window counts : List ℕ) (last q end past : ℕ) : Type 0 where
   pub can : CanCount (length window) (length counts) (length doubled)
   pub has-edge : q < end

@@ -1,5 +1,5 @@
 -- If a vector of m bits is kept in the fewest words that hold them, growing it word by word (`grownWords`) is growing it (`grown`). Every word but the last is
--- shifted with its carry. Into the last one word 0 comes, with its bit 0 at bit m − 1; what comes to stand above bit m − 1 is gone after the AND, since an
+-- shifted with its carry. Word 0 comes into the last word, with its bit 0 at bit m − 1; what comes to stand above bit m − 1 is gone after the AND, since an
 -- occurrence vector has no bit there (`and-first-only`). The words behind are 0 before and after.
 use mathlib.Core.Path.{_≡_, refl, sym, _∙_}
 use mathlib.Core.List.{List}

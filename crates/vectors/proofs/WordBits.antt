@@ -19,7 +19,7 @@ unfolding bit
 bit-lt x j = mod-lt (x / 2 ^ j) (omega arith)
 
 -- The lowest bit is the word's remainder by 2.
-pub bit-first : (x : ℕ) → bit x 0 ≡ x % 2
+bit-first : (x : ℕ) → bit x 0 ≡ x % 2
 unfolding bit
 bit-first x = rw (div-one x) refl
 

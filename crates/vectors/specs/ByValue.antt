@@ -1,6 +1,6 @@
 -- What the functions of this crate return. They take and return vectors by value, four machine words each: room for 256 bits, as many as the
--- longest ring has edges ("Ring: m edges, 1 to 256"). Every input has a result. For a vector of m bits in the fewest words that hold them, the
--- results mean what `Bits` and `Holding` say; proofs/HeldVectors has the laws.
+-- longest ring has edges ("Ring: m edges, 1 to 256"). Every input has a result. For a vector of m bits in the fewest words that hold them, and an
+-- occurrence vector of m bits, the results mean what `Bits` and `Holding` say; proofs/HeldVectors has the laws.
 --     vectorWords, vectorBits     a vector's words and bits            HeldVector     a vector of m bits held by value
 --     lastBitPlace, carryInto, grownWord, grownWords     the held vector grown by one edge, word by word
 --     Occurrences     the occurrence vectors of a ring's edge codes, in one table
@@ -35,9 +35,9 @@ pub record HeldVector (m : ℕ) (ws : List ℕ) : Type 0 where
 abbrev pub lastBitPlace : ℕ → ℕ
 lastBitPlace m = (m % wordBits + (wordBits - 1)) % wordBits
 
--- What comes into word w when the first `count` words are shifted down by one: the next word's lowest bit, at the top; into the last word, what was
--- bit 0, at the place of bit m − 1. The other bits of word 0 may come to stand above that place; in a vector of m bits no bit is there, so the AND
--- with an occurrence vector removes them.
+-- What comes into word w when the first `count` words are shifted down by one: the next word's lowest bit, at the top; into the last word, word 0
+-- shifted up whole, so that its bit 0 comes to the place of bit m − 1. Its other bits come to stand above that place. An occurrence vector of m bits
+-- has no bit there, so the AND in `grownWord` removes them, if `count` is the fewest words for m bits.
 unfoldable pub carryInto : ℕ → ℕ → List ℕ → ℕ → ℕ
 carryInto m count held w =
     let next : ℕ = getD held (w + 1) 0 * 2 ^ (wordBits - 1) % 2 ^ wordBits in

@@ -127,8 +127,8 @@ bit-zero = 1 ∷ 0 ∷ 0 ∷ 0 ∷ []
 abbrev every-bit : List ℕ
 every-bit = 0xffff_ffff_ffff_ffff ∷ 0xffff_ffff_ffff_ffff ∷ 0xffff_ffff_ffff_ffff ∷ 0xffff_ffff_ffff_ffff ∷ []
 
--- Five bits with bits 0 and 1 set, grown as the code does it. By an occurrence vector of five bits they become bits 4 and 0. By one with bits from 5 on, which no
--- ring has, bit 5 is set too.
+-- Five bits with bits 0 and 1 set, grown as the code does it. By an occurrence vector of five bits they become bits 4 and 0. By one that also has bits from 5
+-- on, as no ring of five edges gives, bit 5 is set too.
 pub bits-past-m-right : grownWords 5 1 (0x1f ∷ 0 ∷ 0 ∷ 0 ∷ []) (3 ∷ 0 ∷ 0 ∷ 0 ∷ []) ∷ grownWords 5 1 every-bit (3 ∷ 0 ∷ 0 ∷ 0 ∷ []) ∷ []
     ≡ (0x11 ∷ 0 ∷ 0 ∷ 0 ∷ []) ∷ (0x31 ∷ 0 ∷ 0 ∷ 0 ∷ []) ∷ []
 unfolding grownWords grownWord carryInto listOf

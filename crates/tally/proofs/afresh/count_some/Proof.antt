@@ -5,7 +5,6 @@ use mathlib.Core.Path.{_≡_, sym}
 use native.Mathlib.Nat.{zero-add}
 use native.Mathlib.Omega.{arith}
 use borrow.Author.Needs.{needs}
-use lib.ListN.{length}
 use Rattle.tally.specs.Marks.{pastMark}
 use Rattle.tally.proofs.SomeCounted.{place-under-is, past-on, one-counted, four-counted}
 use Rattle.tally.proofs.afresh.count_some.Statement.{statement}
