@@ -12,6 +12,7 @@ use sweep::LastVerified;
 use sweep::Sweep;
 use sweep::Swept;
 use sweep::sweep_on;
+use tally::DOUBLED;
 use tally::MOST_COUNTS;
 use tally::double;
 use vectors::TABLE_WORDS;
@@ -99,7 +100,8 @@ pub fn scan_line<'a>(
 {
     let mut table = [0u64; TABLE_WORDS];
     occurrences(ring, &mut table);
-    let doubled = double(ring);
+    let mut doubled = [0u8; DOUBLED];
+    double(ring, &mut doubled);
     let mut counts = [0u16; MOST_COUNTS];
     scan_windows(
         cell,

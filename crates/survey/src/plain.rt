@@ -7,6 +7,7 @@ use findings::admit;
 use findings::put_finding;
 use moves::Reached;
 use moves::move_counts;
+use tally::DOUBLED;
 use tally::MOST_COUNTS;
 use tally::count_afresh;
 use tally::double;
@@ -119,7 +120,8 @@ pub fn survey_line<'a>(
     requires { ⌜ CanSurveyLine (now ring) (parts (now line) (now join)) k (now words) ⌝ }
     ensures { λ z. ⌜ LineSurveyed (now (ring .entry)) (wholeLine (length (now (ring .entry))) (parts (now (line .entry)) (now (join .entry)))) k (now (words .entry)) (z .found) (z .looks) (now (words .exit)) ⌝ }
 {
-    let doubled = double(ring);
+    let mut doubled = [0u8; DOUBLED];
+    double(ring, &mut doubled);
     let mut counts = [0u16; MOST_COUNTS];
     survey_starts(ring, &doubled, line, join, k, &mut counts, words)
 }

@@ -114,7 +114,7 @@ countedTo doubled window old =
 pub record IsComparison (a b r : ℕ) : Type 0 where
   pub is : r ≡ oneIf (unequal a b)
 
--- The contract of `double`: it returns the doubled ring.
+-- The contract of `double`: at exit the lent array is the doubled ring.
 pub record IsDoubled (ring doubled : List ℕ) : Type 0 where
   pub is : doubled ≡ doubledRing ring
 

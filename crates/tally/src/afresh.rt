@@ -15,21 +15,22 @@ ghost use Rattle.lists.specs.ByPlace.{StoredFirst};
 ghost use Rattle.tally.specs.Counts.{lastCount, lastPartCount, canCount, CanCount, IsDoubled, edgeCounted, fourCounted, CanCountOn, IsCountedOn, IsPartEnd, CanAddPart, IsCountedAfresh, IsCounted};
 
 // Room for the longest ring twice.
-const DOUBLED: usize = 2 * MOST_COUNTS;
+pub const DOUBLED: usize = 2 * MOST_COUNTS;
 
 // The number of window edges in a part. They are counted in eight bits, so there are at most 255. It is a multiple of
 // four, so that only the window's last edges are counted one by one.
 const PART_EDGES: usize = 128;
 
-// The ring twice, end to end: rotation r is its m edges from place r on. For a ring of more than 256 edges the result
-// is all zeros.
-pub fn double(ring: &[u8]) -> [u8; DOUBLED]
-    ensures { λ r. ⌜ IsDoubled (now (ring .entry)) r ⌝ }
+// Writes the ring twice, end to end, whatever the array held before: rotation r is its m edges from place r on. For a
+// ring of more than 256 edges it writes zeros only. The array is lent: returned by value it would cost the caller two
+// copies on the stack.
+pub fn double(ring: &[u8], doubled: &mut [u8; DOUBLED])
+    ensures { λ _. ⌜ IsDoubled (now (ring .entry)) (now (doubled .exit)) ⌝ }
 {
-    let mut doubled = [0u8; DOUBLED];
+    *doubled = [0u8; DOUBLED];
     let m = ring.len();
     if MOST_COUNTS < m {
-        return doubled;
+        return;
     }
     let mut p = 0;
     while p < m {
@@ -38,7 +39,6 @@ pub fn double(ring: &[u8]) -> [u8; DOUBLED]
         doubled[m + p] = edge;
         p += 1;
     }
-    doubled
 }
 
 // Compares one window edge with every rotation's edge over it and counts the differences, in the counts of a part.

@@ -7,6 +7,7 @@ mod afresh;
 mod counts;
 mod marks;
 
+pub use afresh::DOUBLED;
 pub use afresh::Fresh;
 pub use afresh::count_afresh;
 pub use afresh::double;

@@ -20,14 +20,14 @@ loop-holds c = doubling-start _ (c .if1 .left)
 shared-slice-read-edge : tie.Need-shared-slice-read-edge Inv-loop μ-loop
 shared-slice-read-edge c = search needs
 
-array-write-doubled : tie.Need-array-write-doubled Inv-loop μ-loop
-array-write-doubled c = search needs
+element-write-doubled : tie.Need-element-write-doubled Inv-loop μ-loop
+element-write-doubled c = search needs
 
 add-doubled : tie.Need-add-doubled Inv-loop μ-loop
 add-doubled c = search needs
 
-array-write-doubled-2 : tie.Need-array-write-doubled-2 Inv-loop μ-loop
-array-write-doubled-2 c = search needs
+element-write-doubled-2 : tie.Need-element-write-doubled-2 Inv-loop μ-loop
+element-write-doubled-2 c = search needs
 
 add-p : tie.Need-add-p Inv-loop μ-loop
 add-p c = search needs
@@ -52,9 +52,9 @@ double-spec =
     returns
     loop-holds
     shared-slice-read-edge
-    array-write-doubled
+    element-write-doubled
     add-doubled
-    array-write-doubled-2
+    element-write-doubled-2
     add-p
     loop-less
     loop-again
