@@ -17,6 +17,7 @@ use Rattle.meaning.proofs.ScanLoop.{scan-found-le, scan-end}
 use Rattle.silences.specs.Silences.{Silence}
 use Rattle.silences.specs.Reading.{fieldAt, silencesRead}
 use Rattle.silences.specs.Addresses.{soughtOf}
+use Rattle.vectors.specs.Holding.{EdgeVectors}
 use Rattle.windows.specs.Windows.{Parts, wholeLine}
 use Rattle.findings.specs.Limits.{mostPlaces, CanSearch}
 use Rattle.findings.proofs.WordsSoFar.{WordsSoFar, so-far-none, so-far-length, so-far-more}
@@ -35,7 +36,7 @@ use Rattle.outlines.proofs.HeldFrom.{HeldFrom, held-start, held-later, 
 use Rattle.outlines.proofs.SweepKeeps.{SweepKeeps, SweepTurn, sweep-start, sweep-turn}
 
 -- The invariant of the loop of `scan_windows`.
-pub record QuickLoop (cell ringNumber : ℕ) (ring doubled table : List ℕ) (p : Parts) (k : ℕ) (book counts₀ area : List ℕ) (at : Sweep) (asked : BookAsked)
+pub record QuickLoop (cell ringNumber : ℕ) (ring doubled : List ℕ) (table : EdgeVectors) (p : Parts) (k : ℕ) (book counts₀ area : List ℕ) (at : Sweep) (asked : BookAsked)
     (counts words : List ℕ) : Type 0 where
   pub can : CanScan ring doubled table p k book counts₀ area
   pub so-far : List Finding
@@ -52,7 +53,7 @@ room-for-all ring line k within =
     (λ short. omega (arith, ap (λ (l : List Finding). length l) (findings-short ring line k short)))
     (le-or-lt (length ring) (length line))
 
-module _ {cell ringNumber : ℕ} {ring doubled table : List ℕ} {p : Parts} {k : ℕ} {book counts₀ area : List ℕ} where
+module _ {cell ringNumber : ℕ} {ring doubled : List ℕ} {table : EdgeVectors} {p : Parts} {k : ℕ} {book counts₀ area : List ℕ} where
   -- The invariant holds before the first window, with nothing found and the book's first field.
   pub quick-start : (can : CanScan ring doubled table p k book counts₀ area) {at : Sweep} {asked : BookAsked}
       → at .start .0 ≡ 0 → lastStart (at .last) ≡ none → at .looks ≡ 0

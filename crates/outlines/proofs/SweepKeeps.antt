@@ -17,6 +17,7 @@ use Rattle.meaning.proofs.LookBound.{quickLooks-most}
 use Rattle.meaning.proofs.Places.{found-start}
 use Rattle.meaning.proofs.FoundExactly.{found-is}
 use Rattle.meaning.proofs.ScanLoop.{ScanLoop, scan-start, scan-so-far-le, scan-verified}
+use Rattle.vectors.specs.Holding.{EdgeVectors}
 use Rattle.windows.specs.Windows.{Parts, wholeLine}
 use Rattle.tally.specs.Counts.{mostCounts}
 use Rattle.findings.specs.Limits.{mostPlaces, CanSearch}
@@ -53,7 +54,7 @@ pub record SweepTurn (ring line : List ℕ) (k : ℕ) (so-far : List Finding) (a
   pub less : FitsInLine ring line (at .start .0) → length line + 1 - stateOf r .start .0 < length line + 1 - at .start .0
   pub found : (f : Finding) → foundOf r ≡ f ∷ [] → FoundBetween (at .start .0) (stateOf r .start .0) f
 
-module _ {ring doubled table : List ℕ} {p : Parts} {k : ℕ} {book counts₀ area : List ℕ} (can : CanScan ring doubled table p k book counts₀ area) where
+module _ {ring doubled : List ℕ} {table : EdgeVectors} {p : Parts} {k : ℕ} {book counts₀ area : List ℕ} (can : CanScan ring doubled table p k book counts₀ area) where
   abbrev m : ℕ
   m = length ring
 

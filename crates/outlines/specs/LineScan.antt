@@ -12,6 +12,7 @@ use Rattle.lists.specs.Areas.{written}
 use Rattle.meaning.specs.Findings.{findings, wordsOf}
 use Rattle.meaning.specs.Looks.{quickLooks}
 use Rattle.silences.specs.Reading.{bookRefusal, silencesRead}
+use Rattle.vectors.specs.Holding.{EdgeVectors}
 use Rattle.vectors.specs.ByValue.{Occurrences}
 use Rattle.windows.specs.Windows.{Parts, wholeLine, Joined}
 use Rattle.tally.specs.Counts.{mostCounts, IsDoubled}
@@ -25,7 +26,7 @@ pub record CanScanLine (ring : List ℕ) (p : Parts) (k : ℕ) (book words : Lis
   pub book-read : bookRefusal book ≡ none
 
 -- The precondition of `scan_windows`: that of `scan_line`, and the ring's vectors, its double and 256 counts are lent. The counts may hold anything.
-pub record CanScan (ring doubled table : List ℕ) (p : Parts) (k : ℕ) (book counts words : List ℕ) : Type 0 where
+pub record CanScan (ring doubled : List ℕ) (table : EdgeVectors) (p : Parts) (k : ℕ) (book counts words : List ℕ) : Type 0 where
   pub can-scan : CanScanLine ring p k book words
   pub occurs : Occurrences ring table
   pub twice : IsDoubled ring doubled

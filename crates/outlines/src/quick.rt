@@ -19,6 +19,7 @@ use vectors::TABLE_WORDS;
 use vectors::occurrences;
 use windows::whole_length;
 ghost use lib.ListN.{length};
+ghost use Rattle.vectors.specs.Holding.{edgeVectors};
 ghost use Rattle.windows.specs.Windows.{parts, wholeLine};
 ghost use Rattle.outlines.specs.Scan.{IsScanned};
 ghost use Rattle.outlines.specs.LineScan.{CanScan, CanScanLine, LineScanned};
@@ -46,7 +47,7 @@ fn scan_windows<'a>(
     counts: &mut [u16; MOST_COUNTS],
     words: &mut [u32],
 ) -> LineCounts
-    requires { ⌜ CanScan (now ring) (now doubled) (now table) (parts (now line) (now join)) k (now book) (now counts) (now words) ⌝ }
+    requires { ⌜ CanScan (now ring) (now doubled) (edgeVectors (now table)) (parts (now line) (now join)) k (now book) (now counts) (now words) ⌝ }
     ensures { λ z. ⌜ LineScanned cell «ring_number» (now (ring .entry)) (wholeLine (length (now (ring .entry))) (parts (now (line .entry)) (now (join .entry)))) k (now (book .entry)) (now (words .entry)) (z .found) (z .hidden) (z .looks) (now (words .exit)) ⌝ }
 {
     let m = ring.len();

@@ -18,7 +18,7 @@ use Rattle.lists.proofs.Cases.{by-test, not-passed}
 use Rattle.meaning.proofs.Some.{some-yes, some-by}
 use Rattle.meaning.proofs.WindowLoop.{AllSet, GrownBy, WindowLoop, ReadTo, window-start, window-end, window-stopped, window-grows, window-marked, window-breaks}
 use Rattle.vectors.specs.Bits.{wordCount, isSet, firstBits, noBit}
-use Rattle.vectors.specs.Holding.{vectorAt}
+use Rattle.vectors.specs.Holding.{EdgeVectors, vectorAt}
 use Rattle.vectors.specs.ByValue.{vectorWords, vectorBits, HeldVector}
 use Rattle.vectors.proofs.HeldVectors.{first-held, first-set, no-bit-iff, no-bit-no, GrownByEdge, grown-by-edge}
 use Rattle.sweep.specs.Reads.{heldWith, readOn, readBy}
@@ -36,7 +36,7 @@ or-fails : (a b : Bool) → (a || b) ≡ false → (a ≡ false) × (b ≡ false
 or-fails true b e = absurd (true≢false e)
 or-fails false b e = (refl, e)
 
-module _ (ring window table : List ℕ) (k : ℕ) (own : OwnVectors ring table) (long : length window ≡ length ring) where
+module _ (ring window : List ℕ) (table : EdgeVectors) (k : ℕ) (own : OwnVectors ring table) (long : length window ≡ length ring) where
   abbrev m : ℕ
   m = length window
 

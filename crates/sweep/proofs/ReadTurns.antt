@@ -10,22 +10,22 @@ use Rattle.lists.proofs.Cases.{by-test}
 use Rattle.meaning.specs.Meanings.{isMark}
 use Rattle.meaning.specs.Rules.{stopsAt}
 use Rattle.vectors.specs.Bits.{wordBits, wordCount, firstBits, noBit}
-use Rattle.vectors.specs.Holding.{vectorAt}
+use Rattle.vectors.specs.Holding.{EdgeVectors, vectorAt}
 use Rattle.vectors.specs.ByValue.{vectorWords, grownWords}
 use Rattle.sweep.specs.declared.reading.WindowRead.{WindowRead}
 use Rattle.sweep.specs.Reads.{heldWith, readOn, readWith, readBy}
 
 -- The invariant before a turn. `still` says that reading the edges left gives the result of the whole window.
-pub record StillToRead (table window : List ℕ) (k words : ℕ) (held : List ℕ) (left breaks looks : ℕ) : Type 0 where
+pub record StillToRead (table : EdgeVectors) (window : List ℕ) (k words : ℕ) (held : List ℕ) (left breaks looks : ℕ) : Type 0 where
   pub looks-are : looks + left ≡ length window
   pub breaks-le : breaks ≤ looks
   pub still : readOn table window k words left held breaks looks ≡ readWith table window k words
 
 -- The invariant holds before the first turn.
-pub to-read-all : (table window : List ℕ) (k words : ℕ) → StillToRead table window k words (firstBits (length window) vectorWords) (length window) 0 0
+pub to-read-all : (table : EdgeVectors) (window : List ℕ) (k words : ℕ) → StillToRead table window k words (firstBits (length window) vectorWords) (length window) 0 0
 to-read-all table window k words = record { looks-are = omega arith; breaks-le = omega arith; still = refl }
 
-module _ {table window : List ℕ} {k words : ℕ} {held : List ℕ} {left breaks looks : ℕ} (known : StillToRead table window k words held left breaks looks) where
+module _ {table : EdgeVectors} {window : List ℕ} {k words : ℕ} {held : List ℕ} {left breaks looks : ℕ} (known : StillToRead table window k words held left breaks looks) where
   -- If no edge is left, the contract is met.
   pub to-read-none : left ≡ 0 → record { left = left; looks = looks; stopped = false } ≡ readWith table window k words
   unfolding readOn
@@ -65,7 +65,7 @@ module _ {table window : List ℕ} {k words : ℕ} {held : List ℕ} {left break
       still = rw (new-is, some) at from-here;
     }
 
-module _ (table window : List ℕ) (k words : ℕ) where
+module _ (table : EdgeVectors) (window : List ℕ) (k words : ℕ) where
   abbrev m : ℕ
   m = length window
 
@@ -98,7 +98,7 @@ module _ (table window : List ℕ) (k words : ℕ) where
   read-some some = omega (arith, read-goes m full 0 0 .left-le)
 
 -- If `words` is the fewest words that hold m bits, reading with `words` words is `readBy`.
-pub fewest-words : (table window : List ℕ) (k words : ℕ) (r : WindowRead) → r ≡ readWith table window k words → wordBits * (words - 1) < length window
+pub fewest-words : (table : EdgeVectors) (window : List ℕ) (k words : ℕ) (r : WindowRead) → r ≡ readWith table window k words → wordBits * (words - 1) < length window
     → length window ≤ wordBits * words → r ≡ readBy table window k
 fewest-words table window k words r is more most =
     let fewest : words ≡ wordCount (length window) = omega arith in

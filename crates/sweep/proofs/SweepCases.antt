@@ -7,6 +7,7 @@ use mathlib.Core.List.{List}
 use mathlib.Core.Logic.{_↔_}
 use lib.Dec.{leb}
 use lib.ListN.{length}
+use Rattle.vectors.specs.Holding.{EdgeVectors}
 use Rattle.windows.specs.Windows.{Parts, wholeLine, IsWholeLength}
 use Rattle.tally.specs.Counts.{mostCounts}
 use Rattle.lists.proofs.SizesTested.{lt-iff, le-iff, and-iff, test-same}
@@ -36,7 +37,7 @@ can-sweep-last m n start looks can-read =
 pub can-go-on : {m n start looks : ℕ} {p : Parts} → IsWholeLength m p n → canSweep m n start looks ≡ true → CanSweep m (length (wholeLine m p)) start looks
 can-go-on {m} {n} {start} {looks} long passed = rw (sym (long .is)) (can-sweep-iff m n start looks .0 passed)
 
-module _ (ring doubled table : List ℕ) (p : Parts) (k : ℕ) (at : Sweep) (old : List ℕ) {n : ℕ} (long : IsWholeLength (length ring) p n) where
+module _ (ring doubled : List ℕ) (table : EdgeVectors) (p : Parts) (k : ℕ) (at : Sweep) (old : List ℕ) {n : ℕ} (long : IsWholeLength (length ring) p n) where
   abbrev test : Bool
   test = canSweep (length ring) n (at .start .0) (at .looks)
 

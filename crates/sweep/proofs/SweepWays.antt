@@ -8,6 +8,7 @@ use native.Mathlib.Omega.{arith}
 use lib.ListN.{length}
 use borrow.Author.Tests.{lt-ltb, le-ltb}
 use Rattle.findings.specs.declared.searching.Finding.{Finding as FindingStruct}
+use Rattle.vectors.specs.Holding.{EdgeVectors}
 use Rattle.windows.specs.Windows.{Parts, wholeLine}
 use Rattle.tally.specs.Counts.{mostCounts, TallyResult, IsFindingAt}
 use Rattle.findings.specs.Limits.{mostPlaces}
@@ -21,7 +22,7 @@ use Rattle.sweep.specs.Sweeps.{sweepBy, mostLooks, CanSweep, IsTalliedBy
 use Rattle.sweep.proofs.WindowTurns.{WindowsGo, windows-within}
 use Rattle.sweep.proofs.TallyWays.{mostTally, tally-looks}
 
-module _ (ring table : List ℕ) (p : Parts) (k : ℕ) (at : Sweep) (can : CanSweep (length ring) (length (wholeLine (length ring) p)) (at .start .0) (at .looks))
+module _ (ring : List ℕ) (table : EdgeVectors) (p : Parts) (k : ℕ) (at : Sweep) (can : CanSweep (length ring) (length (wholeLine (length ring) p)) (at .start .0) (at .looks))
     (read : WindowsRead) (read-is : read ≡ windowsBy ring table p k (at .start .0)) where
   abbrev n : ℕ
   n = length (wholeLine (length ring) p)
@@ -37,7 +38,7 @@ module _ (ring table : List ℕ) (p : Parts) (k : ℕ) (at : Sweep) (can : CanSw
   pub sweep-start-le : read .start .0 ≤ mostPlaces
   sweep-start-le = omega (arith, within .start-le, can .can-read .most-line)
 
-module _ (ring doubled table : List ℕ) (p : Parts) (k : ℕ) (at : Sweep) (old : List ℕ) where
+module _ (ring doubled : List ℕ) (table : EdgeVectors) (p : Parts) (k : ℕ) (at : Sweep) (old : List ℕ) where
   abbrev m : ℕ
   m = length ring
 

@@ -13,6 +13,7 @@ use Rattle.meaning.specs.Findings.{foundAt}
 use Rattle.meaning.specs.Looks.{tallyLooks}
 use Rattle.lists.proofs.Cases.{by-test}
 use Rattle.meaning.proofs.CandidateStart.{candidate-is-start}
+use Rattle.vectors.specs.Holding.{EdgeVectors}
 use Rattle.windows.specs.Windows.{Parts, wholeLine, Joined}
 use Rattle.tally.specs.Counts.{findingWith, TallyResult}
 use Rattle.tally.specs.Tallied.{Verified}
@@ -31,7 +32,7 @@ use Rattle.sweep.proofs.WindowsStopped.{stopped-from-le}
 use Rattle.sweep.proofs.WindowsByRules.{windows-by-rules}
 use Rattle.sweep.proofs.TallyByRules.{before-later, tally-by-rules}
 
-module _ (ring doubled table : List ℕ) (p : Parts) (k : ℕ) (old : List ℕ) (at : Sweep) (joined : Joined (length ring) p)
+module _ (ring doubled : List ℕ) (table : EdgeVectors) (p : Parts) (k : ℕ) (old : List ℕ) (at : Sweep) (joined : Joined (length ring) p)
     (can : CanSweepOn ring doubled table (wholeLine (length ring) p) old at) where
   -- the whole line, whose windows the parts hold
   abbrev line : List ℕ

@@ -10,6 +10,7 @@ use Rattle.lists.proofs.Cases.{by-test}
 use Rattle.meaning.specs.Meanings.{FitsInLine, IsPastLine, fitsInLine}
 use Rattle.meaning.proofs.Starts.{fits-line-iff, past-line-iff}
 use Rattle.vectors.specs.Bits.{wordCount}
+use Rattle.vectors.specs.Holding.{EdgeVectors}
 use Rattle.windows.specs.Windows.{Parts, windowOf, wholeLine, IsWindow}
 use Rattle.windows.proofs.WindowEdges.{fitting-length, some-fits}
 use Rattle.tally.specs.Counts.{mostCounts}
@@ -19,7 +20,7 @@ use Rattle.sweep.specs.Reads.{readBy, noneLeft, windowsOn, windowsBy, Ca
 use Rattle.sweep.proofs.ReadTurns.{read-sum, read-some}
 
 -- The invariant before the turn at start i: at most `left` windows are still to come, and `still` says that reading them from here gives the result of the whole loop.
-pub record StillWindows (ring table : List ℕ) (p : Parts) (k from i looks : ℕ) : Type 0 where
+pub record StillWindows (ring : List ℕ) (table : EdgeVectors) (p : Parts) (k from i looks : ℕ) : Type 0 where
   pub can : CanReadWindows (length ring) (length (wholeLine (length ring) p)) from
   pub left : ℕ
   pub enough : length (wholeLine (length ring) p) + 1 ≤ i + left
@@ -28,7 +29,7 @@ pub record StillWindows (ring table : List ℕ) (p : Parts) (k from i looks : �
   pub still : windowsOn ring table p k left i looks ≡ windowsBy ring table p k from
 
 -- Of a window that fits in the line at least one edge is read, and looks and edges left unread add up to m.
-window-reads : (table : List ℕ) (k : ℕ) {ring edges : List ℕ} {p : Parts} {i : ℕ} → 0 < length ring → FitsInLine ring (wholeLine (length ring) p) i
+window-reads : (table : EdgeVectors) (k : ℕ) {ring edges : List ℕ} {p : Parts} {i : ℕ} → 0 < length ring → FitsInLine ring (wholeLine (length ring) p) i
     → IsWindow p i (length ring) edges
     → (readBy table edges k .looks + readBy table edges k .left ≡ length ring) × (readBy table edges k .left < length ring)
 window-reads table k {ring} {edges = edges} some-edge in-line handed =
@@ -37,17 +38,17 @@ window-reads table k {ring} {edges = edges} some-edge in-line handed =
     (read-sum table edges k words ∙ size, omega (arith, read-some table edges k words (omega arith)))
 
 -- The invariant holds before the first turn.
-pub windows-start : {ring table : List ℕ} {p : Parts} {k from : ℕ} → CanReadWindows (length ring) (length (wholeLine (length ring) p)) from → StillWindows ring table p k from from 0
+pub windows-start : {ring : List ℕ} {table : EdgeVectors} {p : Parts} {k from : ℕ} → CanReadWindows (length ring) (length (wholeLine (length ring) p)) from → StillWindows ring table p k from from 0
 windows-start {ring} {p = p} {from = from} can =
     record { can = can; left = length (wholeLine (length ring) p) + 1 - from; enough = omega arith; start-le = can .start-le; looks-le = omega arith; still = refl }
 
 -- If no window fits in the line at i, reading on gives `noneLeft`.
-windows-none : (ring table : List ℕ) (p : Parts) (k left i looks : ℕ) → IsPastLine ring (wholeLine (length ring) p) i → windowsOn ring table p k left i looks ≡ noneLeft i looks
+windows-none : (ring : List ℕ) (table : EdgeVectors) (p : Parts) (k left i looks : ℕ) → IsPastLine ring (wholeLine (length ring) p) i → windowsOn ring table p k left i looks ≡ noneLeft i looks
 unfolding windowsOn
 windows-none ring table p k zero i looks past = refl
 windows-none ring table p k (suc left) i looks past = rw (past-line-iff ring (wholeLine (length ring) p) i .1 past) refl
 
-module _ {ring table : List ℕ} {p : Parts} {k from i looks : ℕ} (known : StillWindows ring table p k from i looks) where
+module _ {ring : List ℕ} {table : EdgeVectors} {p : Parts} {k from i looks : ℕ} (known : StillWindows ring table p k from i looks) where
   abbrev m : ℕ
   m = length ring
 
@@ -111,7 +112,7 @@ pub record WindowsGo (n looks left : ℕ) (to : WindowsRead) : Type 0 where
   pub start-le : to .start .0 ≤ n + 1
   pub looks-le : to .looks ≤ looks + mostCounts * left
 
-module _ (ring table : List ℕ) (p : Parts) (k from : ℕ) (can : CanReadWindows (length ring) (length (wholeLine (length ring) p)) from) where
+module _ (ring : List ℕ) (table : EdgeVectors) (p : Parts) (k from : ℕ) (can : CanReadWindows (length ring) (length (wholeLine (length ring) p)) from) where
   abbrev line′ : List ℕ
   line′ = wholeLine (length ring) p
 

@@ -12,6 +12,7 @@ use Rattle.meaning.specs.Meanings.{FitsInLine, IsPastLine, window, fitsInLine}
 use Rattle.meaning.proofs.Starts.{fits-line-iff, past-line-iff}
 use Rattle.meaning.specs.Rules.{stopsAt, isStopped, readWindow}
 use Rattle.meaning.proofs.WindowAlone.{alone-reading}
+use Rattle.vectors.specs.Holding.{EdgeVectors}
 use Rattle.windows.specs.Windows.{Parts, windowOf, wholeLine, Joined}
 use Rattle.windows.proofs.WindowEdges.{fitting-window, fitting-length}
 use Rattle.sweep.specs.declared.reading.WindowRead.{WindowRead}
@@ -20,7 +21,7 @@ use Rattle.sweep.specs.ReadingRules.{OwnVectors, IsWindowRead}
 use Rattle.sweep.specs.SweepRules.{sweptStart, StoppedTo, none-stopped, one-stopped, IsWindowsRead}
 use Rattle.sweep.proofs.ReadByRules.{read-by-rules}
 
-module _ (ring table : List ℕ) (p : Parts) (k from : ℕ) (own : OwnVectors ring table) (joined : Joined (length ring) p) where
+module _ (ring : List ℕ) (table : EdgeVectors) (p : Parts) (k from : ℕ) (own : OwnVectors ring table) (joined : Joined (length ring) p) where
   abbrev m : ℕ
   m = length ring
 

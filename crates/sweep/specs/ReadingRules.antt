@@ -8,12 +8,13 @@ use mathlib.Core.List.{List}
 use lib.ListN.{length}
 use Rattle.meaning.specs.Meanings.{holdsMark}
 use Rattle.meaning.specs.Rules.{isStopped, readWindow}
+use Rattle.vectors.specs.Holding.{EdgeVectors}
 use Rattle.vectors.specs.ByValue.{Occurrences}
 use Rattle.tally.specs.Counts.{mostCounts}
 use Rattle.sweep.specs.declared.reading.WindowRead.{WindowRead}
 
 -- The ring has 1 to 256 edges and holds no mark, and `table` holds its occurrence vectors.
-pub record OwnVectors (ring table : List ℕ) : Type 0 where
+pub record OwnVectors (ring : List ℕ) (table : EdgeVectors) : Type 0 where
   pub some-edge : 0 < length ring
   pub most : length ring ≤ mostCounts
   pub no-mark : holdsMark ring ≡ false

@@ -22,6 +22,7 @@ use Rattle.meaning.specs.Meanings.{FitsInLine, IsPastLine, holdsMark}
 use Rattle.meaning.specs.Findings.{Finding, foundAt}
 use Rattle.meaning.specs.Rules.{isStopped, readWindow}
 use Rattle.meaning.specs.Looks.{tallyLooks}
+use Rattle.vectors.specs.Holding.{EdgeVectors}
 use Rattle.vectors.specs.ByValue.{Occurrences}
 use Rattle.findings.specs.Putting.{findingOf}
 use Rattle.sweep.specs.declared.sweeping.Sweep.{Sweep}
@@ -78,7 +79,7 @@ pub record IsWindowsRead (ring line : List ℕ) (k from : ℕ) (r : WindowsRead)
 
 -- The sweep can go on by the rules: ring, line, start and looks are within the limits, the ring holds no mark, there are 256 counts, the ring's own vectors and double
 -- are lent, and the counts are the tally of the last verified start, if there is one. The allowance may have any value.
-pub record CanSweepOn (ring doubled table line counts : List ℕ) (at : Sweep) : Type 0 where
+pub record CanSweepOn (ring doubled : List ℕ) (table : EdgeVectors) (line counts : List ℕ) (at : Sweep) : Type 0 where
   pub can-sweep : CanSweep (length ring) (length line) (at .start .0) (at .looks)
   pub no-mark : holdsMark ring ≡ false
   pub size : length counts ≡ mostCounts

@@ -16,6 +16,7 @@ use mathlib.Core.List.{List}
 use lib.Dec.{ltb, leb}
 use lib.ListN.{length}
 use Rattle.findings.specs.declared.searching.Finding.{Finding as FindingStruct}
+use Rattle.vectors.specs.Holding.{EdgeVectors}
 use Rattle.windows.specs.Windows.{Parts, windowOf, wholeLine}
 use Rattle.tally.specs.Counts.{mostCounts, findingWith, TallyResult, countedTo}
 use Rattle.findings.specs.Limits.{mostPlaces}
@@ -51,7 +52,7 @@ pub record SweepResult : Type 0 where
   pub counts : List ℕ
 
 -- The sweep from `at` to the next candidate. Rule 4: "Each candidate is verified, and reported if it is a finding." It is a finding if its least count is at most k.
-unfoldable pub sweepBy : List ℕ → List ℕ → List ℕ → Parts → ℕ → Sweep → List ℕ → SweepResult
+unfoldable pub sweepBy : List ℕ → List ℕ → EdgeVectors → Parts → ℕ → Sweep → List ℕ → SweepResult
 sweepBy ring doubled table p k at old =
     let read : WindowsRead = windowsBy ring table p k (at .start .0) in
     let looks : ℕ = at .looks + read .looks in
@@ -74,7 +75,7 @@ canSweep m n start looks = (ltb 0 m && leb m mostCounts) && (ltb n mostPlaces &&
 
 -- The contract of `sweep_on`. `at` is the sweep at entry, `old` and `new` are the counts at entry and exit, r is the answer. A sweep that cannot go on ends where it
 -- is, and no count changes.
-pub record IsSweptBy (ring doubled table : List ℕ) (p : Parts) (k : ℕ) (at : Sweep) (old new : List ℕ) (r : Swept) : Type 0 where
+pub record IsSweptBy (ring doubled : List ℕ) (table : EdgeVectors) (p : Parts) (k : ℕ) (at : Sweep) (old new : List ℕ) (r : Swept) : Type 0 where
   pub is : record { swept = r; counts = new }
       ≡ cond (canSweep (length ring) (length (wholeLine (length ring) p)) (at .start .0) (at .looks)) (sweepBy ring doubled table p k at old) (record { swept = Ended at; counts = old })
 
@@ -94,5 +95,5 @@ pub record CanSweep (m n start looks : ℕ) : Type 0 where
   pub looks-le : looks ≤ mostLooks
 
 -- The contract of `to_candidate`: the answer and the counts at exit are those of `sweepBy`.
-pub record IsSweptTo (ring doubled table : List ℕ) (p : Parts) (k : ℕ) (at : Sweep) (old new : List ℕ) (r : Swept) : Type 0 where
+pub record IsSweptTo (ring doubled : List ℕ) (table : EdgeVectors) (p : Parts) (k : ℕ) (at : Sweep) (old new : List ℕ) (r : Swept) : Type 0 where
   pub is : record { swept = r; counts = new } ≡ sweepBy ring doubled table p k at old

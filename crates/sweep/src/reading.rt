@@ -12,6 +12,7 @@ ghost use Prim.Native.Nat.{_+_, _<_, _≤_};
 ghost use lib.ListN.{length};
 ghost use Rattle.meaning.specs.Meanings.{isMark};
 ghost use Rattle.meaning.specs.Rules.{stopsAt};
+ghost use Rattle.vectors.specs.Holding.{edgeVectors};
 ghost use Rattle.tally.specs.Counts.{mostCounts};
 ghost use Rattle.sweep.specs.Reads.{readWith, readBy};
 
@@ -34,7 +35,7 @@ fn stops_at(edge: u8, k: usize, breaks: usize) -> bool
 // Rules 1 to 3, with the held vector in its first `words` words. Whether reading stops is asked only where the grown vector
 // has no bit: the number of breaks changes nowhere else, and a mark fits nothing, because a ring holds none.
 fn read_words(window: &[u8], table: &[u64; TABLE_WORDS], k: usize, words: usize) -> WindowRead
-    ensures { λ z. ⌜ z ≡ readWith (now (table .entry)) (now (window .entry)) k words ⌝ }
+    ensures { λ z. ⌜ z ≡ readWith (edgeVectors (now (table .entry))) (now (window .entry)) k words ⌝ }
 {
     let m = window.len();
     let full = first_bits(m);
@@ -72,7 +73,7 @@ fn read_words(window: &[u8], table: &[u64; TABLE_WORDS], k: usize, words: usize)
 // compiler can make code of its own for each number.
 pub fn read_window(window: &[u8], table: &[u64; TABLE_WORDS], k: usize) -> WindowRead
     requires { ⌜ (0 < length (now window)) × (length (now window) ≤ mostCounts) ⌝ }
-    ensures { λ z. ⌜ z ≡ readBy (now (table .entry)) (now (window .entry)) k ⌝ }
+    ensures { λ z. ⌜ z ≡ readBy (edgeVectors (now (table .entry))) (now (window .entry)) k ⌝ }
 {
     let m = window.len();
     if m <= 64 {

@@ -13,6 +13,7 @@ use windows::whole_length;
 use windows::window;
 ghost use mathlib.Core.Path.{_≡_};
 ghost use lib.ListN.{length};
+ghost use Rattle.vectors.specs.Holding.{edgeVectors};
 ghost use Rattle.windows.specs.Windows.{parts, wholeLength};
 ghost use Rattle.sweep.specs.Reads.{CanReadWindows, windowsBy};
 ghost use Rattle.sweep.specs.Sweeps.{canSweep, CanSweep, IsSweptTo, IsSweptBy};
@@ -58,7 +59,7 @@ fn read_windows<'a>(
     from: LinePlace,
 ) -> WindowsRead
     requires { ⌜ CanReadWindows (length (now ring)) (wholeLength (length (now ring)) (now line) (now join)) (from .0) ⌝ }
-    ensures { λ z. ⌜ z ≡ windowsBy (now (ring .entry)) (now (table .entry)) (parts (now (line .entry)) (now (join .entry))) k (from .0) ⌝ }
+    ensures { λ z. ⌜ z ≡ windowsBy (now (ring .entry)) (edgeVectors (now (table .entry))) (parts (now (line .entry)) (now (join .entry))) k (from .0) ⌝ }
 {
     let m = ring.len();
     let mut i = from.0;
@@ -101,7 +102,7 @@ fn to_candidate<'a>(
     counts: &mut [u16; MOST_COUNTS],
 ) -> Swept
     requires { ⌜ CanSweep (length (now ring)) (wholeLength (length (now ring)) (now line) (now join)) (at .start .0) (at .looks) ⌝ }
-    ensures { λ r. ⌜ IsSweptTo (now (ring .entry)) (now (doubled .entry)) (now (table .entry)) (parts (now (line .entry)) (now (join .entry))) k at (now (counts .entry)) (now (counts .exit)) r ⌝ }
+    ensures { λ r. ⌜ IsSweptTo (now (ring .entry)) (now (doubled .entry)) (edgeVectors (now (table .entry))) (parts (now (line .entry)) (now (join .entry))) k at (now (counts .entry)) (now (counts .exit)) r ⌝ }
 {
     let last = at.last;
     let read = read_windows(ring, table, line, join, k, at.start);
@@ -155,7 +156,7 @@ pub fn sweep_on<'a>(
     k: usize,
     counts: &mut [u16; MOST_COUNTS],
 ) -> Swept
-    ensures { λ r. ⌜ IsSweptBy (now (ring .entry)) (now (doubled .entry)) (now (table .entry)) (parts (now (line .entry)) (now (join .entry))) k at (now (counts .entry)) (now (counts .exit)) r ⌝ }
+    ensures { λ r. ⌜ IsSweptBy (now (ring .entry)) (now (doubled .entry)) (edgeVectors (now (table .entry))) (parts (now (line .entry)) (now (join .entry))) k at (now (counts .entry)) (now (counts .exit)) r ⌝ }
 {
     let m = ring.len();
     if !can_sweep(m, whole_length(line, join, m), at.start, at.looks) {

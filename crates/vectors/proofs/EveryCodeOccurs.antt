@@ -8,21 +8,21 @@ use native.Mathlib.Decide.{ℕ-discrete}
 use native.Mathlib.Omega.{arith}
 use lib.ListN.{length, getD, set}
 use Rattle.vectors.specs.Bits.{wordBits, putWord}
-use Rattle.vectors.specs.Holding.{edgeCodes, vectorAt, OccurrenceTable}
+use Rattle.vectors.specs.Holding.{edgeCodes, edgeVectors, vectorAt, OccurrenceTable}
 use Rattle.vectors.proofs.NoBitIsSet.{no-bit-of-words}
 use Rattle.vectors.proofs.OneCodeOccurs.{OccursBelow, occurs-below-start, occurs-below-turn-yes, occurs-below-turn-no, occurs-below-end}
 use Rattle.vectors.proofs.PartOfTable.{part-every, part-put, part-set-other}
 
 -- The invariant before turn r: each code's vector is right below r (`OccursBelow`).
 pub record TableBelow (ring : List ℕ) (count : ℕ) (table : List ℕ) (r : ℕ) : Type 0 where
-  pub each : (code : ℕ) → OccursBelow ring code (vectorAt table code count) r
+  pub each : (code : ℕ) → OccursBelow ring code (vectorAt (edgeVectors table) code count) r
 
 module _ (ring : List ℕ) (count : ℕ) (room : length ring ≤ wordBits * count) where
   -- The invariant holds before the first turn, if every word of the table is 0.
   pub table-below-start : (table : List ℕ) → ((w : ℕ) → getD table w 0 ≡ 0) → TableBelow ring count table 0
   table-below-start table zeros = record {
-    each = λ code. occurs-below-start ring code (vectorAt table code count)
-        (no-bit-of-words (vectorAt table code count) (part-every table code count (λ x. x ≡ 0) refl zeros));
+    each = λ code. occurs-below-start ring code (vectorAt (edgeVectors table) code count)
+        (no-bit-of-words (vectorAt (edgeVectors table) code count) (part-every (edgeVectors table) code count (λ x. x ≡ 0) refl zeros));
   }
 
   -- Turn r keeps the invariant by storing the word that holds bit r of the vector of the code at place r, with the bit put in.
@@ -33,12 +33,12 @@ module _ (ring : List ℕ) (count : ℕ) (room : length ring ≤ wordBits * coun
       let word : ℕ = putWord (getD table at 0) (r % wordBits) 1 in
       record {
         each = λ code. dite (ℕ-discrete (getD ring r 0) code)
-            (λ same. occurs-below-turn-yes ring code (vectorAt table code count) (vectorAt (set table at word) code count) r (known .each code) h same
+            (λ same. occurs-below-turn-yes ring code (vectorAt (edgeVectors table) code count) (vectorAt (edgeVectors (set table at word)) code count) r (known .each code) h same
             (rw same at (part-put table (getD ring r 0) count r 1 at (omega arith) is-code (omega arith) size is)))
             (λ differ. rw (part-set-other table (getD ring r 0) (r / wordBits) at word count is-code is code differ)
-            (occurs-below-turn-no ring code (vectorAt table code count) r (known .each code) h differ));
+            (occurs-below-turn-no ring code (vectorAt (edgeVectors table) code count) r (known .each code) h differ));
       }
 
   -- At the end each code's vector is its occurrence vector.
-  pub table-below-end : (table : List ℕ) (r : ℕ) → TableBelow ring count table r → length ring ≤ r → OccurrenceTable ring count table
-  table-below-end table r known h = record { each = λ code. occurs-below-end ring code (vectorAt table code count) r (known .each code) h }
+  pub table-below-end : (table : List ℕ) (r : ℕ) → TableBelow ring count table r → length ring ≤ r → OccurrenceTable ring count (edgeVectors table)
+  table-below-end table r known h = record { each = λ code. occurs-below-end ring code (vectorAt (edgeVectors table) code count) r (known .each code) h }

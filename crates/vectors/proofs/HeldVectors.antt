@@ -12,7 +12,7 @@ use lib.Seq.{take-all}
 use lib.Dec.{eqb}
 use Rattle.vectors.specs.Bits.{wordCount, Vector, isSet, firstBits, noBit}
 use Rattle.vectors.specs.Rotating.{WithinBits}
-use Rattle.vectors.specs.Holding.{vectorAt, Occurs, Grown}
+use Rattle.vectors.specs.Holding.{EdgeVectors, vectorAt, Occurs, Grown}
 use Rattle.vectors.specs.ByValue.{vectorWords, vectorBits, HeldVector, grownWords, Occurrences}
 use Rattle.vectors.proofs.FirstBitsAreSet.{first-bits-is, first-bits-length, first-bits-vector, first-bits-within}
 use Rattle.vectors.proofs.NoBitIsSet.{noBit-iff, noBit-no}
@@ -52,7 +52,7 @@ module _ (m count : ℕ) (held : List ℕ) (few : count ≡ wordCount m) (is : H
   pub no-bit-no : noBit held count ≡ false → (r : ℕ) × (r < m) × (isSet held r ≡ true)
   no-bit-no said = noBit-no m held (is .words) (is .within) (rw few at said)
 
-module _ (ring table : List ℕ) (code : ℕ) (is : Occurrences ring table) where
+module _ (ring : List ℕ) (table : EdgeVectors) (code : ℕ) (is : Occurrences ring table) where
   -- `vector_of` returns the code's occurrence vector, if the ring has at most as many edges as a vector has bits.
   pub vector-occurs : length ring ≤ vectorBits → Occurs ring code (vectorAt table code vectorWords)
   vector-occurs most = rw (take-all vectorBits ring most) at (is .each .each code)
@@ -69,7 +69,7 @@ pub record GrownByEdge (m : ℕ) (ring : List ℕ) (code : ℕ) (held new : List
 
 -- What `occurrences`, `vector_of` and `grown` return makes one turn of the loop that reads a window (`GrownByEdge`), for a ring of 1 to 256 edges and the fewest
 -- words that hold as many bits.
-pub grown-by-edge : (m count code : ℕ) (ring table occurs held new : List ℕ) → m ≡ length ring → 0 < m → m ≤ vectorBits → count ≡ wordCount m
+pub grown-by-edge : (m count code : ℕ) (ring : List ℕ) (table : EdgeVectors) (occurs held new : List ℕ) → m ≡ length ring → 0 < m → m ≤ vectorBits → count ≡ wordCount m
     → Occurrences ring table → HeldVector m held → occurs ≡ vectorAt table code vectorWords → new ≡ grownWords m count occurs held
     → GrownByEdge m ring code held new
 grown-by-edge m count code ring table occurs held new whole some most few of-ring is-held is-occurs is-new =

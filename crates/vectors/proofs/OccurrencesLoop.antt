@@ -12,7 +12,7 @@ use lib.Seq.{getD-take}
 use lib.Bits.{or-lt}
 use lib.Pow.{pow-pos}
 use Rattle.vectors.specs.Bits.{wordBits, Vector, putWord}
-use Rattle.vectors.specs.Holding.{edgeCodes}
+use Rattle.vectors.specs.Holding.{edgeCodes, edgeVectors}
 use Rattle.vectors.specs.ByValue.{vectorWords, vectorBits, Occurrences}
 use Rattle.vectors.proofs.VectorBits.{vector-set}
 use Rattle.vectors.proofs.EveryCodeOccurs.{TableBelow, table-below-start, table-below-turn, table-below-end}
@@ -56,7 +56,7 @@ module _ (ring : List ℕ) where
       }
 
   -- At the end the table is the table of the ring's occurrence vectors.
-  pub occurrences-end : (table : List ℕ) (r : ℕ) → OccurrencesBelow ring table r → length (take vectorBits ring) ≤ r → Occurrences ring table
+  pub occurrences-end : (table : List ℕ) (r : ℕ) → OccurrencesBelow ring table r → length (take vectorBits ring) ≤ r → Occurrences ring (edgeVectors table)
   occurrences-end table r known h = record {
     size = known .size;
     words = known .words;

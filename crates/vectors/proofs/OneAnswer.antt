@@ -1,6 +1,6 @@
 -- Any two answers of a function of this crate are equal. The contracts of `first_bits`, `grown`, `no_bit` and `vector_of` are one equation each. The contract of
 -- `occurrences` gives every bit of each code's vector, and two vectors with the same bits and word count are equal. Every word of a table is in one of them.
-use mathlib.Core.Path.{_≡_, refl, sym, _∙_}
+use mathlib.Core.Path.{_≡_, refl, sym, ap, _∙_}
 use mathlib.Core.Bool.{Bool}
 use mathlib.Core.List.{List}
 use mathlib.Core.Logic.{dite}
@@ -11,7 +11,7 @@ use native.Mathlib.Omega.{arith}
 use lib.ListN.{length, take}
 use lib.Seq.{ext-getD}
 use Rattle.vectors.specs.Bits.{firstBits, noBit}
-use Rattle.vectors.specs.Holding.{edgeCodes, vectorAt, Occurs}
+use Rattle.vectors.specs.Holding.{edgeCodes, EdgeVectors, edgeVectors, vectorAt, Occurs}
 use Rattle.vectors.specs.ByValue.{vectorWords, vectorBits, grownWords, Occurrences}
 use Rattle.vectors.proofs.VectorBits.{vector-unique}
 use Rattle.vectors.proofs.PartOfTable.{part-length, part-word, part-vector}
@@ -29,10 +29,10 @@ pub no-bit-unique : (held : List ℕ) (count : ℕ) (a b : Bool) → a ≡ noBit
 no-bit-unique held count a b p q = p ∙ sym q
 
 -- Any two answers of `vector_of` are equal.
-pub vector-of-unique : (table : List ℕ) (code : ℕ) (a b : List ℕ) → a ≡ vectorAt table code vectorWords → b ≡ vectorAt table code vectorWords → a ≡ b
+pub vector-of-unique : (table : EdgeVectors) (code : ℕ) (a b : List ℕ) → a ≡ vectorAt table code vectorWords → b ≡ vectorAt table code vectorWords → a ≡ b
 vector-of-unique table code a b p q = p ∙ sym q
 
-module _ (ring a b : List ℕ) (is-a : Occurrences ring a) (is-b : Occurrences ring b) where
+module _ (ring : List ℕ) (a b : EdgeVectors) (is-a : Occurrences ring a) (is-b : Occurrences ring b) where
   -- The vector of a code is the same in two tables of one ring.
   same-vector : (code : ℕ) → vectorAt a code vectorWords ≡ vectorAt b code vectorWords
   same-vector code =
@@ -46,9 +46,9 @@ module _ (ring a b : List ℕ) (is-a : Occurrences ring a) (is-b : Occurrences r
 
   -- Any two tables that meet the contract of `occurrences` are equal.
   pub occurrences-unique : a ≡ b
-  occurrences-unique = ext-getD 0 a b (is-a .size ∙ sym (is-b .size)) (λ p h.
+  occurrences-unique = ap edgeVectors (ext-getD 0 (a .words) (b .words) (is-a .size ∙ sym (is-b .size)) (λ p h.
       let e : p % edgeCodes + p / edgeCodes * edgeCodes ≡ p = omega arith in
       let is-code : p % edgeCodes < edgeCodes = mod-lt p (omega arith) in
       let within : p / edgeCodes < vectorWords = omega (arith, is-a .size) in
       rw e at (sym (part-word a (p % edgeCodes) vectorWords is-code (p / edgeCodes) within)
-      ∙ (rw (same-vector (p % edgeCodes)) refl ∙ part-word b (p % edgeCodes) vectorWords is-code (p / edgeCodes) within)))
+      ∙ (rw (same-vector (p % edgeCodes)) refl ∙ part-word b (p % edgeCodes) vectorWords is-code (p / edgeCodes) within))))

@@ -15,7 +15,7 @@ use lib.Dec.{ltb}
 use Rattle.vectors.specs.Bits.{wordBits, Vector}
 use Rattle.lists.specs.ByPlace.{listOf}
 use Rattle.vectors.specs.Rotating.{WithinBits}
-use Rattle.vectors.specs.Holding.{edgeCodes, OccurrenceTable}
+use Rattle.vectors.specs.Holding.{edgeCodes, EdgeVectors, OccurrenceTable}
 
 -- How many words a vector held by value has.
 abbrev pub vectorWords : ℕ
@@ -56,7 +56,7 @@ grownWords m count occurs held = listOf vectorWords (grownWord m (min count vect
 
 -- The table of a ring's occurrence vectors: a vector of machine words for each edge code. If the ring has more edges than a vector has bits, only
 -- the first `vectorBits` edges count.
-pub record Occurrences (ring table : List ℕ) : Type 0 where
-  pub size : length table ≡ edgeCodes * vectorWords
-  pub words : Vector table
+pub record Occurrences (ring : List ℕ) (table : EdgeVectors) : Type 0 where
+  pub size : length (table .words) ≡ edgeCodes * vectorWords
+  pub words : Vector (table .words)
   pub each : OccurrenceTable (take vectorBits ring) vectorWords table

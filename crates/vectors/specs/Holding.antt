@@ -2,7 +2,8 @@
 -- with one occurrence vector of m bits per edge code, rotated at each edge". No definition here mentions a stretch; that bit r says whether the
 -- held stretch is the beginning of rotation r is proved in WindowLoop of crates/meaning.
 --     Occurs     the occurrence vector of an edge code
---     edgeCodes, vectorAt, OccurrenceTable     one for each code, 0 to 255, in one table
+--     edgeCodes, EdgeVectors, edgeVectors     one for each code, 0 to 255, in one table, as the lent array has them
+--     vectorAt, OccurrenceTable     a code's vector in the table; the table has each code's occurrence vector
 --     both, Both     AND, bit for bit
 --     grown, Grown     the held vector rotated, AND the read edge's occurrence vector
 use mathlib.Core.Path.{_≡_}
@@ -26,12 +27,20 @@ pub record Occurs (ring : List ℕ) (code : ℕ) (ws : List ℕ) : Type 0 where
 abbrev pub edgeCodes : ℕ
 edgeCodes = 256
 
+-- The occurrence vectors of a ring's edge codes, as the lent array has them.
+pub record EdgeVectors : Type 0 where
+  pub words : List ℕ
+
+-- The words of a lent array, as the vectors of all codes.
+abbrev pub edgeVectors : List ℕ → EdgeVectors
+edgeVectors words = record { words = words }
+
 -- The vector of `count` words that a table has for an edge code: its word w stands at code + 256·w. For a number above 255 no bit is set.
-unfoldable pub vectorAt : List ℕ → ℕ → ℕ → List ℕ
-vectorAt table code count = listOf count (λ w. cond (ltb code edgeCodes) (getD table (code + w * edgeCodes) 0) 0)
+unfoldable pub vectorAt : EdgeVectors → ℕ → ℕ → List ℕ
+vectorAt table code count = listOf count (λ w. cond (ltb code edgeCodes) (getD (table .words) (code + w * edgeCodes) 0) 0)
 
 -- "one occurrence vector of m bits per edge code": vectors of `count` words in one table.
-pub record OccurrenceTable (ring : List ℕ) (count : ℕ) (table : List ℕ) : Type 0 where
+pub record OccurrenceTable (ring : List ℕ) (count : ℕ) (table : EdgeVectors) : Type 0 where
   pub each : (code : ℕ) → Occurs ring code (vectorAt table code count)
 
 -- Two vectors joined by `&`, word by word.

@@ -7,7 +7,7 @@ use crate::widths::VECTOR_WORDS;
 use crate::widths::WORD_BITS;
 ghost use mathlib.Core.Path.{_≡_};
 ghost use Prim.Native.Nat.{_<_};
-ghost use Rattle.vectors.specs.Holding.{edgeCodes, vectorAt};
+ghost use Rattle.vectors.specs.Holding.{edgeCodes, edgeVectors, vectorAt};
 ghost use Rattle.vectors.specs.ByValue.{vectorWords, Occurrences};
 
 // An edge code as the place of its vector's first word.
@@ -20,7 +20,7 @@ fn code_index(code: u8) -> usize
 // Writes the table of a ring's occurrence vectors, whatever the table held before. If the ring has more edges than a
 // vector has bits, only the first 256 count.
 pub fn occurrences(ring: &[u8], table: &mut [u64; TABLE_WORDS])
-    ensures { λ _. ⌜ Occurrences (now (ring .entry)) (now (table .exit)) ⌝ }
+    ensures { λ _. ⌜ Occurrences (now (ring .entry)) (edgeVectors (now (table .exit))) ⌝ }
 {
     *table = [0u64; TABLE_WORDS];
     let mut r = 0;
@@ -33,7 +33,7 @@ pub fn occurrences(ring: &[u8], table: &mut [u64; TABLE_WORDS])
 
 // The occurrence vector of an edge code.
 pub fn vector_of(table: &[u64; TABLE_WORDS], code: u8) -> [u64; VECTOR_WORDS]
-    ensures { λ r. ⌜ r ≡ vectorAt (now (table .entry)) code vectorWords ⌝ }
+    ensures { λ r. ⌜ r ≡ vectorAt (edgeVectors (now (table .entry))) code vectorWords ⌝ }
 {
     let first = code_index(code);
     [

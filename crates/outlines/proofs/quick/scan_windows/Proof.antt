@@ -5,6 +5,7 @@ use mathlib.Core.Path.{_≡_, refl, ap}
 use native.Mathlib.Omega.{arith}
 use borrow.Author.Needs.{needs}
 use lib.ListN.{length}
+use Rattle.vectors.specs.Holding.{edgeVectors}
 use Rattle.windows.specs.Windows.{parts, wholeLength, IsWholeLength}
 use Rattle.windows.proofs.WindowEdges.{fits-whole, past-whole}
 use Rattle.sweep.specs.SweepRules.{stateOf, foundOf}
@@ -14,7 +15,7 @@ use Rattle.outlines.proofs.quick.scan_windows.Tie as tie
 
 abbrev Inv-loop : tie.InvT-loop
 Inv-loop cell ring-number ring doubled table line join k book counts₀ words₀ m n at₀ asked₀ counts words at asked =
-    (m ≡ length ring) × (IsWholeLength (length ring) (parts line join) n × QuickLoop cell ring-number ring doubled table (parts line join) k book counts₀ words₀ at asked counts words)
+    (m ≡ length ring) × (IsWholeLength (length ring) (parts line join) n × QuickLoop cell ring-number ring doubled (edgeVectors table) (parts line join) k book counts₀ words₀ at asked counts words)
 
 abbrev μ-loop : tie.MeasureT-loop
 μ-loop cell ring-number ring doubled table line join k book counts₀ words₀ m n at₀ asked₀ counts words at asked =

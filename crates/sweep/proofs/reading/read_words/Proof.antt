@@ -5,6 +5,7 @@ use native.Mathlib.Omega.{arith}
 use borrow.Author.Needs.{needs}
 use lib.ListN.{length}
 use Rattle.vectors.specs.Bits.{firstBits}
+use Rattle.vectors.specs.Holding.{edgeVectors}
 use Rattle.vectors.specs.ByValue.{vectorWords}
 use Rattle.sweep.proofs.ReadTurns.{StillToRead, to-read-all, to-read-none, to-read-stops, to-read-empties, to-read-grows}
 use Rattle.sweep.proofs.reading.read_words.Statement.{statement}
@@ -12,7 +13,7 @@ use Rattle.sweep.proofs.reading.read_words.Tie as tie
 
 abbrev Inv-loop : tie.InvT-loop
 Inv-loop window table k words m full held₀ left₀ breaks₀ looks₀ held left breaks looks =
-    (full ≡ firstBits (length window) vectorWords) × StillToRead table window k words held left breaks looks
+    (full ≡ firstBits (length window) vectorWords) × StillToRead (edgeVectors table) window k words held left breaks looks
 
 abbrev μ-loop : tie.MeasureT-loop
 μ-loop window table k words m full held₀ left₀ breaks₀ looks₀ held left breaks looks = left

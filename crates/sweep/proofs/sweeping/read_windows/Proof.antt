@@ -5,6 +5,7 @@ use native.Mathlib.Omega.{arith}
 use borrow.Author.Needs.{needs}
 use borrow.Author.Tests.{not-true, not-false}
 use lib.ListN.{length}
+use Rattle.vectors.specs.Holding.{edgeVectors}
 use Rattle.windows.specs.Windows.{parts, wholeLength}
 use Rattle.windows.proofs.WindowEdges.{none-is-past}
 use Rattle.sweep.proofs.WindowTurns.{StillWindows, windows-start, windows-end, windows-fit, windows-size, windows-next-le, windows-looks-le, windows-stop, windows-turn}
@@ -12,7 +13,7 @@ use Rattle.sweep.proofs.sweeping.read_windows.Statement.{statement}
 use Rattle.sweep.proofs.sweeping.read_windows.Tie as tie
 
 abbrev Inv-loop : tie.InvT-loop
-Inv-loop ring table line join k m from looks₀ i looks = StillWindows ring table (parts line join) k from i looks
+Inv-loop ring table line join k m from looks₀ i looks = StillWindows ring (edgeVectors table) (parts line join) k from i looks
 
 abbrev μ-loop : tie.MeasureT-loop
 μ-loop ring table line join k m from looks₀ i looks = wholeLength (length ring) line join + 1 - i

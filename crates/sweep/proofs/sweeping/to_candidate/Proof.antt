@@ -2,6 +2,7 @@
 use native.Mathlib.Omega.{arith}
 use borrow.Author.Needs.{needs}
 use borrow.Author.Tests.{not-true, not-false}
+use Rattle.vectors.specs.Holding.{edgeVectors}
 use Rattle.windows.specs.Windows.{parts}
 use Rattle.sweep.proofs.SweepWays.{sweep-looks-le, sweep-start-le, way-ended, sweep-all-looks-le, way-none, way-found}
 use Rattle.sweep.proofs.sweeping.to_candidate.Statement.{statement}
@@ -21,7 +22,7 @@ add-looks : tie.Need-add-looks
 add-looks c =
     let read = c .before .before .before in
     let start = at-entry read in
-    omega (arith, sweep-looks-le _ (start .args .table .now) (parts (start .args .line .now) (start .args .join .now)) (start .args .k) (start .args .at) (start .pre) _ (read .read-windows .ensures))
+    omega (arith, sweep-looks-le _ (edgeVectors (start .args .table .now)) (parts (start .args .line .now) (start .args .join .now)) (start .args .k) (start .args .at) (start .pre) _ (read .read-windows .ensures))
 
 -- No candidate.
 returns : tie.Need-returns
@@ -31,7 +32,7 @@ verify-requires : tie.Need-verify-requires
 verify-requires c κs =
     let read = at-read (c .before .before) in
     let start = at-entry read in
-    sweep-start-le _ (start .args .table .now) (parts (start .args .line .now) (start .args .join .now)) (start .args .k) (start .args .at) (start .pre) _ (read .read-windows .ensures)
+    sweep-start-le _ (edgeVectors (start .args .table .now)) (parts (start .args .line .now) (start .args .join .now)) (start .args .k) (start .args .at) (start .pre) _ (read .read-windows .ensures)
 
 add-finding-at : tie.Need-add-finding-at
 add-finding-at c =
