@@ -15,7 +15,8 @@ use sweep::sweep_on;
 use tally::DOUBLED;
 use tally::MOST_COUNTS;
 use tally::double;
-use vectors::TABLE_WORDS;
+use vectors::KEPT_WORDS;
+use vectors::SLOTS;
 use vectors::occurrences;
 use windows::whole_length;
 ghost use lib.ListN.{length};
@@ -39,7 +40,8 @@ fn scan_windows<'a>(
     ring_number: u16,
     ring: &[u8],
     doubled: &[u8],
-    table: &[u64; TABLE_WORDS],
+    slots: &[u8; SLOTS],
+    kept: &[u64; KEPT_WORDS],
     line: &'a [u8],
     join: &'a [u8],
     k: usize,
@@ -47,7 +49,7 @@ fn scan_windows<'a>(
     counts: &mut [u16; MOST_COUNTS],
     words: &mut [u32],
 ) -> LineCounts
-    requires { ⌜ CanScan (now ring) (now doubled) (edgeVectors (now table)) (parts (now line) (now join)) k (now book) (now counts) (now words) ⌝ }
+    requires { ⌜ CanScan (now ring) (now doubled) (edgeVectors (now slots) (now kept)) (parts (now line) (now join)) k (now book) (now counts) (now words) ⌝ }
     ensures { λ z. ⌜ LineScanned cell «ring_number» (now (ring .entry)) (wholeLine (length (now (ring .entry))) (parts (now (line .entry)) (now (join .entry)))) k (now (book .entry)) (now (words .entry)) (z .found) (z .hidden) (z .looks) (now (words .exit)) ⌝ }
 {
     let m = ring.len();
@@ -64,7 +66,7 @@ fn scan_windows<'a>(
         held,
     };
     while at.start.0 + m <= n {
-        match sweep_on(at, ring, doubled, table, line, join, k, counts) {
+        match sweep_on(at, ring, doubled, slots, kept, line, join, k, counts) {
             Swept::Ended(next) | Swept::NoFinding(next) => {
                 at = next;
             }
@@ -99,8 +101,9 @@ pub fn scan_line<'a>(
     requires { ⌜ CanScanLine (now ring) (parts (now line) (now join)) k (now book) (now words) ⌝ }
     ensures { λ z. ⌜ LineScanned cell «ring_number» (now (ring .entry)) (wholeLine (length (now (ring .entry))) (parts (now (line .entry)) (now (join .entry)))) k (now (book .entry)) (now (words .entry)) (z .found) (z .hidden) (z .looks) (now (words .exit)) ⌝ }
 {
-    let mut table = [0u64; TABLE_WORDS];
-    occurrences(ring, &mut table);
+    let mut slots = [0u8; SLOTS];
+    let mut kept = [0u64; KEPT_WORDS];
+    occurrences(ring, &mut slots, &mut kept);
     let mut doubled = [0u8; DOUBLED];
     double(ring, &mut doubled);
     let mut counts = [0u16; MOST_COUNTS];
@@ -109,7 +112,8 @@ pub fn scan_line<'a>(
         ring_number,
         ring,
         &doubled,
-        &table,
+        &slots,
+        &kept,
         line,
         join,
         k,

@@ -73,7 +73,7 @@ module _ (ring window : List ℕ) (table : EdgeVectors) (k : ℕ) (own : OwnVect
 
     grew : GrownByEdge m ring edge held new
     grew =
-        grown-by-edge m words edge ring table (vectorAt table edge vectorWords) held new long some-edge most refl (own .occurs) (h .vector) refl refl
+        grown-by-edge m words edge ring table (vectorAt table edge words) held new long some-edge most refl (own .occurs) (h .vector) refl refl
 
     grown-by : GrownBy ring (windowEdge window 0 left) (isSet held) (isSet new)
     unfolding GrownBy

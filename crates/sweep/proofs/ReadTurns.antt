@@ -32,7 +32,7 @@ module _ {table : EdgeVectors} {window : List ℕ} {k words : ℕ} {held : List 
   to-read-none none = rw none (rw none at (known .still))
 
   -- One edge is read, and the held vector grown by its occurrence vector.
-  module _ (some-left : 0 < left) {occurs new : List ℕ} (of-edge : occurs ≡ vectorAt table (getD window (left - 1) 0) vectorWords)
+  module _ (some-left : 0 < left) {occurs new : List ℕ} (of-edge : occurs ≡ vectorAt table (getD window (left - 1) 0) words)
       (is-grown : new ≡ grownWords (length window) words occurs held) where
     new-is : heldWith table window words (left - 1) held ≡ new
     new-is = sym (is-grown ∙ ap (λ (v : List ℕ). grownWords (length window) words v held) of-edge)

@@ -25,7 +25,7 @@ use Rattle.sweep.specs.declared.sweeping.WindowsRead.{WindowsRead}
 
 -- The held vector after the edge at place `left` of the window is read: `held` grown by the edge's occurrence vector.
 abbrev pub heldWith : EdgeVectors → List ℕ → ℕ → ℕ → List ℕ → List ℕ
-heldWith table window words left held = grownWords (length window) words (vectorAt table (getD window left 0) vectorWords) held
+heldWith table window words left held = grownWords (length window) words (vectorAt table (getD window left 0) words) held
 
 -- The result of reading the edges before place `left`, given the held vector, the breaks and the looks so far. Rule 2: "If the grown stretch doesn't fit the ring,
 -- that edge is a break: count one and empty the stretch." The grown vector has no bit at a break; for the empty stretch all m bits are set. Rule 3: "Stop at break

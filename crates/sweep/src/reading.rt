@@ -2,7 +2,8 @@
 // vector of one bit for each rotation: bit r is set exactly when the stretch is the beginning of rotation r (source
 // document 003).
 use findings::is_mark;
-use vectors::TABLE_WORDS;
+use vectors::KEPT_WORDS;
+use vectors::SLOTS;
 use vectors::first_bits;
 use vectors::grown;
 use vectors::no_bit;
@@ -34,8 +35,14 @@ fn stops_at(edge: u8, k: usize, breaks: usize) -> bool
 
 // Rules 1 to 3, with the held vector in its first `words` words. Whether reading stops is asked only where the grown vector
 // has no bit: the number of breaks changes nowhere else, and a mark fits nothing, because a ring holds none.
-fn read_words(window: &[u8], table: &[u64; TABLE_WORDS], k: usize, words: usize) -> WindowRead
-    ensures { λ z. ⌜ z ≡ readWith (edgeVectors (now (table .entry))) (now (window .entry)) k words ⌝ }
+fn read_words(
+    window: &[u8],
+    slots: &[u8; SLOTS],
+    kept: &[u64; KEPT_WORDS],
+    k: usize,
+    words: usize,
+) -> WindowRead
+    ensures { λ z. ⌜ z ≡ readWith (edgeVectors (now (slots .entry)) (now (kept .entry))) (now (window .entry)) k words ⌝ }
 {
     let m = window.len();
     let full = first_bits(m);
@@ -47,7 +54,7 @@ fn read_words(window: &[u8], table: &[u64; TABLE_WORDS], k: usize, words: usize)
         left -= 1;
         let edge = window[left];
         looks += 1; // one look
-        let next = grown(held, vector_of(table, edge), m, words);
+        let next = grown(held, vector_of(slots, kept, edge, words), m, words);
         if no_bit(next, words) {
             if stops_at(edge, k, breaks) {
                 return WindowRead {
@@ -71,19 +78,24 @@ fn read_words(window: &[u8], table: &[u64; TABLE_WORDS], k: usize, words: usize)
 
 // Reads the window with as few words as m bits need. Each call passes the number of words as a literal, so that the
 // compiler can make code of its own for each number.
-pub fn read_window(window: &[u8], table: &[u64; TABLE_WORDS], k: usize) -> WindowRead
+pub fn read_window(
+    window: &[u8],
+    slots: &[u8; SLOTS],
+    kept: &[u64; KEPT_WORDS],
+    k: usize,
+) -> WindowRead
     requires { ⌜ (0 < length (now window)) × (length (now window) ≤ mostCounts) ⌝ }
-    ensures { λ z. ⌜ z ≡ readBy (edgeVectors (now (table .entry))) (now (window .entry)) k ⌝ }
+    ensures { λ z. ⌜ z ≡ readBy (edgeVectors (now (slots .entry)) (now (kept .entry))) (now (window .entry)) k ⌝ }
 {
     let m = window.len();
     if m <= 64 {
-        return read_words(window, table, k, 1);
+        return read_words(window, slots, kept, k, 1);
     }
     if m <= 128 {
-        return read_words(window, table, k, 2);
+        return read_words(window, slots, kept, k, 2);
     }
     if m <= 192 {
-        return read_words(window, table, k, 3);
+        return read_words(window, slots, kept, k, 3);
     }
-    read_words(window, table, k, 4)
+    read_words(window, slots, kept, k, 4)
 }

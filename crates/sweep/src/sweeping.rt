@@ -8,7 +8,8 @@ use findings::Finding;
 use moves::MOST_PLACES;
 use tally::MOST_COUNTS;
 use tally::finding_at;
-use vectors::TABLE_WORDS;
+use vectors::KEPT_WORDS;
+use vectors::SLOTS;
 use windows::whole_length;
 use windows::window;
 ghost use mathlib.Core.Path.{_≡_};
@@ -52,14 +53,15 @@ pub struct WindowsRead {
 // start. Most windows are stopped after a few reads, so nothing else is done between them.
 fn read_windows<'a>(
     ring: &[u8],
-    table: &[u64; TABLE_WORDS],
+    slots: &[u8; SLOTS],
+    kept: &[u64; KEPT_WORDS],
     line: &'a [u8],
     join: &'a [u8],
     k: usize,
     from: LinePlace,
 ) -> WindowsRead
     requires { ⌜ CanReadWindows (length (now ring)) (wholeLength (length (now ring)) (now line) (now join)) (from .0) ⌝ }
-    ensures { λ z. ⌜ z ≡ windowsBy (now (ring .entry)) (edgeVectors (now (table .entry))) (parts (now (line .entry)) (now (join .entry))) k (from .0) ⌝ }
+    ensures { λ z. ⌜ z ≡ windowsBy (now (ring .entry)) (edgeVectors (now (slots .entry)) (now (kept .entry))) (parts (now (line .entry)) (now (join .entry))) k (from .0) ⌝ }
 {
     let m = ring.len();
     let mut i = from.0;
@@ -75,7 +77,7 @@ fn read_windows<'a>(
                 candidate: false,
             };
         }
-        let read = read_window(edges, table, k);
+        let read = read_window(edges, slots, kept, k);
         looks += read.looks;
         let next = i + read.left + 1;
         if !read.stopped {
@@ -95,17 +97,18 @@ fn to_candidate<'a>(
     at: Sweep,
     ring: &[u8],
     doubled: &[u8],
-    table: &[u64; TABLE_WORDS],
+    slots: &[u8; SLOTS],
+    kept: &[u64; KEPT_WORDS],
     line: &'a [u8],
     join: &'a [u8],
     k: usize,
     counts: &mut [u16; MOST_COUNTS],
 ) -> Swept
     requires { ⌜ CanSweep (length (now ring)) (wholeLength (length (now ring)) (now line) (now join)) (at .start .0) (at .looks) ⌝ }
-    ensures { λ r. ⌜ IsSweptTo (now (ring .entry)) (now (doubled .entry)) (edgeVectors (now (table .entry))) (parts (now (line .entry)) (now (join .entry))) k at (now (counts .entry)) (now (counts .exit)) r ⌝ }
+    ensures { λ r. ⌜ IsSweptTo (now (ring .entry)) (now (doubled .entry)) (edgeVectors (now (slots .entry)) (now (kept .entry))) (parts (now (line .entry)) (now (join .entry))) k at (now (counts .entry)) (now (counts .exit)) r ⌝ }
 {
     let last = at.last;
-    let read = read_windows(ring, table, line, join, k, at.start);
+    let read = read_windows(ring, slots, kept, line, join, k, at.start);
     let start = read.start;
     let looks = at.looks + read.looks;
     if !read.candidate {
@@ -150,17 +153,18 @@ pub fn sweep_on<'a>(
     at: Sweep,
     ring: &[u8],
     doubled: &[u8],
-    table: &[u64; TABLE_WORDS],
+    slots: &[u8; SLOTS],
+    kept: &[u64; KEPT_WORDS],
     line: &'a [u8],
     join: &'a [u8],
     k: usize,
     counts: &mut [u16; MOST_COUNTS],
 ) -> Swept
-    ensures { λ r. ⌜ IsSweptBy (now (ring .entry)) (now (doubled .entry)) (edgeVectors (now (table .entry))) (parts (now (line .entry)) (now (join .entry))) k at (now (counts .entry)) (now (counts .exit)) r ⌝ }
+    ensures { λ r. ⌜ IsSweptBy (now (ring .entry)) (now (doubled .entry)) (edgeVectors (now (slots .entry)) (now (kept .entry))) (parts (now (line .entry)) (now (join .entry))) k at (now (counts .entry)) (now (counts .exit)) r ⌝ }
 {
     let m = ring.len();
     if !can_sweep(m, whole_length(line, join, m), at.start, at.looks) {
         return Swept::Ended(at);
     }
-    to_candidate(at, ring, doubled, table, line, join, k, counts)
+    to_candidate(at, ring, doubled, slots, kept, line, join, k, counts)
 }

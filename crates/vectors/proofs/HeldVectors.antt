@@ -5,21 +5,24 @@ use mathlib.Core.Path.{_≡_, refl, _∙_}
 use mathlib.Core.Bool.{true, false, _&&_}
 use mathlib.Core.List.{List}
 use mathlib.Core.Logic.{_↔_}
-use Prim.Native.Nat.{ℕ, _+_, _%_, _≤_, _<_}
+use Prim.Native.Nat.{ℕ, _+_, _%_, _≤_, _<_, min}
 use native.Mathlib.Omega.{arith}
 use lib.ListN.{length, getD}
 use lib.Seq.{take-all}
-use lib.Dec.{eqb}
-use Rattle.vectors.specs.Bits.{wordCount, Vector, isSet, firstBits, noBit}
+use lib.Dec.{leb, eqb}
+use Rattle.lists.proofs.Cases.{by-test}
+use Rattle.vectors.specs.Bits.{wordBits, wordCount, Vector, isSet, firstBits, noBit}
 use Rattle.vectors.specs.Rotating.{WithinBits}
 use Rattle.vectors.specs.Holding.{EdgeVectors, vectorAt, Occurs, Grown}
+use Rattle.vectors.specs.Storing.{keptFor}
 use Rattle.vectors.specs.ByValue.{vectorWords, vectorBits, HeldVector, grownWords, Occurrences}
 use Rattle.vectors.proofs.FirstBitsAreSet.{first-bits-is, first-bits-length, first-bits-vector, first-bits-within}
 use Rattle.vectors.proofs.NoBitIsSet.{noBit-iff, noBit-no}
 use Rattle.vectors.proofs.HeldVectorGrows.{grown-within}
 use Rattle.vectors.proofs.GrownWords.{grown-words-length, grown-words-vector}
 use Rattle.vectors.proofs.GrownInFewestWords.{grown-words-is}
-use Rattle.vectors.proofs.PartOfTable.{part-vector}
+use Rattle.vectors.proofs.KeptWords.{kept-vector, whole-vector}
+use Rattle.vectors.proofs.VectorsRead.{read-vector}
 
 module _ (m : ℕ) (most : m ≤ vectorBits) where
   -- For m of at most 256, `first_bits` returns a vector of m bits.
@@ -53,13 +56,15 @@ module _ (m count : ℕ) (held : List ℕ) (few : count ≡ wordCount m) (is : H
   no-bit-no said = noBit-no m held (is .words) (is .within) (rw few at said)
 
 module _ (ring : List ℕ) (table : EdgeVectors) (code : ℕ) (is : Occurrences ring table) where
-  -- `vector_of` returns the code's occurrence vector, if the ring has at most as many edges as a vector has bits.
-  pub vector-occurs : length ring ≤ vectorBits → Occurs ring code (vectorAt table code vectorWords)
+  -- With the word count of m bits, `vector_of` returns the code's occurrence vector, if the ring has at most as many edges as a vector has bits.
+  pub vector-occurs : length ring ≤ vectorBits → Occurs ring code (vectorAt table code (wordCount (length ring)))
   vector-occurs most = rw (take-all vectorBits ring most) at (is .each .each code)
 
-  -- The words of what `vector_of` returns are machine words.
-  vector-words : Vector (vectorAt table code vectorWords)
-  vector-words = part-vector table code vectorWords (is .words)
+  -- The kept words are machine words.
+  kept-words : Vector (table .kept)
+  unfolding keptFor
+  kept-words = rw (is .kept-are) (by-test Vector (leb (length ring) wordBits)
+      (λ _. whole-vector ring (length ring)) (λ _. kept-vector ring (min (length ring) vectorBits)))
 
 -- One turn of the loop that reads a window: `new` is again a vector of m bits, and its bit r is set exactly when bit (r + 1) mod m of `held` was set and the
 -- ring has the edge code at place r.
@@ -70,11 +75,11 @@ pub record GrownByEdge (m : ℕ) (ring : List ℕ) (code : ℕ) (held new : List
 -- What `occurrences`, `vector_of` and `grown` return makes one turn of the loop that reads a window (`GrownByEdge`), for a ring of 1 to 256 edges and the fewest
 -- words that hold as many bits.
 pub grown-by-edge : (m count code : ℕ) (ring : List ℕ) (table : EdgeVectors) (occurs held new : List ℕ) → m ≡ length ring → 0 < m → m ≤ vectorBits → count ≡ wordCount m
-    → Occurrences ring table → HeldVector m held → occurs ≡ vectorAt table code vectorWords → new ≡ grownWords m count occurs held
+    → Occurrences ring table → HeldVector m held → occurs ≡ vectorAt table code count → new ≡ grownWords m count occurs held
     → GrownByEdge m ring code held new
 grown-by-edge m count code ring table occurs held new whole some most few of-ring is-held is-occurs is-new =
-    let words : Vector occurs = rw is-occurs (vector-words ring table code of-ring) in
-    let edge : Occurs ring code occurs = rw is-occurs (vector-occurs ring table code of-ring (omega arith)) in
+    let words : Vector occurs = rw is-occurs (read-vector table code count (kept-words ring table code of-ring)) in
+    let edge : Occurs ring code occurs = rw (is-occurs, few, whole) (vector-occurs ring table code of-ring (omega arith)) in
     let inside : WithinBits m occurs = record { rest = λ i h. edge .rest i (omega arith) } in
     let turn : Grown m occurs held new = rw is-new (grown-words-is m count occurs held some most few is-held words inside) in
     record {

@@ -1,64 +1,130 @@
--- The loop of `occurrences`, over a ring's first 256 places: it makes the table of occurrence vectors, four words each, from a table of zeros. Before turn r each
--- code's vector is right below r (`TableBelow`), and the table still has its length and machine words.
+-- The loops of `keep_whole` and `keep_parts`. Before turn r both arrays are as the ring's first r places make them. At the end they hold each code's occurrence vector.
 use mathlib.Core.Path.{_≡_, refl, sym, _∙_}
+use mathlib.Core.Bool.{Bool, cond}
 use mathlib.Core.List.{List}
 use mathlib.Core.Logic.{dite}
-use Prim.Native.Nat.{ℕ, _+_, _*_, _/_, _%_, _^_, _≤_, _<_}
-use native.Mathlib.Nat.{mod-lt}
-use native.Mathlib.Decide.{decLt}
+use Prim.Native.Nat.{ℕ, _+_, _*_, _/_, _%_, _≤_, _<_, min}
+use native.Mathlib.Decide.{decLt, ℕ-discrete}
 use native.Mathlib.Omega.{arith}
-use lib.ListN.{length, getD, set, take, replicate, length-take, length-set, length-replicate, getD-replicate, List·getD-eq-default}
+use lib.ListN.{length, getD, set, take, replicate, length-take}
 use lib.Seq.{getD-take}
-use lib.Bits.{or-lt}
-use lib.Pow.{pow-pos}
-use Rattle.vectors.specs.Bits.{wordBits, Vector, putWord}
-use Rattle.vectors.specs.Holding.{edgeCodes, edgeVectors}
-use Rattle.vectors.specs.ByValue.{vectorWords, vectorBits, Occurrences}
-use Rattle.vectors.proofs.VectorBits.{vector-set}
-use Rattle.vectors.proofs.EveryCodeOccurs.{TableBelow, table-below-start, table-below-turn, table-below-end}
+use lib.Dec.{leb, eqb}
+use borrow.Author.Tests.{le-leb, lt-leb, ne-eqb}
+use Rattle.vectors.specs.Bits.{wordBits, wordCount, isSet, putWord}
+use Rattle.vectors.specs.Holding.{Occurs, edgeCodes, lastPart, EdgeVectors, edgeVectors, wordAt, vectorAt, OccurrenceTable}
+use Rattle.vectors.specs.Storing.{keptCount, hasCode, noSlot, noSlots, slotOf, slotsOf, keptOf, wholeOf, slotsFor, keptFor}
+use Rattle.vectors.specs.ByValue.{vectorBits, Occurrences}
+use Rattle.vectors.proofs.PlacesOfCode.{has-code-below, has-code-past}
+use Rattle.vectors.proofs.SlotOfPart.{slot-own}
+use Rattle.vectors.proofs.KeptWords.{kept-at-first, whole-at-first, slots-at-first, whole-turn, kept-turn, slots-turn}
+use Rattle.vectors.proofs.VectorsRead.{no-code-bit, whole-bit, slot-there, parted-bit}
 
--- The invariant before turn r.
-pub record OccurrencesBelow (ring table : List ℕ) (r : ℕ) : Type 0 where
-  pub size : length table ≡ edgeCodes * vectorWords
-  pub words : Vector table
-  pub below : TableBelow (take vectorBits ring) vectorWords table r
+-- The first r numbers of a ring are edge codes.
+abbrev pub CodesBelow : List ℕ → ℕ → Type 0
+CodesBelow ring r = (q : ℕ) → q < r → getD ring q 0 < edgeCodes
 
--- In a list of zeros every word is 0.
-zeros-word : (n w : ℕ) → getD (replicate {A = ℕ} n 0) w 0 ≡ 0
-zeros-word n w = dite (decLt w n) (getD-replicate {A = ℕ} n w 0 0)
-    (λ past. List·getD-eq-default {A = ℕ} (replicate n 0) 0 {n = w} (omega (arith, past, length-replicate {A = ℕ} n 0)))
+-- One more is.
+codes-more : (ring : List ℕ) (r code : ℕ) → CodesBelow ring r → code ≡ getD ring r 0 → code < edgeCodes → CodesBelow ring (r + 1)
+codes-more ring r code known is is-code q h = dite (ℕ-discrete q r) (λ here. rw (here, sym is) is-code) (λ other. known q (omega (arith, other)))
 
--- A vector has a bit for each of the first 256 places.
-room : (ring : List ℕ) → length (take vectorBits ring) ≤ wordBits * vectorWords
-room ring = simp length-take (omega arith)
+-- If a bit of each code's vector is set exactly when its place has the code, the vectors are the occurrence vectors.
+table-of-bits : (ring : List ℕ) (table : EdgeVectors) (count : ℕ) → CodesBelow ring (min (length ring) vectorBits)
+    → ((code : ℕ) → code < edgeCodes → (q : ℕ) → isSet (vectorAt table code count) q ≡ hasCode ring (min (length ring) vectorBits) code q)
+    → OccurrenceTable (take vectorBits ring) count table
+table-of-bits ring table count codes bits =
+    let n : ℕ = min (length ring) vectorBits in
+    let size : length (take vectorBits ring) ≡ n = simp length-take (omega arith) in
+    record {
+      each = λ code. dite (decLt code edgeCodes)
+          (λ is-code. record {
+            each = λ q h. bits code is-code q ∙ (has-code-below ring n code q (omega arith) ∙ rw (getD-take vectorBits ring q 0 (omega arith)) refl);
+            rest = λ q h. bits code is-code q ∙ has-code-past ring n code q (omega arith);
+          })
+          (λ above. record {
+            each = λ q h. no-code-bit table code count q (omega (arith, above))
+                ∙ sym (rw (getD-take vectorBits ring q 0 (omega arith)) (ne-eqb (getD ring q 0) code (λ e. omega (arith, above, codes q (omega arith)))));
+            rest = λ q h. no-code-bit table code count q (omega (arith, above));
+          });
+    }
+
+-- Before turn r of `keep_whole`.
+pub record WholeBelow (ring slots kept : List ℕ) (r : ℕ) : Type 0 where
+  pub turn-le : r ≤ length ring
+  pub codes : CodesBelow ring r
+  pub slots-are : slots ≡ noSlots
+  pub kept-are : kept ≡ wholeOf ring r
+
+-- Before turn r of `keep_parts`.
+pub record PartsBelow (ring slots kept : List ℕ) (r : ℕ) : Type 0 where
+  pub turn-le : r ≤ min (length ring) vectorBits
+  pub codes : CodesBelow ring r
+  pub slots-are : slots ≡ slotsOf ring r
+  pub kept-are : kept ≡ keptOf ring r
 
 module _ (ring : List ℕ) where
-  -- The invariant holds before the first turn, with every word 0.
-  pub occurrences-start : OccurrencesBelow ring (replicate (edgeCodes * vectorWords) 0) 0
-  occurrences-start = record {
-    size = length-replicate {A = ℕ} (edgeCodes * vectorWords) 0;
-    words = record { word-lt = λ w. omega (arith, zeros-word (edgeCodes * vectorWords) w) };
-    below = table-below-start (take vectorBits ring) vectorWords (room ring) (replicate (edgeCodes * vectorWords) 0) (zeros-word (edgeCodes * vectorWords));
+  -- The invariant of `keep_whole` holds before the first turn.
+  pub whole-start : (slots : List ℕ) → slots ≡ noSlots → WholeBelow ring slots (replicate keptCount 0) 0
+  whole-start slots is = record { turn-le = omega arith; codes = λ q h. absurd (omega arith); slots-are = is; kept-are = whole-at-first ring }
+
+  -- Turn r puts bit r into the word of the code at place r.
+  pub whole-turned : (slots kept : List ℕ) (r code : ℕ) → length ring ≤ wordBits → WholeBelow ring slots kept r → r < length ring → code ≡ getD ring r 0 → code < edgeCodes
+      → WholeBelow ring slots (set kept code (putWord (getD kept code 0) r 1)) (r + 1)
+  whole-turned slots kept r code most known h is is-code = record {
+    turn-le = omega arith;
+    codes = codes-more ring r code (known .codes) is is-code;
+    slots-are = known .slots-are;
+    kept-are = rw (known .kept-are) (whole-turn ring r code (omega arith) (sym is) (omega arith));
   }
 
-  -- Turn r keeps the invariant by storing the word that holds bit r of the vector of the code at place r, with the bit put in.
-  pub occurrences-turn : (table : List ℕ) (r code at : ℕ) → OccurrencesBelow ring table r → r < length ring → r < vectorBits → code ≡ getD ring r 0
-      → code < edgeCodes → at ≡ code + r / wordBits * edgeCodes
-      → OccurrencesBelow ring (set table at (putWord (getD table at 0) (r % wordBits) 1)) (r + 1)
-  occurrences-turn table r code at known h counts is code-lt there =
-      let edge : getD (take vectorBits ring) r 0 ≡ code = getD-take vectorBits ring r 0 counts ∙ sym is in
+  -- At the end each code has its occurrence vector, of one word.
+  pub whole-end : (slots kept : List ℕ) (r : ℕ) → length ring ≤ wordBits → WholeBelow ring slots kept r → length ring ≤ r → Occurrences ring (edgeVectors slots kept)
+  unfolding slotsFor keptFor
+  whole-end slots kept r most known h =
+      let n : ℕ = length ring in
+      let all : r ≡ n = omega (arith, known .turn-le) in
+      let least : min n vectorBits ≡ n = omega arith in
+      let kept-all : kept ≡ wholeOf ring n = rw (sym all) (known .kept-are) in
       record {
-        size = length-set table at (putWord (getD table at 0) (r % wordBits) 1) ∙ known .size;
-        words = vector-set table at (putWord (getD table at 0) (r % wordBits) 1) (known .words)
-            (or-lt wordBits (getD table at 0) (1 * 2 ^ (r % wordBits) % 2 ^ wordBits) (known .words .word-lt at) (mod-lt (1 * 2 ^ (r % wordBits)) (pow-pos wordBits)));
-        below = table-below-turn (take vectorBits ring) vectorWords (room ring) table r at (known .below)
-            (simp length-take (omega arith)) (omega arith) (omega (arith, known .size)) (there ∙ rw (sym edge) refl);
+        each = table-of-bits ring (edgeVectors slots kept) (wordCount n) (λ q l. known .codes q (omega arith))
+            (λ code is-code q. rw least (whole-bit ring n (omega arith) (edgeVectors slots kept) code (wordCount n) is-code most kept-all (omega arith) q));
+        slots-are = rw (le-leb n wordBits most) (known .slots-are);
+        kept-are = rw (le-leb n wordBits most) kept-all;
       }
 
-  -- At the end the table is the table of the ring's occurrence vectors.
-  pub occurrences-end : (table : List ℕ) (r : ℕ) → OccurrencesBelow ring table r → length (take vectorBits ring) ≤ r → Occurrences ring (edgeVectors table)
-  occurrences-end table r known h = record {
-    size = known .size;
-    words = known .words;
-    each = table-below-end (take vectorBits ring) vectorWords (room ring) table r (known .below) h;
-  }
+  -- The invariant of `keep_parts` holds before the first turn.
+  pub parts-start : (slots : List ℕ) → slots ≡ noSlots → PartsBelow ring slots (replicate keptCount 0) 0
+  parts-start slots is =
+      record { turn-le = omega arith; codes = λ q h. absurd (omega arith); slots-are = is ∙ slots-at-first ring; kept-are = kept-at-first ring }
+
+  -- Turn r makes r the slot of its part and code if they have none, and puts bit r mod 64 into the word that the slot leads to.
+  pub parts-turned : (slots kept : List ℕ) (r code at slot word : ℕ) → PartsBelow ring slots kept r → r < length ring → r < vectorBits
+      → code ≡ getD ring r 0 → code < edgeCodes → at ≡ code + r / wordBits * edgeCodes
+      → slot ≡ cond (eqb (getD slots at 0) (noSlot (r / wordBits))) r (getD slots at 0) → word ≡ wordAt (r / wordBits) slot
+      → PartsBelow ring (set slots at slot) (set kept word (putWord (getD kept word 0) (r % wordBits) 1)) (r + 1)
+  parts-turned slots kept r code at slot word known h counts is is-code there slot-is word-is =
+      let w : ℕ = r / wordBits in
+      let old : getD slots at 0 ≡ slotOf ring r w code =
+      slot-there ring r (omega arith) (edgeVectors slots kept) code 2 is-code (known .slots-are) w at (omega arith) there in
+      let new : slot ≡ slotOf ring (r + 1) w code = slot-is ∙ rw old (sym (slot-own ring r w code refl (sym is) (omega arith))) in
+      record {
+        turn-le = omega arith;
+        codes = codes-more ring r code (known .codes) is is-code;
+        slots-are = rw (known .slots-are) (slots-turn ring r w code refl (sym is) (omega arith) is-code at slot there new);
+        kept-are = rw (known .kept-are) (kept-turn ring r w code refl (sym is) (omega arith) word (word-is ∙ rw new refl));
+      }
+
+  -- At the end each code has its occurrence vector, of several words.
+  pub parts-end : (slots kept : List ℕ) (r : ℕ) → wordBits < length ring → PartsBelow ring slots kept r → min (length ring) vectorBits ≤ r
+      → Occurrences ring (edgeVectors slots kept)
+  unfolding slotsFor keptFor
+  parts-end slots kept r many known h =
+      let n : ℕ = min (length ring) vectorBits in
+      let all : r ≡ n = omega (arith, known .turn-le) in
+      let slots-all : slots ≡ slotsOf ring n = rw (sym all) (known .slots-are) in
+      let kept-all : kept ≡ keptOf ring n = rw (sym all) (known .kept-are) in
+      record {
+        each = table-of-bits ring (edgeVectors slots kept) (wordCount (length ring)) (λ q l. known .codes q (omega arith))
+            (λ code is-code q. parted-bit ring n (omega arith) (edgeVectors slots kept) code (wordCount (length ring)) is-code slots-all kept-all (omega arith) q);
+        slots-are = rw (lt-leb (length ring) wordBits many) slots-all;
+        kept-are = rw (lt-leb (length ring) wordBits many) kept-all;
+      }

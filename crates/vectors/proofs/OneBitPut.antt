@@ -16,11 +16,11 @@ use Rattle.vectors.proofs.VectorBits.{isSet-word, isSet-set-same, isSet
 
 module _ (x j b : ℕ) (bit-b : b < 2) where
   -- In the word, bit j is set if it was or if b is 1.
-  put-word-there : j < wordBits → eqb (bit (putWord x j b) j) 1 ≡ (eqb (bit x j) 1 || eqb b 1)
+  pub put-word-there : j < wordBits → eqb (bit (putWord x j b) j) 1 ≡ (eqb (bit x j) 1 || eqb b 1)
   put-word-there h = test-or x (b * 2 ^ j % 2 ^ wordBits) j ∙ rw (bit-mod (b * 2 ^ j) j wordBits h, bit-lone-there b j bit-b) refl
 
   -- In the word, every other bit is as it was.
-  put-word-else : (l : ℕ) → l < wordBits → (l ≡ j → ⊥) → eqb (bit (putWord x j b) l) 1 ≡ eqb (bit x l) 1
+  pub put-word-else : (l : ℕ) → l < wordBits → (l ≡ j → ⊥) → eqb (bit (putWord x j b) l) 1 ≡ eqb (bit x l) 1
   put-word-else l h other =
       test-or x (b * 2 ^ j % 2 ^ wordBits) l ∙ rw (bit-mod (b * 2 ^ j) l wordBits h, bit-lone-else b j l bit-b other) (or-false (eqb (bit x l) 1))
 

@@ -3,7 +3,7 @@
 -- occurrence vector of m bits, the results mean what `Bits` and `Holding` say; proofs/HeldVectors has the laws.
 --     vectorWords, vectorBits     a vector's words and bits            HeldVector     a vector of m bits held by value
 --     lastBitPlace, carryInto, grownWord, grownWords     the held vector grown by one edge, word by word
---     Occurrences     the occurrence vectors of a ring's edge codes, in one table
+--     Occurrences     the occurrence vectors of a ring's edge codes
 -- `first_bits` returns `firstBits` and `no_bit` returns `noBit`, both of `Bits`; `vector_of` returns `vectorAt` of `Holding`.
 use mathlib.Core.Path.{_≡_}
 use mathlib.Core.Bool.{cond}
@@ -12,10 +12,11 @@ use Prim.Native.Nat.{ℕ, _+_, _-_, _*_, _/_, _%_, _^_, min}
 use lib.ListN.{length, getD, take}
 use lib.Bits.{bitAnd, bitOr}
 use lib.Dec.{ltb}
-use Rattle.vectors.specs.Bits.{wordBits, Vector}
+use Rattle.vectors.specs.Bits.{wordBits, wordCount, Vector}
 use Rattle.lists.specs.ByPlace.{listOf}
 use Rattle.vectors.specs.Rotating.{WithinBits}
-use Rattle.vectors.specs.Holding.{edgeCodes, EdgeVectors, OccurrenceTable}
+use Rattle.vectors.specs.Holding.{EdgeVectors, OccurrenceTable}
+use Rattle.vectors.specs.Storing.{slotsFor, keptFor}
 
 -- How many words a vector held by value has.
 abbrev pub vectorWords : ℕ
@@ -54,9 +55,9 @@ grownWord m count occurs held w =
 unfoldable pub grownWords : ℕ → ℕ → List ℕ → List ℕ → List ℕ
 grownWords m count occurs held = listOf vectorWords (grownWord m (min count vectorWords) occurs held)
 
--- The table of a ring's occurrence vectors: a vector of machine words for each edge code. If the ring has more edges than a vector has bits, only
--- the first `vectorBits` edges count.
+-- The occurrence vectors of a ring: one for each edge code, and what exactly the two arrays hold. If the ring has more edges than a vector has bits, only the
+-- first `vectorBits` edges count.
 pub record Occurrences (ring : List ℕ) (table : EdgeVectors) : Type 0 where
-  pub size : length (table .words) ≡ edgeCodes * vectorWords
-  pub words : Vector (table .words)
-  pub each : OccurrenceTable (take vectorBits ring) vectorWords table
+  pub each : OccurrenceTable (take vectorBits ring) (wordCount (length ring)) table
+  pub slots-are : table .slots ≡ slotsFor ring
+  pub kept-are : table .kept ≡ keptFor ring

@@ -2,18 +2,19 @@
 -- with one occurrence vector of m bits per edge code, rotated at each edge". No definition here mentions a stretch; that bit r says whether the
 -- held stretch is the beginning of rotation r is proved in WindowLoop of crates/meaning.
 --     Occurs     the occurrence vector of an edge code
---     edgeCodes, EdgeVectors, edgeVectors     one for each code, 0 to 255, in one table, as the lent array has them
---     vectorAt, OccurrenceTable     a code's vector in the table; the table has each code's occurrence vector
+--     edgeCodes, lastPart     the number of edge codes; the last part of a ring's places
+--     EdgeVectors, edgeVectors, emptyWord, wordAt, wholeWord, partedWord, wordOf     how the vectors of all codes are stored: slots and kept words
+--     vectorAt, OccurrenceTable     the vector of a code; one for each code, 0 to 255
 --     both, Both     AND, bit for bit
 --     grown, Grown     the held vector rotated, AND the read edge's occurrence vector
 use mathlib.Core.Path.{_≡_}
 use mathlib.Core.Bool.{false, cond, _&&_}
 use mathlib.Core.List.{List}
-use Prim.Native.Nat.{ℕ, _+_, _*_, _%_, _≤_, _<_}
+use Prim.Native.Nat.{ℕ, suc, _+_, _*_, _%_, _≤_, _<_}
 use lib.ListN.{length, getD}
 use lib.Bits.{bitAnd}
-use lib.Dec.{ltb, eqb}
-use Rattle.vectors.specs.Bits.{isSet}
+use lib.Dec.{ltb, leb, eqb}
+use Rattle.vectors.specs.Bits.{wordBits, isSet}
 use Rattle.lists.specs.ByPlace.{listOf}
 use Rattle.vectors.specs.Rotating.{rotated}
 
@@ -27,19 +28,48 @@ pub record Occurs (ring : List ℕ) (code : ℕ) (ws : List ℕ) : Type 0 where
 abbrev pub edgeCodes : ℕ
 edgeCodes = 256
 
--- The occurrence vectors of a ring's edge codes, as the lent array has them.
+-- The number of the last part. A ring's places fall into parts of 64, one for each word of a vector: part w has the places 64·w to 64·w + 63.
+abbrev pub lastPart : ℕ
+lastPart = 3
+
+-- The occurrence vectors of a ring's edge codes, as two lent arrays hold them. "Hold vectors only for codes that occur in the ring" (document 02, ticket 5): of
+-- vectors with several words only the words that have a bit are kept, and a slot for each part and code leads to the kept word.
 pub record EdgeVectors : Type 0 where
-  pub words : List ℕ
+  pub slots : List ℕ
+  pub kept : List ℕ
 
--- The words of a lent array, as the vectors of all codes.
-abbrev pub edgeVectors : List ℕ → EdgeVectors
-edgeVectors words = record { words = words }
+-- Two lists, as the slots and the kept words.
+abbrev pub edgeVectors : List ℕ → List ℕ → EdgeVectors
+edgeVectors slots kept = record { slots = slots; kept = kept }
 
--- The vector of `count` words that a table has for an edge code: its word w stands at code + 256·w. For a number above 255 no bit is set.
+-- The place of the word that is always 0: behind the words of all parts but the last.
+abbrev pub emptyWord : ℕ
+emptyWord = wordBits * lastPart
+
+-- Where the word of part w with this slot is kept: at the slot; in the last part one further on, past the empty word.
+unfoldable pub wordAt : ℕ → ℕ → ℕ
+wordAt w slot = cond (ltb w lastPart) slot (slot + 1)
+
+-- The word of an edge code in part w, where vectors have one word: it is kept by code.
+unfoldable pub wholeWord : EdgeVectors → ℕ → ℕ → ℕ
+wholeWord table code w = cond (eqb w 0) (getD (table .kept) code 0) 0
+
+-- The word of an edge code in part w, where vectors have several words: the slot of code and part, which stands at code + 256·w, leads to it.
+unfoldable pub partedWord : EdgeVectors → ℕ → ℕ → ℕ
+partedWord table code w = getD (table .kept) (wordAt w (getD (table .slots) (code + w * edgeCodes) 0)) 0
+
+-- The word of an edge code in part w, where vectors have `count` words.
+unfoldable pub wordOf : EdgeVectors → ℕ → ℕ → ℕ → ℕ
+wordOf table code count w =
+    let whole : ℕ = wholeWord table code w in
+    let parted : ℕ = partedWord table code w in
+    cond (leb count 1) whole parted
+
+-- The vector of an edge code, where vectors have `count` words. For a number above 255 no bit is set.
 unfoldable pub vectorAt : EdgeVectors → ℕ → ℕ → List ℕ
-vectorAt table code count = listOf count (λ w. cond (ltb code edgeCodes) (getD (table .words) (code + w * edgeCodes) 0) 0)
+vectorAt table code count = listOf (suc lastPart) (λ w. cond (ltb code edgeCodes) (wordOf table code count w) 0)
 
--- "one occurrence vector of m bits per edge code": vectors of `count` words in one table.
+-- "one occurrence vector of m bits per edge code", where vectors have `count` words.
 pub record OccurrenceTable (ring : List ℕ) (count : ℕ) (table : EdgeVectors) : Type 0 where
   pub each : (code : ℕ) → Occurs ring code (vectorAt table code count)
 

@@ -11,4 +11,5 @@ pub use held::grown;
 pub use held::no_bit;
 pub use table::occurrences;
 pub use table::vector_of;
-pub use widths::TABLE_WORDS;
+pub use widths::KEPT_WORDS;
+pub use widths::SLOTS;

@@ -1,45 +1,146 @@
-// The occurrence vectors of a ring's edge codes, in one table: the first words of all codes by rising code, then all second
-// words, and so on. So a ring of at most 64 edges uses only the first quarter of the table.
+// The occurrence vectors of a ring's edge codes. Of a vector only the words that have a bit are kept: each ring place sets
+// one bit of one word, so there are at most 256 of them, whatever the ring. A slot, one byte for each code and part of 64
+// places, leads to the kept word. Together they take 3,080 bytes; all words of all 256 codes would take 8,192.
 use crate::widths::EDGE_CODES;
-use crate::widths::TABLE_WORDS;
+use crate::widths::KEPT_WORDS;
+use crate::widths::LAST_PART;
+use crate::widths::SLOTS;
 use crate::widths::VECTOR_BITS;
 use crate::widths::VECTOR_WORDS;
 use crate::widths::WORD_BITS;
 ghost use mathlib.Core.Path.{_≡_};
-ghost use Prim.Native.Nat.{_<_};
-ghost use Rattle.vectors.specs.Holding.{edgeCodes, edgeVectors, vectorAt};
-ghost use Rattle.vectors.specs.ByValue.{vectorWords, Occurrences};
+ghost use mathlib.Core.Bool.{cond};
+ghost use Prim.Native.Nat.{_≤_, _<_};
+ghost use lib.Dec.{eqb};
+ghost use lib.ListN.{length};
+ghost use Rattle.vectors.specs.Bits.{wordBits};
+ghost use Rattle.vectors.specs.Holding.{edgeCodes, edgeVectors, wordAt, partedWord, vectorAt};
+ghost use Rattle.vectors.specs.Storing.{noSlot, keptCount, noSlots};
+ghost use Rattle.vectors.specs.ByValue.{vectorWords, vectorBits, Occurrences};
 
-// An edge code as the place of its vector's first word.
-fn code_index(code: u8) -> usize
-    ensures { λ r. ⌜ (r ≡ code) × (r < edgeCodes) ⌝ }
+// The place of the word that is always 0, and the slot of a code that a part lacks.
+const EMPTY: u8 = 192;
+
+// That slot in the last part, whose words are kept one place further on: its place 192 has a word of its own.
+const EMPTY_IN_LAST: u8 = 191;
+
+// A byte as an index: an edge code or a slot.
+fn byte_index(byte: u8) -> usize
+    ensures { λ r. ⌜ (r ≡ byte) × (r < edgeCodes) ⌝ }
 {
-    code as usize
+    byte as usize
 }
 
-// Writes the table of a ring's occurrence vectors, whatever the table held before. If the ring has more edges than a
-// vector has bits, only the first 256 count.
-pub fn occurrences(ring: &[u8], table: &mut [u64; TABLE_WORDS])
-    ensures { λ _. ⌜ Occurrences (now (ring .entry)) (edgeVectors (now (table .exit))) ⌝ }
+// The slot of a code that a part lacks. It is no place of the part.
+fn no_slot(part: usize) -> u8
+    ensures { λ r. ⌜ r ≡ noSlot part ⌝ }
 {
-    *table = [0u64; TABLE_WORDS];
+    if part < LAST_PART {
+        EMPTY
+    } else {
+        EMPTY_IN_LAST
+    }
+}
+
+// Where the word of a part with this slot is kept.
+fn word_at(part: usize, slot: u8) -> usize
+    ensures { λ r. ⌜ (r ≡ wordAt part slot) × (r < keptCount) ⌝ }
+{
+    let at = byte_index(slot);
+    if part < LAST_PART { at } else { at + 1 }
+}
+
+// The slot of a code in a part once place r has it: the slot that it has, or r if it has none.
+fn slot_from(slot: u8, part: usize, r: usize) -> u8
+    requires { ⌜ r < vectorBits ⌝ }
+    ensures { λ s. ⌜ s ≡ cond (eqb slot (noSlot part)) r slot ⌝ }
+{
+    if slot == no_slot(part) { r as u8 } else { slot }
+}
+
+// Every part lacks every code.
+fn clear_slots(slots: &mut [u8; SLOTS])
+    ensures { λ _. ⌜ now (slots .exit) ≡ noSlots ⌝ }
+{
+    *slots = [EMPTY; SLOTS];
+    let mut at = LAST_PART * EDGE_CODES;
+    while at < SLOTS {
+        slots[at] = EMPTY_IN_LAST;
+        at += 1;
+    }
+}
+
+// The vectors of a ring of at most 64 edges have one word each. They are kept by code, so that reading one needs no slot.
+fn keep_whole(ring: &[u8], slots: &mut [u8; SLOTS], kept: &mut [u64; KEPT_WORDS])
+    requires { ⌜ length (now ring) ≤ wordBits ⌝ }
+    ensures { λ _. ⌜ Occurrences (now (ring .entry)) (edgeVectors (now (slots .exit)) (now (kept .exit))) ⌝ }
+{
+    clear_slots(slots);
+    *kept = [0u64; KEPT_WORDS];
     let mut r = 0;
-    while r < ring.len() && r < VECTOR_BITS {
-        let at = code_index(ring[r]) + r / WORD_BITS * EDGE_CODES;
-        table[at] = table[at] | (1u64 << (r % WORD_BITS));
+    while r < ring.len() {
+        let word = byte_index(ring[r]);
+        kept[word] = kept[word] | (1u64 << r);
         r += 1;
     }
 }
 
-// The occurrence vector of an edge code.
-pub fn vector_of(table: &[u64; TABLE_WORDS], code: u8) -> [u64; VECTOR_WORDS]
-    ensures { λ r. ⌜ r ≡ vectorAt (edgeVectors (now (table .entry))) code vectorWords ⌝ }
+// Of the vectors of a longer ring the words that have a bit are kept.
+fn keep_parts(ring: &[u8], slots: &mut [u8; SLOTS], kept: &mut [u64; KEPT_WORDS])
+    requires { ⌜ wordBits < length (now ring) ⌝ }
+    ensures { λ _. ⌜ Occurrences (now (ring .entry)) (edgeVectors (now (slots .exit)) (now (kept .exit))) ⌝ }
 {
-    let first = code_index(code);
+    clear_slots(slots);
+    *kept = [0u64; KEPT_WORDS];
+    let mut r = 0;
+    while r < ring.len() && r < VECTOR_BITS {
+        let part = r / WORD_BITS;
+        let at = byte_index(ring[r]) + part * EDGE_CODES;
+        let slot = slot_from(slots[at], part, r);
+        slots[at] = slot;
+        let word = word_at(part, slot);
+        kept[word] = kept[word] | (1u64 << (r % WORD_BITS));
+        r += 1;
+    }
+}
+
+// Writes the slots and the kept words of a ring, whatever the two arrays held before. If the ring has more edges than a
+// vector has bits, only the first 256 count.
+pub fn occurrences(ring: &[u8], slots: &mut [u8; SLOTS], kept: &mut [u64; KEPT_WORDS])
+    ensures { λ _. ⌜ Occurrences (now (ring .entry)) (edgeVectors (now (slots .exit)) (now (kept .exit))) ⌝ }
+{
+    if ring.len() <= WORD_BITS {
+        keep_whole(ring, slots, kept);
+    } else {
+        keep_parts(ring, slots, kept);
+    }
+}
+
+// The word of an edge code in a part, of vectors with several words. Every byte is a valid slot, so nothing is tested.
+fn word_of(slots: &[u8; SLOTS], kept: &[u64; KEPT_WORDS], code: u8, part: usize) -> u64
+    requires { ⌜ part < vectorWords ⌝ }
+    ensures { λ r. ⌜ r ≡ partedWord (edgeVectors (now (slots .entry)) (now (kept .entry))) code part ⌝ }
+{
+    let slot = slots[byte_index(code) + part * EDGE_CODES];
+    kept[word_at(part, slot)]
+}
+
+// The occurrence vector of an edge code, for a ring whose vectors have `count` words.
+pub fn vector_of(
+    slots: &[u8; SLOTS],
+    kept: &[u64; KEPT_WORDS],
+    code: u8,
+    count: usize,
+) -> [u64; VECTOR_WORDS]
+    ensures { λ r. ⌜ r ≡ vectorAt (edgeVectors (now (slots .entry)) (now (kept .entry))) code count ⌝ }
+{
+    if count <= 1 {
+        return [kept[byte_index(code)], 0, 0, 0];
+    }
     [
-        table[first],
-        table[first + EDGE_CODES],
-        table[first + 2 * EDGE_CODES],
-        table[first + 3 * EDGE_CODES],
+        word_of(slots, kept, code, 0),
+        word_of(slots, kept, code, 1),
+        word_of(slots, kept, code, 2),
+        word_of(slots, kept, code, 3),
     ]
 }

@@ -11,5 +11,11 @@ pub const VECTOR_BITS: usize = 256;
 // for an accepted ring.)
 pub const EDGE_CODES: usize = 256;
 
-// How many words a table has: VECTOR_WORDS for each of EDGE_CODES codes.
-pub const TABLE_WORDS: usize = 1024;
+// The last of the parts of 64 ring places, one for each word of a vector.
+pub const LAST_PART: usize = 3;
+
+// How many slots there are: one for each of EDGE_CODES codes in each of VECTOR_WORDS parts.
+pub const SLOTS: usize = 1024;
+
+// How many words are kept at most: one for each of VECTOR_BITS ring places, and the empty word.
+pub const KEPT_WORDS: usize = 257;

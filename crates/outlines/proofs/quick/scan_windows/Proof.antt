@@ -14,11 +14,11 @@ use Rattle.outlines.proofs.quick.scan_windows.Statement.{statement}
 use Rattle.outlines.proofs.quick.scan_windows.Tie as tie
 
 abbrev Inv-loop : tie.InvT-loop
-Inv-loop cell ring-number ring doubled table line join k book counts₀ words₀ m n at₀ asked₀ counts words at asked =
-    (m ≡ length ring) × (IsWholeLength (length ring) (parts line join) n × QuickLoop cell ring-number ring doubled (edgeVectors table) (parts line join) k book counts₀ words₀ at asked counts words)
+Inv-loop cell ring-number ring doubled slots kept line join k book counts₀ words₀ m n at₀ asked₀ counts words at asked =
+    (m ≡ length ring) × (IsWholeLength (length ring) (parts line join) n × QuickLoop cell ring-number ring doubled (edgeVectors slots kept) (parts line join) k book counts₀ words₀ at asked counts words)
 
 abbrev μ-loop : tie.MeasureT-loop
-μ-loop cell ring-number ring doubled table line join k book counts₀ words₀ m n at₀ asked₀ counts words at asked =
+μ-loop cell ring-number ring doubled slots kept line join k book counts₀ words₀ m n at₀ asked₀ counts words at asked =
     wholeLength (length ring) line join + 1 - at .start .0
 
 whole-length-requires : tie.Need-whole-length-requires Inv-loop μ-loop

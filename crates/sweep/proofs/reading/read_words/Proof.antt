@@ -12,11 +12,11 @@ use Rattle.sweep.proofs.reading.read_words.Statement.{statement}
 use Rattle.sweep.proofs.reading.read_words.Tie as tie
 
 abbrev Inv-loop : tie.InvT-loop
-Inv-loop window table k words m full held₀ left₀ breaks₀ looks₀ held left breaks looks =
-    (full ≡ firstBits (length window) vectorWords) × StillToRead (edgeVectors table) window k words held left breaks looks
+Inv-loop window slots kept k words m full held₀ left₀ breaks₀ looks₀ held left breaks looks =
+    (full ≡ firstBits (length window) vectorWords) × StillToRead (edgeVectors slots kept) window k words held left breaks looks
 
 abbrev μ-loop : tie.MeasureT-loop
-μ-loop window table k words m full held₀ left₀ breaks₀ looks₀ held left breaks looks = left
+μ-loop window slots kept k words m full held₀ left₀ breaks₀ looks₀ held left breaks looks = left
 
 first-bits-requires : tie.Need-first-bits-requires Inv-loop μ-loop
 first-bits-requires c κs = search needs

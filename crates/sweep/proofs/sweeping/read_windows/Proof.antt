@@ -13,10 +13,10 @@ use Rattle.sweep.proofs.sweeping.read_windows.Statement.{statement}
 use Rattle.sweep.proofs.sweeping.read_windows.Tie as tie
 
 abbrev Inv-loop : tie.InvT-loop
-Inv-loop ring table line join k m from looks₀ i looks = StillWindows ring (edgeVectors table) (parts line join) k from i looks
+Inv-loop ring slots kept line join k m from looks₀ i looks = StillWindows ring (edgeVectors slots kept) (parts line join) k from i looks
 
 abbrev μ-loop : tie.MeasureT-loop
-μ-loop ring table line join k m from looks₀ i looks = wholeLength (length ring) line join + 1 - i
+μ-loop ring slots kept line join k m from looks₀ i looks = wholeLength (length ring) line join + 1 - i
 
 loop-holds : tie.Need-loop-holds Inv-loop μ-loop
 loop-holds c = windows-start (c .before .before .before .pre)

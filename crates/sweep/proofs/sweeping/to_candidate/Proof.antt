@@ -22,7 +22,7 @@ add-looks : tie.Need-add-looks
 add-looks c =
     let read = c .before .before .before in
     let start = at-entry read in
-    omega (arith, sweep-looks-le _ (edgeVectors (start .args .table .now)) (parts (start .args .line .now) (start .args .join .now)) (start .args .k) (start .args .at) (start .pre) _ (read .read-windows .ensures))
+    omega (arith, sweep-looks-le _ (edgeVectors (start .args .slots .now) (start .args .kept .now)) (parts (start .args .line .now) (start .args .join .now)) (start .args .k) (start .args .at) (start .pre) _ (read .read-windows .ensures))
 
 -- No candidate.
 returns : tie.Need-returns
@@ -32,7 +32,7 @@ verify-requires : tie.Need-verify-requires
 verify-requires c κs =
     let read = at-read (c .before .before) in
     let start = at-entry read in
-    sweep-start-le _ (edgeVectors (start .args .table .now)) (parts (start .args .line .now) (start .args .join .now)) (start .args .k) (start .args .at) (start .pre) _ (read .read-windows .ensures)
+    sweep-start-le _ (edgeVectors (start .args .slots .now) (start .args .kept .now)) (parts (start .args .line .now) (start .args .join .now)) (start .args .k) (start .args .at) (start .pre) _ (read .read-windows .ensures)
 
 add-finding-at : tie.Need-add-finding-at
 add-finding-at c =

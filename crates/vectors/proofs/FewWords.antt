@@ -1,0 +1,88 @@
+-- At most m words of a ring of m edges are not 0, and the word of a part and a code is 0 exactly when no place of the part has the code. Each ring place changes one
+-- word, so it makes at most one more that is not 0.
+use mathlib.Core.Path.{_≡_, refl, sym, _∙_}
+use mathlib.Core.Bool.{cond}
+use mathlib.Core.List.{List, [], _∷_}
+use mathlib.Core.Logic.{dite}
+use Prim.Native.Nat.{ℕ, zero, suc, _+_, _*_, _/_, _%_, _≤_, _<_, min}
+use native.Mathlib.Decide.{decLt}
+use native.Mathlib.Numerals.{add-one}
+use native.Mathlib.Omega.{arith}
+use lib.ListN.{length, getD, set, replicate}
+use lib.Dec.{leb, eqb}
+use borrow.Author.Tests.{leb-true, le-leb, lt-leb, eq-eqb}
+use Rattle.lists.proofs.Cases.{by-test, not-passed}
+use Rattle.vectors.specs.Bits.{wordBits, wordCount, putWord}
+use Rattle.vectors.specs.Holding.{edgeCodes, lastPart, EdgeVectors, wordAt, wordOf}
+use Rattle.vectors.specs.Storing.{keptCount, hasCode, slotOf, partWord, slotsOf, keptOf, wholeOf, slotsFor, keptFor, notZero}
+use Rattle.vectors.specs.ByValue.{vectorBits, Occurrences}
+use Rattle.vectors.proofs.PlacesOfCode.{has-code-is, has-code-below}
+use Rattle.vectors.proofs.WordOfPart.{part-none, part-some}
+use Rattle.vectors.proofs.KeptWords.{kept-at-first, whole-at-first, whole-turn, whole-stays, kept-turn}
+use Rattle.vectors.proofs.VectorsRead.{whole-read, parted-read}
+
+-- One word counts at most once.
+one-at-most : (x : ℕ) → cond (eqb x 0) 0 1 ≤ 1
+one-at-most x = by-test (λ (n : ℕ). n ≤ 1) (eqb x 0) (λ _. omega arith) (λ _. omega arith)
+
+-- A word stored makes at most one word more that is not 0.
+not-zero-set : (xs : List ℕ) (i x : ℕ) → notZero (set xs i x) ≤ notZero xs + 1
+unfolding notZero
+not-zero-set [] i x = omega arith
+not-zero-set (y ∷ ys) zero x = omega (arith, one-at-most x)
+not-zero-set (y ∷ ys) (suc i) x = omega (arith, not-zero-set ys i x)
+
+-- In a list of zeros no word counts.
+not-zero-zeros : (n : ℕ) → notZero (replicate n 0) ≡ 0
+unfolding notZero
+not-zero-zeros zero = refl
+not-zero-zeros (suc n) = omega (arith, not-zero-zeros n)
+
+-- The first n places of a ring, at most 256, make at most n words.
+few-kept : (ring : List ℕ) (n : ℕ) → n ≤ vectorBits → notZero (keptOf ring n) ≤ n
+few-kept ring zero h = rw (sym (kept-at-first ring)) (omega (arith, not-zero-zeros keptCount))
+few-kept ring (suc n) h =
+    let at : ℕ = wordAt (n / wordBits) (slotOf ring (n + 1) (n / wordBits) (getD ring n 0)) in
+    let word : ℕ = putWord (getD (keptOf ring n) at 0) (n % wordBits) 1 in
+    rw (sym (add-one n)) (rw (sym (kept-turn ring n (n / wordBits) (getD ring n 0) refl refl (omega arith) at refl))
+    (omega (arith, not-zero-set (keptOf ring n) at word, few-kept ring n (omega arith))))
+
+-- So do the first n places of a ring of one part.
+few-whole : (ring : List ℕ) (n : ℕ) → n ≤ wordBits → notZero (wholeOf ring n) ≤ n
+few-whole ring zero h = rw (sym (whole-at-first ring)) (omega (arith, not-zero-zeros keptCount))
+few-whole ring (suc n) h =
+    let code : ℕ = getD ring n 0 in
+    let word : ℕ = putWord (getD (wholeOf ring n) code 0) n 1 in
+    rw (sym (add-one n)) (dite (decLt code keptCount)
+    (λ room. rw (sym (whole-turn ring n code (omega arith) refl room)) (omega (arith, not-zero-set (wholeOf ring n) code word, few-whole ring n (omega arith))))
+    (λ above. rw (whole-stays ring n (omega (arith, above))) (omega (arith, few-whole ring n (omega arith)))))
+
+module _ (ring : List ℕ) (table : EdgeVectors) (is : Occurrences ring table) where
+  -- At most m words are not 0.
+  pub few-words : notZero (table .kept) ≤ length ring
+  unfolding keptFor
+  few-words = rw (is .kept-are) (by-test (λ (words : List ℕ). notZero words ≤ length ring) (leb (length ring) wordBits)
+      (λ e. few-whole ring (length ring) (leb-true (length ring) wordBits e))
+      (λ _. omega (arith, few-kept ring (min (length ring) vectorBits) (omega arith))))
+
+  module _ (code w : ℕ) (is-code : code < edgeCodes) (part : w ≤ lastPart) where
+    -- The word that is read for an edge code and part w has the bits of part and code.
+    word-is : wordOf table code (wordCount (length ring)) w ≡ partWord ring (min (length ring) vectorBits) w code
+    unfolding wordOf slotsFor keptFor
+    word-is = dite (decLt wordBits (length ring))
+        (λ many. rw (lt-leb (wordCount (length ring)) 1 (omega arith))
+        (parted-read ring (min (length ring) vectorBits) (omega arith) table code 2 is-code
+        (is .slots-are ∙ rw (lt-leb (length ring) wordBits many) refl) (is .kept-are ∙ rw (lt-leb (length ring) wordBits many) refl) w part))
+        (λ few. let n : ℕ = length ring in let least : min n vectorBits ≡ n = omega (arith, few) in
+        rw (le-leb (wordCount n) 1 (omega (arith, few)), least)
+        (whole-read ring n (omega (arith, few)) table code 1 is-code (omega (arith, few)) (is .kept-are ∙ rw (le-leb n wordBits (omega (arith, few))) refl) w))
+
+    -- If a place of the part has the code, the word is not 0.
+    pub word-not-zero : (q : ℕ) → q / wordBits ≡ w → q < length ring → q < vectorBits → getD ring q 0 ≡ code → wordOf table code (wordCount (length ring)) w ≡ 0 → ⊥
+    word-not-zero q here h l edge none = part-some ring (min (length ring) vectorBits) w code q here
+        (has-code-below ring (min (length ring) vectorBits) code q (omega arith) ∙ eq-eqb (getD ring q 0) code edge) (sym word-is ∙ none)
+
+    -- If no place of the part has the code, it is 0.
+    pub word-zero : ((q : ℕ) → q / wordBits ≡ w → getD ring q 0 ≡ code → ⊥) → wordOf table code (wordCount (length ring)) w ≡ 0
+    word-zero lacks = word-is ∙ part-none ring (min (length ring) vectorBits) w code
+        (λ q l h. sym (not-passed _ (λ e. lacks q (omega arith) (has-code-is ring (min (length ring) vectorBits) code q e .1))))

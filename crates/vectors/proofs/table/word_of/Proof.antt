@@ -1,0 +1,45 @@
+-- `vectors::table::word_of` meets its contract: it reads the slot and the word that the slot leads to.
+use mathlib.Core.Path.{refl, sym}
+use native.Mathlib.Omega.{arith}
+use borrow.Author.Needs.{needs}
+use Rattle.vectors.specs.Holding.{partedWord}
+use Rattle.vectors.proofs.table.word_of.Statement.{statement}
+use Rattle.vectors.proofs.table.word_of.Tie as tie
+
+byte-index-requires : tie.Need-byte-index-requires
+byte-index-requires c κs = search needs
+
+mul-slot : tie.Need-mul-slot
+mul-slot c = search needs
+
+add-slot : tie.Need-add-slot
+add-slot c = search needs
+
+element-copy-out-slot : tie.Need-element-copy-out-slot
+element-copy-out-slot c = search needs
+
+word-at-requires : tie.Need-word-at-requires
+word-at-requires c κs = search needs
+
+mul-result : tie.Need-mul-result
+mul-result c = search needs
+
+element-copy-out-result : tie.Need-element-copy-out-result
+element-copy-out-result c = search needs
+
+returns : tie.Need-returns
+unfolding partedWord
+returns c = rw (c .before .word-at .ensures .0, c .before .before .before .byte-index .ensures .0) refl
+
+pub word-of-spec : {M : Type 1} → statement M
+word-of-spec =
+    tie.close
+    (tie.spec
+    byte-index-requires
+    mul-slot
+    add-slot
+    element-copy-out-slot
+    word-at-requires
+    mul-result
+    element-copy-out-result
+    returns)
