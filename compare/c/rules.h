@@ -1,5 +1,5 @@
 // The calls of documents 01 and 02 in C, built like the library's own code but for the fresh count, the table of
-// vectors and the mask of the bit that goes round (docs/BENCH.md, trials 11 and 13). The benchmark's ratios are to these.
+// vectors and the mask of the bit that goes round (docs/BENCH.md, trials 11, 13 and 14). The benchmark's ratios are to these.
 #ifndef RULES_H
 #define RULES_H
 

@@ -100,8 +100,8 @@ fn introduction(page: &mut String, loads: [&str; 2]) {
     page.push_str("# How fast it is\n\n");
     page.push_str("A ratio is a time over that of *the same rules in C*: the same call in plain C (compare/c). Below 1 is faster. ");
     page.push_str("The rules in C and in Rust are built like the library but for three things: their fresh count takes one edge in each pass and ");
-    page.push_str("counts in sixteen bits, the library's takes four and counts in eight; their table of vectors is by code, the library's by word, ");
-    page.push_str("then by code; they mask the bit that goes round, the library does not (trials 11 and 13). ");
+    page.push_str("counts in sixteen bits, the library's takes four and counts in eight; their table of vectors has every word of every code, the ");
+    page.push_str("library keeps the words that have a bit; they mask the bit that goes round, the library does not (trials 11, 13 and 14). ");
     page.push_str("A peer is set against the scan in C. *The limit* is scan and survey with the same looks, as fast as we know to write them by ");
     page.push_str("hand in C (compare/c/limit.h). It shows what room the rules leave; it is no strict bound: on a few rows the library's scan is faster.\n\n");
     let _ = writeln!(

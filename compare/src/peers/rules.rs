@@ -1,5 +1,5 @@
 //! The same rules in Rust: scan, survey and report, built like the library's own code but for the fresh count, the table
-//! of vectors and the mask of the bit that goes round (docs/BENCH.md, trials 11 and 13). Vectors are held by value in as few words as m needs, the occurrence table
+//! of vectors and the mask of the bit that goes round (docs/BENCH.md, trials 11, 13 and 14). Vectors are held by value in as few words as m needs, the occurrence table
 //! is made once for a call, the tally is moved in two loops, looks are counted one by one. A closed line is searched as a
 //! longer one, which is copied.
 mod book;
