@@ -4,7 +4,7 @@ use mathlib.Core.Path.{_≡_, refl, sym, _∙_}
 use mathlib.Core.Bool.{cond}
 use mathlib.Core.List.{List, [], _∷_}
 use mathlib.Core.Logic.{dite}
-use Prim.Native.Nat.{ℕ, zero, suc, _+_, _*_, _/_, _%_, _≤_, _<_, min}
+use Prim.Native.Nat.{ℕ, zero, suc, _+_, _/_, _%_, _≤_, _<_, min}
 use native.Mathlib.Decide.{decLt}
 use native.Mathlib.Numerals.{add-one}
 use native.Mathlib.Omega.{arith}
@@ -14,11 +14,12 @@ use borrow.Author.Tests.{leb-true, le-leb, lt-leb, eq-eqb}
 use Rattle.lists.proofs.Cases.{by-test, not-passed}
 use Rattle.vectors.specs.Bits.{wordBits, wordCount, putWord}
 use Rattle.vectors.specs.Holding.{edgeCodes, lastPart, EdgeVectors, wordAt, wordOf}
-use Rattle.vectors.specs.Storing.{keptCount, hasCode, slotOf, partWord, slotsOf, keptOf, wholeOf, slotsFor, keptFor, notZero}
+use Rattle.vectors.specs.Storing.{keptCount, slotOf, partWord, keptOf, wholeOf, slotsFor, keptFor, notZero}
 use Rattle.vectors.specs.ByValue.{vectorBits, Occurrences}
 use Rattle.vectors.proofs.PlacesOfCode.{has-code-is, has-code-below}
 use Rattle.vectors.proofs.WordOfPart.{part-none, part-some}
-use Rattle.vectors.proofs.KeptWords.{kept-at-first, whole-at-first, whole-turn, whole-stays, kept-turn}
+use Rattle.vectors.proofs.KeptWords.{kept-at-first, whole-at-first}
+use Rattle.vectors.proofs.PlaceCounted.{whole-turn, whole-stays, kept-turn}
 use Rattle.vectors.proofs.VectorsRead.{whole-read, parted-read}
 
 -- One word counts at most once.

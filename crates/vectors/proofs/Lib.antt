@@ -19,6 +19,7 @@ pub mod SlotOfPart
 pub mod WordOfPart
 pub mod SlotsCleared
 pub mod KeptWords
+pub mod PlaceCounted
 pub mod VectorsRead
 pub mod OccurrencesLoop
 -- vectors of four words, as the code makes them word by word

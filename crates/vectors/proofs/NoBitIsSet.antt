@@ -15,10 +15,6 @@ use Rattle.vectors.specs.Rotating.{WithinBits}
 use Rattle.vectors.proofs.WordBits.{bit-zero, bit-high, bits-none}
 use Rattle.vectors.proofs.VectorBits.{isSet-at, isSet-zero, bit-of-test}
 
--- If every word is 0, no bit is set.
-pub no-bit-of-words : (ws : List ℕ) → ((w : ℕ) → getD ws w 0 ≡ 0) → NoBit ws
-no-bit-of-words ws zeros = record { none = λ i. isSet-zero ws i (zeros (i / wordBits)) }
-
 -- Bit j of a word is 0 if it is not set in the vector, or if a word has no such bit.
 pub bit-unset : (ws : List ℕ) → Vector ws → (w j : ℕ) → (j < wordBits → isSet ws (wordBits * w + j) ≡ false) → bit (getD ws w 0) j ≡ 0
 bit-unset ws vector w j none = dite (decLt j wordBits)

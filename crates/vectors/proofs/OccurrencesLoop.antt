@@ -1,6 +1,6 @@
 -- The loops of `keep_whole` and `keep_parts`. Before turn r both arrays are as the ring's first r places make them. At the end they hold each code's occurrence vector.
 use mathlib.Core.Path.{_≡_, refl, sym, _∙_}
-use mathlib.Core.Bool.{Bool, cond}
+use mathlib.Core.Bool.{cond}
 use mathlib.Core.List.{List}
 use mathlib.Core.Logic.{dite}
 use Prim.Native.Nat.{ℕ, _+_, _*_, _/_, _%_, _≤_, _<_, min}
@@ -8,15 +8,16 @@ use native.Mathlib.Decide.{decLt, ℕ-discrete}
 use native.Mathlib.Omega.{arith}
 use lib.ListN.{length, getD, set, take, replicate, length-take}
 use lib.Seq.{getD-take}
-use lib.Dec.{leb, eqb}
+use lib.Dec.{eqb}
 use borrow.Author.Tests.{le-leb, lt-leb, ne-eqb}
 use Rattle.vectors.specs.Bits.{wordBits, wordCount, isSet, putWord}
-use Rattle.vectors.specs.Holding.{Occurs, edgeCodes, lastPart, EdgeVectors, edgeVectors, wordAt, vectorAt, OccurrenceTable}
+use Rattle.vectors.specs.Holding.{edgeCodes, EdgeVectors, edgeVectors, wordAt, vectorAt, OccurrenceTable}
 use Rattle.vectors.specs.Storing.{keptCount, hasCode, noSlot, noSlots, slotOf, slotsOf, keptOf, wholeOf, slotsFor, keptFor}
 use Rattle.vectors.specs.ByValue.{vectorBits, Occurrences}
 use Rattle.vectors.proofs.PlacesOfCode.{has-code-below, has-code-past}
 use Rattle.vectors.proofs.SlotOfPart.{slot-own}
-use Rattle.vectors.proofs.KeptWords.{kept-at-first, whole-at-first, slots-at-first, whole-turn, kept-turn, slots-turn}
+use Rattle.vectors.proofs.KeptWords.{kept-at-first, whole-at-first, slots-at-first}
+use Rattle.vectors.proofs.PlaceCounted.{whole-turn, kept-turn, slots-turn}
 use Rattle.vectors.proofs.VectorsRead.{no-code-bit, whole-bit, slot-there, parted-bit}
 
 -- The first r numbers of a ring are edge codes.

@@ -1,6 +1,6 @@
 -- The slot of a code in a part of 64 places: the lowest place of the part that has the code, or `noSlot`, which is no place of the part. When place n comes to count,
 -- only the slot of its own part and code can change: it becomes n if there was none, and else stays.
-use mathlib.Core.Path.{_≡_, refl, sym, _∙_}
+use mathlib.Core.Path.{_≡_, refl, _∙_}
 use mathlib.Core.Bool.{true, false, cond}
 use mathlib.Core.List.{List}
 use mathlib.Core.Logic.{dite}
@@ -8,7 +8,7 @@ use Prim.Native.Nat.{ℕ, _+_, _*_, _/_, _≤_, _<_}
 use native.Mathlib.Decide.{decLt}
 use native.Mathlib.Omega.{arith}
 use lib.ListN.{getD}
-use lib.Dec.{ltb, eqb}
+use lib.Dec.{eqb}
 use borrow.Author.Tests.{lt-ltb, le-ltb, eq-eqb, ne-eqb}
 use Rattle.vectors.specs.Bits.{wordBits}
 use Rattle.vectors.specs.Holding.{lastPart, emptyWord}

@@ -4,7 +4,7 @@ use mathlib.Core.Path.{_≡_, refl, sym, _∙_}
 use mathlib.Core.List.{List}
 use Prim.Native.Nat.{ℕ, _+_, _*_, _/_, _≤_, _<_}
 use native.Mathlib.Omega.{arith}
-use lib.ListN.{length, set, replicate, length-replicate, getD-replicate}
+use lib.ListN.{set, replicate, length-replicate, getD-replicate}
 use Rattle.lists.specs.ByPlace.{StoredFirst}
 use Rattle.lists.proofs.StoreLoop.{stored-turn, stored-end, stored-all}
 use Rattle.vectors.specs.Holding.{edgeCodes, lastPart, emptyWord}

@@ -1,5 +1,5 @@
 -- The bits of a vector, from the bits of its words. A bit is given by its word and its place there (`isSet-word`); past the last word none is set. As tests, the
--- smaller of two bits is `&&` and the greater is `||`. Two vectors with the same bits and word count are equal. Proofs write the width 64 only as `wordBits`;
+-- smaller of two bits is `&&` and the greater is `||`. Two machine words with the same bits are equal. Proofs write the width 64 only as `wordBits`;
 -- `omega` uses its value for `/` and `%`.
 use mathlib.Core.Path.{_≡_, refl, sym, _∙_}
 use mathlib.Core.Bool.{false, _&&_, _||_}
@@ -10,11 +10,11 @@ use native.Mathlib.Nat.{min-eq-right, max-eq-left, zero-min, zero-max}
 use native.Mathlib.Decide.{decLt, ℕ-discrete}
 use native.Mathlib.Omega.{arith}
 use lib.ListN.{length, getD, set, List·getD-eq-default}
-use lib.Seq.{getD-set-same, getD-set-other, set-out, ext-getD}
+use lib.Seq.{getD-set-same, getD-set-other}
 use lib.Bits.{bitAnd, bitOr}
 use lib.Dec.{eqb}
 use borrow.Author.Tests.{eqb-true, eq-eqb}
-use Rattle.vectors.specs.Bits.{wordBits, Vector, bit, isSet}
+use Rattle.vectors.specs.Bits.{wordBits, bit, isSet}
 use Rattle.vectors.proofs.WordBits.{bit-lt, bit-and, bit-or, bit-zero, bit-high, bits-unique}
 
 -- Bit i of a vector is bit j of word w, for w = i / 64 and j = i mod 64.
@@ -46,15 +46,6 @@ module _ (ws : List ℕ) (w x i : ℕ) where
   unfolding isSet
   isSet-set-other other = rw (getD-set-other ws w (i / wordBits) x 0 other) refl
 
--- After a machine word is stored the words are still machine words.
-pub vector-set : (ws : List ℕ) (w x : ℕ) → Vector ws → x < 2 ^ wordBits → Vector (set ws w x)
-vector-set ws w x vector h = record {
-  word-lt = λ v. dite (ℕ-discrete v w)
-      (λ same. dite (decLt w (length ws)) (λ within. rw (same, getD-set-same ws w x 0 within) h)
-      (λ past. rw (set-out ws w x (omega (arith, past))) (vector .word-lt v)))
-      (λ other. rw (getD-set-other ws w v x 0 other) (vector .word-lt v));
-}
-
 -- Two bits are both 1 exactly when the smaller is.
 min-test : (a b : ℕ) → a < 2 → b < 2 → eqb (min a b) 1 ≡ (eqb a 1 && eqb b 1)
 min-test a b h l = dite (decLt a 1)
@@ -83,8 +74,8 @@ bit-of-test x y i j e = dite (ℕ-discrete (bit x i) 1)
     (λ one. absurd (not-one (eqb-true (bit x i) 1 (e ∙ eq-eqb (bit y j) 1 one))))
     (λ neither. omega (arith, not-one, neither, bit-lt x i, bit-lt y j)))
 
--- Two vectors with the same word count and the same bits are equal.
-pub vector-unique : (xs ys : List ℕ) → Vector xs → Vector ys → length xs ≡ length ys → ((i : ℕ) → isSet xs i ≡ isSet ys i) → xs ≡ ys
-vector-unique xs ys vx vy size same = ext-getD 0 xs ys size (λ w h. bits-unique (getD xs w 0) (getD ys w 0) (λ j. dite (decLt j wordBits)
-    (λ l. bit-of-test (getD xs w 0) (getD ys w 0) j j (sym (isSet-at xs w j l) ∙ (same (wordBits * w + j) ∙ isSet-at ys w j l)))
-    (λ l. bit-high (getD xs w 0) wordBits j (vx .word-lt w) (omega (arith, l)) ∙ sym (bit-high (getD ys w 0) wordBits j (vy .word-lt w) (omega (arith, l))))))
+-- Two machine words with the same bits are equal.
+pub words-same : (x y : ℕ) → x < 2 ^ wordBits → y < 2 ^ wordBits → ((j : ℕ) → j < wordBits → eqb (bit x j) 1 ≡ eqb (bit y j) 1) → x ≡ y
+words-same x y hx hy same = bits-unique x y (λ j. dite (decLt j wordBits)
+    (λ l. bit-of-test x y j j (same j l))
+    (λ past. bit-high x wordBits j hx (omega (arith, past)) ∙ sym (bit-high y wordBits j hy (omega (arith, past)))))

@@ -10,12 +10,12 @@ use native.Mathlib.Decide.{decLt, ℕ-discrete}
 use native.Mathlib.Omega.{arith}
 use lib.ListN.{getD}
 use lib.Dec.{ltb, leb, eqb}
-use borrow.Author.Tests.{lt-ltb, le-ltb, le-leb, lt-leb, eq-eqb, ne-eqb}
+use borrow.Author.Tests.{lt-ltb, le-ltb, le-leb, lt-leb, ne-eqb}
 use Rattle.lists.specs.ByPlace.{listOf}
 use Rattle.lists.proofs.Cases.{by-test}
 use Rattle.lists.proofs.ByPlace.{listOf-at}
 use Rattle.vectors.specs.Bits.{wordBits, Vector, isSet}
-use Rattle.vectors.specs.Holding.{edgeCodes, lastPart, EdgeVectors, edgeVectors, wordAt, wholeWord, partedWord, wordOf, vectorAt}
+use Rattle.vectors.specs.Holding.{edgeCodes, lastPart, EdgeVectors, wordAt, wholeWord, partedWord, wordOf, vectorAt}
 use Rattle.vectors.specs.Storing.{slotCount, keptCount, hasCode, slotOf, partWord, keptWord, slotsOf, keptOf, wholeOf}
 use Rattle.vectors.specs.ByValue.{vectorWords, vectorBits}
 use Rattle.vectors.proofs.WordBits.{bit-zero}

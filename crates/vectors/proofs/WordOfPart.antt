@@ -13,11 +13,10 @@ use lib.Dec.{ltb, eqb}
 use lib.Bits.{or-lt}
 use lib.Pow.{pow-pos}
 use borrow.Author.Tests.{lt-ltb, le-ltb}
-use Rattle.lists.proofs.Cases.{by-test}
 use Rattle.vectors.specs.Bits.{wordBits, bit, putWord}
 use Rattle.vectors.specs.Storing.{hasCode, wordWhere, partWord}
-use Rattle.vectors.proofs.WordBits.{bit-zero, bit-high, bits-unique}
-use Rattle.vectors.proofs.VectorBits.{bit-of-test}
+use Rattle.vectors.proofs.WordBits.{bit-zero}
+use Rattle.vectors.proofs.VectorBits.{words-same}
 use Rattle.vectors.proofs.OneBitPut.{put-word-there, put-word-else}
 use Rattle.vectors.proofs.PlacesOfCode.{has-code-new, has-code-same}
 
@@ -39,12 +38,6 @@ one-if false = refl
 or-true : (t : Bool) → (t || true) ≡ true
 or-true true = refl
 or-true false = refl
-
--- Two machine words with the same bits are equal.
-words-same : (x y : ℕ) → x < 2 ^ wordBits → y < 2 ^ wordBits → ((j : ℕ) → j < wordBits → eqb (bit x j) 1 ≡ eqb (bit y j) 1) → x ≡ y
-words-same x y hx hy same = bits-unique x y (λ j. dite (decLt j wordBits)
-    (λ l. bit-of-test x y j j (same j l))
-    (λ past. bit-high x wordBits j hx (omega (arith, past)) ∙ sym (bit-high y wordBits j hy (omega (arith, past)))))
 
 -- `wordWhere` is a machine word.
 pub word-where-lt : (test : ℕ → Bool) (count : ℕ) → wordWhere test count < 2 ^ wordBits

@@ -1,10 +1,7 @@
 -- `vectors::table::clear_slots` meets its contract: the slots of the last part are stored one by one, from the first of them on, where the others already stand
 -- (`StoreLoop` of crates/lists). The measure is 1024 - at.
-use Prim.Native.Nat.{_-_, _*_, _≤_}
-use native.Mathlib.Omega.{arith}
+use Prim.Native.Nat.{_-_}
 use borrow.Author.Needs.{needs}
-use Rattle.lists.proofs.StoreLoop.{stored-turn}
-use Rattle.vectors.specs.Holding.{edgeCodes, lastPart}
 use Rattle.vectors.specs.Storing.{slotCount}
 use Rattle.vectors.proofs.SlotsCleared.{Cleared, cleared-start, cleared-turn, cleared-end}
 use Rattle.vectors.proofs.table.clear_slots.Statement.{statement}

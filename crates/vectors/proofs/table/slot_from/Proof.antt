@@ -1,6 +1,5 @@
 -- `vectors::table::slot_from` meets its contract: it tests for `noSlot`. A ring place is a byte, so the cast keeps it.
-use mathlib.Core.Path.{_≡_, refl, sym, _∙_}
-use native.Mathlib.Omega.{arith}
+use mathlib.Core.Path.{refl, sym, _∙_}
 use borrow.Author.Needs.{needs}
 use borrow.Author.Tests.{eq-eqb, ne-eqb}
 use Rattle.vectors.proofs.table.slot_from.Statement.{statement}

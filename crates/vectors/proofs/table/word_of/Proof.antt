@@ -1,6 +1,5 @@
 -- `vectors::table::word_of` meets its contract: it reads the slot and the word that the slot leads to.
-use mathlib.Core.Path.{refl, sym}
-use native.Mathlib.Omega.{arith}
+use mathlib.Core.Path.{refl}
 use borrow.Author.Needs.{needs}
 use Rattle.vectors.specs.Holding.{partedWord}
 use Rattle.vectors.proofs.table.word_of.Statement.{statement}
