@@ -45,7 +45,7 @@
  * Calls. Every call takes every input. It is accepted or refused, and returns a struct outlines_answer by value. A refused call has written nothing
  * and returns zero in every count. A length counts elements: bytes of a ring, a line, a book or a join area, 32-bit words of an area of words. A pointer may be
  * null where its length is 0. An area that is lent for writing must not overlap anything else that is passed to the same call. A call reads and writes
- * only what it is passed, keeps no pointer to it, allocates nothing and needs less than 6,000 bytes of stack (docs/LOOKS.md).
+ * only what it is passed, keeps no pointer to it, allocates nothing and needs at most 6,000 bytes of stack (docs/LOOKS.md).
  */
 #ifndef OUTLINES_H
 #define OUTLINES_H

@@ -5,13 +5,14 @@ followed along every way from the first instruction. What may change it: a push,
 a page too), on aarch64 a load or a store that moves it. What is addressed below it counts (the red zone). Every place must have one depth, and a
 function must return, or jump to another, at the depth at which it began. Calls go to functions of the archive or of OUTSIDE. Of these the return
 address alone is counted: their frames are not in the archive. All else is a fault: any other change of the stack pointer, a loop that lowers it (clang
-writes one for a frame of many pages), a call or a jump through a register or a table, a function that comes back to itself.
+writes one for a frame of many pages), a call or a jump through a register or a table or behind a prefix, a function that comes back to itself, bytes
+that objdump does not read as an instruction.
 """
 import re
 
 OUTSIDE = {"memset", "memcpy", "memmove", "memcmp", "bcmp"}
 NUMBER = r"(-?(?:0x[0-9a-f]+|\d+))"
-STRAY = "a change of the stack pointer that is not followed"
+STRAY, UNREAD = "a change of the stack pointer that is not followed", "what objdump does not read as an instruction"
 
 
 class Fault(Exception):
@@ -26,7 +27,8 @@ def number(text):
 
 class X86:
     name, exact, pushed = "x86-64", True, 8
-    call, jump, branch, end, odd = "call", "jmp", r"j\w+|loop\w*", r"ret|ud2|hlt|int3", r"(call|j\w+) .*\*|l(call|jmp|ret)|iret|sys"
+    call, jump, branch, end = "call", "jmp", r"j\w+|loop\w*", r"ret|ud2|hlt|int3"
+    odd = r"(call|j\w+) .*\*|l(call|jmp|ret)|iret|sys|\S+ .*\b(call|jmp|ret)\b"
     below = re.compile(NUMBER + r"\(%rsp")
 
     @staticmethod
@@ -73,7 +75,7 @@ class Archive:
                 self.faults += [f"{name}: two functions have this name"] if code else []
             elif (m := re.match(r"\s+[0-9a-f]+:\s+R_\w+\s+(\S+)$", line)) and code:
                 code[at] = (code[at][0], re.sub(r"^\.text\.|-0x4$" if self.processor.pushed else r"^\.text\.", "", m[1]))
-            elif m := re.match(r"\s*([0-9a-f]+):\s+([a-z].*)$", line):
+            elif m := re.match(r"\s*([0-9a-f]+):\s+(\S.*)$", line):
                 at, text = int(m[1], 16), re.sub(r"\s+", " ", re.split(r"\s+(?://|#) ", m[2])[0])
                 goes = re.search(r"[ ,](?:0x)?([0-9a-f]+) <(.+)>$", text)
                 own = goes and goes[2].split("+0x")[0] == name
@@ -106,6 +108,8 @@ class Archive:
         """of an instruction: the deepest point that it touches, the depth behind it, whether the next follows, a place to go to or (depth, callee)"""
         p, op = self.processor, text.split(" ")[0]
         jumps = op == p.jump or re.fullmatch(p.branch, op)
+        if not op[0].isalpha():
+            raise Fault(UNREAD)
         if re.match(p.odd, text) or goes is None and (jumps or op == p.call):
             raise Fault("a call or a jump that is not direct")
         if op == p.call and isinstance(goes, int):

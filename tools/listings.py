@@ -64,9 +64,9 @@ x.o:     file format elf64-littleaarch64
 STRAY, INDIRECT, RETURN = frames.STRAY, "a call or a jump that is not direct", "a return at depth"
 WRONG = {"x86-64": [("mov %rbp,%rsp", STRAY), ("sub %rax,%rsp", STRAY), ("and $0xffffffffffffffe0,%rsp", STRAY), ("xchg %rsp,%rax", STRAY),
                     ("cmpxchg %rax,%rsp", STRAY), ("pop %rsp", STRAY), ("leave", STRAY), ("call *%rax", INDIRECT), ("jmp *0x0(,%rax,8)", INDIRECT),
-                    ("nop", RETURN)],
+                    ("addr32 call 0 <a::b::deep>", INDIRECT), ("(bad)", frames.UNREAD), ("nop", RETURN)],
          "aarch64": [("mov sp, x9", STRAY), ("sub sp, sp, x9", STRAY), ("and sp, x9, #0xffffffffffffffe0", STRAY), ("ld1 {v0.16b}, [sp], x9", STRAY),
-                     ("blr x9", INDIRECT), ("br x9", INDIRECT), ("nop", RETURN)]}
+                     ("blr x9", INDIRECT), ("br x9", INDIRECT), (".inst 0x00000000", frames.UNREAD), ("nop", RETURN)]}
 LOWERS = {"x86-64": "sub $0x1000,%rsp", "aarch64": "sub sp, sp, #1, lsl #12"}
 
 
@@ -89,6 +89,8 @@ def copies(tree, check, section):
     yield on_page("no table", f"\n| {check.processor.name} |", "\n| another |", "no row")
     yield on_page("no section", section, "## Another section", "no row")
     yield on_page("a lower bar", f"| {check.bars['scan']:,} |", f"| {check.deepest('scan') - 1:,} |", "docs/LOOKS.md allows")
+    other = next(line for line in tree["page"].split("\n") if line.startswith("| `scan` |") and line != row)
+    yield on_page("too high a figure of another processor", other, re.sub(r"[\d,]+ \|$", "6,001 |", other), "has 6,001 bytes, and it allows 6,000")
     yield on_page("no bar", "| `survey` |", "| `another` |", "survey: ")
     yield in_code("a function outside", r"(R_\w+\s+)memset", r"\1malloc", "it calls malloc, which is neither")
     yield in_code("a function that comes back", rf"(<{lower}>:\n(?:.*\n)*?.*R_\w+\s+)mem\w+", rf"\1{upper}", "which has called it")
@@ -104,3 +106,10 @@ def copies(tree, check, section):
         for instruction, why in WRONG[processor]:
             yield in_code(f"{processor}: {instruction}", r"0:\s.*", "0:\t" + instruction, why, listing)
     yield "a stack of 4,096 bytes", {**tree, "size": 4096}, "overflow"
+    for what, old, new, why in [("a paint above the bar", r"\nscan: \d+", "\nscan: 6001", "bytes by its paint, and docs/LOOKS.md allows"),
+                                ("a paint that does not go deep", r"\nscan: \d+", "\nscan: 8", "do not reach"),
+                                ("a paint far below what is read off", r"idle: \d+", "idle: 0", "are read off the archive"),
+                                ("a call that was not run", r"\nscan: .*", "", "tools/stack.c printed nothing of it"),
+                                ("a run that ends early", r"\d+ passed, .*\n", "", "did not run to its end")]:
+        if tree["output"] and (check.processor.exact or "deep" not in what):
+            yield what, {**tree, "output": re.sub(old, new, tree["output"])}, why

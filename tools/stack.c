@@ -1,5 +1,5 @@
 /* Runs the searching calls on a small stack, as a plotter would: it has as many bytes as the argument says, and below it are pages that nothing may
- * touch. Each answer and each lent area must be what the same call gives on main's own stack, and what include/outlines.h defines for the input.
+ * touch. Each answer and each lent area must be what the same call gives on main's own stack and, but for the looks, what include/outlines.h defines.
  * The stack is painted before each call, and the deepest change is printed for each call, in bytes from the top. That counts what this program has
  * there itself; `idle` is that alone, by a call that does nothing. tools/stack builds and runs it. The last line is 'N passed, M failed'. */
 #define _GNU_SOURCE
@@ -186,7 +186,7 @@ static void judge(int good, const struct call *call, const char *why) {
     if (!good) printf("%s, %zu edges, %zu bytes of line, k %zu, %s: %s\n", call->name, in.m, in.n, in.k, in.what, why);
 }
 
-/* Tries every call with the input, which has at least so many findings. */
+/* Tries every call with the input, which has at least `least` findings. */
 static void try(const char *what, size_t least) {
     static struct areas small, wanted;
     in.what = what;

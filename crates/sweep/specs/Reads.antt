@@ -42,7 +42,7 @@ readOn table window k words (suc left) held breaks looks =
     cond (noBit next words) unfit grown
 
 -- Rule 1: "read its edges from the last towards the first". At first all m bits are set, because the empty stretch is the beginning of every rotation. `words` is
--- the number of machine words used for a vector.
+-- the number of machine words of a vector, of the held one and of the edges' occurrence vectors.
 abbrev pub readWith : EdgeVectors → List ℕ → ℕ → ℕ → WindowRead
 readWith table window k words = readOn table window k words (length window) (firstBits (length window) vectorWords) 0 0
 

@@ -33,8 +33,8 @@ fn stops_at(edge: u8, k: usize, breaks: usize) -> bool
     k <= breaks || is_mark(edge)
 }
 
-// Rules 1 to 3, with the held vector in its first `words` words. Whether reading stops is asked only where the grown vector
-// has no bit: the number of breaks changes nowhere else, and a mark fits nothing, because a ring holds none.
+// Rules 1 to 3, where vectors have `words` words. Whether reading stops is asked only where the grown vector has no bit: the
+// number of breaks changes nowhere else, and a mark fits nothing, because a ring holds none.
 fn read_words(
     window: &[u8],
     slots: &[u8; SLOTS],

@@ -4,21 +4,21 @@ use mathlib.Core.Path.{_≡_, refl, sym, _∙_}
 use mathlib.Core.Bool.{cond}
 use mathlib.Core.List.{List, [], _∷_}
 use mathlib.Core.Logic.{dite}
-use Prim.Native.Nat.{ℕ, zero, suc, _+_, _/_, _%_, _≤_, _<_, min}
+use Prim.Native.Nat.{ℕ, zero, suc, _+_, _/_, _%_, _≤_, _<_}
 use native.Mathlib.Decide.{decLt}
 use native.Mathlib.Numerals.{add-one}
 use native.Mathlib.Omega.{arith}
 use lib.ListN.{length, getD, set, replicate}
-use lib.Dec.{leb, eqb}
-use borrow.Author.Tests.{leb-true, le-leb, lt-leb, eq-eqb}
+use lib.Dec.{eqb}
+use borrow.Author.Tests.{le-leb, lt-leb, eq-eqb}
 use Rattle.lists.proofs.Cases.{by-test, not-passed}
 use Rattle.vectors.specs.Bits.{wordBits, wordCount, putWord}
-use Rattle.vectors.specs.Holding.{edgeCodes, lastPart, EdgeVectors, wordAt, wordOf}
-use Rattle.vectors.specs.Storing.{keptCount, slotOf, partWord, keptOf, wholeOf, slotsFor, keptFor, notZero}
+use Rattle.vectors.specs.Holding.{edgeCodes, lastPart, EdgeVectors, wordPlace, wordOf}
+use Rattle.vectors.specs.Storing.{keptCount, slotOf, partWord, countedPlaces, notZero}
 use Rattle.vectors.specs.ByValue.{vectorBits, Occurrences}
 use Rattle.vectors.proofs.PlacesOfCode.{has-code-is, has-code-below}
 use Rattle.vectors.proofs.WordOfPart.{part-none, part-some}
-use Rattle.vectors.proofs.KeptWords.{kept-at-first, whole-at-first}
+use Rattle.vectors.proofs.KeptWords.{keptOf, wholeOf, kept-at-first, whole-at-first, kept-for-one, slots-for-parts, kept-for-parts}
 use Rattle.vectors.proofs.PlaceCounted.{whole-turn, whole-stays, kept-turn}
 use Rattle.vectors.proofs.VectorsRead.{whole-read, parted-read}
 
@@ -43,7 +43,7 @@ not-zero-zeros (suc n) = omega (arith, not-zero-zeros n)
 few-kept : (ring : List ℕ) (n : ℕ) → n ≤ vectorBits → notZero (keptOf ring n) ≤ n
 few-kept ring zero h = rw (sym (kept-at-first ring)) (omega (arith, not-zero-zeros keptCount))
 few-kept ring (suc n) h =
-    let at : ℕ = wordAt (n / wordBits) (slotOf ring (n + 1) (n / wordBits) (getD ring n 0)) in
+    let at : ℕ = wordPlace (n / wordBits) (slotOf ring (n + 1) (n / wordBits) (getD ring n 0)) in
     let word : ℕ = putWord (getD (keptOf ring n) at 0) (n % wordBits) 1 in
     rw (sym (add-one n)) (rw (sym (kept-turn ring n (n / wordBits) (getD ring n 0) refl refl (omega arith) at refl))
     (omega (arith, not-zero-set (keptOf ring n) at word, few-kept ring n (omega arith))))
@@ -59,31 +59,29 @@ few-whole ring (suc n) h =
     (λ above. rw (whole-stays ring n (omega (arith, above))) (omega (arith, few-whole ring n (omega arith)))))
 
 module _ (ring : List ℕ) (table : EdgeVectors) (is : Occurrences ring table) where
-  -- At most m words are not 0.
+  -- At most m of the kept words are not 0.
   pub few-words : notZero (table .kept) ≤ length ring
-  unfolding keptFor
-  few-words = rw (is .kept-are) (by-test (λ (words : List ℕ). notZero words ≤ length ring) (leb (length ring) wordBits)
-      (λ e. few-whole ring (length ring) (leb-true (length ring) wordBits e))
-      (λ _. omega (arith, few-kept ring (min (length ring) vectorBits) (omega arith))))
+  few-words = dite (decLt wordBits (length ring))
+      (λ many. rw (is .kept-are, sym (kept-for-parts ring many)) (omega (arith, few-kept ring (countedPlaces ring) (omega arith))))
+      (λ few. rw (is .kept-are, sym (kept-for-one ring (omega (arith, few)))) (omega (arith, few-whole ring (countedPlaces ring) (omega (arith, few)))))
 
   module _ (code w : ℕ) (is-code : code < edgeCodes) (part : w ≤ lastPart) where
     -- The word that is read for an edge code and part w has the bits of part and code.
-    word-is : wordOf table code (wordCount (length ring)) w ≡ partWord ring (min (length ring) vectorBits) w code
-    unfolding wordOf slotsFor keptFor
+    word-is : wordOf table code (wordCount (length ring)) w ≡ partWord ring (countedPlaces ring) w code
+    unfolding wordOf
     word-is = dite (decLt wordBits (length ring))
-        (λ many. rw (lt-leb (wordCount (length ring)) 1 (omega arith))
-        (parted-read ring (min (length ring) vectorBits) (omega arith) table code 2 is-code
-        (is .slots-are ∙ rw (lt-leb (length ring) wordBits many) refl) (is .kept-are ∙ rw (lt-leb (length ring) wordBits many) refl) w part))
-        (λ few. let n : ℕ = length ring in let least : min n vectorBits ≡ n = omega (arith, few) in
-        rw (le-leb (wordCount n) 1 (omega (arith, few)), least)
-        (whole-read ring n (omega (arith, few)) table code 1 is-code (omega (arith, few)) (is .kept-are ∙ rw (le-leb n wordBits (omega (arith, few))) refl) w))
+        (λ many. rw (lt-leb (wordCount (length ring)) 1 (omega arith)) (parted-read ring (countedPlaces ring) (omega arith) table code is-code
+        (is .slots-are ∙ sym (slots-for-parts ring many)) (is .kept-are ∙ sym (kept-for-parts ring many)) w part))
+        (λ few. rw (le-leb (wordCount (length ring)) 1 (omega (arith, few))) (whole-read ring (countedPlaces ring) (omega arith) table code is-code
+        (omega (arith, few)) (is .kept-are ∙ sym (kept-for-one ring (omega (arith, few)))) w))
 
-    -- If a place of the part has the code, the word is not 0.
-    pub word-not-zero : (q : ℕ) → q / wordBits ≡ w → q < length ring → q < vectorBits → getD ring q 0 ≡ code → wordOf table code (wordCount (length ring)) w ≡ 0 → ⊥
-    word-not-zero q here h l edge none = part-some ring (min (length ring) vectorBits) w code q here
-        (has-code-below ring (min (length ring) vectorBits) code q (omega arith) ∙ eq-eqb (getD ring q 0) code edge) (sym word-is ∙ none)
+    -- If a place of part w has the code, the word that is read for code and part is not 0.
+    pub word-not-zero : (q : ℕ) → q / wordBits ≡ w → q < length ring → getD ring q 0 ≡ code → wordOf table code (wordCount (length ring)) w ≡ 0 → ⊥
+    word-not-zero q here h edge none = part-some ring (countedPlaces ring) w code q here
+        (has-code-below ring (countedPlaces ring) code q (omega arith) ∙ eq-eqb (getD ring q 0) code edge) (sym word-is ∙ none)
 
-    -- If no place of the part has the code, it is 0.
-    pub word-zero : ((q : ℕ) → q / wordBits ≡ w → getD ring q 0 ≡ code → ⊥) → wordOf table code (wordCount (length ring)) w ≡ 0
-    word-zero lacks = word-is ∙ part-none ring (min (length ring) vectorBits) w code
-        (λ q l h. sym (not-passed _ (λ e. lacks q (omega arith) (has-code-is ring (min (length ring) vectorBits) code q e .1))))
+    -- If no place of part w has the code, the word that is read for code and part is 0.
+    pub word-zero : ((q : ℕ) → q / wordBits ≡ w → q < length ring → getD ring q 0 ≡ code → ⊥) → wordOf table code (wordCount (length ring)) w ≡ 0
+    word-zero lacks = word-is ∙ part-none ring (countedPlaces ring) w code (λ q l h. sym (not-passed _
+        (λ e. let has : (q < countedPlaces ring) × (getD ring q 0 ≡ code) = has-code-is ring (countedPlaces ring) code q e in
+        lacks q (omega arith) (omega (arith, has .0)) (has .1))))

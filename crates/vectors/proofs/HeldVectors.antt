@@ -1,27 +1,28 @@
 -- What a caller of this crate's functions cites: for a vector of m bits in the fewest words that hold them, the functions return what `Bits` and `Holding` mean.
 -- `first_bits` returns such a vector (`HeldVector`), and `grown` keeps it one, so it is a loop's invariant. The proofs are in the other modules; who uses this
 -- one need not look at words.
-use mathlib.Core.Path.{_≡_, refl, _∙_}
+use mathlib.Core.Path.{_≡_, refl, sym, _∙_}
 use mathlib.Core.Bool.{true, false, _&&_}
 use mathlib.Core.List.{List}
-use mathlib.Core.Logic.{_↔_}
-use Prim.Native.Nat.{ℕ, _+_, _%_, _≤_, _<_, min}
+use mathlib.Core.Logic.{dite, _↔_}
+use Prim.Native.Nat.{ℕ, _+_, _%_, _≤_, _<_}
+use native.Mathlib.Decide.{decLt}
 use native.Mathlib.Omega.{arith}
 use lib.ListN.{length, getD}
 use lib.Seq.{take-all}
-use lib.Dec.{leb, eqb}
-use Rattle.lists.proofs.Cases.{by-test}
-use Rattle.vectors.specs.Bits.{wordBits, wordCount, Vector, isSet, firstBits, noBit}
+use lib.Dec.{eqb}
+use borrow.Author.Tests.{ne-eqb}
+use Rattle.vectors.specs.Bits.{wordBits, wordCount, Vector, isSet, firstBits, NoBit, noBit}
 use Rattle.vectors.specs.Rotating.{WithinBits}
 use Rattle.vectors.specs.Holding.{EdgeVectors, vectorAt, Occurs, Grown}
-use Rattle.vectors.specs.Storing.{keptFor}
+use Rattle.vectors.specs.Storing.{countedPlaces}
 use Rattle.vectors.specs.ByValue.{vectorWords, vectorBits, HeldVector, grownWords, Occurrences}
 use Rattle.vectors.proofs.FirstBitsAreSet.{first-bits-is, first-bits-length, first-bits-vector, first-bits-within}
 use Rattle.vectors.proofs.NoBitIsSet.{noBit-iff, noBit-no}
 use Rattle.vectors.proofs.HeldVectorGrows.{grown-within}
 use Rattle.vectors.proofs.GrownWords.{grown-words-length, grown-words-vector}
 use Rattle.vectors.proofs.GrownInFewestWords.{grown-words-is}
-use Rattle.vectors.proofs.KeptWords.{kept-vector, whole-vector}
+use Rattle.vectors.proofs.KeptWords.{kept-vector, whole-vector, kept-for-one, kept-for-parts}
 use Rattle.vectors.proofs.VectorsRead.{read-vector}
 
 module _ (m : ℕ) (most : m ≤ vectorBits) where
@@ -60,11 +61,18 @@ module _ (ring : List ℕ) (table : EdgeVectors) (code : ℕ) (is : Occurrences 
   pub vector-occurs : length ring ≤ vectorBits → Occurs ring code (vectorAt table code (wordCount (length ring)))
   vector-occurs most = rw (take-all vectorBits ring most) at (is .each .each code)
 
+  -- For an edge code that the ring does not have, no bit is set in what `vector_of` returns.
+  pub absent-no-bit : length ring ≤ vectorBits → ((r : ℕ) → r < length ring → getD ring r 0 ≡ code → ⊥) → NoBit (vectorAt table code (wordCount (length ring)))
+  absent-no-bit most lacks = record {
+    none = λ i. dite (decLt i (length ring)) (λ h. vector-occurs most .each i h ∙ ne-eqb (getD ring i 0) code (lacks i h))
+        (λ past. vector-occurs most .rest i (omega (arith, past)));
+  }
+
   -- The kept words are machine words.
   kept-words : Vector (table .kept)
-  unfolding keptFor
-  kept-words = rw (is .kept-are) (by-test Vector (leb (length ring) wordBits)
-      (λ _. whole-vector ring (length ring)) (λ _. kept-vector ring (min (length ring) vectorBits)))
+  kept-words = dite (decLt wordBits (length ring))
+      (λ many. rw (is .kept-are, sym (kept-for-parts ring many)) (kept-vector ring (countedPlaces ring)))
+      (λ few. rw (is .kept-are, sym (kept-for-one ring (omega (arith, few)))) (whole-vector ring (countedPlaces ring)))
 
 -- One turn of the loop that reads a window: `new` is again a vector of m bits, and its bit r is set exactly when bit (r + 1) mod m of `held` was set and the
 -- ring has the edge code at place r.

@@ -1,5 +1,5 @@
 -- Laws about vectors of bits in machine words. Start with HeldVectors: other crates cite only its laws, as Rattle.vectors.proofs.HeldVectors.NAME. Every law
--- holds for any word count, except the laws of the last three groups. Each group below uses only itself and the groups above it.
+-- holds for any word count, except the laws of the last three groups; of these WordOfPart holds for any part. Each group below uses only itself and the groups above it.
 
 -- the bits of one word, of a vector, and of a vector given word by word
 pub mod WordBits

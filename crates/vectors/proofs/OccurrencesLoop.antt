@@ -3,20 +3,20 @@ use mathlib.Core.Path.{_≡_, refl, sym, _∙_}
 use mathlib.Core.Bool.{cond}
 use mathlib.Core.List.{List}
 use mathlib.Core.Logic.{dite}
-use Prim.Native.Nat.{ℕ, _+_, _*_, _/_, _%_, _≤_, _<_, min}
+use Prim.Native.Nat.{ℕ, _+_, _*_, _/_, _%_, _≤_, _<_}
 use native.Mathlib.Decide.{decLt, ℕ-discrete}
 use native.Mathlib.Omega.{arith}
 use lib.ListN.{length, getD, set, take, replicate, length-take}
 use lib.Seq.{getD-take}
 use lib.Dec.{eqb}
-use borrow.Author.Tests.{le-leb, lt-leb, ne-eqb}
+use borrow.Author.Tests.{ne-eqb}
 use Rattle.vectors.specs.Bits.{wordBits, wordCount, isSet, putWord}
-use Rattle.vectors.specs.Holding.{edgeCodes, EdgeVectors, edgeVectors, wordAt, vectorAt, OccurrenceTable}
-use Rattle.vectors.specs.Storing.{keptCount, hasCode, noSlot, noSlots, slotOf, slotsOf, keptOf, wholeOf, slotsFor, keptFor}
+use Rattle.vectors.specs.Holding.{edgeCodes, EdgeVectors, edgeVectors, wordPlace, vectorAt, OccurrenceTable}
+use Rattle.vectors.specs.Storing.{keptCount, hasCode, noSlot, noSlots, slotOf, countedPlaces}
 use Rattle.vectors.specs.ByValue.{vectorBits, Occurrences}
 use Rattle.vectors.proofs.PlacesOfCode.{has-code-below, has-code-past}
 use Rattle.vectors.proofs.SlotOfPart.{slot-own}
-use Rattle.vectors.proofs.KeptWords.{kept-at-first, whole-at-first, slots-at-first}
+use Rattle.vectors.proofs.KeptWords.{slotsOf, keptOf, wholeOf, kept-at-first, whole-at-first, slots-at-first, slots-for-one, kept-for-one, slots-for-parts, kept-for-parts}
 use Rattle.vectors.proofs.PlaceCounted.{whole-turn, kept-turn, slots-turn}
 use Rattle.vectors.proofs.VectorsRead.{no-code-bit, whole-bit, slot-there, parted-bit}
 
@@ -29,11 +29,11 @@ codes-more : (ring : List ℕ) (r code : ℕ) → CodesBelow ring r → code ≡
 codes-more ring r code known is is-code q h = dite (ℕ-discrete q r) (λ here. rw (here, sym is) is-code) (λ other. known q (omega (arith, other)))
 
 -- If a bit of each code's vector is set exactly when its place has the code, the vectors are the occurrence vectors.
-table-of-bits : (ring : List ℕ) (table : EdgeVectors) (count : ℕ) → CodesBelow ring (min (length ring) vectorBits)
-    → ((code : ℕ) → code < edgeCodes → (q : ℕ) → isSet (vectorAt table code count) q ≡ hasCode ring (min (length ring) vectorBits) code q)
+table-of-bits : (ring : List ℕ) (table : EdgeVectors) (count : ℕ) → CodesBelow ring (countedPlaces ring)
+    → ((code : ℕ) → code < edgeCodes → (q : ℕ) → isSet (vectorAt table code count) q ≡ hasCode ring (countedPlaces ring) code q)
     → OccurrenceTable (take vectorBits ring) count table
 table-of-bits ring table count codes bits =
-    let n : ℕ = min (length ring) vectorBits in
+    let n : ℕ = countedPlaces ring in
     let size : length (take vectorBits ring) ≡ n = simp length-take (omega arith) in
     record {
       each = λ code. dite (decLt code edgeCodes)
@@ -57,7 +57,7 @@ pub record WholeBelow (ring slots kept : List ℕ) (r : ℕ) : Type 0 where
 
 -- Before turn r of `keep_parts`.
 pub record PartsBelow (ring slots kept : List ℕ) (r : ℕ) : Type 0 where
-  pub turn-le : r ≤ min (length ring) vectorBits
+  pub turn-le : r ≤ countedPlaces ring
   pub codes : CodesBelow ring r
   pub slots-are : slots ≡ slotsOf ring r
   pub kept-are : kept ≡ keptOf ring r
@@ -79,17 +79,15 @@ module _ (ring : List ℕ) where
 
   -- At the end each code has its occurrence vector, of one word.
   pub whole-end : (slots kept : List ℕ) (r : ℕ) → length ring ≤ wordBits → WholeBelow ring slots kept r → length ring ≤ r → Occurrences ring (edgeVectors slots kept)
-  unfolding slotsFor keptFor
   whole-end slots kept r most known h =
-      let n : ℕ = length ring in
+      let n : ℕ = countedPlaces ring in
       let all : r ≡ n = omega (arith, known .turn-le) in
-      let least : min n vectorBits ≡ n = omega arith in
       let kept-all : kept ≡ wholeOf ring n = rw (sym all) (known .kept-are) in
       record {
-        each = table-of-bits ring (edgeVectors slots kept) (wordCount n) (λ q l. known .codes q (omega arith))
-            (λ code is-code q. rw least (whole-bit ring n (omega arith) (edgeVectors slots kept) code (wordCount n) is-code most kept-all (omega arith) q));
-        slots-are = rw (le-leb n wordBits most) (known .slots-are);
-        kept-are = rw (le-leb n wordBits most) kept-all;
+        each = table-of-bits ring (edgeVectors slots kept) (wordCount (length ring)) (λ q l. known .codes q (omega arith))
+            (λ code is-code. whole-bit ring n (omega arith) (edgeVectors slots kept) code is-code (omega arith) kept-all (wordCount (length ring)) (omega arith));
+        slots-are = known .slots-are ∙ slots-for-one ring most;
+        kept-are = kept-all ∙ kept-for-one ring most;
       }
 
   -- The invariant of `keep_parts` holds before the first turn.
@@ -100,12 +98,12 @@ module _ (ring : List ℕ) where
   -- Turn r makes r the slot of its part and code if they have none, and puts bit r mod 64 into the word that the slot leads to.
   pub parts-turned : (slots kept : List ℕ) (r code at slot word : ℕ) → PartsBelow ring slots kept r → r < length ring → r < vectorBits
       → code ≡ getD ring r 0 → code < edgeCodes → at ≡ code + r / wordBits * edgeCodes
-      → slot ≡ cond (eqb (getD slots at 0) (noSlot (r / wordBits))) r (getD slots at 0) → word ≡ wordAt (r / wordBits) slot
+      → slot ≡ cond (eqb (getD slots at 0) (noSlot (r / wordBits))) r (getD slots at 0) → word ≡ wordPlace (r / wordBits) slot
       → PartsBelow ring (set slots at slot) (set kept word (putWord (getD kept word 0) (r % wordBits) 1)) (r + 1)
   parts-turned slots kept r code at slot word known h counts is is-code there slot-is word-is =
       let w : ℕ = r / wordBits in
       let old : getD slots at 0 ≡ slotOf ring r w code =
-      slot-there ring r (omega arith) (edgeVectors slots kept) code 2 is-code (known .slots-are) w at (omega arith) there in
+      slot-there ring r (omega arith) (edgeVectors slots kept) code is-code (known .slots-are) w at (omega arith) there in
       let new : slot ≡ slotOf ring (r + 1) w code = slot-is ∙ rw old (sym (slot-own ring r w code refl (sym is) (omega arith))) in
       record {
         turn-le = omega arith;
@@ -115,17 +113,15 @@ module _ (ring : List ℕ) where
       }
 
   -- At the end each code has its occurrence vector, of several words.
-  pub parts-end : (slots kept : List ℕ) (r : ℕ) → wordBits < length ring → PartsBelow ring slots kept r → min (length ring) vectorBits ≤ r
-      → Occurrences ring (edgeVectors slots kept)
-  unfolding slotsFor keptFor
+  pub parts-end : (slots kept : List ℕ) (r : ℕ) → wordBits < length ring → PartsBelow ring slots kept r → countedPlaces ring ≤ r → Occurrences ring (edgeVectors slots kept)
   parts-end slots kept r many known h =
-      let n : ℕ = min (length ring) vectorBits in
+      let n : ℕ = countedPlaces ring in
       let all : r ≡ n = omega (arith, known .turn-le) in
       let slots-all : slots ≡ slotsOf ring n = rw (sym all) (known .slots-are) in
       let kept-all : kept ≡ keptOf ring n = rw (sym all) (known .kept-are) in
       record {
         each = table-of-bits ring (edgeVectors slots kept) (wordCount (length ring)) (λ q l. known .codes q (omega arith))
-            (λ code is-code q. parted-bit ring n (omega arith) (edgeVectors slots kept) code (wordCount (length ring)) is-code slots-all kept-all (omega arith) q);
-        slots-are = rw (lt-leb (length ring) wordBits many) slots-all;
-        kept-are = rw (lt-leb (length ring) wordBits many) kept-all;
+            (λ code is-code. parted-bit ring n (omega arith) (edgeVectors slots kept) code is-code slots-all kept-all (wordCount (length ring)) (omega arith));
+        slots-are = slots-all ∙ slots-for-parts ring many;
+        kept-are = kept-all ∙ kept-for-parts ring many;
       }

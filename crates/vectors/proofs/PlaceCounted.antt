@@ -1,4 +1,4 @@
--- What changes when place n of a ring comes to count. One kept word changes, that of its own part and code: its bit is put in (`kept-turn`). One slot at most
+-- What changes when place n of a ring is added to the places that count. One kept word changes, that of its own part and code: its bit is put in (`kept-turn`). One slot at most
 -- changes, to n, if its part has lacked its code (`slots-turn`). In a ring of one part the word of its code changes (`whole-turn`).
 use mathlib.Core.Path.{_≡_, refl, sym, _∙_}
 use mathlib.Core.Bool.{true≢false}
@@ -10,14 +10,14 @@ use native.Mathlib.Omega.{arith}
 use lib.ListN.{getD, set}
 use Rattle.lists.proofs.ByPlace.{listOf-length, listOf-at, listOf-is}
 use Rattle.vectors.specs.Bits.{wordBits, putWord}
-use Rattle.vectors.specs.Holding.{edgeCodes, lastPart, emptyWord, wordAt}
-use Rattle.vectors.specs.Storing.{slotCount, keptCount, slotOf, partWord, keptPlace, placeWord, keptWord, slotsOf, keptOf, wholeOf}
+use Rattle.vectors.specs.Holding.{edgeCodes, lastPart, emptyWord, wordPlace}
+use Rattle.vectors.specs.Storing.{slotCount, keptCount, slotOf, partWord, keptPlace, placeWord, keptWord}
 use Rattle.vectors.proofs.WordByWord.{vectorOf-set}
 use Rattle.vectors.proofs.LowestPlace.{one-passes, no-one-passes}
 use Rattle.vectors.proofs.PlacesOfCode.{has-code-new}
 use Rattle.vectors.proofs.SlotOfPart.{no-slot-outside, IsSlot, slot-is, slot-other, slot-kept, slot-new}
 use Rattle.vectors.proofs.WordOfPart.{part-none, part-other, part-own}
-use Rattle.vectors.proofs.KeptWords.{word-at-lt, kept-place-at, kept-empty, kept-other, place-word-none, kept-at-place, kept-reads}
+use Rattle.vectors.proofs.KeptWords.{slotsOf, keptOf, wholeOf, word-place-lt, kept-place-at, kept-empty, kept-other, place-word-none, kept-at-place, kept-reads}
 
 module _ (ring : List ℕ) where
   -- The words of a ring of one part after place n counts: bit n is put into the word of its code.
@@ -44,10 +44,10 @@ module _ (ring : List ℕ) where
 
   module _ (n w code : ℕ) (part : n / wordBits ≡ w) (edge : getD ring n 0 ≡ code) (most : w ≤ lastPart) where
     -- Before place n counts, the word that its bit is put into is the word of its part and code so far.
-    kept-before : keptWord ring n (wordAt w (slotOf ring (n + 1) w code)) ≡ partWord ring n w code
+    kept-before : keptWord ring n (wordPlace w (slotOf ring (n + 1) w code)) ≡ partWord ring n w code
     kept-before = go (slotOf ring n w code) refl (slot-is ring n w code)
       where
-        go : (x : ℕ) → slotOf ring n w code ≡ x → IsSlot ring n w code x → keptWord ring n (wordAt w (slotOf ring (n + 1) w code)) ≡ partWord ring n w code
+        go : (x : ℕ) → slotOf ring n w code ≡ x → IsSlot ring n w code x → keptWord ring n (wordPlace w (slotOf ring (n + 1) w code)) ≡ partWord ring n w code
         go x is (one-passes from to has before) =
             rw (slot-kept ring n w code part edge x from to has before) (rw is at (kept-reads ring n w code most))
         go x is (no-one-passes none-is none) = rw (slot-new ring n w code part edge none)
@@ -79,18 +79,18 @@ module _ (ring : List ℕ) where
         go (no-one-passes none-is none) = absurd (true≢false (sym (rw edge at (has-code-new ring n)) ∙ none n (omega arith) (omega arith)))
 
     -- Where the new slot does not lead, a kept word stays.
-    kept-stays : (i : ℕ) → (i ≡ wordAt w (slotOf ring (n + 1) w code) → ⊥) → keptWord ring (n + 1) i ≡ keptWord ring n i
+    kept-stays : (i : ℕ) → (i ≡ wordPlace w (slotOf ring (n + 1) w code) → ⊥) → keptWord ring (n + 1) i ≡ keptWord ring n i
     kept-stays i other = dite (ℕ-discrete i emptyWord)
         (λ empty. rw empty (kept-empty ring (n + 1) ∙ sym (kept-empty ring n)))
         (λ some. kept-other ring (n + 1) i some
         ∙ (place-word-stays (keptPlace i) (λ e. other (sym (kept-place-at i some) ∙ rw (sym e, slot-in-part) refl)) ∙ sym (kept-other ring n i some)))
 
     -- The kept words after place n counts: bit n mod 64 is put in where the new slot leads.
-    pub kept-turn : (at : ℕ) → at ≡ wordAt w (slotOf ring (n + 1) w code)
+    pub kept-turn : (at : ℕ) → at ≡ wordPlace w (slotOf ring (n + 1) w code)
         → set (keptOf ring n) at (putWord (getD (keptOf ring n) at 0) (n % wordBits) 1) ≡ keptOf ring (n + 1)
     unfolding keptOf
     kept-turn at is =
-        let within : at < keptCount = rw is (word-at-lt (slotOf ring (n + 1) w code) w slot-in-part most) in
+        let within : at < keptCount = rw is (word-place-lt (slotOf ring (n + 1) w code) w slot-in-part most) in
         let before : getD (keptOf ring n) at 0 ≡ partWord ring n w code = listOf-at keptCount (keptWord ring n) at within ∙ rw is kept-before in
         let after : keptWord ring (n + 1) at ≡ partWord ring (n + 1) w code = rw is (kept-reads ring (n + 1) w code most) in
         vectorOf-set keptCount (keptWord ring n) (keptWord ring (n + 1)) at _ within (rw before (sym (part-own ring n w code part edge)) ∙ sym after)

@@ -30,7 +30,7 @@ module _ (ring : List ℕ) where
   unfolding hasCode
   has-code-past n code q h = rw (le-ltb q n h) refl
 
-  -- With place n + 1 places count, and place n has its own code.
+  -- Among n + 1 places, place n has its own code.
   pub has-code-new : (n : ℕ) → hasCode ring (n + 1) (getD ring n 0) n ≡ true
   has-code-new n = has-code-below (n + 1) (getD ring n 0) n (omega arith) ∙ eq-eqb (getD ring n 0) (getD ring n 0) refl
 

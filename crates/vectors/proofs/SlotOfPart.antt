@@ -1,4 +1,4 @@
--- The slot of a code in a part of 64 places: the lowest place of the part that has the code, or `noSlot`, which is no place of the part. When place n comes to count,
+-- The slot of a code in a part of 64 places: the lowest place of the part that has the code, or `noSlot`, which is no place of the part. When place n is added,
 -- only the slot of its own part and code can change: it becomes n if there was none, and else stays.
 use mathlib.Core.Path.{_≡_, refl, _∙_}
 use mathlib.Core.Bool.{true, false, cond}

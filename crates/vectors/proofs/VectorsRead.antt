@@ -15,18 +15,18 @@ use Rattle.lists.specs.ByPlace.{listOf}
 use Rattle.lists.proofs.Cases.{by-test}
 use Rattle.lists.proofs.ByPlace.{listOf-at}
 use Rattle.vectors.specs.Bits.{wordBits, Vector, isSet}
-use Rattle.vectors.specs.Holding.{edgeCodes, lastPart, EdgeVectors, wordAt, wholeWord, partedWord, wordOf, vectorAt}
-use Rattle.vectors.specs.Storing.{slotCount, keptCount, hasCode, slotOf, partWord, keptWord, slotsOf, keptOf, wholeOf}
+use Rattle.vectors.specs.Holding.{edgeCodes, lastPart, EdgeVectors, wordPlace, wholeWord, slotWord, wordOf, vectorAt}
+use Rattle.vectors.specs.Storing.{slotCount, keptCount, hasCode, slotOf, partWord, keptWord}
 use Rattle.vectors.specs.ByValue.{vectorWords, vectorBits}
 use Rattle.vectors.proofs.WordBits.{bit-zero}
 use Rattle.vectors.proofs.WordByWord.{vectorOf-isSet, vectorOf-isSet-past, vectorOf-vector}
 use Rattle.vectors.proofs.PlacesOfCode.{has-code-past}
 use Rattle.vectors.proofs.WordOfPart.{part-bit, part-none}
-use Rattle.vectors.proofs.KeptWords.{word-at-slot-lt, kept-reads}
+use Rattle.vectors.proofs.KeptWords.{slotsOf, keptOf, wholeOf, word-place-slot-lt, kept-reads}
 
 -- The words of a vector that is read are machine words, if the kept ones are.
 pub read-vector : (table : EdgeVectors) (code count : ℕ) → Vector (table .kept) → Vector (vectorAt table code count)
-unfolding vectorAt wordOf wholeWord partedWord
+unfolding vectorAt wordOf wholeWord slotWord
 read-vector table code count vector = vectorOf-vector vectorWords _ (λ w h. by-test (λ (x : ℕ). x < 2 ^ wordBits) (ltb code edgeCodes)
     (λ _. by-test (λ (x : ℕ). x < 2 ^ wordBits) (leb count 1)
     (λ _. by-test (λ (x : ℕ). x < 2 ^ wordBits) (eqb w 0) (λ _. vector .word-lt code) (λ _. omega arith))
@@ -40,7 +40,7 @@ module _ (table : EdgeVectors) (code count : ℕ) (is-code : code < edgeCodes) w
   whole-words few = rw (lt-ltb code edgeCodes is-code, le-leb count 1 few) refl
 
   -- Where they have several: the words of the four parts, written out, are the vector.
-  pub parted-words : 1 < count → partedWord table code 0 ∷ partedWord table code 1 ∷ partedWord table code 2 ∷ partedWord table code 3 ∷ [] ≡ vectorAt table code count
+  pub parted-words : 1 < count → slotWord table code 0 ∷ slotWord table code 1 ∷ slotWord table code 2 ∷ slotWord table code 3 ∷ [] ≡ vectorAt table code count
   unfolding vectorAt listOf wordOf
   parted-words many = rw (lt-ltb code edgeCodes is-code, lt-leb count 1 many) refl
 
@@ -51,11 +51,11 @@ no-code-bit table code count q above = dite (decLt q vectorBits)
     (λ h. vectorOf-isSet vectorWords _ q h ∙ rw (le-ltb code edgeCodes above, bit-zero (q % wordBits)) refl)
     (λ past. vectorOf-isSet-past vectorWords _ q (omega (arith, past)))
 
-module _ (ring : List ℕ) (n : ℕ) (most : n ≤ vectorBits) (table : EdgeVectors) (code count : ℕ) (is-code : code < edgeCodes) where
+module _ (ring : List ℕ) (n : ℕ) (most : n ≤ vectorBits) (table : EdgeVectors) (code : ℕ) (is-code : code < edgeCodes) where
   -- If the word that is read for a code and each part has the part's bits, bit q is set exactly when place q has the code.
-  bits-of-parts : ((w : ℕ) → w ≤ lastPart → wordOf table code count w ≡ partWord ring n w code) → (q : ℕ) → isSet (vectorAt table code count) q ≡ hasCode ring n code q
+  bits-of-parts : (count : ℕ) → ((w : ℕ) → w ≤ lastPart → wordOf table code count w ≡ partWord ring n w code) → (q : ℕ) → isSet (vectorAt table code count) q ≡ hasCode ring n code q
   unfolding vectorAt
-  bits-of-parts words q = dite (decLt q vectorBits)
+  bits-of-parts count words q = dite (decLt q vectorBits)
       (λ h. let place : wordBits * (q / wordBits) + q % wordBits ≡ q = omega arith in
       vectorOf-isSet vectorWords _ q (omega arith) ∙ rw (lt-ltb code edgeCodes is-code, words (q / wordBits) (omega arith))
       (part-bit ring n (q / wordBits) code (q % wordBits) (mod-lt q (omega arith)) ∙ rw place refl))
@@ -70,9 +70,9 @@ module _ (ring : List ℕ) (n : ℕ) (most : n ≤ vectorBits) (table : EdgeVect
         (λ later. rw (ne-eqb w 0 later) (sym (part-none ring n w code (λ q l h. has-code-past ring n code q (omega (arith, later))))))
 
     -- Bit q is set exactly when place q has the code, where vectors have one word.
-    pub whole-bit : count ≤ 1 → (q : ℕ) → isSet (vectorAt table code count) q ≡ hasCode ring n code q
+    pub whole-bit : (count : ℕ) → count ≤ 1 → (q : ℕ) → isSet (vectorAt table code count) q ≡ hasCode ring n code q
     unfolding wordOf
-    whole-bit few = bits-of-parts (λ w h. rw (le-leb count 1 few) (whole-read w))
+    whole-bit count few = bits-of-parts count (λ w h. rw (le-leb count 1 few) (whole-read w))
 
   module _ (slots-are : table .slots ≡ slotsOf ring n) where
     -- The slot that stands at code + 256·w.
@@ -85,12 +85,12 @@ module _ (ring : List ℕ) (n : ℕ) (most : n ≤ vectorBits) (table : EdgeVect
 
     module _ (kept-are : table .kept ≡ keptOf ring n) where
       -- The word that is read for an edge code and part w is that of part and code.
-      pub parted-read : (w : ℕ) → w ≤ lastPart → partedWord table code w ≡ partWord ring n w code
-      unfolding partedWord keptOf
+      pub parted-read : (w : ℕ) → w ≤ lastPart → slotWord table code w ≡ partWord ring n w code
+      unfolding slotWord keptOf
       parted-read w h = rw (slot-there w (code + w * edgeCodes) h refl, kept-are)
-          (listOf-at keptCount (keptWord ring n) (wordAt w (slotOf ring n w code)) (word-at-slot-lt ring n w code h) ∙ kept-reads ring n w code h)
+          (listOf-at keptCount (keptWord ring n) (wordPlace w (slotOf ring n w code)) (word-place-slot-lt ring n w code h) ∙ kept-reads ring n w code h)
 
       -- Bit q is set exactly when place q has the code, where vectors have several words.
-      pub parted-bit : 1 < count → (q : ℕ) → isSet (vectorAt table code count) q ≡ hasCode ring n code q
+      pub parted-bit : (count : ℕ) → 1 < count → (q : ℕ) → isSet (vectorAt table code count) q ≡ hasCode ring n code q
       unfolding wordOf
-      parted-bit many = bits-of-parts (λ w h. rw (lt-leb count 1 many) (parted-read w h))
+      parted-bit count many = bits-of-parts count (λ w h. rw (lt-leb count 1 many) (parted-read w h))

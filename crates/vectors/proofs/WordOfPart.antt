@@ -1,4 +1,4 @@
--- The word of a code in a part of 64 places, by its bits: bit j is set exactly when the part has the code at its place j. When place n comes to count, only the word of
+-- The word of a code in a part of 64 places, by its bits: bit j is set exactly when the part has the code at its place j. When place n is added, only the word of
 -- its own part and code changes: bit n mod 64 is put in.
 use mathlib.Core.Path.{_≡_, refl, sym, _∙_}
 use mathlib.Core.Bool.{Bool, true, false, cond, _&&_, _||_, true≢false}

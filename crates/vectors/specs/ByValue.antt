@@ -55,8 +55,8 @@ grownWord m count occurs held w =
 unfoldable pub grownWords : ℕ → ℕ → List ℕ → List ℕ → List ℕ
 grownWords m count occurs held = listOf vectorWords (grownWord m (min count vectorWords) occurs held)
 
--- The occurrence vectors of a ring: one for each edge code, and what exactly the two arrays hold. If the ring has more edges than a vector has bits, only the
--- first `vectorBits` edges count.
+-- The contract of `occurrences`. `each` says what the two arrays mean: one occurrence vector for each edge code. `slots-are` and `kept-are` fix every slot and every
+-- word. If the ring has more edges than a vector has bits, only the first `vectorBits` edges count.
 pub record Occurrences (ring : List ℕ) (table : EdgeVectors) : Type 0 where
   pub each : OccurrenceTable (take vectorBits ring) (wordCount (length ring)) table
   pub slots-are : table .slots ≡ slotsFor ring

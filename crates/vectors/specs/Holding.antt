@@ -3,7 +3,7 @@
 -- held stretch is the beginning of rotation r is proved in WindowLoop of crates/meaning.
 --     Occurs     the occurrence vector of an edge code
 --     edgeCodes, lastPart     the number of edge codes; the last part of a ring's places
---     EdgeVectors, edgeVectors, emptyWord, wordAt, wholeWord, partedWord, wordOf     how the vectors of all codes are stored: slots and kept words
+--     EdgeVectors, edgeVectors, emptyWord, wordPlace, wholeWord, slotWord, wordOf     how the vectors of all codes are stored: slots and kept words
 --     vectorAt, OccurrenceTable     the vector of a code; one for each code, 0 to 255
 --     both, Both     AND, bit for bit
 --     grown, Grown     the held vector rotated, AND the read edge's occurrence vector
@@ -42,30 +42,30 @@ pub record EdgeVectors : Type 0 where
 abbrev pub edgeVectors : List ℕ → List ℕ → EdgeVectors
 edgeVectors slots kept = record { slots = slots; kept = kept }
 
--- The place of the word that is always 0: behind the words of all parts but the last.
+-- The place of the empty word, which is 0 where vectors have several words: behind the words of all parts but the last.
 abbrev pub emptyWord : ℕ
 emptyWord = wordBits * lastPart
 
--- Where the word of part w with this slot is kept: at the slot; in the last part one further on, past the empty word.
-unfoldable pub wordAt : ℕ → ℕ → ℕ
-wordAt w slot = cond (ltb w lastPart) slot (slot + 1)
+-- The place of the kept word that a slot of part w leads to: the slot; in the last part one further on, past the empty word.
+unfoldable pub wordPlace : ℕ → ℕ → ℕ
+wordPlace w slot = cond (ltb w lastPart) slot (slot + 1)
 
 -- The word of an edge code in part w, where vectors have one word: it is kept by code.
 unfoldable pub wholeWord : EdgeVectors → ℕ → ℕ → ℕ
 wholeWord table code w = cond (eqb w 0) (getD (table .kept) code 0) 0
 
 -- The word of an edge code in part w, where vectors have several words: the slot of code and part, which stands at code + 256·w, leads to it.
-unfoldable pub partedWord : EdgeVectors → ℕ → ℕ → ℕ
-partedWord table code w = getD (table .kept) (wordAt w (getD (table .slots) (code + w * edgeCodes) 0)) 0
+unfoldable pub slotWord : EdgeVectors → ℕ → ℕ → ℕ
+slotWord table code w = getD (table .kept) (wordPlace w (getD (table .slots) (code + w * edgeCodes) 0)) 0
 
--- The word of an edge code in part w, where vectors have `count` words.
+-- The word of an edge code in part w, where vectors have `count` words. A count of 0 is taken as 1.
 unfoldable pub wordOf : EdgeVectors → ℕ → ℕ → ℕ → ℕ
 wordOf table code count w =
     let whole : ℕ = wholeWord table code w in
-    let parted : ℕ = partedWord table code w in
+    let parted : ℕ = slotWord table code w in
     cond (leb count 1) whole parted
 
--- The vector of an edge code, where vectors have `count` words. For a number above 255 no bit is set.
+-- The vector of an edge code, where vectors have `count` words: four words, whatever the count. For a number above 255 no bit is set.
 unfoldable pub vectorAt : EdgeVectors → ℕ → ℕ → List ℕ
 vectorAt table code count = listOf (suc lastPart) (λ w. cond (ltb code edgeCodes) (wordOf table code count w) 0)
 

@@ -1,15 +1,16 @@
--- What the slots and the kept words are, for every ring. Each ring place sets one bit of one word, that of its part and code, so at most m words are not 0
--- (proofs/FewWords.antt), and 256 words have room for all of them.
--- Up to 64 edges there is one part. Its words are kept by code, and no slot is needed.
--- With more edges the word of a part and a code is kept under the first place of the part that has the code. That place is their slot. If the part lacks the code,
--- the slot is a place outside the part that leads to the empty word. So every byte is a valid slot, and reading a vector needs no test.
--- Most of this is said of a ring's first n places; the contract has n = m, or 256 for a longer ring.
+-- What the slots and the kept words are, for every ring. Each ring place sets one bit of one word, that of its part and code. So at most m words are not 0
+-- (proofs/FewWords.antt), and 256 places are room for all of them.
+-- Up to 64 edges there is one part. Its words are kept by code, and no slot is read.
+-- With more edges the word of a part and a code is kept at the first place of the part that has the code; in the last part one further on. That place is the slot of
+-- part and code. If the part lacks the code, the slot is a place outside the part, and leads to the empty word. A slot is a byte, and a byte plus 1 is at most 256:
+-- there is a word for each, so reading a vector needs no test.
+-- Most definitions take a number n: only the ring's first n places count.
 --     slotCount, keptCount                  how many slots and kept words there are
 --     hasCode                               whether a place has the code
 --     lowestPlace, noSlot, noSlots, slotOf  the slot of part and code
 --     wordWhere, partWord                   the word of part and code
---     keptPlace, placeWord, keptWord        the place whose word is kept at i; the word kept under a place; the word kept at i
---     slotsOf, keptOf, wholeOf              slots and kept words of a ring of several parts; kept words of a ring of one part
+--     keptPlace, placeWord, keptWord        the place whose word is kept at i; the word kept for a place; the word kept at i
+--     countedPlaces, slotFor, keptAt        how many places count; the slot and the word at each place of the arrays, for every ring
 --     slotsFor, keptFor                     both arrays, for every ring
 --     notZero                               how many words are not 0
 use mathlib.Core.Bool.{Bool, cond, _&&_}
@@ -25,7 +26,7 @@ use Rattle.vectors.specs.Holding.{edgeCodes, lastPart, emptyWord}
 abbrev pub slotCount : ℕ
 slotCount = edgeCodes * suc lastPart
 
--- How many words are kept at most, with the empty word: one for each of 256 places, and one.
+-- How many words the array of kept words has: one for each of 256 places, and one more.
 abbrev pub keptCount : ℕ
 keptCount = wordBits * suc lastPart + 1
 
@@ -33,7 +34,7 @@ keptCount = wordBits * suc lastPart + 1
 unfoldable pub hasCode : List ℕ → ℕ → ℕ → ℕ → Bool
 hasCode ring n code q = ltb q n && eqb (getD ring q 0) code
 
--- The lowest of the `count` places from `from` on that passes the test; `none` if no one does.
+-- The lowest of the `count` places from `from` on that passes the test; `none` if none does.
 unfoldable pub lowestPlace : (ℕ → Bool) → ℕ → ℕ → ℕ → ℕ
 lowestPlace test none from zero = none
 lowestPlace test none from (suc count) =
@@ -48,24 +49,24 @@ noSlot w = cond (ltb w lastPart) emptyWord (emptyWord - 1)
 unfoldable pub noSlots : List ℕ
 noSlots = listOf slotCount (λ i. noSlot (i / edgeCodes))
 
--- The slot of a code in part w: the first place of the part that has the code.
+-- The slot of a code in part w: the first place of the part that has the code; `noSlot w` if there is none.
 unfoldable pub slotOf : List ℕ → ℕ → ℕ → ℕ → ℕ
 slotOf ring n w code = lowestPlace (hasCode ring n code) (noSlot w) (wordBits * w) wordBits
 
--- The word whose bit j is set exactly when j passes the test, for j below `count`.
+-- The word whose bit j is set exactly when j is below `count` and passes the test, for a count of at most 64.
 unfoldable pub wordWhere : (ℕ → Bool) → ℕ → ℕ
 wordWhere test zero = 0
 wordWhere test (suc count) = putWord (wordWhere test count) count (cond (test count) 1 0)
 
--- Word w of the code's occurrence vector: bit j is set exactly when the ring has the code at place 64·w + j.
+-- Word w of the code's occurrence vector: bit j, for j below 64, is set exactly when place 64·w + j is one of the first n and has the code.
 unfoldable pub partWord : List ℕ → ℕ → ℕ → ℕ → ℕ
 partWord ring n w code = wordWhere (λ j. hasCode ring n code (wordBits * w + j)) wordBits
 
--- The ring place whose word is kept at i: i, or, past the empty word, i − 1.
+-- The ring place whose word is kept at i: i, or, past the empty word, i − 1. (The empty word has no place; `keptWord` asks for it first.)
 unfoldable pub keptPlace : ℕ → ℕ
 keptPlace i = cond (ltb i emptyWord) i (i - 1)
 
--- The word that is kept under ring place p: if p is the slot of its own part and code, their word, and else 0.
+-- The word that is kept for ring place p: if p is the slot of its own part and code, their word; if not, 0.
 unfoldable pub placeWord : List ℕ → ℕ → ℕ → ℕ
 placeWord ring n p =
     let w : ℕ = p / wordBits in
@@ -79,30 +80,31 @@ keptWord ring n i =
     let word : ℕ = placeWord ring n (keptPlace i) in
     cond (eqb i emptyWord) 0 word
 
--- All slots: that of a code in part w at code + 256·w.
-unfoldable pub slotsOf : List ℕ → ℕ → List ℕ
-slotsOf ring n = listOf slotCount (λ i. slotOf ring n (i / edgeCodes) (i % edgeCodes))
+-- How many places of a ring count: all, but at most 256.
+abbrev pub countedPlaces : List ℕ → ℕ
+countedPlaces ring = min (length ring) (wordBits * suc lastPart)
 
--- All kept words.
-unfoldable pub keptOf : List ℕ → ℕ → List ℕ
-keptOf ring n = listOf keptCount (keptWord ring n)
+-- The slot at place i of the slots. Up to 64 edges it is that of a code that the part lacks.
+unfoldable pub slotFor : List ℕ → ℕ → ℕ
+slotFor ring i =
+    let none : ℕ = noSlot (i / edgeCodes) in
+    let slot : ℕ = slotOf ring (countedPlaces ring) (i / edgeCodes) (i % edgeCodes) in
+    cond (leb (length ring) wordBits) none slot
 
--- The kept words of a ring of one part, by code.
-unfoldable pub wholeOf : List ℕ → ℕ → List ℕ
-wholeOf ring n = listOf keptCount (partWord ring n 0)
+-- The word at place i of the kept words. Up to 64 edges it is that of code i.
+unfoldable pub keptAt : List ℕ → ℕ → ℕ
+keptAt ring i =
+    let whole : ℕ = partWord ring (countedPlaces ring) 0 i in
+    let word : ℕ = keptWord ring (countedPlaces ring) i in
+    cond (leb (length ring) wordBits) whole word
 
--- The slots of a ring: for one part, that of no code.
+-- The slots of a ring.
 unfoldable pub slotsFor : List ℕ → List ℕ
-slotsFor ring =
-    let parted : List ℕ = slotsOf ring (min (length ring) (wordBits * suc lastPart)) in
-    cond (leb (length ring) wordBits) noSlots parted
+slotsFor ring = listOf slotCount (slotFor ring)
 
 -- The kept words of a ring.
 unfoldable pub keptFor : List ℕ → List ℕ
-keptFor ring =
-    let whole : List ℕ = wholeOf ring (length ring) in
-    let parted : List ℕ = keptOf ring (min (length ring) (wordBits * suc lastPart)) in
-    cond (leb (length ring) wordBits) whole parted
+keptFor ring = listOf keptCount (keptAt ring)
 
 -- How many words of a list are not 0.
 unfoldable pub notZero : List ℕ → ℕ

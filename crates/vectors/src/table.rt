@@ -1,6 +1,7 @@
-// The occurrence vectors of a ring's edge codes. Of a vector only the words that have a bit are kept: each ring place sets
-// one bit of one word, so there are at most 256 of them, whatever the ring. A slot, one byte for each code and part of 64
-// places, leads to the kept word. Together they take 3,080 bytes; all words of all 256 codes would take 8,192.
+// The occurrence vectors of a ring's edge codes. Only the words that have a bit are kept: each ring place sets one bit of
+// one word, so there are at most 256 of them, whatever the ring. A slot, one byte for each code and part of 64 places,
+// leads to the kept word. A ring of at most 64 edges keeps its words by code, and its slots are not read. Both arrays
+// take 3,080 bytes; all words of all 256 codes would take 8,192.
 use crate::widths::EDGE_CODES;
 use crate::widths::KEPT_WORDS;
 use crate::widths::LAST_PART;
@@ -14,14 +15,14 @@ ghost use Prim.Native.Nat.{_≤_, _<_};
 ghost use lib.Dec.{eqb};
 ghost use lib.ListN.{length};
 ghost use Rattle.vectors.specs.Bits.{wordBits};
-ghost use Rattle.vectors.specs.Holding.{edgeCodes, edgeVectors, wordAt, partedWord, vectorAt};
+ghost use Rattle.vectors.specs.Holding.{edgeCodes, edgeVectors, wordPlace, slotWord, vectorAt};
 ghost use Rattle.vectors.specs.Storing.{noSlot, keptCount, noSlots};
 ghost use Rattle.vectors.specs.ByValue.{vectorWords, vectorBits, Occurrences};
 
-// The place of the word that is always 0, and the slot of a code that a part lacks.
+// The place of the empty word, and so the slot of a code that a part lacks.
 const EMPTY: u8 = 192;
 
-// That slot in the last part, whose words are kept one place further on: its place 192 has a word of its own.
+// The same for the last part: its words stand one place further on, so 191 leads to the empty word.
 const EMPTY_IN_LAST: u8 = 191;
 
 // A byte as an index: an edge code or a slot.
@@ -42,9 +43,9 @@ fn no_slot(part: usize) -> u8
     }
 }
 
-// Where the word of a part with this slot is kept.
-fn word_at(part: usize, slot: u8) -> usize
-    ensures { λ r. ⌜ (r ≡ wordAt part slot) × (r < keptCount) ⌝ }
+// The place of the kept word that a slot of a part leads to. A slot is at most 255, so there is such a word.
+fn word_place(part: usize, slot: u8) -> usize
+    ensures { λ r. ⌜ (r ≡ wordPlace part slot) × (r < keptCount) ⌝ }
 {
     let at = byte_index(slot);
     if part < LAST_PART { at } else { at + 1 }
@@ -58,7 +59,7 @@ fn slot_from(slot: u8, part: usize, r: usize) -> u8
     if slot == no_slot(part) { r as u8 } else { slot }
 }
 
-// Every part lacks every code.
+// Gives every part and code the slot of a code that the part lacks.
 fn clear_slots(slots: &mut [u8; SLOTS])
     ensures { λ _. ⌜ now (slots .exit) ≡ noSlots ⌝ }
 {
@@ -71,6 +72,7 @@ fn clear_slots(slots: &mut [u8; SLOTS])
 }
 
 // The vectors of a ring of at most 64 edges have one word each. They are kept by code, so that reading one needs no slot.
+// The slots are cleared all the same, because the contract fixes both arrays.
 fn keep_whole(ring: &[u8], slots: &mut [u8; SLOTS], kept: &mut [u64; KEPT_WORDS])
     requires { ⌜ length (now ring) ≤ wordBits ⌝ }
     ensures { λ _. ⌜ Occurrences (now (ring .entry)) (edgeVectors (now (slots .exit)) (now (kept .exit))) ⌝ }
@@ -98,7 +100,7 @@ fn keep_parts(ring: &[u8], slots: &mut [u8; SLOTS], kept: &mut [u64; KEPT_WORDS]
         let at = byte_index(ring[r]) + part * EDGE_CODES;
         let slot = slot_from(slots[at], part, r);
         slots[at] = slot;
-        let word = word_at(part, slot);
+        let word = word_place(part, slot);
         kept[word] = kept[word] | (1u64 << (r % WORD_BITS));
         r += 1;
     }
@@ -116,16 +118,17 @@ pub fn occurrences(ring: &[u8], slots: &mut [u8; SLOTS], kept: &mut [u64; KEPT_W
     }
 }
 
-// The word of an edge code in a part, of vectors with several words. Every byte is a valid slot, so nothing is tested.
+// The word of an edge code in a part, of vectors with several words. A slot may be any byte, so nothing is tested.
 fn word_of(slots: &[u8; SLOTS], kept: &[u64; KEPT_WORDS], code: u8, part: usize) -> u64
     requires { ⌜ part < vectorWords ⌝ }
-    ensures { λ r. ⌜ r ≡ partedWord (edgeVectors (now (slots .entry)) (now (kept .entry))) code part ⌝ }
+    ensures { λ r. ⌜ r ≡ slotWord (edgeVectors (now (slots .entry)) (now (kept .entry))) code part ⌝ }
 {
     let slot = slots[byte_index(code) + part * EDGE_CODES];
-    kept[word_at(part, slot)]
+    kept[word_place(part, slot)]
 }
 
-// The occurrence vector of an edge code, for a ring whose vectors have `count` words.
+// The occurrence vector of an edge code, for a ring whose vectors have `count` words. It has four words; for a count above
+// 1 all four are read, and those past the ring's last part are 0.
 pub fn vector_of(
     slots: &[u8; SLOTS],
     kept: &[u64; KEPT_WORDS],

@@ -17,5 +17,5 @@ pub const LAST_PART: usize = 3;
 // How many slots there are: one for each of EDGE_CODES codes in each of VECTOR_WORDS parts.
 pub const SLOTS: usize = 1024;
 
-// How many words are kept at most: one for each of VECTOR_BITS ring places, and the empty word.
+// How many words the array of kept words has: one for each of VECTOR_BITS ring places, and one more.
 pub const KEPT_WORDS: usize = 257;

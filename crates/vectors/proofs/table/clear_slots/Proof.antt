@@ -1,5 +1,5 @@
--- `vectors::table::clear_slots` meets its contract: the slots of the last part are stored one by one, from the first of them on, where the others already stand
--- (`StoreLoop` of crates/lists). The measure is 1024 - at.
+-- `vectors::table::clear_slots` meets its contract: all slots are stored as those of the earlier parts, then those of the last part one by one (`Cleared` of
+-- SlotsCleared). The measure is 1024 - at.
 use Prim.Native.Nat.{_-_}
 use borrow.Author.Needs.{needs}
 use Rattle.vectors.specs.Storing.{slotCount}

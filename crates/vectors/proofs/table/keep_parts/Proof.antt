@@ -43,8 +43,8 @@ slot-from-requires c κs = omega (arith, ltb-true)
 element-write-slots : tie.Need-element-write-slots Inv-loop μ-loop
 element-write-slots c = omega (arith, ltb-true)
 
-word-at-requires : tie.Need-word-at-requires Inv-loop μ-loop
-word-at-requires c κs = search needs
+word-place-requires : tie.Need-word-place-requires Inv-loop μ-loop
+word-place-requires c κs = search needs
 
 mul-kept : tie.Need-mul-kept Inv-loop μ-loop
 mul-kept c = search needs
@@ -72,7 +72,7 @@ loop-again c =
     let read = c .before .before .before .before in
     let turn = read .before .before in
     parts-turned _ _ _ _ _ _ _ _ (turn .before .before .loop .inv) (turn .before .loop-test .taken) (ltb-true _ _ (turn .if1 .taken))
-    (read .byte-index .ensures .0) (read .byte-index .ensures .1) refl (c .before .before .slot-from .ensures) (c .before .word-at .ensures .0)
+    (read .byte-index .ensures .0) (read .byte-index .ensures .1) refl (c .before .before .slot-from .ensures) (c .before .word-place .ensures .0)
 
 returns : tie.Need-returns Inv-loop μ-loop
 returns c = parts-end _ _ _ _ (c .before .before .before .before .before .before .before .pre) (c .before .before .loop .inv) (omega (arith, ltb-false))
@@ -95,7 +95,7 @@ keep-parts-spec =
     element-copy-out-slot-from
     slot-from-requires
     element-write-slots
-    word-at-requires
+    word-place-requires
     mul-kept
     element-copy-out-kept
     shl-kept

@@ -1,7 +1,7 @@
 -- `vectors::table::word_of` meets its contract: it reads the slot and the word that the slot leads to.
 use mathlib.Core.Path.{refl}
 use borrow.Author.Needs.{needs}
-use Rattle.vectors.specs.Holding.{partedWord}
+use Rattle.vectors.specs.Holding.{slotWord}
 use Rattle.vectors.proofs.table.word_of.Statement.{statement}
 use Rattle.vectors.proofs.table.word_of.Tie as tie
 
@@ -17,8 +17,8 @@ add-slot c = search needs
 element-copy-out-slot : tie.Need-element-copy-out-slot
 element-copy-out-slot c = search needs
 
-word-at-requires : tie.Need-word-at-requires
-word-at-requires c κs = search needs
+word-place-requires : tie.Need-word-place-requires
+word-place-requires c κs = search needs
 
 mul-result : tie.Need-mul-result
 mul-result c = search needs
@@ -27,8 +27,8 @@ element-copy-out-result : tie.Need-element-copy-out-result
 element-copy-out-result c = search needs
 
 returns : tie.Need-returns
-unfolding partedWord
-returns c = rw (c .before .word-at .ensures .0, c .before .before .before .byte-index .ensures .0) refl
+unfolding slotWord
+returns c = rw (c .before .word-place .ensures .0, c .before .before .before .byte-index .ensures .0) refl
 
 pub word-of-spec : {M : Type 1} → statement M
 word-of-spec =
@@ -38,7 +38,7 @@ word-of-spec =
     mul-slot
     add-slot
     element-copy-out-slot
-    word-at-requires
+    word-place-requires
     mul-result
     element-copy-out-result
     returns)
