@@ -18,7 +18,7 @@ use Rattle.vectors.specs.Storing.{keptCount, slotOf, partWord, countedPl
 use Rattle.vectors.specs.ByValue.{vectorBits, Occurrences}
 use Rattle.vectors.proofs.PlacesOfCode.{has-code-is, has-code-below}
 use Rattle.vectors.proofs.WordOfPart.{part-none, part-some}
-use Rattle.vectors.proofs.KeptWords.{keptOf, wholeOf, kept-at-first, whole-at-first, kept-for-one, slots-for-parts, kept-for-parts}
+use Rattle.vectors.proofs.ArraysOfRing.{keptOf, wholeOf, kept-at-first, whole-at-first, kept-for-one, slots-for-parts, kept-for-parts}
 use Rattle.vectors.proofs.PlaceCounted.{whole-turn, whole-stays, kept-turn}
 use Rattle.vectors.proofs.VectorsRead.{whole-read, parted-read}
 

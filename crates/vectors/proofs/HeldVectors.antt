@@ -22,7 +22,7 @@ use Rattle.vectors.proofs.NoBitIsSet.{noBit-iff, noBit-no}
 use Rattle.vectors.proofs.HeldVectorGrows.{grown-within}
 use Rattle.vectors.proofs.GrownWords.{grown-words-length, grown-words-vector}
 use Rattle.vectors.proofs.GrownInFewestWords.{grown-words-is}
-use Rattle.vectors.proofs.KeptWords.{kept-vector, whole-vector, kept-for-one, kept-for-parts}
+use Rattle.vectors.proofs.ArraysOfRing.{kept-vector, whole-vector, kept-for-one, kept-for-parts}
 use Rattle.vectors.proofs.VectorsRead.{read-vector}
 
 module _ (m : ℕ) (most : m ≤ vectorBits) where

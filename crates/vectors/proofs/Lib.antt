@@ -19,6 +19,7 @@ pub mod SlotOfPart
 pub mod WordOfPart
 pub mod SlotsCleared
 pub mod KeptWords
+pub mod ArraysOfRing
 pub mod PlaceCounted
 pub mod VectorsRead
 pub mod OccurrencesLoop

@@ -16,7 +16,7 @@ use Rattle.vectors.specs.Storing.{keptCount, hasCode, noSlot, noSlots, s
 use Rattle.vectors.specs.ByValue.{vectorBits, Occurrences}
 use Rattle.vectors.proofs.PlacesOfCode.{has-code-below, has-code-past}
 use Rattle.vectors.proofs.SlotOfPart.{slot-own}
-use Rattle.vectors.proofs.KeptWords.{slotsOf, keptOf, wholeOf, kept-at-first, whole-at-first, slots-at-first, slots-for-one, kept-for-one, slots-for-parts, kept-for-parts}
+use Rattle.vectors.proofs.ArraysOfRing.{slotsOf, keptOf, wholeOf, kept-at-first, whole-at-first, slots-at-first, slots-for-one, kept-for-one, slots-for-parts, kept-for-parts}
 use Rattle.vectors.proofs.PlaceCounted.{whole-turn, kept-turn, slots-turn}
 use Rattle.vectors.proofs.VectorsRead.{no-code-bit, whole-bit, slot-there, parted-bit}
 

@@ -17,7 +17,8 @@ use Rattle.vectors.proofs.LowestPlace.{one-passes, no-one-passes}
 use Rattle.vectors.proofs.PlacesOfCode.{has-code-new}
 use Rattle.vectors.proofs.SlotOfPart.{no-slot-outside, IsSlot, slot-is, slot-other, slot-kept, slot-new}
 use Rattle.vectors.proofs.WordOfPart.{part-none, part-other, part-own}
-use Rattle.vectors.proofs.KeptWords.{slotsOf, keptOf, wholeOf, word-place-lt, kept-place-at, kept-empty, kept-other, place-word-none, kept-at-place, kept-reads}
+use Rattle.vectors.proofs.KeptWords.{word-place-lt, kept-place-at, kept-empty, kept-other, place-word-none, kept-at-place, kept-reads}
+use Rattle.vectors.proofs.ArraysOfRing.{slotsOf, keptOf, wholeOf}
 
 module _ (ring : List ℕ) where
   -- The words of a ring of one part after place n counts: bit n is put into the word of its code.

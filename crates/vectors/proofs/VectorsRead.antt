@@ -22,7 +22,8 @@ use Rattle.vectors.proofs.WordBits.{bit-zero}
 use Rattle.vectors.proofs.WordByWord.{vectorOf-isSet, vectorOf-isSet-past, vectorOf-vector}
 use Rattle.vectors.proofs.PlacesOfCode.{has-code-past}
 use Rattle.vectors.proofs.WordOfPart.{part-bit, part-none}
-use Rattle.vectors.proofs.KeptWords.{slotsOf, keptOf, wholeOf, word-place-slot-lt, kept-reads}
+use Rattle.vectors.proofs.KeptWords.{word-place-slot-lt, kept-reads}
+use Rattle.vectors.proofs.ArraysOfRing.{slotsOf, keptOf, wholeOf}
 
 -- The words of a vector that is read are machine words, if the kept ones are.
 pub read-vector : (table : EdgeVectors) (code count : ℕ) → Vector (table .kept) → Vector (vectorAt table code count)
