@@ -2,11 +2,11 @@
 
 The disassembly is that of `objdump -dr --no-show-raw-insn`, for x86-64 or aarch64; llvm-objdump's is read too. In each function the stack pointer is
 followed along every way from the first instruction. What may change it: a push, a pop, a number added or subtracted (so clang's probes of a frame above
-a page too), on aarch64 a load or a store that moves it. What is addressed below it counts (the red zone). Every place must have one depth, and a
-function must return, or jump to another, at the depth at which it began. Calls go to functions of the archive or of OUTSIDE. Of these the return
-address alone is counted: their frames are not in the archive. All else is a fault: any other change of the stack pointer, a loop that lowers it (clang
-writes one for a frame of many pages), a call or a jump through a register or a table or behind a prefix, a function that comes back to itself, bytes
-that objdump does not read as an instruction.
+a page too), on aarch64 a load or a store that moves it. What is addressed below it, by the stack pointer itself, counts (the red zone). Every place
+must have one depth, and a function must return, or jump to another, at the depth at which it began. Calls go to functions of the archive or of OUTSIDE.
+Of OUTSIDE the return address alone is counted: their frames are not in the archive. All else is a fault: any other change of the stack pointer, a loop
+that lowers it (clang writes one for a frame of many pages), a call or a jump through a register or a table or behind a prefix, a function that comes
+back to itself, bytes that objdump does not read as an instruction.
 """
 import re
 

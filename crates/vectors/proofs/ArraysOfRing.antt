@@ -46,7 +46,7 @@ module _ (ring : List ℕ) where
   unfolding keptOf
   kept-vector n = vectorOf-vector keptCount _ (λ i h. kept-every (λ x. x < 2 ^ wordBits) n (omega arith) (part-lt ring n) i)
 
-  -- So are those of a ring of one part.
+  -- The kept words of a ring of one part are machine words.
   pub whole-vector : (n : ℕ) → Vector (wholeOf ring n)
   unfolding wholeOf
   whole-vector n = vectorOf-vector keptCount (partWord ring n 0) (λ i h. part-lt ring n 0 i)
@@ -57,7 +57,7 @@ module _ (ring : List ℕ) where
   kept-at-first = listOf-is (replicate keptCount 0) keptCount (keptWord ring 0) (length-replicate {A = ℕ} keptCount 0)
       (λ i h. getD-replicate {A = ℕ} keptCount i 0 0 h ∙ sym (kept-every (λ x. x ≡ 0) 0 refl part-at-first i))
 
-  -- So are those of a ring of one part.
+  -- With no place, those of a ring of one part are zeros.
   pub whole-at-first : replicate keptCount 0 ≡ wholeOf ring 0
   unfolding wholeOf
   whole-at-first = listOf-is (replicate keptCount 0) keptCount (partWord ring 0 0) (length-replicate {A = ℕ} keptCount 0)

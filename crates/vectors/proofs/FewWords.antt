@@ -48,7 +48,7 @@ few-kept ring (suc n) h =
     rw (sym (add-one n)) (rw (sym (kept-turn ring n (n / wordBits) (getD ring n 0) refl refl (omega arith) at refl))
     (omega (arith, not-zero-set (keptOf ring n) at word, few-kept ring n (omega arith))))
 
--- So do the first n places of a ring of one part.
+-- In a ring of one part the first n places, at most 64, make at most n words.
 few-whole : (ring : List ℕ) (n : ℕ) → n ≤ wordBits → notZero (wholeOf ring n) ≤ n
 few-whole ring zero h = rw (sym (whole-at-first ring)) (omega (arith, not-zero-zeros keptCount))
 few-whole ring (suc n) h =
@@ -59,7 +59,7 @@ few-whole ring (suc n) h =
     (λ above. rw (whole-stays ring n (omega (arith, above))) (omega (arith, few-whole ring n (omega arith)))))
 
 module _ (ring : List ℕ) (table : EdgeVectors) (is : Occurrences ring table) where
-  -- At most m of the kept words are not 0.
+  -- Of a ring of m edges at most m kept words are not 0.
   pub few-words : notZero (table .kept) ≤ length ring
   few-words = dite (decLt wordBits (length ring))
       (λ many. rw (is .kept-are, sym (kept-for-parts ring many)) (omega (arith, few-kept ring (countedPlaces ring) (omega arith))))

@@ -57,11 +57,11 @@ module _ (m count : ℕ) (held : List ℕ) (few : count ≡ wordCount m) (is : H
   no-bit-no said = noBit-no m held (is .words) (is .within) (rw few at said)
 
 module _ (ring : List ℕ) (table : EdgeVectors) (code : ℕ) (is : Occurrences ring table) where
-  -- With the word count of m bits, `vector_of` returns the code's occurrence vector, if the ring has at most as many edges as a vector has bits.
+  -- For a ring of at most 256 edges, with the word count of its length, `vector_of` returns the code's occurrence vector.
   pub vector-occurs : length ring ≤ vectorBits → Occurs ring code (vectorAt table code (wordCount (length ring)))
   vector-occurs most = rw (take-all vectorBits ring most) at (is .each .each code)
 
-  -- For an edge code that the ring does not have, no bit is set in what `vector_of` returns.
+  -- For a ring of at most 256 edges and a code that it does not have: with the word count of its length, no bit is set in what `vector_of` returns.
   pub absent-no-bit : length ring ≤ vectorBits → ((r : ℕ) → r < length ring → getD ring r 0 ≡ code → ⊥) → NoBit (vectorAt table code (wordCount (length ring)))
   absent-no-bit most lacks = record {
     none = λ i. dite (decLt i (length ring)) (λ h. vector-occurs most .each i h ∙ ne-eqb (getD ring i 0) code (lacks i h))

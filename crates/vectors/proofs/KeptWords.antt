@@ -32,9 +32,9 @@ no-slot-empty w = dite (decLt w lastPart)
     (λ early. word-place-early w (noSlot w) early ∙ no-slot-early w early)
     (λ last. word-place-last w (noSlot w) (omega (arith, last)) ∙ no-slot-last w (omega (arith, last)))
 
--- A place p of part w: where its word is kept tells the place.
+-- For a place p of part w.
 module _ (p w : ℕ) (part : p / wordBits ≡ w) (most : w ≤ lastPart) where
-  -- It is not the empty word.
+  -- Its word does not stand at the empty word's place.
   word-place-not-empty : wordPlace w p ≡ emptyWord → ⊥
   word-place-not-empty e = dite (decLt w lastPart)
       (λ early. omega (arith, word-place-early w p early))
@@ -47,13 +47,13 @@ module _ (p w : ℕ) (part : p / wordBits ≡ w) (most : w ≤ lastPart) where
       (λ early. rw (word-place-early w p early, lt-ltb p emptyWord (omega arith)) refl)
       (λ last. rw (word-place-last w p (omega (arith, last)), le-ltb (p + 1) emptyWord (omega (arith, last))) (omega arith))
 
-  -- There is room for it.
+  -- Its word's place is below `keptCount`.
   pub word-place-lt : wordPlace w p < keptCount
   word-place-lt = dite (decLt w lastPart)
       (λ early. omega (arith, word-place-early w p early))
       (λ last. omega (arith, word-place-last w p (omega (arith, last))))
 
--- Every word but the empty one is kept for a place, where the word of that place is kept.
+-- For every i but the empty word's place: the word of ring place `keptPlace i` is kept at i.
 pub kept-place-at : (i : ℕ) → (i ≡ emptyWord → ⊥) → wordPlace (keptPlace i / wordBits) (keptPlace i) ≡ i
 unfolding keptPlace
 kept-place-at i some = dite (decLt i emptyWord)
@@ -66,7 +66,7 @@ module _ (ring : List ℕ) where
   unfolding keptWord
   kept-empty n = refl
 
-  -- Any other word is that of its place.
+  -- At any other i the kept word is that of ring place `keptPlace i`.
   pub kept-other : (n i : ℕ) → (i ≡ emptyWord → ⊥) → keptWord ring n i ≡ placeWord ring n (keptPlace i)
   unfolding keptWord
   kept-other n i some = rw (ne-eqb i emptyWord some) refl
@@ -81,7 +81,7 @@ module _ (ring : List ℕ) where
   unfolding placeWord
   place-word-none n p w code part edge other = rw (part, edge, ne-eqb (slotOf ring n w code) p other) refl
 
-  -- At the place of its part's word a place has its own word.
+  -- Where the word of place p of part w stands, the kept word is that of p.
   pub kept-at-place : (n p w : ℕ) → p / wordBits ≡ w → w ≤ lastPart → keptWord ring n (wordPlace w p) ≡ placeWord ring n p
   kept-at-place n p w part most = kept-other n (wordPlace w p) (word-place-not-empty p w part most) ∙ rw (word-place-back p w part most) refl
 

@@ -24,7 +24,7 @@ use Rattle.vectors.proofs.VectorsRead.{no-code-bit, whole-bit, slot-the
 abbrev pub CodesBelow : List ℕ → ℕ → Type 0
 CodesBelow ring r = (q : ℕ) → q < r → getD ring q 0 < edgeCodes
 
--- One more is.
+-- If number r is an edge code too, so are the first r + 1.
 codes-more : (ring : List ℕ) (r code : ℕ) → CodesBelow ring r → code ≡ getD ring r 0 → code < edgeCodes → CodesBelow ring (r + 1)
 codes-more ring r code known is is-code q h = dite (ℕ-discrete q r) (λ here. rw (here, sym is) is-code) (λ other. known q (omega (arith, other)))
 

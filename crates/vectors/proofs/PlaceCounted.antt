@@ -32,7 +32,7 @@ module _ (ring : List ℕ) where
       (rw (listOf-at keptCount (partWord ring n 0) code room) (rw place at (sym (part-own ring n 0 code first edge))))
       (λ i l other. sym (part-other ring n 0 i (λ _ e. other (sym e ∙ edge))))
 
-  -- A number that is no code changes none of them.
+  -- A number from `keptCount` on changes none of them.
   pub whole-stays : (n : ℕ) → keptCount ≤ getD ring n 0 → wholeOf ring (n + 1) ≡ wholeOf ring n
   unfolding wholeOf
   whole-stays n above = listOf-is (wholeOf ring (n + 1)) keptCount (partWord ring n 0) (listOf-length keptCount (partWord ring (n + 1) 0))
@@ -63,7 +63,7 @@ module _ (ring : List ℕ) where
         go (one-passes from to has before) = slot-kept ring n w code part edge (slotOf ring n w code) from to has before ∙ is
         go (no-one-passes none-is none) = absurd (no-slot-outside w p most here (sym is ∙ none-is))
 
-    -- The words of all other places stay.
+    -- The words of all places but the new slot stay.
     place-word-stays : (p : ℕ) → (slotOf ring (n + 1) w code ≡ p → ⊥) → placeWord ring (n + 1) p ≡ placeWord ring n p
     place-word-stays p other = dite (ℕ-discrete (p / wordBits) w)
         (λ here. dite (ℕ-discrete (getD ring p 0) code)

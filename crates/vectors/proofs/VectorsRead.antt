@@ -76,7 +76,7 @@ module _ (ring : List ℕ) (n : ℕ) (most : n ≤ vectorBits) (table : EdgeVect
     whole-bit count few = bits-of-parts count (λ w h. rw (le-leb count 1 few) (whole-read w))
 
   module _ (slots-are : table .slots ≡ slotsOf ring n) where
-    -- The slot that stands at code + 256·w.
+    -- At code + 256·w stands the slot of code and part w.
     pub slot-there : (w at : ℕ) → w ≤ lastPart → at ≡ code + w * edgeCodes → getD (table .slots) at 0 ≡ slotOf ring n w code
     unfolding slotsOf
     slot-there w at h is =

@@ -24,7 +24,7 @@ use Rattle.vectors.proofs.PlacesOfCode.{has-code-new, has-code-same}
 pub put-word-lt : (x j b : ℕ) → x < 2 ^ wordBits → putWord x j b < 2 ^ wordBits
 put-word-lt x j b h = or-lt wordBits x (b * 2 ^ j % 2 ^ wordBits) h (mod-lt (b * 2 ^ j) (pow-pos wordBits))
 
--- One bit of a test is 0 or 1.
+-- The bit of a test is 0 or 1.
 one-or-none : (t : Bool) → cond t 1 0 < 2
 one-or-none true = omega arith
 one-or-none false = omega arith
@@ -34,7 +34,7 @@ one-if : (t : Bool) → eqb (cond t 1 0) 1 ≡ t
 one-if true = refl
 one-if false = refl
 
--- What is or true is true.
+-- `t || true` is true.
 or-true : (t : Bool) → (t || true) ≡ true
 or-true true = refl
 or-true false = refl
@@ -63,7 +63,7 @@ word-where-bit test (suc count) j h l =
         (λ below. lt-ltb j count below ∙ sym (lt-ltb j (suc count) (omega arith)))
         (λ above. le-ltb j count (omega (arith, above)) ∙ sym (le-ltb j (suc count) (omega (arith, above, other))))
 
--- Bit j of a whole word is set exactly when j passes the test.
+-- Bit j of `wordWhere test 64` is set exactly when j passes the test.
 pub word-bit : (test : ℕ → Bool) (j : ℕ) → j < wordBits → eqb (bit (wordWhere test wordBits) j) 1 ≡ test j
 word-bit test j l = word-where-bit test wordBits j (omega arith) l ∙ rw (lt-ltb j wordBits l) refl
 
@@ -73,7 +73,7 @@ module _ (ring : List ℕ) where
   unfolding partWord
   part-bit n w code j l = word-bit (λ j. hasCode ring n code (wordBits * w + j)) j l
 
-  -- It is a machine word.
+  -- The word of a code in part w is a machine word.
   pub part-lt : (n w code : ℕ) → partWord ring n w code < 2 ^ wordBits
   unfolding partWord
   part-lt n w code = word-where-lt (λ j. hasCode ring n code (wordBits * w + j)) wordBits

@@ -42,7 +42,7 @@ pub record EdgeVectors : Type 0 where
 abbrev pub edgeVectors : List ℕ → List ℕ → EdgeVectors
 edgeVectors slots kept = record { slots = slots; kept = kept }
 
--- The place of the empty word, which is 0 where vectors have several words: behind the words of all parts but the last.
+-- The place of the empty word: behind the words of all parts but the last. Where vectors have several words, the word there is 0.
 abbrev pub emptyWord : ℕ
 emptyWord = wordBits * lastPart
 

@@ -1,9 +1,9 @@
 -- What the slots and the kept words are, for every ring. Each ring place sets one bit of one word, that of its part and code. So at most m words are not 0
--- (proofs/FewWords.antt), and 256 places are room for all of them.
+-- (proofs/FewWords.antt), and 256 words are room for all of them.
 -- Up to 64 edges there is one part. Its words are kept by code, and no slot is read.
--- With more edges the word of a part and a code is kept at the first place of the part that has the code; in the last part one further on. That place is the slot of
--- part and code. If the part lacks the code, the slot is a place outside the part, and leads to the empty word. A slot is a byte, and a byte plus 1 is at most 256:
--- there is a word for each, so reading a vector needs no test.
+-- With more edges the slot of a part and a code is the first place of the part that has the code. Their word is kept at the slot; in the last part one further on. If
+-- the part lacks the code, the slot is a place outside the part, and leads to the empty word. A slot is a byte, and a byte plus 1 is at most 256: there is a word for
+-- each, so reading a vector needs no test.
 -- Most definitions take a number n: only the ring's first n places count.
 --     slotCount, keptCount                  how many slots and kept words there are
 --     hasCode                               whether a place has the code
@@ -41,7 +41,7 @@ lowestPlace test none from (suc count) =
     let later : ℕ = lowestPlace test none (suc from) count in
     cond (test from) from later
 
--- The slot of a code that part w lacks: the place of the empty word, or, in the last part, the place before it. Neither is a place of the part.
+-- The slot of a code that part w lacks: the place of the empty word; in the last part the place before it. It is no place of part w.
 unfoldable pub noSlot : ℕ → ℕ
 noSlot w = cond (ltb w lastPart) emptyWord (emptyWord - 1)
 

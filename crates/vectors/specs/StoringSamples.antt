@@ -1,4 +1,4 @@
--- The arrays of some rings, worked out by hand: one table of named rows under one claim for each kind of ring, which antt computes. A row gives a ring and an edge code;
+-- The arrays of some rings, worked out by hand: for each kind of ring one table and one claim, which antt computes. A row gives a ring and an edge code;
 -- then the code's slot in each of the four parts, and the vector that is read for the code. The slot of a code that a part lacks is 192, in the last part 191. Up to
 -- 64 edges every slot is such a one.
 use mathlib.Core.Path.{_≡_, refl}

@@ -51,7 +51,7 @@ fn word_place(part: usize, slot: u8) -> usize
     if part < LAST_PART { at } else { at + 1 }
 }
 
-// The slot of a code in a part once place r has it: the slot that it has, or r if it has none.
+// The slot of a code in a part once place r has the code: the slot so far, or r if there was none.
 fn slot_from(slot: u8, part: usize, r: usize) -> u8
     requires { ⌜ r < vectorBits ⌝ }
     ensures { λ s. ⌜ s ≡ cond (eqb slot (noSlot part)) r slot ⌝ }
@@ -118,7 +118,8 @@ pub fn occurrences(ring: &[u8], slots: &mut [u8; SLOTS], kept: &mut [u64; KEPT_W
     }
 }
 
-// The word of an edge code in a part, of vectors with several words. A slot may be any byte, so nothing is tested.
+// The word of an edge code in a part, of vectors with several words. There is a kept word for any byte, so nothing is
+// tested.
 fn word_of(slots: &[u8; SLOTS], kept: &[u64; KEPT_WORDS], code: u8, part: usize) -> u64
     requires { ⌜ part < vectorWords ⌝ }
     ensures { λ r. ⌜ r ≡ slotWord (edgeVectors (now (slots .entry)) (now (kept .entry))) code part ⌝ }
