@@ -9,11 +9,11 @@ use lib.Dec.{eqb}
 use borrow.Author.Tests.{le-leb, lt-leb}
 use Rattle.lists.specs.ByPlace.{listOf}
 use Rattle.lists.proofs.Cases.{by-test}
-use Rattle.lists.proofs.ByPlace.{listOf-length, listOf-at, listOf-is}
+use Rattle.lists.proofs.ByPlace.{listOf-is}
 use Rattle.vectors.specs.Bits.{wordBits, Vector}
 use Rattle.vectors.specs.Holding.{edgeCodes, emptyWord}
-use Rattle.vectors.specs.Storing.{slotCount, keptCount, noSlot, noSlots, slotOf, partWord, keptPlace, placeWord, keptWord, countedPlaces, slotFor, keptAt, slotsFor, keptFor}
-use Rattle.vectors.proofs.WordByWord.{vectorOf-vector}
+use Rattle.vectors.specs.Storing.{slotCount, keptCount, noSlots, slotOf, partWord, keptPlace, placeWord, keptWord, countedPlaces, slotFor, keptAt, slotsFor, keptFor}
+use Rattle.vectors.proofs.WordByWord.{vectorOf-vector, vectorOf-same}
 use Rattle.vectors.proofs.PlacesOfCode.{has-code-past}
 use Rattle.vectors.proofs.SlotOfPart.{slot-at-first}
 use Rattle.vectors.proofs.WordOfPart.{part-lt, part-none}
@@ -66,31 +66,26 @@ module _ (ring : List ℕ) where
   -- With no place, every part lacks every code.
   pub slots-at-first : noSlots ≡ slotsOf ring 0
   unfolding noSlots slotsOf
-  slots-at-first = listOf-is (listOf slotCount (λ i. noSlot (i / edgeCodes))) slotCount _ (listOf-length slotCount _)
-      (λ i h. listOf-at slotCount _ i h ∙ sym (slot-at-first ring (i / edgeCodes) (i % edgeCodes)))
+  slots-at-first = vectorOf-same slotCount _ _ (λ i h. sym (slot-at-first ring (i / edgeCodes) (i % edgeCodes)))
 
   module _ (one : length ring ≤ wordBits) where
     -- Up to 64 edges every slot is that of a code that its part lacks.
     pub slots-for-one : noSlots ≡ slotsFor ring
     unfolding noSlots slotsFor slotFor
-    slots-for-one = listOf-is noSlots slotCount _ (listOf-length slotCount _)
-        (λ i h. listOf-at slotCount _ i h ∙ rw (le-leb (length ring) wordBits one) refl)
+    slots-for-one = vectorOf-same slotCount _ _ (λ i h. rw (le-leb (length ring) wordBits one) refl)
 
     -- Up to 64 edges the words are kept by code.
     pub kept-for-one : wholeOf ring (countedPlaces ring) ≡ keptFor ring
     unfolding wholeOf keptFor keptAt
-    kept-for-one = listOf-is (wholeOf ring (countedPlaces ring)) keptCount _ (listOf-length keptCount _)
-        (λ i h. listOf-at keptCount _ i h ∙ rw (le-leb (length ring) wordBits one) refl)
+    kept-for-one = vectorOf-same keptCount _ _ (λ i h. rw (le-leb (length ring) wordBits one) refl)
 
   module _ (many : wordBits < length ring) where
     -- With more edges the slots are those of several parts.
     pub slots-for-parts : slotsOf ring (countedPlaces ring) ≡ slotsFor ring
     unfolding slotsOf slotsFor slotFor
-    slots-for-parts = listOf-is (slotsOf ring (countedPlaces ring)) slotCount _ (listOf-length slotCount _)
-        (λ i h. listOf-at slotCount _ i h ∙ rw (lt-leb (length ring) wordBits many) refl)
+    slots-for-parts = vectorOf-same slotCount _ _ (λ i h. rw (lt-leb (length ring) wordBits many) refl)
 
     -- With more edges the kept words are those of several parts.
     pub kept-for-parts : keptOf ring (countedPlaces ring) ≡ keptFor ring
     unfolding keptOf keptFor keptAt
-    kept-for-parts = listOf-is (keptOf ring (countedPlaces ring)) keptCount _ (listOf-length keptCount _)
-        (λ i h. listOf-at keptCount _ i h ∙ rw (lt-leb (length ring) wordBits many) refl)
+    kept-for-parts = vectorOf-same keptCount _ _ (λ i h. rw (lt-leb (length ring) wordBits many) refl)

@@ -1,5 +1,5 @@
--- The lowest place that passes a test, by its facts: it passes, and no place before it does; or no place passes. They determine it. Places that the test treats alike
--- have the same lowest place.
+-- The lowest place that passes a test, by its facts: it passes, and no place before it does; or no place passes. They determine it. Two tests that
+-- agree on all places have the same lowest place.
 use mathlib.Core.Path.{_≡_, refl, sym, _∙_}
 use mathlib.Core.Bool.{Bool, true, false, true≢false}
 use mathlib.Core.Logic.{dite}

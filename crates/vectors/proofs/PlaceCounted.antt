@@ -8,11 +8,11 @@ use Prim.Native.Nat.{ℕ, _+_, _*_, _/_, _%_, _≤_, _<_}
 use native.Mathlib.Decide.{ℕ-discrete}
 use native.Mathlib.Omega.{arith}
 use lib.ListN.{getD, set}
-use Rattle.lists.proofs.ByPlace.{listOf-length, listOf-at, listOf-is}
+use Rattle.lists.proofs.ByPlace.{listOf-at}
 use Rattle.vectors.specs.Bits.{wordBits, putWord}
 use Rattle.vectors.specs.Holding.{edgeCodes, lastPart, emptyWord, wordPlace}
 use Rattle.vectors.specs.Storing.{slotCount, keptCount, slotOf, partWord, keptPlace, placeWord, keptWord}
-use Rattle.vectors.proofs.WordByWord.{vectorOf-set}
+use Rattle.vectors.proofs.WordByWord.{vectorOf-same, vectorOf-set}
 use Rattle.vectors.proofs.LowestPlace.{one-passes, no-one-passes}
 use Rattle.vectors.proofs.PlacesOfCode.{has-code-new}
 use Rattle.vectors.proofs.SlotOfPart.{no-slot-outside, IsSlot, slot-is, slot-other, slot-kept, slot-new}
@@ -35,8 +35,7 @@ module _ (ring : List ℕ) where
   -- A number from `keptCount` on changes none of them.
   pub whole-stays : (n : ℕ) → keptCount ≤ getD ring n 0 → wholeOf ring (n + 1) ≡ wholeOf ring n
   unfolding wholeOf
-  whole-stays n above = listOf-is (wholeOf ring (n + 1)) keptCount (partWord ring n 0) (listOf-length keptCount (partWord ring (n + 1) 0))
-      (λ i h. listOf-at keptCount (partWord ring (n + 1) 0) i h ∙ part-other ring n 0 i (λ _ e. omega arith))
+  whole-stays n above = vectorOf-same keptCount (partWord ring (n + 1) 0) (partWord ring n 0) (λ i h. part-other ring n 0 i (λ _ e. omega arith))
 
   -- The word of a place in another part than n, or with another code, stays.
   place-word-apart : (n p : ℕ) → (n / wordBits ≡ p / wordBits → getD ring n 0 ≡ getD ring p 0 → ⊥) → placeWord ring (n + 1) p ≡ placeWord ring n p

@@ -1,5 +1,5 @@
 -- A vector given word by word: `listOf count f` has the word f w at place w, for w below count, and no bit past its words.
--- `vectorOf-set` changes one word of it.
+-- `vectorOf-same` compares two of them by their words, and `vectorOf-set` changes one word.
 use mathlib.Core.Path.{_≡_, refl, _∙_}
 use mathlib.Core.Bool.{false}
 use mathlib.Core.List.{List}
@@ -31,6 +31,10 @@ vectorOf-vector count f each-lt = record {
   word-lt = λ w. dite (decLt w count) (λ h. rw (listOf-at count f w h) (each-lt w h))
       (λ past. omega (arith, listOf-past count f w (omega (arith, past))));
 }
+
+-- Two functions that agree below `count` give the same list.
+pub vectorOf-same : (count : ℕ) (f g : ℕ → ℕ) → ((i : ℕ) → i < count → f i ≡ g i) → listOf count f ≡ listOf count g
+vectorOf-same count f g same = listOf-is (listOf count f) count g (listOf-length count f) (λ i h. listOf-at count f i h ∙ same i h)
 
 -- `listOf count f` with x stored at one place is `listOf count g`, if x is what g has there and f and g agree elsewhere.
 pub vectorOf-set : (count : ℕ) (f g : ℕ → ℕ) (at x : ℕ) → at < count → x ≡ g at → ((i : ℕ) → i < count → (i ≡ at → ⊥) → f i ≡ g i)

@@ -1,7 +1,7 @@
 -- The word of a code in a part of 64 places, by its bits: bit j is set exactly when the part has the code at its place j. When place n is added, only the word of
 -- its own part and code changes: bit n mod 64 is put in.
 use mathlib.Core.Path.{_≡_, refl, sym, _∙_}
-use mathlib.Core.Bool.{Bool, true, false, cond, _&&_, _||_, true≢false}
+use mathlib.Core.Bool.{Bool, true, false, cond, _&&_, true≢false, or-true}
 use mathlib.Core.List.{List}
 use mathlib.Core.Logic.{dite}
 use Prim.Native.Nat.{ℕ, zero, suc, _+_, _*_, _/_, _%_, _^_, _≤_, _<_}
@@ -33,11 +33,6 @@ one-or-none false = omega arith
 one-if : (t : Bool) → eqb (cond t 1 0) 1 ≡ t
 one-if true = refl
 one-if false = refl
-
--- `t || true` is true.
-or-true : (t : Bool) → (t || true) ≡ true
-or-true true = refl
-or-true false = refl
 
 -- `wordWhere` is a machine word.
 pub word-where-lt : (test : ℕ → Bool) (count : ℕ) → wordWhere test count < 2 ^ wordBits

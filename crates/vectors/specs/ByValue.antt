@@ -8,19 +8,19 @@
 use mathlib.Core.Path.{_≡_}
 use mathlib.Core.Bool.{cond}
 use mathlib.Core.List.{List}
-use Prim.Native.Nat.{ℕ, _+_, _-_, _*_, _/_, _%_, _^_, min}
+use Prim.Native.Nat.{ℕ, suc, _+_, _-_, _*_, _/_, _%_, _^_, min}
 use lib.ListN.{length, getD, take}
 use lib.Bits.{bitAnd, bitOr}
 use lib.Dec.{ltb}
 use Rattle.vectors.specs.Bits.{wordBits, wordCount, Vector}
 use Rattle.lists.specs.ByPlace.{listOf}
 use Rattle.vectors.specs.Rotating.{WithinBits}
-use Rattle.vectors.specs.Holding.{EdgeVectors, OccurrenceTable}
+use Rattle.vectors.specs.Holding.{lastPart, EdgeVectors, OccurrenceTable}
 use Rattle.vectors.specs.Storing.{slotsFor, keptFor}
 
--- How many words a vector held by value has.
+-- How many words a vector held by value has: one for each part of a ring's places.
 abbrev pub vectorWords : ℕ
-vectorWords = 4
+vectorWords = suc lastPart
 
 -- How many bits a vector held by value has.
 abbrev pub vectorBits : ℕ

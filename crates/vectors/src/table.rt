@@ -128,8 +128,8 @@ fn word_of(slots: &[u8; SLOTS], kept: &[u64; KEPT_WORDS], code: u8, part: usize)
     kept[word_place(part, slot)]
 }
 
-// The occurrence vector of an edge code, for a ring whose vectors have `count` words. It has four words; for a count above
-// 1 all four are read, and those past the ring's last part are 0.
+// The occurrence vector of an edge code, for a ring whose vectors have `count` words. It has four words. For a count above
+// 1 all four are read; in the arrays of a ring those past its last part are 0.
 pub fn vector_of(
     slots: &[u8; SLOTS],
     kept: &[u64; KEPT_WORDS],
