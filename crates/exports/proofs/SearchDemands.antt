@@ -19,7 +19,7 @@ use Rattle.meaning.proofs.SurveyLooks.{surveyLooks-is, surveyLooks-short}
 use Rattle.answers.specs.declared.refusals.Refusal.{Refusal}
 use Rattle.answers.specs.Paper.{Paper, answerPaper}
 use Rattle.answers.specs.Rows.{firstGiven, answerBy}
-use Rattle.findings.specs.Admitting.{limitRows, admitRows}
+use Rattle.findings.specs.Admitting.{ringRows, limitRows, admitRows}
 use Rattle.findings.specs.Searching.{Counts, noCounts, searched, searchedWords}
 use Rattle.findings.proofs.LimitRows.{is-row-1, is-row-12, is-row-2, is-row-3}
 use Rattle.findings.proofs.AdmitRows.{is-row-4, accepted-edge}
@@ -31,10 +31,10 @@ use Rattle.exports.proofs.RowsAgree.{AllAgree, agree-append, row-agrees
 
 -- The rows that every search has, 1, 12, 2, 3, agree with those of the page of demands.
 pub limits-agree : (ring : List ℕ) (k n : ℕ) → AllAgree (limitRows ring k n) (limitTable ring k n)
-unfolding limitRows
+unfolding limitRows ringRows
 limits-agree ring k n = (
-  row-agrees (is-row-1 ring k n) refl,
-  λ _. (row-agrees (is-row-12 ring k n) refl, λ _. (row-agrees (is-row-2 ring k n) refl, λ _. (row-agrees (is-row-3 ring k n) refl, λ _. tt))),
+  row-agrees (is-row-1 ring k) refl,
+  λ _. (row-agrees (is-row-12 ring k) refl, λ _. (row-agrees (is-row-2 ring k) refl, λ _. (row-agrees (is-row-3 n) refl, λ _. tt))),
 )
 
 -- The rows of a search agree with those of the page of demands, 1, 12, 2, 3, 4.

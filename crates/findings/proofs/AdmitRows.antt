@@ -1,5 +1,5 @@
--- When each of the rows of survey and scan, 1, 12, 2, 3, 4, is the first that is given. LimitRows has rows 1, 12, 2 and 3, whatever the call's own rows are;
--- here the own row is row 4 alone. `is-row-4` states when it is given and when it is not.
+-- When each of the rows of survey and scan, 1, 12, 2, 3, 4, is the first that is given. LimitRows has rows 1, 12 and 2, whatever the call's own rows are, and
+-- states when row 3 is given; here the own rows are 3 and 4. `is-row-4` states when row 4 is given and when it is not.
 use Prim.Native.Nat.{ℕ, _≤_, _<_}
 use mathlib.Core.Path.{_≡_, refl}
 use mathlib.Core.Logic.{_↔_, _⊎_, inl, inr, Iff·trans}
@@ -13,9 +13,9 @@ use Rattle.answers.specs.declared.refusals.Refusal.{Refusal}
 use Rattle.answers.specs.declared.refusals.Refusal.the-variants.{Ring, Allowance, Line, FindingsRoom, RingMark}
 use Rattle.answers.specs.Refusals.{numberOf, placeOf}
 use Rattle.answers.specs.Rows.{row, firstGiven}
-use Rattle.answers.proofs.RowsExactly.{IsRow, is-row, EachRow, end, row-has, at-row, no-last-row}
-use Rattle.findings.specs.Admitting.{mostRing, mostLine, roomRequired, isRow4, admitRows, IsRingLength, Admitted}
-use Rattle.findings.proofs.LimitRows.{IsOwnRow, limit-1-iff, limit-12-iff, limit-2-iff, limit-3-iff, own-row-iff, no-own-row-iff, limit-row-iff, by-limits}
+use Rattle.answers.proofs.RowsExactly.{IsRow, is-row, EachRow, end, row-has, at-row, past-row, no-row, no-last-row}
+use Rattle.findings.specs.Admitting.{mostRing, mostLine, roomRequired, isRow3, isRow4, ringRows, limitRows, admitRows, IsRingLength, Admitted}
+use Rattle.findings.proofs.LimitRows.{IsOwnRow, is-row-3, ring-1-iff, ring-12-iff, ring-2-iff, own-row-iff, no-own-row-iff, ring-row-iff, by-ring}
 
 module _ (ring : List ℕ) (k n room : ℕ) where
   abbrev m : ℕ
@@ -29,41 +29,41 @@ module _ (ring : List ℕ) (k n room : ℕ) where
       let not-short : room < roomRequired m n → ⊥ = λ short. not (starts, short) in
       omega arith)
 
-  -- row 4 has none of the numbers 1, 12, 2 and 3
-  own-row : EachRow IsOwnRow (row (isRow4 m n room) FindingsRoom ∷ [])
-  own-row = row-has is-row-4 (omega arith) end
+  -- rows 3 and 4 have none of the numbers 1, 12 and 2
+  own-rows : EachRow IsOwnRow (row (isRow3 n) Line ∷ row (isRow4 m n room) FindingsRoom ∷ [])
+  own-rows = row-has (is-row-3 n) (omega arith) (row-has is-row-4 (omega arith) end)
 
   -- Row 1 is the first exactly when "m = 0 or m > 256".
   pub row-1-iff : (firstGiven (admitRows ring k n room) ≡ some Ring) ↔ ((m ≡ 0) ⊎ (mostRing < m))
-  unfolding admitRows
-  row-1-iff = Iff·trans (limit-row-iff ring k n own-row Ring (λ is. is .not-1 refl)) (limit-1-iff ring k n)
+  unfolding admitRows limitRows ringRows
+  row-1-iff = Iff·trans (ring-row-iff ring k own-rows Ring (λ is. is .not-1 refl)) (ring-1-iff ring k)
 
   -- Row 12 is the first exactly when the ring holds a mark and row 1 is not given.
   pub row-12-iff : (firstGiven (admitRows ring k n room) ≡ some RingMark) ↔ (IsRingLength m × HoldsMark ring)
-  unfolding admitRows
-  row-12-iff = Iff·trans (limit-row-iff ring k n own-row RingMark (λ is. is .not-12 refl)) (limit-12-iff ring k n)
+  unfolding admitRows limitRows ringRows
+  row-12-iff = Iff·trans (ring-row-iff ring k own-rows RingMark (λ is. is .not-12 refl)) (ring-12-iff ring k)
 
   -- Row 2 is the first exactly when "k ≥ m" and rows 1 and 12 are not given.
   pub row-2-iff : (firstGiven (admitRows ring k n room) ≡ some Allowance) ↔ (IsRingLength m × ((HoldsMark ring → ⊥) × (m ≤ k)))
-  unfolding admitRows
-  row-2-iff = Iff·trans (limit-row-iff ring k n own-row Allowance (λ is. is .not-2 refl)) (limit-2-iff ring k n)
+  unfolding admitRows limitRows ringRows
+  row-2-iff = Iff·trans (ring-row-iff ring k own-rows Allowance (λ is. is .not-2 refl)) (ring-2-iff ring k)
 
   -- Row 3 is the first exactly when "n > 65,536" and rows 1, 12 and 2 are not given.
   pub row-3-iff : (firstGiven (admitRows ring k n room) ≡ some Line) ↔ (IsRingLength m × ((HoldsMark ring → ⊥) × ((k < m) × (mostLine < n))))
-  unfolding admitRows
-  row-3-iff = Iff·trans (limit-row-iff ring k n own-row Line (λ is. is .not-3 refl)) (limit-3-iff ring k n)
+  unfolding admitRows limitRows ringRows
+  row-3-iff = own-row-iff ring k (omega arith) (at-row (is-row-3 n) (row-has is-row-4 (omega arith) end))
 
   -- Row 4 is the first exactly when "n ≥ m and fewer than" 4·(n − m + 1) "words are lent for findings" and rows 1, 12, 2 and 3 are not given.
   pub row-4-iff : (firstGiven (admitRows ring k n room) ≡ some FindingsRoom)
       ↔ (IsRingLength m × ((HoldsMark ring → ⊥) × ((k < m) × ((n ≤ mostLine) × ((m ≤ n) × (room < roomRequired m n))))))
-  unfolding admitRows
-  row-4-iff = own-row-iff ring k n (omega arith) (at-row is-row-4 end)
+  unfolding admitRows limitRows ringRows
+  row-4-iff = own-row-iff ring k (omega arith) (past-row (is-row-3 n) (omega arith) (at-row is-row-4 end))
 
   -- None of these rows is given exactly when m is 1 to 256, the ring holds no mark, k < m, n ≤ 65,536, and n ≥ m implies enough words.
   pub none-iff : (firstGiven (admitRows ring k n room) ≡ none)
       ↔ (IsRingLength m × ((HoldsMark ring → ⊥) × ((k < m) × ((n ≤ mostLine) × (m ≤ n → roomRequired m n ≤ room)))))
-  unfolding admitRows
-  none-iff = no-own-row-iff ring k n (no-last-row is-row-4)
+  unfolding admitRows limitRows ringRows
+  none-iff = no-own-row-iff ring k (no-row (is-row-3 n) (no-last-row is-row-4))
 
   -- None of these rows is given exactly when `Admitted` holds.
   pub no-row-iff : (firstGiven (admitRows ring k n room) ≡ none) ↔ Admitted ring k n room
@@ -89,8 +89,9 @@ module _ (ring : List ℕ) (k n room : ℕ) where
       → (IsRingLength m × ((HoldsMark ring → ⊥) × (m ≤ k)) → P Allowance) → (IsRingLength m × ((HoldsMark ring → ⊥) × ((k < m) × (mostLine < n))) → P Line)
       → (IsRingLength m × ((HoldsMark ring → ⊥) × ((k < m) × ((n ≤ mostLine) × ((m ≤ n) × (room < roomRequired m n))))) → P FindingsRoom)
       → (q : Refusal) → firstGiven (admitRows ring k n room) ≡ some q → P q
-  unfolding admitRows
-  by-row P one twelve two three four = by-limits ring k n own-row P one twelve two three (row-has is-row-4 (λ f. four (row-4-iff .0 f)) end)
+  unfolding admitRows limitRows ringRows
+  by-row P one twelve two three four =
+      by-ring ring k own-rows P one twelve two (row-has (is-row-3 n) (λ f. three (row-3-iff .0 f)) (row-has is-row-4 (λ f. four (row-4-iff .0 f)) end))
 
   -- The first row that is given has number 1 to 4 or 12.
   pub row-numbers : (q : Refusal) → firstGiven (admitRows ring k n room) ≡ some q → (numberOf q ≤ 4) ⊎ (numberOf q ≡ 12)

@@ -1,7 +1,7 @@
--- Rows 1, 12, 2 and 3, with which the rows of every search begin: when each is the first that is given. `is-row-1`, `is-row-12`, `is-row-2` and `is-row-3`
+-- Rows 1, 12 and 2, with which the rows of every search begin, and row 3: when each is the first that is given. `is-row-1`, `is-row-12`, `is-row-2` and `is-row-3`
 -- state when each is given and when it is not. From these, `RowsExactly` of crates/answers gives for each row: it is the first exactly when its condition
--- holds and no row before it is given. Behind the four stand the call's own rows (`own`), such as row 4, which have other numbers and change none of this
--- (`limit-row-iff`).
+-- holds and no row before it is given. Behind rows 1, 12 and 2 stand the call's own rows (`own`), such as rows 3 and 4, which have other numbers and change
+-- none of this (`ring-row-iff`).
 use Prim.Native.Nat.{ℕ, _≤_, _<_}
 use mathlib.Core.Path.{_≡_, refl, sym, ap, _∙_}
 use mathlib.Core.Bool.{Bool, false, false≢true}
@@ -21,25 +21,28 @@ use Rattle.answers.proofs.FirstRow.{first-append-some}
 use Rattle.answers.proofs.RowsExactly.{FirstExactly, NoneExactly, IsRow, is-row, EachRow, end, row-has, first-has, at-row, past-row, no-row, no-last-row, early-iff}
 use Rattle.findings.specs.declared.admitting.Verdict.{Verdict}
 use Rattle.findings.specs.declared.admitting.Verdict.the-variants.{Accepted}
-use Rattle.findings.specs.Admitting.{mostRing, mostLine, isRow1, isRow12, isRow2, isRow3, limitRows, IsRingLength, verdictOf, IsVerdict}
+use Rattle.findings.specs.Admitting.{mostRing, mostLine, isRow1, isRow12, isRow2, isRow3, ringRows, limitRows, IsRingLength, verdictOf, IsVerdict}
 
 -- If the answer to whether the ring holds a mark is false, it holds none.
 pub unmarked : {ring : List ℕ} {marked : Bool} → marked ≡ holdsMark ring → marked ≡ false → HoldsMark ring → ⊥
 unmarked {ring} says fails holds = false≢true (sym fails ∙ says ∙ holds-iff ring .1 holds)
 
--- The refusal is of none of rows 1, 12, 2 and 3.
+-- The refusal is of none of rows 1, 12 and 2.
 pub record IsOwnRow (q : Refusal) : Type 0 where
   pub not-1 : numberOf q ≡ 1 → ⊥
   pub not-12 : numberOf q ≡ 12 → ⊥
   pub not-2 : numberOf q ≡ 2 → ⊥
-  pub not-3 : numberOf q ≡ 3 → ⊥
 
 -- A verdict that refuses by the first of some rows is the verdict of these rows and any behind them.
 pub refused-early : {first : List (Option Refusal)} (own : List (Option Refusal)) {r : Verdict} {refusal : Refusal} → IsVerdict first r → verdictOf r ≡ some refusal
     → IsVerdict (first ++ own) r
 refused-early {first} own is refuses = record { is = refuses ∙ sym (first-append-some first own (sym (is .is) ∙ refuses)) }
 
-module _ (ring : List ℕ) (k n : ℕ) where
+-- Row 3 is given exactly when "n > 65,536", and not given exactly when n ≤ 65,536.
+pub is-row-3 : (n : ℕ) → IsRow (row (isRow3 n) Line) Line (mostLine < n) (n ≤ mostLine)
+is-row-3 n = is-row (lt-iff mostLine n) (λ in-limit h. omega arith) (λ not. omega arith)
+
+module _ (ring : List ℕ) (k : ℕ) where
   abbrev m : ℕ
   m = length ring
 
@@ -61,70 +64,72 @@ module _ (ring : List ℕ) (k n : ℕ) where
   pub is-row-2 : IsRow (row (isRow2 m k) Allowance) Allowance (m ≤ k) (k < m)
   is-row-2 = is-row (le-iff m k) (λ allowed h. omega arith) (λ not. omega arith)
 
-  -- Row 3 is given exactly when "n > 65,536", and not given exactly when n ≤ 65,536.
-  pub is-row-3 : IsRow (row (isRow3 n) Line) Line (mostLine < n) (n ≤ mostLine)
-  is-row-3 = is-row (lt-iff mostLine n) (λ in-limit h. omega arith) (λ not. omega arith)
+  -- Row 1 is the first of the three exactly when "m = 0 or m > 256".
+  pub ring-1-iff : (firstGiven (ringRows ring k) ≡ some Ring) ↔ ((m ≡ 0) ⊎ (mostRing < m))
+  unfolding ringRows
+  ring-1-iff = at-row is-row-1 (row-has is-row-12 (omega arith) (row-has is-row-2 (omega arith) end)) .exactly
 
-  -- Row 1 is the first of the four exactly when "m = 0 or m > 256".
-  pub limit-1-iff : (firstGiven (limitRows ring k n) ≡ some Ring) ↔ ((m ≡ 0) ⊎ (mostRing < m))
-  unfolding limitRows
-  limit-1-iff = at-row is-row-1 (row-has is-row-12 (omega arith) (row-has is-row-2 (omega arith) (row-has is-row-3 (omega arith) end))) .exactly
+  -- Row 12 is the first of the three exactly when the ring holds a mark and row 1 is not given.
+  pub ring-12-iff : (firstGiven (ringRows ring k) ≡ some RingMark) ↔ (IsRingLength m × HoldsMark ring)
+  unfolding ringRows
+  ring-12-iff = past-row is-row-1 (omega arith) (at-row is-row-12 (row-has is-row-2 (omega arith) end)) .exactly
 
-  -- Row 12 is the first of the four exactly when the ring holds a mark and row 1 is not given.
-  pub limit-12-iff : (firstGiven (limitRows ring k n) ≡ some RingMark) ↔ (IsRingLength m × HoldsMark ring)
-  unfolding limitRows
-  limit-12-iff = past-row is-row-1 (omega arith) (at-row is-row-12 (row-has is-row-2 (omega arith) (row-has is-row-3 (omega arith) end))) .exactly
+  -- Row 2 is the first of the three exactly when "k ≥ m" and rows 1 and 12 are not given.
+  pub ring-2-iff : (firstGiven (ringRows ring k) ≡ some Allowance) ↔ (IsRingLength m × ((HoldsMark ring → ⊥) × (m ≤ k)))
+  unfolding ringRows
+  ring-2-iff = past-row is-row-1 (omega arith) (past-row is-row-12 (omega arith) (at-row is-row-2 end)) .exactly
 
-  -- Row 2 is the first of the four exactly when "k ≥ m" and rows 1 and 12 are not given.
-  pub limit-2-iff : (firstGiven (limitRows ring k n) ≡ some Allowance) ↔ (IsRingLength m × ((HoldsMark ring → ⊥) × (m ≤ k)))
-  unfolding limitRows
-  limit-2-iff =
-      past-row is-row-1 (omega arith) (past-row is-row-12 (omega arith) (at-row is-row-2 (row-has is-row-3 (omega arith) end))) .exactly
+  -- None of the three is given exactly when m is 1 to 256, the ring holds no mark, and k < m.
+  pub no-ring-iff : (firstGiven (ringRows ring k) ≡ none) ↔ (IsRingLength m × ((HoldsMark ring → ⊥) × (k < m)))
+  unfolding ringRows
+  no-ring-iff = no-row is-row-1 (no-row is-row-12 (no-last-row is-row-2)) .exactly
 
-  -- Row 3 is the first of the four exactly when "n > 65,536" and rows 1, 12 and 2 are not given.
-  pub limit-3-iff : (firstGiven (limitRows ring k n) ≡ some Line) ↔ (IsRingLength m × ((HoldsMark ring → ⊥) × ((k < m) × (mostLine < n))))
-  unfolding limitRows
-  limit-3-iff =
-      past-row is-row-1 (omega arith) (past-row is-row-12 (omega arith) (past-row is-row-2 (omega arith) (at-row is-row-3 end))) .exactly
+  -- If the verdict on the three accepts, none of them is given.
+  pub within-ring : {r : Verdict} → IsVerdict (ringRows ring k) r → r ≡ Accepted → IsRingLength m × ((HoldsMark ring → ⊥) × (k < m))
+  within-ring is accepts = no-ring-iff .0 (sym (is .is) ∙ ap verdictOf accepts)
 
-  -- None of the four is given exactly when m is 1 to 256, the ring holds no mark, k < m, and n ≤ 65,536.
-  pub no-limit-iff : (firstGiven (limitRows ring k n) ≡ none) ↔ (IsRingLength m × ((HoldsMark ring → ⊥) × ((k < m) × (n ≤ mostLine))))
-  unfolding limitRows
-  no-limit-iff = no-row is-row-1 (no-row is-row-12 (no-row is-row-2 (no-last-row is-row-3))) .exactly
-
-  -- If the verdict on the four accepts, none of them is given.
-  pub within-limits : {r : Verdict} → IsVerdict (limitRows ring k n) r → r ≡ Accepted → IsRingLength m × ((HoldsMark ring → ⊥) × ((k < m) × (n ≤ mostLine)))
-  within-limits is accepts = no-limit-iff .0 (sym (is .is) ∙ ap verdictOf accepts)
-
-  -- One of the call's own rows is the first exactly when none of the four is given and it is the first of the call's own.
+  -- One of the call's own rows is the first exactly when none of the three is given and it is the first of the call's own.
   pub own-row-iff : {own : List (Option Refusal)} {q : Refusal} {P : Type 0} → IsOwnRow q → FirstExactly own q P
-      → (firstGiven (limitRows ring k n ++ own) ≡ some q) ↔ (IsRingLength m × ((HoldsMark ring → ⊥) × ((k < m) × ((n ≤ mostLine) × P))))
-  unfolding limitRows
+      → (firstGiven (ringRows ring k ++ own) ≡ some q) ↔ (IsRingLength m × ((HoldsMark ring → ⊥) × ((k < m) × P)))
+  unfolding ringRows
   own-row-iff is rest =
-      past-row is-row-1 (λ e. is .not-1 (sym e))
-      (past-row is-row-12 (λ e. is .not-12 (sym e)) (past-row is-row-2 (λ e. is .not-2 (sym e)) (past-row is-row-3 (λ e. is .not-3 (sym e)) rest))) .exactly
+      past-row is-row-1 (λ e. is .not-1 (sym e)) (past-row is-row-12 (λ e. is .not-12 (sym e)) (past-row is-row-2 (λ e. is .not-2 (sym e)) rest)) .exactly
 
-  -- No row is given exactly when none of the four is and none of the call's own.
+  -- No row is given exactly when none of the three is and none of the call's own.
   pub no-own-row-iff : {own : List (Option Refusal)} {P : Type 0} → NoneExactly own P
-      → (firstGiven (limitRows ring k n ++ own) ≡ none) ↔ (IsRingLength m × ((HoldsMark ring → ⊥) × ((k < m) × ((n ≤ mostLine) × P))))
-  unfolding limitRows
-  no-own-row-iff rest = no-row is-row-1 (no-row is-row-12 (no-row is-row-2 (no-row is-row-3 rest))) .exactly
+      → (firstGiven (ringRows ring k ++ own) ≡ none) ↔ (IsRingLength m × ((HoldsMark ring → ⊥) × ((k < m) × P)))
+  unfolding ringRows
+  no-own-row-iff rest = no-row is-row-1 (no-row is-row-12 (no-row is-row-2 rest)) .exactly
 
   module _ {own : List (Option Refusal)} (owns : EachRow IsOwnRow own) where
-    -- A refusal of one of the four rows is the first exactly when it is the first of the four.
-    pub limit-row-iff : (q : Refusal) → (IsOwnRow q → ⊥) → (firstGiven (limitRows ring k n ++ own) ≡ some q) ↔ (firstGiven (limitRows ring k n) ≡ some q)
-    limit-row-iff q not-own = early-iff (limitRows ring k n) own q (λ e. not-own (first-has owns q e))
+    -- A refusal of one of the three rows is the first exactly when it is the first of the three.
+    pub ring-row-iff : (q : Refusal) → (IsOwnRow q → ⊥) → (firstGiven (ringRows ring k ++ own) ≡ some q) ↔ (firstGiven (ringRows ring k) ≡ some q)
+    ring-row-iff q not-own = early-iff (ringRows ring k) own q (λ e. not-own (first-has owns q e))
 
-    -- If P holds for the refusal of each of the four under the condition that makes this row the first, and for each of the call's own rows, then P holds for
+    -- If P holds for the refusal of each of the three under the condition that makes this row the first, and for each of the call's own rows, then P holds for
     -- the refusal of the first row that is given.
-    pub by-limits : (P : Refusal → Type 0) → ((m ≡ 0) ⊎ (mostRing < m) → P Ring) → (IsRingLength m × HoldsMark ring → P RingMark)
-        → (IsRingLength m × ((HoldsMark ring → ⊥) × (m ≤ k)) → P Allowance) → (IsRingLength m × ((HoldsMark ring → ⊥) × ((k < m) × (mostLine < n))) → P Line)
-        → EachRow (λ (q : Refusal). firstGiven (limitRows ring k n ++ own) ≡ some q → P q) own
-        → (q : Refusal) → firstGiven (limitRows ring k n ++ own) ≡ some q → P q
+    pub by-ring : (P : Refusal → Type 0) → ((m ≡ 0) ⊎ (mostRing < m) → P Ring) → (IsRingLength m × HoldsMark ring → P RingMark)
+        → (IsRingLength m × ((HoldsMark ring → ⊥) × (m ≤ k)) → P Allowance)
+        → EachRow (λ (q : Refusal). firstGiven (ringRows ring k ++ own) ≡ some q → P q) own
+        → (q : Refusal) → firstGiven (ringRows ring k ++ own) ≡ some q → P q
+    unfolding ringRows
+    by-ring P one twelve two own-has q e =
+        first-has {P = λ (r : Refusal). firstGiven (ringRows ring k ++ own) ≡ some r → P r}
+        (row-has is-row-1 (λ f. one (ring-1-iff .0 (ring-row-iff Ring (λ is. is .not-1 refl) .0 f)))
+        (row-has is-row-12 (λ f. twelve (ring-12-iff .0 (ring-row-iff RingMark (λ is. is .not-12 refl) .0 f)))
+        (row-has is-row-2 (λ f. two (ring-2-iff .0 (ring-row-iff Allowance (λ is. is .not-2 refl) .0 f))) own-has))) q e e
+
+  module _ (n : ℕ) where
+    -- Behind the three, row 3 alone: it is the first exactly when "n > 65,536" and rows 1, 12 and 2 are not given.
+    pub limit-3-iff : (firstGiven (limitRows ring k n) ≡ some Line) ↔ (IsRingLength m × ((HoldsMark ring → ⊥) × ((k < m) × (mostLine < n))))
     unfolding limitRows
-    by-limits P one twelve two three own-has q e =
-        first-has {P = λ (r : Refusal). firstGiven (limitRows ring k n ++ own) ≡ some r → P r}
-        (row-has is-row-1 (λ f. one (limit-1-iff .0 (limit-row-iff Ring (λ is. is .not-1 refl) .0 f)))
-        (row-has is-row-12 (λ f. twelve (limit-12-iff .0 (limit-row-iff RingMark (λ is. is .not-12 refl) .0 f)))
-        (row-has is-row-2 (λ f. two (limit-2-iff .0 (limit-row-iff Allowance (λ is. is .not-2 refl) .0 f)))
-        (row-has is-row-3 (λ f. three (limit-3-iff .0 (limit-row-iff Line (λ is. is .not-3 refl) .0 f))) own-has)))) q e e
+    limit-3-iff = own-row-iff (omega arith) (at-row (is-row-3 n) end)
+
+    -- None of the four is given exactly when m is 1 to 256, the ring holds no mark, k < m, and n ≤ 65,536.
+    pub no-limit-iff : (firstGiven (limitRows ring k n) ≡ none) ↔ (IsRingLength m × ((HoldsMark ring → ⊥) × ((k < m) × (n ≤ mostLine))))
+    unfolding limitRows
+    no-limit-iff = no-own-row-iff (no-last-row (is-row-3 n))
+
+    -- If the verdict on the four accepts, none of them is given.
+    pub within-limits : {r : Verdict} → IsVerdict (limitRows ring k n) r → r ≡ Accepted → IsRingLength m × ((HoldsMark ring → ⊥) × ((k < m) × (n ≤ mostLine)))
+    within-limits is accepts = no-limit-iff .0 (sym (is .is) ∙ ap verdictOf accepts)

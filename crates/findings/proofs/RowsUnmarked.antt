@@ -14,7 +14,7 @@ use Rattle.meaning.proofs.WithoutMarks.{findings-before}
 use Rattle.answers.specs.declared.refusals.Refusal.{Refusal}
 use Rattle.answers.specs.declared.refusals.Refusal.the-variants.{RingMark}
 use Rattle.answers.specs.Rows.{firstGiven, answerBy, areaBy}
-use Rattle.findings.specs.Admitting.{limitRows, admitRows}
+use Rattle.findings.specs.Admitting.{ringRows, limitRows, admitRows}
 use Rattle.findings.specs.Searching.{Counts, searched, searchedWords}
 use Rattle.findings.specs.BeforeMarks.{rowsBefore}
 use Rattle.findings.proofs.LimitRows.{unmarked}
@@ -33,7 +33,7 @@ module _ (ring : List ℕ) (k n room : ℕ) (no-mark : holdsMark ring ≡ false)
 
   -- For a ring without marks the first row that is given is the first of the four that were there before.
   pub rows-unmarked : firstGiven (admitRows ring k n room) ≡ firstGiven (rowsBefore (length ring) k n room)
-  unfolding limitRows admitRows rowsBefore
+  unfolding ringRows limitRows admitRows rowsBefore
   rows-unmarked = rw no-mark (second-left-out _ _)
 
 module _ (ring line : List ℕ) (k : ℕ) (no-mark : holdsMark ring ≡ false) (unmarked-line : holdsMark line ≡ false) where

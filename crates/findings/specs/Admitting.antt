@@ -6,12 +6,13 @@
 --   roomRequired          the words that row 4 requires
 --   isRow1 to isRow4,     the tests: whether each row is given
 --   isRow12
---   limitRows             rows 1, 12, 2, 3, which every search has
+--   ringRows              rows 1, 12, 2, with which every search begins
+--   limitRows             rows 1, 12, 2, 3
 --   admitRows             the rows of survey and scan in their order: 1, 12, 2, 3, 4
 --   IsRingLength          row 1 is not given
 --   Admitted              none of these rows is given
 --   verdictOf             the refusal that a verdict holds, if it holds one
---   IsVerdict             the contract of `admit` and `admit_closed`, for the rows that they test
+--   IsVerdict             the contract of `admit_ring`, `admit` and `admit_closed`, for the rows that they test
 use Prim.Native.Nat.{ℕ, _+_, _-_, _*_, _≤_, _<_}
 use mathlib.Core.Path.{_≡_}
 use mathlib.Core.Bool.{Bool, _&&_, _||_}
@@ -59,15 +60,13 @@ isRow3 n = ltb mostLine n
 abbrev pub isRow4 : ℕ → ℕ → ℕ → Bool
 isRow4 m n room = leb m n && ltb room (roomRequired m n)
 
--- The rows that the document's limits and the ring's edges decide, for the ring, k and n, each with its refusal if it is given: 1, 2, 3, and 12 "after 1 and
--- before 2" (document 02, ticket 2).
+-- The rows that the ring and k decide, each with its refusal if it is given: 1, 2, and 12 "after 1 and before 2" (document 02, ticket 2).
+unfoldable pub ringRows : List ℕ → ℕ → List (Option Refusal)
+ringRows ring k = row (isRow1 (length ring)) Ring ∷ row (isRow12 ring) RingMark ∷ row (isRow2 (length ring) k) Allowance ∷ []
+
+-- The rows that the document's limits and the ring's edges decide, for the ring, k and n: those above, then row 3.
 unfoldable pub limitRows : List ℕ → ℕ → ℕ → List (Option Refusal)
-limitRows ring k n =
-    row (isRow1 (length ring)) Ring
-    ∷ row (isRow12 ring) RingMark
-    ∷ row (isRow2 (length ring) k) Allowance
-    ∷ row (isRow3 n) Line
-    ∷ []
+limitRows ring k n = ringRows ring k ++ row (isRow3 n) Line ∷ []
 
 -- "Order: survey and scan 1 to 4": the rows above, then row 4 for the number of words lent.
 unfoldable pub admitRows : List ℕ → ℕ → ℕ → ℕ → List (Option Refusal)
@@ -92,7 +91,8 @@ abbrev pub verdictOf : Verdict → Option Refusal
 verdictOf Accepted = none
 verdictOf (Refused refusal) = some refusal
 
--- The contract of `admit`, of `admit_closed` and of the private `within_limits`, each for the rows that it tests: the verdict r holds the refusal of the first
--- row that is given, and accepts if no row is. `admit` tests `admitRows`, where n is the line's length and `room` the number of words lent for findings.
+-- The contract of `admit_ring`, of `admit`, of `admit_closed` and of the private `within_limits`, each for the rows that it tests: the verdict r holds the
+-- refusal of the first row that is given, and accepts if no row is. `admit` tests `admitRows`, where n is the line's length and `room` the number of words lent
+-- for findings.
 pub record IsVerdict (rows : List (Option Refusal)) (r : Verdict) : Type 0 where
   pub is : verdictOf r ≡ firstGiven rows

@@ -2,12 +2,12 @@
 // ring's edges decide.
 use crate::marks::holds_mark;
 use answers::Refusal;
-ghost use Rattle.findings.specs.Admitting.{limitRows, admitRows, IsVerdict};
+ghost use Rattle.findings.specs.Admitting.{ringRows, limitRows, admitRows, IsVerdict};
 
 // "Ring: m edges, 1 to 256."
 pub const MOST_RING: usize = 256;
 // "Line: n edges, 0 to 65,536."
-const MOST_LINE: usize = 65536;
+pub const MOST_LINE: usize = 65536;
 // "a finding becomes four words" (document 02, ticket 1)
 pub const WORDS_EACH: usize = 4;
 
@@ -17,9 +17,9 @@ pub enum Verdict {
     Refused(Refusal),
 }
 
-// Tests rows 1, 12, 2, 3, which every search has, in this order and returns the first that is given. n is the line's length.
-pub fn within_limits(ring: &[u8], k: usize, n: usize) -> Verdict
-    ensures { λ r. ⌜ IsVerdict (limitRows (now (ring .entry)) k n) r ⌝ }
+// Tests rows 1, 12, 2, with which every search begins, in this order and returns the first that is given.
+pub fn admit_ring(ring: &[u8], k: usize) -> Verdict
+    ensures { λ r. ⌜ IsVerdict (ringRows (now (ring .entry)) k) r ⌝ }
 {
     let m = ring.len();
     if m == 0 {
@@ -36,6 +36,17 @@ pub fn within_limits(ring: &[u8], k: usize, n: usize) -> Verdict
     if m <= k {
         return Verdict::Refused(Refusal::Allowance);
     }
+    Verdict::Accepted
+}
+
+// Tests rows 1, 12, 2, 3 in this order and returns the first that is given. n is the line's length.
+pub fn within_limits(ring: &[u8], k: usize, n: usize) -> Verdict
+    ensures { λ r. ⌜ IsVerdict (limitRows (now (ring .entry)) k n) r ⌝ }
+{
+    let of_ring = admit_ring(ring, k);
+    let Verdict::Accepted = of_ring else {
+        return of_ring;
+    };
     if MOST_LINE < n {
         return Verdict::Refused(Refusal::Line);
     }

@@ -2,7 +2,7 @@
 // line, the answer of a search, and a finding's words.
 //
 // `admit` accepts a call or returns the refusal of the first row that is given; its contract is in specs/Admitting.antt.
-// `admit_closed` does the same for a closed line, with row 10 after row 4; its rows are in specs/ClosedRows.antt.
+// `admit_ring` does the same for the rows that the ring and k decide, with which every search begins; `admit_closed` does the same for a closed line, with row 10 after row 4; its rows are in specs/ClosedRows.antt.
 // `is_mark` says whether an edge is a boundary mark; its contract is in specs/Marks.antt.
 // `put_finding` writes a finding's words behind those of the findings before it; its contract is in specs/Putting.antt.
 // No public function has a `requires`: each takes every input.
@@ -12,10 +12,12 @@ mod marks;
 mod putting;
 mod searching;
 
+pub use admitting::MOST_LINE;
 pub use admitting::MOST_RING;
 pub use admitting::Verdict;
 pub use admitting::WORDS_EACH;
 pub use admitting::admit;
+pub use admitting::admit_ring;
 pub use closed::admit_closed;
 pub use marks::is_mark;
 pub use putting::put_finding;

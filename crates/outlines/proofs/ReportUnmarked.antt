@@ -15,7 +15,7 @@ use Rattle.meaning.proofs.WithoutMarks.{findings-before, quick-looks-before}
 use Rattle.answers.specs.declared.refusals.Refusal.{Refusal}
 use Rattle.answers.specs.Rows.{firstGiven, answerBy, areaBy}
 use Rattle.silences.specs.Reading.{bookRows, silencesRead}
-use Rattle.findings.specs.Admitting.{limitRows, admitRows}
+use Rattle.findings.specs.Admitting.{ringRows, limitRows, admitRows}
 use Rattle.findings.specs.BeforeMarks.{rowsBefore}
 use Rattle.findings.proofs.RowsUnmarked.{second-left-out}
 use Rattle.outlines.specs.Report.{shown, hidden, reportRows, reportRefusal, ReportCounts, reportAnswer, reportedWords}
@@ -31,7 +31,7 @@ module _ (ring line : List ℕ) (k cell ringNumber : ℕ) (book : List ℕ) (no-
 
   -- For a ring without marks the first row that is given is the first of those that were there before.
   pub report-rows-unmarked : (room : ℕ) → reportRefusal (rows room) book ≡ refusalBefore room
-  unfolding reportRows limitRows admitRows rowsBefore
+  unfolding reportRows ringRows limitRows admitRows rowsBefore
   report-rows-unmarked room = rw no-mark (second-left-out _ _)
 
   -- For a ring and a line without marks a report answers as before.

@@ -9,7 +9,7 @@ use lib.Dec.{leb, eqb}
 use lib.ListN.{length}
 use borrow.Author.Tests.{le-ltb, leb-true, eqb-false}
 use Rattle.answers.specs.Rows.{firstGiven}
-use Rattle.findings.specs.Admitting.{roomRequired, isRow4, limitRows, admitRows}
+use Rattle.findings.specs.Admitting.{roomRequired, isRow4, ringRows, limitRows, admitRows}
 use Rattle.outlines.specs.Report.{reportRows, reportRefusal}
 
 module _ (ring : List ℕ) (k n room : ℕ) (book : List ℕ) (enough : 0 < length ring → length ring ≤ n → roomRequired (length ring) n ≤ room) where
@@ -26,7 +26,7 @@ module _ (ring : List ℕ) (k n room : ℕ) (book : List ℕ) (enough : 0 < leng
 
   -- With at least as many words as row 4 requires, the first of the report's rows that is given is the same as with exactly that many.
   pub refusal-same : reportRefusal (admitRows ring k n room) book ≡ reportRefusal (admitRows ring k n (roomRequired m n)) book
-  unfolding reportRows limitRows admitRows firstGiven
+  unfolding reportRows ringRows limitRows admitRows firstGiven
   refusal-same = go (eqb m 0) refl
     where
       go : (t : Bool) → eqb m 0 ≡ t → reportRefusal (admitRows ring k n room) book ≡ reportRefusal (admitRows ring k n (roomRequired m n)) book

@@ -17,7 +17,7 @@ use Rattle.fields.specs.Tagged.{isWhole}
 use Rattle.silences.specs.Layout.{kindByTag}
 use Rattle.silences.specs.Reading.{addressAt, silenceAt, fieldBy, fieldAt, fieldsFrom, readFrom, bookRows, readBook}
 use Rattle.answers.specs.Rows.{firstGiven}
-use Rattle.findings.specs.Admitting.{limitRows, admitRows}
+use Rattle.findings.specs.Admitting.{ringRows, limitRows, admitRows}
 use Rattle.outlines.specs.Report.{takenBy, reportRows}
 use Rattle.request.specs.Fields.{isFieldAt}
 use Rattle.request.specs.Input.{firstFault, inputFault, partsFrom, requestOf, laidDown}
@@ -42,7 +42,7 @@ printed letters = letters ++ lf ∷ []
 -- "Output, whole": the text for the sample's input. Document 02, ticket 1, adds the ties to a finding's line.
 sample-right : answerText (sampleFields ++ sampleBook)
     ≡ printed (ascii "cell 7 ring 2 edges 2 allow 0") ++ (printed (ascii "0 0 0 2") ++ printed (ascii "found 2 hidden 1 looks 12"))
-unfolding sampleFields sampleBook ascii answerText requestOf inputFault firstFault partsFrom isFieldAt numberAt requestText reportLines firstLine findingLine findingLines lastLine digitsWithin decimal reportRows limitRows admitRows holdsMark firstGiven bookRows readBook readFrom fieldsFrom fieldAt fieldBy kindByTag isWhole addressAt silenceAt isBelow isSame covers hides takenBy findingsBelow foundAt window lowestRotation rotationsReaching lowest distance count differs readLooks tallyLooks verifyLooks windowsFrom candidatesOf readWindow readLeft readEdge begins fits someBelow
+unfolding sampleFields sampleBook ascii answerText requestOf inputFault firstFault partsFrom isFieldAt numberAt requestText reportLines firstLine findingLine findingLines lastLine digitsWithin decimal reportRows ringRows limitRows admitRows holdsMark firstGiven bookRows readBook readFrom fieldsFrom fieldAt fieldBy kindByTag isWhole addressAt silenceAt isBelow isSame covers hides takenBy findingsBelow foundAt window lowestRotation rotationsReaching lowest distance count differs readLooks tallyLooks verifyLooks windowsFrom candidatesOf readWindow readLeft readEdge begins fits someBelow
 sample-right = refl
 
 -- The sample's input is this request, laid down.
@@ -77,7 +77,7 @@ order-of-rows : (answerText (fieldsWith 0 [] 3) ≡ printed (ascii "refused 1 pl
     × (answerText (sampleFields ++ 0x21 ∷ []) ≡ printed (ascii "refused 6 place 0"))
     × (answerText (sampleFields ++ (sampleBook ++ 0x21 ∷ [])) ≡ printed (ascii "refused 6 place 13"))
     × (answerText (sampleFields ++ (sampleBook ++ sampleBook)) ≡ printed (ascii "refused 7 place 13"))
-unfolding sampleFields sampleBook ascii laidDown bytesOf answerText requestOf inputFault firstFault partsFrom isFieldAt numberAt requestText refusalLineOf digitsWithin decimal reportRows limitRows admitRows holdsMark someBelow firstGiven bookRows readBook readFrom fieldsFrom fieldAt fieldBy kindByTag isWhole addressAt silenceAt isBelow
+unfolding sampleFields sampleBook ascii laidDown bytesOf answerText requestOf inputFault firstFault partsFrom isFieldAt numberAt requestText refusalLineOf digitsWithin decimal reportRows ringRows limitRows admitRows holdsMark someBelow firstGiven bookRows readBook readFrom fieldsFrom fieldAt fieldBy kindByTag isWhole addressAt silenceAt isBelow
 order-of-rows = (refl, refl, refl, refl, refl, refl, refl)
 
 -- Refusal 12, "a ring holding 255" (document 02, ticket 2): the mark is the ring's first edge, its last, its only one. It comes after 11, where the line is cut
@@ -87,7 +87,7 @@ row-12 : (answerText (fieldsWith 0 (255 ∷ ascii "a") 3) ≡ printed (ascii "re
     × (answerText (take 22 (fieldsWith 0 (255 ∷ []) 3)) ≡ printed (ascii "refused 11 place 20"))
     × (answerText (fieldsWith 0 (replicate 257 255) 3) ≡ printed (ascii "refused 1 place 0"))
     × (answerText (fieldsWith 1 (255 ∷ []) 3 ++ 0x21 ∷ []) ≡ printed (ascii "refused 12 place 0"))
-unfolding ascii laidDown bytesOf answerText requestOf inputFault firstFault partsFrom isFieldAt numberAt requestText refusalLineOf digitsWithin decimal reportRows limitRows admitRows holdsMark someBelow firstGiven
+unfolding ascii laidDown bytesOf answerText requestOf inputFault firstFault partsFrom isFieldAt numberAt requestText refusalLineOf digitsWithin decimal reportRows ringRows limitRows admitRows holdsMark someBelow firstGiven
 row-12 = (refl, refl, refl, refl, refl)
 
 -- Digits: no leading zero, and a 0 for zero.

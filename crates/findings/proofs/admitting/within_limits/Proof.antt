@@ -1,49 +1,40 @@
--- `findings::admitting::within_limits` meets its contract: at each return the comparisons passed so far decide which of rows 1, 12, 2, 3 is the first, or
--- that none is given (`LimitRows`).
-use mathlib.Core.Path.{sym}
-use mathlib.Core.Logic.{inl, inr}
+-- `findings::admitting::within_limits` meets its contract: one of rows 1, 12, 2 is given and `admit_ring` refuses; or none of them is, and the line's length
+-- decides whether row 3 is given (`LimitRows`).
+use mathlib.Core.Path.{sym, ap}
 use native.Mathlib.Omega.{arith}
 use borrow.Author.Needs.{needs}
-use Rattle.meaning.proofs.Marks.{holds-iff}
-use Rattle.findings.proofs.LimitRows.{unmarked, limit-1-iff, limit-12-iff, limit-2-iff, limit-3-iff, no-limit-iff}
+use Rattle.findings.specs.Admitting.{limitRows, verdictOf}
+use Rattle.findings.proofs.LimitRows.{within-ring, refused-early, limit-3-iff, no-limit-iff}
 use Rattle.findings.proofs.admitting.within_limits.Statement.{statement}
 use Rattle.findings.proofs.admitting.within_limits.Tie as tie
 
--- An empty ring.
+admit-ring-requires : tie.Need-admit-ring-requires
+admit-ring-requires c κs = search needs
+
+enum-told : tie.Need-enum-told
+enum-told c = search needs
+
+enum-told-2 : tie.Need-enum-told-2
+enum-told-2 c = search needs
+
+-- One of rows 1, 12, 2 is given.
 returns : tie.Need-returns
-returns c = record { is = sym (limit-1-iff _ _ _ .1 (inl (omega arith))) }
-
--- A ring that is too long.
-returns-2 : tie.Need-returns-2
-returns-2 c = record { is = sym (limit-1-iff _ _ _ .1 (inr (omega arith))) }
-
-holds-mark-requires : tie.Need-holds-mark-requires
-holds-mark-requires c κs = search needs
-
--- A ring that holds a mark, as `holds_mark` says; from here on it says that there is none.
-returns-3 : tie.Need-returns-3
-returns-3 c = record { is = sym (limit-12-iff _ _ _ .1 (omega arith, holds-iff _ .0 (cc))) }
-
--- An allowance that is too large.
-returns-4 : tie.Need-returns-4
-returns-4 c =
-    let past-mark = c .before in
-    let no-mark = unmarked (past-mark .before .holds-mark .ensures .is) (past-mark .if3 .left) in
-    record { is = sym (limit-2-iff _ _ _ .1 (omega arith, (no-mark, omega arith))) }
+unfolding limitRows
+returns c = refused-early _ (c .before .before .admit-ring .ensures) (ap verdictOf (c .enum-told2 .given .1))
 
 -- A line that is too long.
-returns-5 : tie.Need-returns-5
-returns-5 c =
-    let past-mark = c .before .before in
-    let no-mark = unmarked (past-mark .before .holds-mark .ensures .is) (past-mark .if3 .left) in
-    record { is = sym (limit-3-iff _ _ _ .1 (omega arith, (no-mark, omega arith))) }
+returns-2 : tie.Need-returns-2
+returns-2 c =
+    let told = c .before in
+    let within = within-ring _ _ (told .before .before .admit-ring .ensures) (told .enum-told .given .1) in
+    record { is = sym (limit-3-iff _ _ _ .1 (within .0, (within .1 .0, omega arith))) }
 
 -- All within the limits.
-returns-6 : tie.Need-returns-6
-returns-6 c =
-    let past-mark = c .before .before in
-    let no-mark = unmarked (past-mark .before .holds-mark .ensures .is) (past-mark .if3 .left) in
-    record { is = sym (no-limit-iff _ _ _ .1 (omega arith, (no-mark, omega arith))) }
+returns-3 : tie.Need-returns-3
+returns-3 c =
+    let told = c .before in
+    let within = within-ring _ _ (told .before .before .admit-ring .ensures) (told .enum-told .given .1) in
+    record { is = sym (no-limit-iff _ _ _ .1 (within .0, (within .1 .0, omega arith))) }
 
 pub within-limits-spec : {M : Type 1} → statement M
-within-limits-spec = tie.close (tie.spec returns returns-2 holds-mark-requires returns-3 returns-4 returns-5 returns-6)
+within-limits-spec = tie.close (tie.spec admit-ring-requires enum-told enum-told-2 returns returns-2 returns-3)
