@@ -17,7 +17,7 @@ use Rattle.meaning.proofs.ScanLoop.{scan-found-le, scan-end}
 use Rattle.silences.specs.Silences.{Silence}
 use Rattle.silences.specs.Reading.{fieldAt, silencesRead}
 use Rattle.silences.specs.Addresses.{soughtOf}
-use Rattle.vectors.specs.Holding.{EdgeVectors}
+use Rattle.occurrences.specs.EdgeVectors.{EdgeVectors}
 use Rattle.windows.specs.Windows.{Parts, wholeLine}
 use Rattle.findings.specs.Limits.{mostPlaces, CanSearch}
 use Rattle.findings.proofs.WordsSoFar.{WordsSoFar, so-far-none, so-far-length, so-far-more}

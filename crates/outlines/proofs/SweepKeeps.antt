@@ -17,7 +17,7 @@ use Rattle.meaning.proofs.LookBound.{quickLooks-most}
 use Rattle.meaning.proofs.Places.{found-start}
 use Rattle.meaning.proofs.FoundExactly.{found-is}
 use Rattle.meaning.proofs.ScanLoop.{ScanLoop, scan-start, scan-so-far-le, scan-verified}
-use Rattle.vectors.specs.Holding.{EdgeVectors}
+use Rattle.occurrences.specs.EdgeVectors.{EdgeVectors}
 use Rattle.windows.specs.Windows.{Parts, wholeLine}
 use Rattle.tally.specs.Counts.{mostCounts}
 use Rattle.findings.specs.Limits.{mostPlaces, CanSearch}

@@ -12,8 +12,8 @@ use Rattle.lists.specs.Areas.{written}
 use Rattle.meaning.specs.Findings.{findings, wordsOf}
 use Rattle.meaning.specs.Looks.{quickLooks}
 use Rattle.silences.specs.Reading.{bookRefusal, silencesRead}
-use Rattle.vectors.specs.Holding.{EdgeVectors}
-use Rattle.vectors.specs.ByValue.{Occurrences}
+use Rattle.occurrences.specs.EdgeVectors.{EdgeVectors}
+use Rattle.occurrences.specs.Storing.{Occurrences}
 use Rattle.windows.specs.Windows.{Parts, wholeLine, Joined}
 use Rattle.tally.specs.Counts.{mostCounts, IsDoubled}
 use Rattle.findings.specs.Limits.{CanSearch}

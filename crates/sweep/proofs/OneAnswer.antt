@@ -2,7 +2,7 @@
 use Prim.Native.Nat.{ℕ}
 use mathlib.Core.Path.{_≡_, sym, ap, _∙_}
 use mathlib.Core.List.{List}
-use Rattle.vectors.specs.Holding.{EdgeVectors}
+use Rattle.occurrences.specs.EdgeVectors.{EdgeVectors}
 use Rattle.windows.specs.Windows.{Parts}
 use Rattle.sweep.specs.declared.sweeping.Sweep.{Sweep}
 use Rattle.sweep.specs.declared.sweeping.Swept.{Swept}

@@ -1,6 +1,6 @@
 -- A window read with the ring's own vectors is read by rules 1 to 3. By induction on the edges left: the bits of the held vector stand for the held stretch
--- (`WindowLoop` of crates/meaning), and the vector grown by an edge stands for the grown stretch (`grown-by-edge` of crates/vectors). So no bit is set exactly at a
--- break or at a mark, which the ring does not hold. This proof uses the vectors by their bits only; the words are a matter of crates/vectors.
+-- (`WindowLoop` of crates/meaning), and the vector grown by an edge stands for the grown stretch (`grown-by-edge` of crates/occurrences). So no bit is set exactly at a
+-- break or at a mark, which the ring does not hold. This proof uses the vectors by their bits only; the words are a matter of crates/vectors and crates/occurrences.
 use Prim.Native.Nat.{ℕ, zero, suc, _+_, _≤_, _<_}
 use mathlib.Core.Path.{_≡_, refl, sym, ap₂, subst, _∙_}
 use mathlib.Core.Bool.{Bool, true, false, _||_, or-true, or-false, true≢false}
@@ -18,9 +18,10 @@ use Rattle.lists.proofs.Cases.{by-test, not-passed}
 use Rattle.meaning.proofs.Some.{some-yes, some-by}
 use Rattle.meaning.proofs.WindowLoop.{AllSet, GrownBy, WindowLoop, ReadTo, window-start, window-end, window-stopped, window-grows, window-marked, window-breaks}
 use Rattle.vectors.specs.Bits.{wordCount, isSet, firstBits, noBit}
-use Rattle.vectors.specs.Holding.{EdgeVectors, vectorAt}
 use Rattle.vectors.specs.ByValue.{vectorWords, vectorBits, HeldVector}
-use Rattle.vectors.proofs.HeldVectors.{first-held, first-set, no-bit-iff, no-bit-no, GrownByEdge, grown-by-edge}
+use Rattle.vectors.proofs.HeldVectors.{first-held, first-set, no-bit-iff, no-bit-no}
+use Rattle.occurrences.specs.EdgeVectors.{EdgeVectors, vectorAt}
+use Rattle.occurrences.proofs.VectorsOfRing.{GrownByEdge, grown-by-edge}
 use Rattle.sweep.specs.Reads.{heldWith, readOn, readBy}
 use Rattle.sweep.specs.ReadingRules.{OwnVectors, IsWindowRead}
 

@@ -10,8 +10,8 @@ use Rattle.lists.proofs.Cases.{by-test}
 use Rattle.meaning.specs.Meanings.{isMark}
 use Rattle.meaning.specs.Rules.{stopsAt}
 use Rattle.vectors.specs.Bits.{wordBits, wordCount, firstBits, noBit}
-use Rattle.vectors.specs.Holding.{EdgeVectors, vectorAt}
 use Rattle.vectors.specs.ByValue.{vectorWords, grownWords}
+use Rattle.occurrences.specs.EdgeVectors.{EdgeVectors, vectorAt}
 use Rattle.sweep.specs.declared.reading.WindowRead.{WindowRead}
 use Rattle.sweep.specs.Reads.{heldWith, readOn, readWith, readBy}
 

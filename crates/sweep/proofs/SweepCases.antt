@@ -7,7 +7,7 @@ use mathlib.Core.List.{List}
 use mathlib.Core.Logic.{_↔_}
 use lib.Dec.{leb}
 use lib.ListN.{length}
-use Rattle.vectors.specs.Holding.{EdgeVectors}
+use Rattle.occurrences.specs.EdgeVectors.{EdgeVectors}
 use Rattle.windows.specs.Windows.{Parts, wholeLine, IsWholeLength}
 use Rattle.tally.specs.Counts.{mostCounts}
 use Rattle.lists.proofs.SizesTested.{lt-iff, le-iff, and-iff, test-same}

@@ -13,7 +13,7 @@ use Rattle.meaning.specs.Findings.{foundAt}
 use Rattle.meaning.specs.Looks.{tallyLooks}
 use Rattle.lists.proofs.Cases.{by-test}
 use Rattle.meaning.proofs.CandidateStart.{candidate-is-start}
-use Rattle.vectors.specs.Holding.{EdgeVectors}
+use Rattle.occurrences.specs.EdgeVectors.{EdgeVectors}
 use Rattle.windows.specs.Windows.{Parts, wholeLine, Joined}
 use Rattle.tally.specs.Counts.{findingWith, TallyResult}
 use Rattle.tally.specs.Tallied.{Verified}

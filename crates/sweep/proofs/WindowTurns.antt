@@ -10,7 +10,7 @@ use Rattle.lists.proofs.Cases.{by-test}
 use Rattle.meaning.specs.Meanings.{FitsInLine, IsPastLine, fitsInLine}
 use Rattle.meaning.proofs.Starts.{fits-line-iff, past-line-iff}
 use Rattle.vectors.specs.Bits.{wordCount}
-use Rattle.vectors.specs.Holding.{EdgeVectors}
+use Rattle.occurrences.specs.EdgeVectors.{EdgeVectors}
 use Rattle.windows.specs.Windows.{Parts, windowOf, wholeLine, IsWindow}
 use Rattle.windows.proofs.WindowEdges.{fitting-length, some-fits}
 use Rattle.tally.specs.Counts.{mostCounts}

@@ -12,7 +12,7 @@ use Rattle.meaning.specs.Meanings.{FitsInLine, IsPastLine, window, fitsInLine}
 use Rattle.meaning.proofs.Starts.{fits-line-iff, past-line-iff}
 use Rattle.meaning.specs.Rules.{stopsAt, isStopped, readWindow}
 use Rattle.meaning.proofs.WindowAlone.{alone-reading}
-use Rattle.vectors.specs.Holding.{EdgeVectors}
+use Rattle.occurrences.specs.EdgeVectors.{EdgeVectors}
 use Rattle.windows.specs.Windows.{Parts, windowOf, wholeLine, Joined}
 use Rattle.windows.proofs.WindowEdges.{fitting-window, fitting-length}
 use Rattle.sweep.specs.declared.reading.WindowRead.{WindowRead}

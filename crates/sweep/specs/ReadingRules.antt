@@ -8,8 +8,8 @@ use mathlib.Core.List.{List}
 use lib.ListN.{length}
 use Rattle.meaning.specs.Meanings.{holdsMark}
 use Rattle.meaning.specs.Rules.{isStopped, readWindow}
-use Rattle.vectors.specs.Holding.{EdgeVectors}
-use Rattle.vectors.specs.ByValue.{Occurrences}
+use Rattle.occurrences.specs.EdgeVectors.{EdgeVectors}
+use Rattle.occurrences.specs.Storing.{Occurrences}
 use Rattle.tally.specs.Counts.{mostCounts}
 use Rattle.sweep.specs.declared.reading.WindowRead.{WindowRead}
 

@@ -15,8 +15,8 @@ use lib.ListN.{length, getD}
 use Rattle.meaning.specs.Meanings.{fitsInLine, isMark}
 use Rattle.meaning.specs.Rules.{stopsAt}
 use Rattle.vectors.specs.Bits.{wordCount, firstBits, noBit}
-use Rattle.vectors.specs.Holding.{EdgeVectors, vectorAt}
 use Rattle.vectors.specs.ByValue.{vectorWords, grownWords}
+use Rattle.occurrences.specs.EdgeVectors.{EdgeVectors, vectorAt}
 use Rattle.windows.specs.Windows.{Parts, windowOf, wholeLine}
 use Rattle.tally.specs.Counts.{mostCounts}
 use Rattle.findings.specs.Limits.{mostPlaces}

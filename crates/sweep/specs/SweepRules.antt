@@ -22,8 +22,8 @@ use Rattle.meaning.specs.Meanings.{FitsInLine, IsPastLine, holdsMark}
 use Rattle.meaning.specs.Findings.{Finding, foundAt}
 use Rattle.meaning.specs.Rules.{isStopped, readWindow}
 use Rattle.meaning.specs.Looks.{tallyLooks}
-use Rattle.vectors.specs.Holding.{EdgeVectors}
-use Rattle.vectors.specs.ByValue.{Occurrences}
+use Rattle.occurrences.specs.EdgeVectors.{EdgeVectors}
+use Rattle.occurrences.specs.Storing.{Occurrences}
 use Rattle.findings.specs.Putting.{findingOf}
 use Rattle.sweep.specs.declared.sweeping.Sweep.{Sweep}
 use Rattle.sweep.specs.declared.sweeping.Swept.{Swept}

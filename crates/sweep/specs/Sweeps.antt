@@ -16,7 +16,7 @@ use mathlib.Core.List.{List}
 use lib.Dec.{ltb, leb}
 use lib.ListN.{length}
 use Rattle.findings.specs.declared.searching.Finding.{Finding as FindingStruct}
-use Rattle.vectors.specs.Holding.{EdgeVectors}
+use Rattle.occurrences.specs.EdgeVectors.{EdgeVectors}
 use Rattle.windows.specs.Windows.{Parts, windowOf, wholeLine}
 use Rattle.tally.specs.Counts.{mostCounts, findingWith, TallyResult, countedTo}
 use Rattle.findings.specs.Limits.{mostPlaces}

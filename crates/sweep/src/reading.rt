@@ -2,18 +2,18 @@
 // vector of one bit for each rotation: bit r is set exactly when the stretch is the beginning of rotation r (source
 // document 003).
 use findings::is_mark;
-use vectors::KEPT_WORDS;
-use vectors::SLOTS;
+use occurrences::KEPT_WORDS;
+use occurrences::SLOTS;
+use occurrences::vector_of;
 use vectors::first_bits;
 use vectors::grown;
 use vectors::no_bit;
-use vectors::vector_of;
 ghost use mathlib.Core.Path.{_≡_};
 ghost use Prim.Native.Nat.{_+_, _<_, _≤_};
 ghost use lib.ListN.{length};
 ghost use Rattle.meaning.specs.Meanings.{isMark};
 ghost use Rattle.meaning.specs.Rules.{stopsAt};
-ghost use Rattle.vectors.specs.Holding.{edgeVectors};
+ghost use Rattle.occurrences.specs.EdgeVectors.{edgeVectors};
 ghost use Rattle.tally.specs.Counts.{mostCounts};
 ghost use Rattle.sweep.specs.Reads.{readWith, readBy};
 

@@ -3,24 +3,21 @@
 -- occurrence vector of m bits, the results mean what `Bits` and `Holding` say; proofs/HeldVectors has the laws.
 --     vectorWords, vectorBits     a vector's words and bits            HeldVector     a vector of m bits held by value
 --     lastBitPlace, carryInto, grownWord, grownWords     the held vector grown by one edge, word by word
---     Occurrences     the occurrence vectors of a ring's edge codes
--- `first_bits` returns `firstBits` and `no_bit` returns `noBit`, both of `Bits`; `vector_of` returns `vectorAt` of `Holding`.
+-- `first_bits` returns `firstBits` and `no_bit` returns `noBit`, both of `Bits`.
 use mathlib.Core.Path.{_≡_}
 use mathlib.Core.Bool.{cond}
 use mathlib.Core.List.{List}
-use Prim.Native.Nat.{ℕ, suc, _+_, _-_, _*_, _/_, _%_, _^_, min}
-use lib.ListN.{length, getD, take}
+use Prim.Native.Nat.{ℕ, _+_, _-_, _*_, _/_, _%_, _^_, min}
+use lib.ListN.{length, getD}
 use lib.Bits.{bitAnd, bitOr}
 use lib.Dec.{ltb}
-use Rattle.vectors.specs.Bits.{wordBits, wordCount, Vector}
+use Rattle.vectors.specs.Bits.{wordBits, Vector}
 use Rattle.lists.specs.ByPlace.{listOf}
 use Rattle.vectors.specs.Rotating.{WithinBits}
-use Rattle.vectors.specs.Holding.{lastPart, EdgeVectors, OccurrenceTable}
-use Rattle.vectors.specs.Storing.{slotsFor, keptFor}
 
--- How many words a vector held by value has: one for each part of a ring's places.
+-- How many words a vector held by value has.
 abbrev pub vectorWords : ℕ
-vectorWords = suc lastPart
+vectorWords = 4
 
 -- How many bits a vector held by value has.
 abbrev pub vectorBits : ℕ
@@ -54,10 +51,3 @@ grownWord m count occurs held w =
 -- The held vector of m bits, kept in its first `count` words, grown by one edge. A count above `vectorWords` is taken as `vectorWords`.
 unfoldable pub grownWords : ℕ → ℕ → List ℕ → List ℕ → List ℕ
 grownWords m count occurs held = listOf vectorWords (grownWord m (min count vectorWords) occurs held)
-
--- The contract of `occurrences`. `each` says what the two arrays mean: one occurrence vector for each edge code. `slots-are` and `kept-are` fix every slot and every
--- word. If the ring has more edges than a vector has bits, only the first `vectorBits` edges count.
-pub record Occurrences (ring : List ℕ) (table : EdgeVectors) : Type 0 where
-  pub each : OccurrenceTable (take vectorBits ring) (wordCount (length ring)) table
-  pub slots-are : table .slots ≡ slotsFor ring
-  pub kept-are : table .kept ≡ keptFor ring

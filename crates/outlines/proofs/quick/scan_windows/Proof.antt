@@ -5,7 +5,7 @@ use mathlib.Core.Path.{_≡_, refl, ap}
 use native.Mathlib.Omega.{arith}
 use borrow.Author.Needs.{needs}
 use lib.ListN.{length}
-use Rattle.vectors.specs.Holding.{edgeVectors}
+use Rattle.occurrences.specs.EdgeVectors.{edgeVectors}
 use Rattle.windows.specs.Windows.{parts, wholeLength, IsWholeLength}
 use Rattle.windows.proofs.WindowEdges.{fits-whole, past-whole}
 use Rattle.sweep.specs.SweepRules.{stateOf, foundOf}

@@ -5,8 +5,8 @@ use native.Mathlib.Omega.{arith}
 use borrow.Author.Needs.{needs}
 use lib.ListN.{length}
 use Rattle.vectors.specs.Bits.{firstBits}
-use Rattle.vectors.specs.Holding.{edgeVectors}
 use Rattle.vectors.specs.ByValue.{vectorWords}
+use Rattle.occurrences.specs.EdgeVectors.{edgeVectors}
 use Rattle.sweep.proofs.ReadTurns.{StillToRead, to-read-all, to-read-none, to-read-stops, to-read-empties, to-read-grows}
 use Rattle.sweep.proofs.reading.read_words.Statement.{statement}
 use Rattle.sweep.proofs.reading.read_words.Tie as tie

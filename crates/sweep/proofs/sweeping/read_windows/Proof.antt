@@ -5,7 +5,7 @@ use native.Mathlib.Omega.{arith}
 use borrow.Author.Needs.{needs}
 use borrow.Author.Tests.{not-true, not-false}
 use lib.ListN.{length}
-use Rattle.vectors.specs.Holding.{edgeVectors}
+use Rattle.occurrences.specs.EdgeVectors.{edgeVectors}
 use Rattle.windows.specs.Windows.{parts, wholeLength}
 use Rattle.windows.proofs.WindowEdges.{none-is-past}
 use Rattle.sweep.proofs.WindowTurns.{StillWindows, windows-start, windows-end, windows-fit, windows-size, windows-next-le, windows-looks-le, windows-stop, windows-turn}

@@ -2,7 +2,7 @@
 use native.Mathlib.Omega.{arith}
 use borrow.Author.Needs.{needs}
 use borrow.Author.Tests.{not-true, not-false}
-use Rattle.vectors.specs.Holding.{edgeVectors}
+use Rattle.occurrences.specs.EdgeVectors.{edgeVectors}
 use Rattle.windows.specs.Windows.{parts}
 use Rattle.sweep.proofs.SweepWays.{sweep-looks-le, sweep-start-le, way-ended, sweep-all-looks-le, way-none, way-found}
 use Rattle.sweep.proofs.sweeping.to_candidate.Statement.{statement}
