@@ -1,4 +1,5 @@
--- Laws of `count`: a range can be split and shifted, and the count is at most its length. Induction on the length. The count is at least 1 exactly where some number passes.
+-- Laws of `count`: a range can be split, shifted and counted backwards, and the count is at most its length. Induction on the length. The count is at least 1
+-- exactly where some number passes.
 use Prim.Native.Nat.{ℕ, zero, suc, _+_, _-_, _≤_, _<_}
 use mathlib.Core.Path.{_≡_, refl, sym, ap, _∙_}
 use mathlib.Core.Bool.{Bool, true, false}
@@ -77,3 +78,20 @@ unfolding count
 count-same p p′ a zero h = refl
 count-same p p′ a (suc n) h =
     rw (h a (omega arith) (omega arith)) (ap (λ (c : ℕ). oneIf (p′ a) + c) (count-same p p′ (suc a) n (λ x lo hi. h x (omega arith) (omega arith))))
+
+-- If p at q is p′ at n − 1 − q, for each of n places q, the two counts over these places are the same: they count from either end.
+pub count-backwards : (p p′ : ℕ → Bool) (n : ℕ) → ((q : ℕ) → q < n → p q ≡ p′ (n - 1 - q)) → count p 0 n ≡ count p′ 0 n
+unfolding count
+count-backwards p p′ n h = from 0 n (λ q l. ap p (zero-add q) ∙ h q l)
+  where
+    from : (a n : ℕ) → ((q : ℕ) → q < n → p (a + q) ≡ p′ (n - 1 - q)) → count p a n ≡ count p′ 0 n
+    from a zero same = refl
+    from a (suc n) same =
+        let last : suc n - 1 - 0 ≡ 0 + n = omega arith in
+        let first : p a ≡ p′ (0 + n) = ap p (sym (add-zero a)) ∙ same 0 (omega arith) ∙ ap p′ last in
+        let others : count p (suc a) n ≡ count p′ 0 n =
+        from (suc a) n
+        (λ q l.
+        let before : suc n - 1 - suc q ≡ n - 1 - q = omega arith in
+        ap p (suc-add a q ∙ sym (add-suc a q)) ∙ same (suc q) (omega arith) ∙ ap p′ before) in
+        omega (arith, ap oneIf first, others, count-last p′ 0 n)

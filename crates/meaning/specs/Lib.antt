@@ -1,8 +1,9 @@
--- The meanings and rules of document 01, in its order and its words, with the ties, the boundary marks and the closed line of document 02, tickets 1 to 3. Read
--- the modules in the order of the list at the end.
+-- The meanings and rules of document 01, in its order and its words, with the ties, the boundary marks and the closed line of document 02, tickets 1 to 3, and
+-- the edge codes of ticket 6. Read the modules in the order of the list at the end.
 -- Nothing here is code. A ring and a stretch are lists of edge codes, and a line may also hold marks; places, starts, rotations, distances and looks are numbers.
 -- Document 01 says "Here every byte value 0 to 255 is an edge code like any other". Since document 02, ticket 2, this holds for 0 to 254, and 255 is a boundary
--- mark. Beyond that the definitions only ask whether two edge codes are equal.
+-- mark. Beyond that the meanings and rules only ask whether two edge codes are equal. What a code says of its edge, the length class and the octant, stands in
+-- EdgeCodes (document 02, ticket 6); there codes 248 to 255 are no edges.
 -- Elsewhere: the refusals, and ring places and line places as two types ("never added or compared directly"), in crates/answers; the silence book
 -- in crates/silences.
 --
@@ -38,6 +39,8 @@
 -- | start, distance on it        | `IsClosedStart`, `closedDistance`          | Closed      |
 -- | finding on it                | `IsClosedFinding`                          | Closed      |
 -- | join area                    | `joinOf`, `joinedWith`                     | Closed      |
+-- | edge code (document 02)      | `edgeCode`; the test `isEdge`              | EdgeCodes   |
+-- | length class, octant         | `lengthClass`, `octantOf`                  | EdgeCodes   |
 -- | samples P1 to P12            | `samples`, `samples-right`                 | Samples     |
 -- | samples of our own           | `own-samples`, `own-samples-right`         | Samples     |
 -- | samples with marks           | `mark-samples`, `mark-samples-right`       | Samples     |
@@ -48,8 +51,8 @@
 --
 -- The table leaves out the parts of these definitions: `oneIf` (Counting); `unequal`, `reaches`, `rotationsReaching` (Meanings); `Finding`, `findingAt`,
 -- `foundAt`, `findingsBelow`, `wordsEach`, `findingWords` (Findings); `begins` (Stretch); `unread`, `markRead`, `grownRead`, `brokenRead`, `readLeft`,
--- `windowsFrom`, `candidatesOf` (Rules); `verifyLooks`, `surveyLooksBelow` (Looks); `closedReaching` (Closed); `Sample`, `finding`, `answered`, `marked`,
--- `join-samples-right` (Samples); those of BeforeMarks.
+-- `windowsFrom`, `candidatesOf` (Rules); `verifyLooks`, `surveyLooksBelow` (Looks); `closedReaching` (Closed); `octants`, `lengthClasses`, `edgeCodes`
+-- (EdgeCodes); `Sample`, `finding`, `answered`, `marked`, `join-samples-right` (Samples); those of BeforeMarks.
 --
 -- Where a window, a tally or a sweep has a `start`, this is the place where its window begins; since document 02, ticket 2, that place need not be a start.
 --
@@ -62,6 +65,7 @@ pub mod Stretch
 pub mod Rules
 pub mod Looks
 pub mod Closed
+pub mod EdgeCodes
 pub mod Samples
 pub mod Misread
 pub mod BeforeMarks
