@@ -1,12 +1,13 @@
--- Document 01's table and row 12 of document 02 once more, as rows of name, number and place, and a test that the definitions give each row. antt computes it,
--- so a wrong number or place in the definitions is refused here. Rows 6, 7, 9 and 11 have four different places, so that no two can be confused.
+-- Document 01's table and rows 12 and 14 of document 02 once more, as rows of name, number and place, and a test that the definitions give each row. antt
+-- computes it, so a wrong number or place in the definitions is refused here. Rows 6, 7, 9, 11 and 14 have five different places, so that no two can be
+-- confused.
 use Prim.Native.Nat.{ℕ}
 use mathlib.Core.Path.{_≡_, refl}
 use mathlib.Core.Bool.{Bool, true, _&&_}
 use mathlib.Core.List.{List, [], _∷_}
 use lib.Dec.{eqb}
 use Rattle.answers.specs.declared.refusals.Refusal.{Refusal}
-use Rattle.answers.specs.declared.refusals.Refusal.the-variants.{Ring, Allowance, Line, FindingsRoom, BookLength, Field, NotAbove, WordCount, NumberInRecord, OutputRoom, Input, RingMark}
+use Rattle.answers.specs.declared.refusals.Refusal.the-variants.{Ring, Allowance, Line, FindingsRoom, BookLength, Field, NotAbove, WordCount, NumberInRecord, OutputRoom, Input, RingMark, RingCode}
 use Rattle.answers.specs.Refusals.{numberOf, placeOf}
 
 -- A row: the refusal's name, its number, its place.
@@ -37,6 +38,7 @@ table =
     ∷ tableRow OutputRoom 10 0
     ∷ tableRow (Input 27) 11 27
     ∷ tableRow RingMark 12 0
+    ∷ tableRow (RingCode 3) 14 3
     ∷ []
 
 -- The definitions give every row of the table.

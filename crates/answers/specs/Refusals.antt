@@ -1,15 +1,19 @@
--- Document 01, "What each call returns": the table of refusals, rows 1 to 11, and row 12 of document 02, ticket 2. This file gives the number and the
--- place of each refusal. Each call defines when its rows are given.
+-- Document 01, "What each call returns": the table of refusals, rows 1 to 11, and of document 02 row 12 (ticket 2) and row 14 (ticket 6). This file
+-- gives the number and the place of each refusal. Each call defines when its rows are given.
 --
 --   numberOf             the column "No."
 --   placeOf              the column "Place"
+--   numberOfRow          the number of a row, if the rows are counted from 1
 --   IsNumber, IsPlace    the contracts of `number_of` and `place_of`
 --
--- A refusal whose place is always 0 holds no place. All 12 rows are here, and no other.
-use Prim.Native.Nat.{ℕ}
+-- A refusal whose place is always 0 holds no place. All 13 rows built so far are here, 1 to 12 and 14, and no
+-- other. Row 13 comes with ticket 9.
+use Prim.Native.Nat.{ℕ, _+_}
 use mathlib.Core.Path.{_≡_}
+use mathlib.Core.Bool.{cond}
+use lib.Dec.{ltb}
 use Rattle.answers.specs.declared.refusals.Refusal.{Refusal}
-use Rattle.answers.specs.declared.refusals.Refusal.the-variants.{Ring, Allowance, Line, FindingsRoom, BookLength, Field, NotAbove, WordCount, NumberInRecord, OutputRoom, Input, RingMark}
+use Rattle.answers.specs.declared.refusals.Refusal.the-variants.{Ring, Allowance, Line, FindingsRoom, BookLength, Field, NotAbove, WordCount, NumberInRecord, OutputRoom, Input, RingMark, RingCode}
 
 -- The number of a refusal. Above each case stands the table's sentence for that row.
 abbrev pub numberOf : Refusal → ℕ
@@ -20,7 +24,7 @@ numberOf Allowance = 2
 -- "n > 65,536"
 numberOf Line = 3
 -- "n ≥ m and fewer than" 4·(n − m + 1) "words are lent for findings"; document 01 has 3·(n − m + 1), and document 02, ticket 1, makes it 4. On a closed line
--- fewer than 4·n (ticket 3).
+-- fewer than 4·n (ticket 3); for the two-way scan, "room for both passes, 8·(n − m + 1) words" (ticket 6).
 numberOf FindingsRoom = 4
 -- "book longer than 13,000 bytes"; "5 at 15,000 bytes" (document 02, ticket 4)
 numberOf BookLength = 5
@@ -38,6 +42,8 @@ numberOf OutputRoom = 10
 numberOf (Input place) = 11
 -- "a ring holding 255" (document 02, ticket 2)
 numberOf RingMark = 12
+-- "a ring code above 247" (document 02, ticket 6)
+numberOf (RingCode place) = 14
 
 -- The place of a refusal. Above each case stand the row's number and the table's words; for row 11 the words of "The report program".
 abbrev pub placeOf : Refusal → ℕ
@@ -65,6 +71,12 @@ placeOf OutputRoom = 0
 placeOf (Input place) = place
 -- 12: "place 0" (document 02, ticket 2)
 placeOf RingMark = 0
+-- 14: "place the first such ring place" (document 02, ticket 6)
+placeOf (RingCode place) = place
+
+-- The number of a row, if the rows are counted from 1. No row has number 13 yet, so the 13th row has number 14.
+abbrev pub numberOfRow : ℕ → ℕ
+numberOfRow row = cond (ltb row 13) row (row + 1)
 
 -- The contract of `number_of`, which returns r.
 pub record IsNumber (refusal : Refusal) (r : ℕ) : Type 0 where

@@ -1,6 +1,10 @@
-// Document 01's table of refusals and row 12 of document 02: a name for each row, its number and its place. A variant
+// Document 01's table of refusals and rows 12 and 14 of document 02: a name for each row, its number and its place. A variant
 // holds a place if the table gives one that is not always 0.
-ghost use Rattle.answers.specs.Refusals.{IsNumber, IsPlace};
+ghost use mathlib.Core.Path.{_≡_};
+ghost use Rattle.answers.specs.Refusals.{numberOf, numberOfRow, IsNumber, IsPlace};
+
+// No row has this number yet.
+const GAP: usize = 13;
 
 // A refusal: one row of the table, with its place if the row has one.
 pub enum Refusal {
@@ -10,8 +14,8 @@ pub enum Refusal {
     Allowance,
     // 3: n > 65,536
     Line,
-    // 4: n ≥ m and fewer than 4·(n − m + 1) words are lent for findings (document 02, ticket 1), or 4·n on a closed
-    // line (ticket 3)
+    // 4: n ≥ m and fewer than 4·(n − m + 1) words are lent for findings (document 02, ticket 1), 4·n on a closed line
+    // (ticket 3), 8·(n − m + 1) for both passes of the two-way scan (ticket 6)
     FindingsRoom,
     // 5: book longer than 15,000 bytes (document 02, ticket 4)
     BookLength,
@@ -33,11 +37,13 @@ pub enum Refusal {
     Input(usize),
     // 12: a ring holding 255, a boundary mark (document 02, ticket 2)
     RingMark,
+    // 14: a ring code above 247 (document 02, ticket 6); the first such ring place
+    RingCode(usize),
 }
 
-// The number of a refusal: the table's column "No.".
-pub fn number_of(refusal: Refusal) -> usize
-    ensures { λ r. ⌜ IsNumber refusal r ⌝ }
+// The row of a refusal, counted from 1 in the order of the enum. Up to row 12 it is the refusal's number.
+fn row_of(refusal: Refusal) -> usize
+    ensures { λ r. ⌜ numberOf refusal ≡ numberOfRow r ⌝ }
 {
     match refusal {
         Refusal::Ring => 1,
@@ -52,7 +58,17 @@ pub fn number_of(refusal: Refusal) -> usize
         Refusal::OutputRoom => 10,
         Refusal::Input(_) => 11,
         Refusal::RingMark => 12,
+        Refusal::RingCode(_) => 13,
     }
+}
+
+// The number of a refusal: the table's column "No.". The compiler makes one addition of `row_of`; of a match whose numbers
+// leave one out it makes a table of jumps, which tools/stack does not follow.
+pub fn number_of(refusal: Refusal) -> usize
+    ensures { λ r. ⌜ IsNumber refusal r ⌝ }
+{
+    let row = row_of(refusal);
+    if row < GAP { row } else { row + 1 }
 }
 
 // The place of a refusal: the table's column "Place".
@@ -64,6 +80,7 @@ pub fn place_of(refusal: Refusal) -> usize
         Refusal::NotAbove(place) => place,
         Refusal::NumberInRecord(place) => place,
         Refusal::Input(place) => place,
+        Refusal::RingCode(place) => place,
         Refusal::Ring => 0,
         Refusal::Allowance => 0,
         Refusal::Line => 0,
