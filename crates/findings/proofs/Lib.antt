@@ -1,6 +1,6 @@
 -- The laws of this crate, one module for each idea, in the order in which they build on each other. The proofs that the functions meet their contracts cite
--- them; each stands in a folder with the function's name: marks/is_mark, marks/holds_mark, admitting/within_limits, admitting/admit, closed/admit_closed,
--- putting/can_put, putting/put_words, putting/put_finding.
+-- them; each stands in a folder with the function's name: marks/is_mark, marks/holds_mark, admitting/admit_ring, admitting/within_limits,
+-- admitting/admit, closed/admit_closed, putting/can_put, putting/put_words, putting/put_finding.
 --
 -- The loop that seeks a mark.
 pub mod MarkLoop

@@ -33,7 +33,7 @@ verdict-back : (r : Verdict) → verdictBack (verdictOf r) ≡ r
 verdict-back Accepted = refl
 verdict-back (RefusedBy refusal) = refl
 
--- Any two verdicts that meet the contract of `admit` or `admit_closed` are equal, whatever the rows.
+-- Any two verdicts that meet the contract of `admit_ring`, `admit` or `admit_closed` are equal, whatever the rows.
 pub one-verdict : (rows : List (Option Refusal)) (r r′ : Verdict) → IsVerdict rows r → IsVerdict rows r′ → r ≡ r′
 one-verdict rows r r′ a b = sym (verdict-back r) ∙ ap verdictBack (a .is ∙ sym (b .is)) ∙ verdict-back r′
 

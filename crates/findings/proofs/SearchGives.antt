@@ -15,7 +15,7 @@ use Rattle.answers.specs.declared.refusals.Refusal.{Refusal}
 use Rattle.answers.specs.Refusals.{numberOf, placeOf}
 use Rattle.answers.specs.Rows.{firstGiven, areaBy}
 use Rattle.answers.proofs.RefusalNumbers.{HasNoPlace}
-use Rattle.answers.proofs.AnswerByRows.{row-number-iff, accepted-number-iff, accepted-counts, number-by, place-by, refused-counts, refused-area}
+use Rattle.answers.proofs.AnswerByRows.{row-number-iff, accepted-number-iff, accepted-counts, accepted-area, number-by, place-by, refused-counts, refused-area}
 use Rattle.findings.specs.declared.searching.Searched.{Searched}
 use Rattle.findings.specs.Searching.{Counts, noCounts, searched, searchedWords, paperOf, IsSearched}
 
@@ -73,6 +73,12 @@ module _ {rows : List (Option Refusal)} {ring line : List ℕ} {k expected : ℕ
       let none-given : firstGiven rows ≡ none = search-accepted-iff .0 zero-is in
       let same : paperOf r .counts ≡ counted = accepted-counts noCounts counted (firstGiven rows) (meets .paper) none-given in
       record { found-is = ap (λ (c : Counts). c .found) same; looks-are = ap (λ (c : Counts). c .looks) same; none-given = none-given }
+
+  -- If no row is given, the findings' words are written.
+  pub accepted-words : firstGiven rows ≡ none → out ≡ written (wordsOf (findings ring line k)) words
+  unfolding searched searchedWords
+  accepted-words =
+      accepted-area noCounts counted (firstGiven rows) (meets .paper) (written (wordsOf (findings ring line k)) words) words (meets .written)
 
   -- If P holds for 0, and for the search's looks if no row is given, then P holds for the looks of the answer, accepted or refused.
   pub looks-of-search : (P : ℕ → Type 0) → P 0 → (firstGiven rows ≡ none → P expected) → P (paperOf r .counts .looks)

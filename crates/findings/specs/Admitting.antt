@@ -1,6 +1,7 @@
 -- Document 01, "What each call returns", rows 1 to 4 of the table: the refusals that lengths, k and room decide. Row 4 asks for four words for each
 -- of the n − m + 1 windows, marked or not (document 02, ticket 1). And row 12 of ticket 2, which the ring's edges decide. Rows 1, 12, 2 and 3 are those
--- of every search; row 4 is that of a search on an open line (specs/ClosedRows.antt has the other).
+-- of every search; row 4 is that of survey, scan and report on an open line (specs/ClosedRows.antt has that of a closed line, crates/two_way that of the
+-- two-way scan).
 --
 --   mostRing, mostLine    the document's limits
 --   roomRequired          the words that row 4 requires

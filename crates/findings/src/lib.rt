@@ -2,7 +2,8 @@
 // line, the answer of a search, and a finding's words.
 //
 // `admit` accepts a call or returns the refusal of the first row that is given; its contract is in specs/Admitting.antt.
-// `admit_ring` does the same for the rows that the ring and k decide, with which every search begins; `admit_closed` does the same for a closed line, with row 10 after row 4; its rows are in specs/ClosedRows.antt.
+// `admit_ring` tests only the rows that the ring and k decide, 1, 12, 2, with which every search begins. `admit_closed`
+// tests the rows of a closed line, with row 10 after row 4; they are in specs/ClosedRows.antt.
 // `is_mark` says whether an edge is a boundary mark; its contract is in specs/Marks.antt.
 // `put_finding` writes a finding's words behind those of the findings before it; its contract is in specs/Putting.antt.
 // No public function has a `requires`: each takes every input.

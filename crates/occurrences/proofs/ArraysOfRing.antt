@@ -12,7 +12,7 @@ use Rattle.lists.proofs.Cases.{by-test}
 use Rattle.lists.proofs.ByPlace.{listOf-is}
 use Rattle.vectors.specs.Bits.{wordBits, Vector}
 use Rattle.vectors.proofs.WordByWord.{vectorOf-vector, vectorOf-same}
-use Rattle.occurrences.specs.EdgeVectors.{edgeCodes, emptyWord}
+use Rattle.occurrences.specs.EdgeVectors.{byteCodes, emptyWord}
 use Rattle.occurrences.specs.Storing.{slotCount, keptCount, noSlots, slotOf, partWord, keptPlace, placeWord, keptWord, countedPlaces, slotFor, keptAt, slotsFor, keptFor}
 use Rattle.occurrences.proofs.PlacesOfCode.{has-code-past}
 use Rattle.occurrences.proofs.SlotOfPart.{slot-at-first}
@@ -20,7 +20,7 @@ use Rattle.occurrences.proofs.WordOfPart.{part-lt, part-none}
 
 -- The slots that a ring's first n places make, in a ring of several parts.
 unfoldable pub slotsOf : List ℕ → ℕ → List ℕ
-slotsOf ring n = listOf slotCount (λ i. slotOf ring n (i / edgeCodes) (i % edgeCodes))
+slotsOf ring n = listOf slotCount (λ i. slotOf ring n (i / byteCodes) (i % byteCodes))
 
 -- The kept words that they make.
 unfoldable pub keptOf : List ℕ → ℕ → List ℕ
@@ -66,7 +66,7 @@ module _ (ring : List ℕ) where
   -- With no place, every part lacks every code.
   pub slots-at-first : noSlots ≡ slotsOf ring 0
   unfolding noSlots slotsOf
-  slots-at-first = vectorOf-same slotCount _ _ (λ i h. sym (slot-at-first ring (i / edgeCodes) (i % edgeCodes)))
+  slots-at-first = vectorOf-same slotCount _ _ (λ i h. sym (slot-at-first ring (i / byteCodes) (i % byteCodes)))
 
   module _ (one : length ring ≤ wordBits) where
     -- Up to 64 edges every slot is that of a code that its part lacks.

@@ -14,7 +14,7 @@ use borrow.Author.Tests.{le-leb, lt-leb, eq-eqb}
 use Rattle.lists.proofs.Cases.{by-test, not-passed}
 use Rattle.vectors.specs.Bits.{wordBits, wordCount, putWord}
 use Rattle.vectors.specs.ByValue.{vectorBits}
-use Rattle.occurrences.specs.EdgeVectors.{edgeCodes, lastPart, EdgeVectors, wordPlace, wordOf}
+use Rattle.occurrences.specs.EdgeVectors.{byteCodes, lastPart, EdgeVectors, wordPlace, wordOf}
 use Rattle.occurrences.specs.Storing.{keptCount, slotOf, partWord, countedPlaces, Occurrences, notZero}
 use Rattle.occurrences.proofs.PlacesOfCode.{has-code-is, has-code-below}
 use Rattle.occurrences.proofs.WordOfPart.{part-none, part-some}
@@ -65,7 +65,7 @@ module _ (ring : List ℕ) (table : EdgeVectors) (is : Occurrences ring table) w
       (λ many. rw (is .kept-are, sym (kept-for-parts ring many)) (omega (arith, few-kept ring (countedPlaces ring) (omega arith))))
       (λ few. rw (is .kept-are, sym (kept-for-one ring (omega (arith, few)))) (omega (arith, few-whole ring (countedPlaces ring) (omega (arith, few)))))
 
-  module _ (code w : ℕ) (is-code : code < edgeCodes) (part : w ≤ lastPart) where
+  module _ (code w : ℕ) (is-code : code < byteCodes) (part : w ≤ lastPart) where
     -- The word that is read for an edge code and part w has the bits of part and code.
     word-is : wordOf table code (wordCount (length ring)) w ≡ partWord ring (countedPlaces ring) w code
     unfolding wordOf

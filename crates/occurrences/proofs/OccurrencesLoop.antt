@@ -12,7 +12,7 @@ use lib.Dec.{eqb}
 use borrow.Author.Tests.{ne-eqb}
 use Rattle.vectors.specs.Bits.{wordBits, wordCount, isSet, putWord}
 use Rattle.vectors.specs.ByValue.{vectorBits}
-use Rattle.occurrences.specs.EdgeVectors.{edgeCodes, EdgeVectors, edgeVectors, wordPlace, vectorAt, OccurrenceTable}
+use Rattle.occurrences.specs.EdgeVectors.{byteCodes, EdgeVectors, edgeVectors, wordPlace, vectorAt, OccurrenceTable}
 use Rattle.occurrences.specs.Storing.{keptCount, hasCode, noSlot, noSlots, slotOf, countedPlaces, Occurrences}
 use Rattle.occurrences.proofs.PlacesOfCode.{has-code-below, has-code-past}
 use Rattle.occurrences.proofs.SlotOfPart.{slot-own}
@@ -22,21 +22,21 @@ use Rattle.occurrences.proofs.VectorsRead.{no-code-bit, whole-bit, slot
 
 -- The first r numbers of a ring are edge codes.
 abbrev pub CodesBelow : List ℕ → ℕ → Type 0
-CodesBelow ring r = (q : ℕ) → q < r → getD ring q 0 < edgeCodes
+CodesBelow ring r = (q : ℕ) → q < r → getD ring q 0 < byteCodes
 
 -- If number r is an edge code too, so are the first r + 1.
-codes-more : (ring : List ℕ) (r code : ℕ) → CodesBelow ring r → code ≡ getD ring r 0 → code < edgeCodes → CodesBelow ring (r + 1)
+codes-more : (ring : List ℕ) (r code : ℕ) → CodesBelow ring r → code ≡ getD ring r 0 → code < byteCodes → CodesBelow ring (r + 1)
 codes-more ring r code known is is-code q h = dite (ℕ-discrete q r) (λ here. rw (here, sym is) is-code) (λ other. known q (omega (arith, other)))
 
 -- If a bit of each code's vector is set exactly when its place has the code, the vectors are the occurrence vectors.
 table-of-bits : (ring : List ℕ) (table : EdgeVectors) (count : ℕ) → CodesBelow ring (countedPlaces ring)
-    → ((code : ℕ) → code < edgeCodes → (q : ℕ) → isSet (vectorAt table code count) q ≡ hasCode ring (countedPlaces ring) code q)
+    → ((code : ℕ) → code < byteCodes → (q : ℕ) → isSet (vectorAt table code count) q ≡ hasCode ring (countedPlaces ring) code q)
     → OccurrenceTable (take vectorBits ring) count table
 table-of-bits ring table count codes bits =
     let n : ℕ = countedPlaces ring in
     let size : length (take vectorBits ring) ≡ n = simp length-take (omega arith) in
     record {
-      each = λ code. dite (decLt code edgeCodes)
+      each = λ code. dite (decLt code byteCodes)
           (λ is-code. record {
             each = λ q h. bits code is-code q ∙ (has-code-below ring n code q (omega arith) ∙ rw (getD-take vectorBits ring q 0 (omega arith)) refl);
             rest = λ q h. bits code is-code q ∙ has-code-past ring n code q (omega arith);
@@ -68,7 +68,7 @@ module _ (ring : List ℕ) where
   whole-start slots is = record { turn-le = omega arith; codes = λ q h. absurd (omega arith); slots-are = is; kept-are = whole-at-first ring }
 
   -- Turn r puts bit r into the word of the code at place r.
-  pub whole-turned : (slots kept : List ℕ) (r code : ℕ) → length ring ≤ wordBits → WholeBelow ring slots kept r → r < length ring → code ≡ getD ring r 0 → code < edgeCodes
+  pub whole-turned : (slots kept : List ℕ) (r code : ℕ) → length ring ≤ wordBits → WholeBelow ring slots kept r → r < length ring → code ≡ getD ring r 0 → code < byteCodes
       → WholeBelow ring slots (set kept code (putWord (getD kept code 0) r 1)) (r + 1)
   whole-turned slots kept r code most known h is is-code = record {
     turn-le = omega arith;
@@ -97,7 +97,7 @@ module _ (ring : List ℕ) where
 
   -- Turn r makes r the slot of its part and code if they have none, and puts bit r mod 64 into the word that the slot leads to.
   pub parts-turned : (slots kept : List ℕ) (r code at slot word : ℕ) → PartsBelow ring slots kept r → r < length ring → r < vectorBits
-      → code ≡ getD ring r 0 → code < edgeCodes → at ≡ code + r / wordBits * edgeCodes
+      → code ≡ getD ring r 0 → code < byteCodes → at ≡ code + r / wordBits * byteCodes
       → slot ≡ cond (eqb (getD slots at 0) (noSlot (r / wordBits))) r (getD slots at 0) → word ≡ wordPlace (r / wordBits) slot
       → PartsBelow ring (set slots at slot) (set kept word (putWord (getD kept word 0) (r % wordBits) 1)) (r + 1)
   parts-turned slots kept r code at slot word known h counts is is-code there slot-is word-is =

@@ -11,7 +11,7 @@ use lib.ListN.{getD, set}
 use Rattle.lists.proofs.ByPlace.{listOf-at}
 use Rattle.vectors.specs.Bits.{wordBits, putWord}
 use Rattle.vectors.proofs.WordByWord.{vectorOf-same, vectorOf-set}
-use Rattle.occurrences.specs.EdgeVectors.{edgeCodes, lastPart, emptyWord, wordPlace}
+use Rattle.occurrences.specs.EdgeVectors.{byteCodes, lastPart, emptyWord, wordPlace}
 use Rattle.occurrences.specs.Storing.{slotCount, keptCount, slotOf, partWord, keptPlace, placeWord, keptWord}
 use Rattle.occurrences.proofs.LowestPlace.{one-passes, no-one-passes}
 use Rattle.occurrences.proofs.PlacesOfCode.{has-code-new}
@@ -97,10 +97,10 @@ module _ (ring : List ℕ) where
         (λ i h other. sym (kept-stays i (λ e. other (e ∙ sym is))))
 
     -- The slots after place n counts: the slot of its part and code is the new one.
-    pub slots-turn : code < edgeCodes → (at slot : ℕ) → at ≡ code + w * edgeCodes → slot ≡ slotOf ring (n + 1) w code → set (slotsOf ring n) at slot ≡ slotsOf ring (n + 1)
+    pub slots-turn : code < byteCodes → (at slot : ℕ) → at ≡ code + w * byteCodes → slot ≡ slotOf ring (n + 1) w code → set (slotsOf ring n) at slot ≡ slotsOf ring (n + 1)
     unfolding slotsOf
     slots-turn is-code at slot is new =
-        let at-w : at / edgeCodes ≡ w = omega arith in
-        let at-code : at % edgeCodes ≡ code = omega arith in
+        let at-w : at / byteCodes ≡ w = omega arith in
+        let at-code : at % byteCodes ≡ code = omega arith in
         vectorOf-set slotCount _ _ at slot (omega arith) (rw (at-w, at-code) new)
-        (λ i h other. sym (slot-other ring n (i / edgeCodes) (i % edgeCodes) (λ e f. other (omega arith))))
+        (λ i h other. sym (slot-other ring n (i / byteCodes) (i % byteCodes) (λ e f. other (omega arith))))

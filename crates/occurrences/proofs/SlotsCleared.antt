@@ -7,24 +7,24 @@ use native.Mathlib.Omega.{arith}
 use lib.ListN.{set, replicate, length-replicate, getD-replicate}
 use Rattle.lists.specs.ByPlace.{StoredFirst}
 use Rattle.lists.proofs.StoreLoop.{stored-turn, stored-end, stored-all}
-use Rattle.occurrences.specs.EdgeVectors.{edgeCodes, lastPart, emptyWord}
+use Rattle.occurrences.specs.EdgeVectors.{byteCodes, lastPart, emptyWord}
 use Rattle.occurrences.specs.Storing.{slotCount, noSlot, noSlots}
 use Rattle.occurrences.proofs.SlotOfPart.{no-slot-early, no-slot-last}
 
 -- The invariant before turn `at`.
 pub record Cleared (slots : List ℕ) (at : ℕ) : Type 0 where
-  pub from-last : edgeCodes * lastPart ≤ at
+  pub from-last : byteCodes * lastPart ≤ at
   pub at-le : at ≤ slotCount
-  pub stored : StoredFirst at (λ i. noSlot (i / edgeCodes)) (replicate slotCount emptyWord) slots
+  pub stored : StoredFirst at (λ i. noSlot (i / byteCodes)) (replicate slotCount emptyWord) slots
 
 -- It holds at the first slot of the last part.
-pub cleared-start : Cleared (replicate slotCount emptyWord) (edgeCodes * lastPart)
+pub cleared-start : Cleared (replicate slotCount emptyWord) (byteCodes * lastPart)
 cleared-start = record {
   from-last = omega arith;
   at-le = omega arith;
   stored = record {
     size = refl;
-    first = λ p h. getD-replicate {A = ℕ} slotCount p emptyWord 0 (omega arith) ∙ sym (no-slot-early (p / edgeCodes) (omega arith));
+    first = λ p h. getD-replicate {A = ℕ} slotCount p emptyWord 0 (omega arith) ∙ sym (no-slot-early (p / byteCodes) (omega arith));
     rest = λ p h. refl;
   };
 }
@@ -35,7 +35,7 @@ cleared-turn slots at known h = record {
   from-last = omega (arith, known .from-last);
   at-le = omega arith;
   stored = stored-turn (known .stored) (omega (arith, length-replicate {A = ℕ} slotCount emptyWord))
-      (omega (arith, known .from-last, no-slot-last (at / edgeCodes) (omega (arith, known .from-last))));
+      (omega (arith, known .from-last, no-slot-last (at / byteCodes) (omega (arith, known .from-last))));
 }
 
 -- At the end every slot is right.

@@ -1,7 +1,7 @@
 -- The occurrence vectors of a ring's edge codes, and how two arrays hold them. Rule 2: "003 decides the fit with one occurrence vector of m bits per edge code, rotated
 -- at each edge". The definitions take any two arrays; `Storing` says which arrays are a ring's.
 --     Occurs     the occurrence vector of an edge code
---     edgeCodes, lastPart     the number of edge codes; the last part of a ring's places
+--     byteCodes, lastPart     the number of codes that a byte can be; the last part of a ring's places
 --     EdgeVectors, edgeVectors, emptyWord, wordPlace, wholeWord, slotWord, wordOf     how the vectors of all codes are stored: slots and kept words
 --     vectorAt, OccurrenceTable     the vector of a code; one for each code, 0 to 255
 -- `vector_of` returns `vectorAt`.
@@ -22,8 +22,8 @@ pub record Occurs (ring : List ℕ) (code : ℕ) (ws : List ℕ) : Type 0 where
 
 -- How many codes a table has a vector for: "every byte value 0 to 255". (By document 02, ticket 2, 255 is a mark. An accepted ring
 -- holds none, so no bit is set in the vector of 255.)
-abbrev pub edgeCodes : ℕ
-edgeCodes = 256
+abbrev pub byteCodes : ℕ
+byteCodes = 256
 
 -- The number of the last part. A ring's places fall into parts of 64, one for each word of a vector: part w has the places 64·w to 64·w + 63.
 abbrev pub lastPart : ℕ
@@ -53,7 +53,7 @@ wholeWord table code w = cond (eqb w 0) (getD (table .kept) code 0) 0
 
 -- The word of an edge code in part w, where vectors have several words: the slot of code and part, which stands at code + 256·w, leads to it.
 unfoldable pub slotWord : EdgeVectors → ℕ → ℕ → ℕ
-slotWord table code w = getD (table .kept) (wordPlace w (getD (table .slots) (code + w * edgeCodes) 0)) 0
+slotWord table code w = getD (table .kept) (wordPlace w (getD (table .slots) (code + w * byteCodes) 0)) 0
 
 -- The word of an edge code in part w, where vectors have `count` words. A count of 0 is taken as 1.
 unfoldable pub wordOf : EdgeVectors → ℕ → ℕ → ℕ → ℕ
@@ -64,7 +64,7 @@ wordOf table code count w =
 
 -- The vector of an edge code, where vectors have `count` words: four words, whatever the count. For a number above 255 no bit is set.
 unfoldable pub vectorAt : EdgeVectors → ℕ → ℕ → List ℕ
-vectorAt table code count = listOf (suc lastPart) (λ w. cond (ltb code edgeCodes) (wordOf table code count w) 0)
+vectorAt table code count = listOf (suc lastPart) (λ w. cond (ltb code byteCodes) (wordOf table code count w) 0)
 
 -- "one occurrence vector of m bits per edge code", where vectors have `count` words.
 pub record OccurrenceTable (ring : List ℕ) (count : ℕ) (table : EdgeVectors) : Type 0 where

@@ -23,11 +23,11 @@ use lib.Dec.{ltb, leb, eqb}
 use Rattle.lists.specs.ByPlace.{listOf}
 use Rattle.vectors.specs.Bits.{wordBits, wordCount, putWord}
 use Rattle.vectors.specs.ByValue.{vectorBits}
-use Rattle.occurrences.specs.EdgeVectors.{edgeCodes, lastPart, EdgeVectors, emptyWord, OccurrenceTable}
+use Rattle.occurrences.specs.EdgeVectors.{byteCodes, lastPart, EdgeVectors, emptyWord, OccurrenceTable}
 
 -- How many slots there are: one for each part and code.
 abbrev pub slotCount : ℕ
-slotCount = edgeCodes * suc lastPart
+slotCount = byteCodes * suc lastPart
 
 -- How many words the array of kept words has: one for each of 256 places, and one more.
 abbrev pub keptCount : ℕ
@@ -50,7 +50,7 @@ noSlot w = cond (ltb w lastPart) emptyWord (emptyWord - 1)
 
 -- The slots before any place is put in: every part lacks every code.
 unfoldable pub noSlots : List ℕ
-noSlots = listOf slotCount (λ i. noSlot (i / edgeCodes))
+noSlots = listOf slotCount (λ i. noSlot (i / byteCodes))
 
 -- The slot of a code in part w: the first place of the part that has the code; `noSlot w` if there is none.
 unfoldable pub slotOf : List ℕ → ℕ → ℕ → ℕ → ℕ
@@ -90,8 +90,8 @@ countedPlaces ring = min (length ring) (wordBits * suc lastPart)
 -- The slot at place i of the slots. Up to 64 edges it is that of a code that the part lacks.
 unfoldable pub slotFor : List ℕ → ℕ → ℕ
 slotFor ring i =
-    let none : ℕ = noSlot (i / edgeCodes) in
-    let slot : ℕ = slotOf ring (countedPlaces ring) (i / edgeCodes) (i % edgeCodes) in
+    let none : ℕ = noSlot (i / byteCodes) in
+    let slot : ℕ = slotOf ring (countedPlaces ring) (i / byteCodes) (i % byteCodes) in
     cond (leb (length ring) wordBits) none slot
 
 -- The word at place i of the kept words. Up to 64 edges it is that of code i.

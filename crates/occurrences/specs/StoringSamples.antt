@@ -9,7 +9,7 @@ use lib.Dec.{leb, eqb}
 use lib.ListN.{length}
 use Rattle.lists.specs.ByPlace.{listOf}
 use Rattle.vectors.specs.Bits.{wordCount}
-use Rattle.occurrences.specs.EdgeVectors.{edgeCodes, lastPart, wordPlace}
+use Rattle.occurrences.specs.EdgeVectors.{byteCodes, lastPart, wordPlace}
 use Rattle.occurrences.specs.Storing.{hasCode, lowestPlace, noSlot, slotOf, wordWhere, partWord, keptPlace, placeWord, keptWord, slotFor, keptAt}
 
 -- A row of the table.
@@ -22,7 +22,7 @@ pub record StoringSample : Type 0 where
 -- The row with its slots and its vector read off both arrays, as `wordOf` reads them, but entry by entry: a whole array takes too long to compute.
 unfoldable pub computedRow : StoringSample → StoringSample
 computedRow s =
-    let slot : ℕ → ℕ = λ w. slotFor (s .ring) (s .code + w * edgeCodes) in
+    let slot : ℕ → ℕ = λ w. slotFor (s .ring) (s .code + w * byteCodes) in
     let whole : ℕ → ℕ = λ w. cond (eqb w 0) (keptAt (s .ring) (s .code)) 0 in
     let parted : ℕ → ℕ = λ w. keptAt (s .ring) (wordPlace w (slot w)) in
     record {

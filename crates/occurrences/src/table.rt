@@ -2,7 +2,7 @@
 // one word, so there are at most 256 of them, whatever the ring. A slot, one byte for each code and part of 64 places,
 // leads to the kept word. A ring of at most 64 edges keeps its words by code, and its slots are not read. Both arrays
 // take 3,080 bytes; all words of all 256 codes would take 8,192.
-use crate::widths::EDGE_CODES;
+use crate::widths::BYTE_CODES;
 use crate::widths::KEPT_WORDS;
 use crate::widths::LAST_PART;
 use crate::widths::SLOTS;
@@ -16,7 +16,7 @@ ghost use lib.Dec.{eqb};
 ghost use lib.ListN.{length};
 ghost use Rattle.vectors.specs.Bits.{wordBits};
 ghost use Rattle.vectors.specs.ByValue.{vectorWords, vectorBits};
-ghost use Rattle.occurrences.specs.EdgeVectors.{edgeCodes, edgeVectors, wordPlace, slotWord, vectorAt};
+ghost use Rattle.occurrences.specs.EdgeVectors.{byteCodes, edgeVectors, wordPlace, slotWord, vectorAt};
 ghost use Rattle.occurrences.specs.Storing.{noSlot, keptCount, noSlots, Occurrences};
 
 // The place of the empty word, and so the slot of a code that a part lacks.
@@ -27,7 +27,7 @@ const EMPTY_IN_LAST: u8 = 191;
 
 // A byte as an index: an edge code or a slot.
 fn byte_index(byte: u8) -> usize
-    ensures { λ r. ⌜ (r ≡ byte) × (r < edgeCodes) ⌝ }
+    ensures { λ r. ⌜ (r ≡ byte) × (r < byteCodes) ⌝ }
 {
     byte as usize
 }
@@ -64,7 +64,7 @@ fn clear_slots(slots: &mut [u8; SLOTS])
     ensures { λ _. ⌜ now (slots .exit) ≡ noSlots ⌝ }
 {
     *slots = [EMPTY; SLOTS];
-    let mut at = LAST_PART * EDGE_CODES;
+    let mut at = LAST_PART * BYTE_CODES;
     while at < SLOTS {
         slots[at] = EMPTY_IN_LAST;
         at += 1;
@@ -97,7 +97,7 @@ fn keep_parts(ring: &[u8], slots: &mut [u8; SLOTS], kept: &mut [u64; KEPT_WORDS]
     let mut r = 0;
     while r < ring.len() && r < VECTOR_BITS {
         let part = r / WORD_BITS;
-        let at = byte_index(ring[r]) + part * EDGE_CODES;
+        let at = byte_index(ring[r]) + part * BYTE_CODES;
         let slot = slot_from(slots[at], part, r);
         slots[at] = slot;
         let word = word_place(part, slot);
@@ -124,7 +124,7 @@ fn word_of(slots: &[u8; SLOTS], kept: &[u64; KEPT_WORDS], code: u8, part: usize)
     requires { ⌜ part < vectorWords ⌝ }
     ensures { λ r. ⌜ r ≡ slotWord (edgeVectors (now (slots .entry)) (now (kept .entry))) code part ⌝ }
 {
-    let slot = slots[byte_index(code) + part * EDGE_CODES];
+    let slot = slots[byte_index(code) + part * BYTE_CODES];
     kept[word_place(part, slot)]
 }
 

@@ -1,4 +1,4 @@
--- Document 01, "What each call returns", the quick scan. Refusals, found and words are those of every search (specs/Searching.antt of crates/findings). Only the
+-- Document 01, "What each call returns", the quick scan. Refusals, found and words are those that survey and scan share (specs/Searching.antt of crates/findings). Only the
 -- looks are its own, those of rules 1 to 5: `quickLooks` of crates/meaning.
 --
 --   IsScanned    the contract of `scan`

@@ -1,6 +1,6 @@
 -- Document 01, the plain survey: it "verifies every start, the first afresh and each next by one step, at m = 1 too: 2·m·n − m·m looks for n ≥ m, else 0. It
 -- gives the same findings." Places whose window holds a mark are verified too: "same findings, and its looks stay" (document 02, ticket 2). Refusals, found and
--- words are those of every search (specs/Searching.antt of crates/findings). Only the looks are its own: `surveyLooks` of crates/meaning.
+-- words are those that survey and scan share (specs/Searching.antt of crates/findings). Only the looks are its own: `surveyLooks` of crates/meaning.
 --
 --   IsSurveyed                   the contract of `survey`
 --   edgesSeen, isFound           how many edges are seen before a place is verified; whether a verified place is a finding
