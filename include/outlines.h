@@ -1,13 +1,15 @@
 /* Outlines stored twice: finds a closed ring of edges in a line of edges, starting at any of its edges and with at most k edges that differ.
  * Link with target/native/libexports.a, which tools/native makes. docs/SPEC.md has all of this in full.
  *
- * Terms. A ring has m edges, one byte each; a line has n bytes, edges and boundary marks. The bytes 0 to 254 are ordinary edge codes. Byte 255
- * (OUTLINES_MARK) is a mark: it stands in a line where one boundary ends and the next begins. It counts as one of the n bytes. A ring must not hold one
- * (refusal 12). Turning the ring by r, 0 <= r < m, brings its edge (r + q) mod m to place q; r is called a rotation. If i + m <= n, the line's places i
- * to i + m - 1 are the window at i, and i is a start if that window holds no mark. The distance of such a place i under a rotation counts the places at
- * which the window and the turned ring differ; a mark differs from every ring edge. A start is a finding if its distance is at most k, the allowance, for
- * at least one rotation. A finding has four numbers: the start, the lowest rotation with the least distance, that distance, and the ties: how many
- * rotations have that distance, itself included, 1 to m (equal turns of a periodic ring each count). Places and rotations count from 0.
+ * Terms. A ring has m edges, one byte each; a line has n bytes, edges and boundary marks. The bytes 0 to 254 are edge codes, and a call only asks
+ * whether two of them are equal. outlines_scan_two_way also reads each code of its ring as 8 * length class + octant, so that ring may hold the codes 0
+ * to 247 only (refusal 14). Byte 255 (OUTLINES_MARK) is a mark: it stands in a line where one boundary ends and the next begins. It counts as one of the
+ * n bytes. A ring must not hold one (refusal 12). Turning the ring by r, 0 <= r < m, brings its edge (r + q) mod m to place q; r is called a rotation.
+ * If i + m <= n, the line's places i to i + m - 1 are the window at i, and i is a start if that window holds no mark. The distance of such a place i
+ * under a rotation counts the places at which the window and the turned ring differ; a mark differs from every ring edge. A start is a finding if its
+ * distance is at most k, the allowance, for at least one rotation. A finding has four numbers: the start, the lowest rotation with the least distance,
+ * that distance, and the ties: how many rotations have that distance, itself included, 1 to m (equal turns of a periodic ring each count). Places and
+ * rotations count from 0.
  *
  * Marks came with change request 2. Before, byte 255 was an edge code like any other: a line in which it means an edge is searched differently now, and a
  * ring with that edge is refused. A silence at a place that is no start any more hides nothing.
@@ -42,10 +44,16 @@
  * These calls are lent one area more, the join area. If such a call is accepted and n >= m, the area's first 2 m - 2 bytes hold the line's last m - 1
  * bytes and then its first m - 1; the bytes behind them keep their values. If n < m, or if the call is refused, the whole area keeps its values.
  *
- * Calls. Every call takes every input. It is accepted or refused, and returns a struct outlines_answer by value. A refused call has written nothing
- * and returns zero in every count. A length counts elements: bytes of a ring, a line, a book or a join area, 32-bit words of an area of words. A pointer may be
- * null where its length is 0. An area that is lent for writing must not overlap anything else that is passed to the same call. A call reads and writes
- * only what it is passed, keeps no pointer to it, allocates nothing and needs at most 6,000 bytes of stack (docs/LOOKS.md).
+ * The other way round. One producer draws anticlockwise, so an outline may be stored in the other direction. For this an edge code is read as 8 * length
+ * class + octant: length classes 0 to 30, octants 0 to 7, and so the codes 0 to 247. The reversed ring has the ring's edges in opposite order, each with its
+ * octant turned by 4 modulo 8 and its length class kept: at place q stands the reversed code of the ring's edge at m - 1 - q, and the reversed code of c
+ * is, in C, c / 8 * 8 + (c % 8 + 4) % 8. A ring that is reversed twice is the ring again. outlines_scan_two_way seeks the ring and the reversed ring.
+ *
+ * Calls. Every call takes every input. It is accepted or refused, and returns a struct by value: outlines_scan_two_way a struct outlines_two_way, each
+ * other call a struct outlines_answer. A refused call has written nothing and returns zero in every count. A length counts elements: bytes of a ring, a
+ * line, a book or a join area, 32-bit words of an area of words. A pointer may be null where its length is 0. An area that is lent for writing must not
+ * overlap anything else that is passed to the same call. A call reads and writes only what it is passed, keeps no pointer to it, allocates nothing and
+ * needs at most 6,000 bytes of stack, outlines_scan_two_way at most 6,400 (docs/LOOKS.md).
  */
 #ifndef OUTLINES_H
 #define OUTLINES_H
@@ -75,7 +83,8 @@ enum outlines_refusal {
     OUTLINES_RING = 1,             /* the ring has no edge, or more than 256; place 0 */
     OUTLINES_ALLOWANCE = 2,        /* k is m or more; place 0 */
     OUTLINES_LINE = 3,             /* the line has more than 65,536 bytes; place 0 */
-    OUTLINES_FINDINGS_ROOM = 4,    /* n >= m, and fewer than 4 (n - m + 1) words are lent for the findings, 4 n if the line is closed; place 0 */
+    OUTLINES_FINDINGS_ROOM = 4,    /* n >= m, and fewer than 4 (n - m + 1) words are lent for the findings, 4 n if the line is closed, 8 (n - m + 1) in the
+                                    * two-way scan; place 0 */
     OUTLINES_BOOK_LENGTH = 5,      /* the book has more than 15,000 bytes; place 0 */
     OUTLINES_FIELD = 6,            /* a field of the book is neither 13 bytes that begin with 21 00 0A hex nor 15 bytes that begin with 22 00 0C hex, or
                                     * is cut off; place: the field's byte offset */
@@ -86,17 +95,28 @@ enum outlines_refusal {
     OUTLINES_OUTPUT_ROOM = 10,     /* the area lent to pack or unpack is too small for the whole output; or, in a closed call, n >= m and the join area
                                     * has fewer than 2 m - 2 bytes; place 0 */
     OUTLINES_INPUT = 11,           /* the report program's input is not laid out as SPEC, section 8, says; no call declared here gives it */
-    OUTLINES_RING_MARK = 12        /* the ring holds 255, a boundary mark; place 0 */
+    OUTLINES_RING_MARK = 12,       /* the ring holds 255, a boundary mark; place 0 */
+    OUTLINES_RING_CODE = 14        /* two-way scan only: the ring holds a code above 247; place: the first ring place with such a code */
 };
 
-/* What every call returns. A look is one byte of the line read by the quick scan, a mark too, or one comparison of a byte of the line with a ring edge in
- * computing distances; to test whether edges read so far fit the ring costs none (SPEC, section 3). */
+/* What every call but the two-way scan returns. A look is one byte of the line read by the quick scan, a mark too, or one comparison of a byte of the line
+ * with a ring edge in computing distances; to test whether edges read so far fit the ring costs none (SPEC, section 3). */
 struct outlines_answer {
     uint32_t refusal; /* 0 if the call is accepted, else a number of enum outlines_refusal */
     uint32_t place;   /* the place of the refusal; 0 if the call is accepted */
     uint64_t found;   /* survey, scan and report, open and closed: findings, hidden ones included; pack and unpack: records */
     uint64_t hidden;  /* the two reports: findings that the book hides; 0 from the other calls */
     uint64_t looks;   /* survey, scan and report, open and closed: looks; 0 from pack and unpack */
+};
+
+/* What the two-way scan returns: found and looks of each of its two passes. */
+struct outlines_two_way {
+    uint32_t refusal;        /* 0 if the call is accepted, else a number of enum outlines_refusal */
+    uint32_t place;          /* the place of the refusal; 0 if the call is accepted */
+    uint64_t forward_found;  /* findings of the ring */
+    uint64_t forward_looks;  /* looks of the scan for the ring */
+    uint64_t backward_found; /* findings of the reversed ring */
+    uint64_t backward_looks; /* looks of the scan for the reversed ring */
 };
 
 /* The plain survey: computes the least distance at every place i with i + m <= n, and lists the starts among them that are findings.
@@ -126,6 +146,20 @@ struct outlines_answer outlines_scan(const uint8_t *ring, size_t ring_length, co
  * field of the book, 6 before 7. The book is read even if the line is shorter than the ring. */
 struct outlines_answer outlines_report(uint32_t cell, uint16_t ring_number, const uint8_t *ring, size_t ring_length, const uint8_t *line,
                                        size_t line_length, size_t k, const uint8_t *book, size_t book_length, uint32_t *words, size_t words_length);
+
+/* The two-way scan: the quick scan for the ring (forward), then the quick scan for the reversed ring (backward), over the same line.
+ *   ring, ring_length     the ring, m = ring_length: 1 to 256 edges, none of their codes above 247
+ *   line, line_length     the line, as for outlines_scan; its codes are not tested, and a byte of 248 to 254 differs from every edge of either ring
+ *   k                     the allowance: 0 to m - 1, for both passes
+ *   words, words_length   lent for the findings of both passes: at least 8 (n - m + 1) words if n >= m; none are needed if n < m
+ * Returns found and looks of each pass. The forward pass has the findings and looks of outlines_scan for the ring, and the backward pass those of
+ * outlines_scan for the reversed ring: of each pass at most 3 m n - 2 m m + m looks if n >= m, else 0. Writes four words for each finding (start, rotation,
+ * distance, ties): the forward findings by rising start, then the backward ones by rising start, without a gap; so the first backward finding begins at word
+ * 4 forward_found. No word behind the last one is written. The rotation of a backward finding counts on the reversed ring: turned by r, that ring has at
+ * place q its edge (r + q) mod m. A start can be a finding of both passes. Refusals, in order: 1, 12, 2, 14, 3, 4. No other call refuses
+ * a ring for the codes 248 to 254; for a ring that holds 255, refusal 12 comes before 14. */
+struct outlines_two_way outlines_scan_two_way(const uint8_t *ring, size_t ring_length, const uint8_t *line, size_t line_length, size_t k, uint32_t *words,
+                                              size_t words_length);
 
 /* The plain survey of a closed line.
  *   join, join_length     the join area: at least 2 m - 2 bytes if n >= m, so none if m = 1; none are needed if n < m

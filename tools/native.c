@@ -5,6 +5,7 @@ struct outlines_answer *lowered_outlines_survey(struct outlines_answer *, const 
 struct outlines_answer *lowered_outlines_scan(struct outlines_answer *, const uint8_t *, size_t, const uint8_t *, size_t, size_t, uint32_t *, size_t);
 struct outlines_answer *lowered_outlines_report(struct outlines_answer *, uint32_t, uint16_t, const uint8_t *, size_t, const uint8_t *, size_t, size_t,
                                                 const uint8_t *, size_t, uint32_t *, size_t);
+struct outlines_two_way *lowered_outlines_scan_two_way(struct outlines_two_way *, const uint8_t *, size_t, const uint8_t *, size_t, size_t, uint32_t *, size_t);
 struct outlines_answer *lowered_outlines_survey_closed(struct outlines_answer *, const uint8_t *, size_t, const uint8_t *, size_t, size_t, uint8_t *, size_t,
                                                        uint32_t *, size_t);
 struct outlines_answer *lowered_outlines_scan_closed(struct outlines_answer *, const uint8_t *, size_t, const uint8_t *, size_t, size_t, uint8_t *, size_t,
@@ -32,6 +33,13 @@ struct outlines_answer outlines_report(uint32_t cell, uint16_t ring_number, cons
                                        size_t line_length, size_t k, const uint8_t *book, size_t book_length, uint32_t *words, size_t words_length) {
     struct outlines_answer answer;
     lowered_outlines_report(&answer, cell, ring_number, ring, ring_length, line, line_length, k, book, book_length, words, words_length);
+    return answer;
+}
+
+struct outlines_two_way outlines_scan_two_way(const uint8_t *ring, size_t ring_length, const uint8_t *line, size_t line_length, size_t k, uint32_t *words,
+                                              size_t words_length) {
+    struct outlines_two_way answer;
+    lowered_outlines_scan_two_way(&answer, ring, ring_length, line, line_length, k, words, words_length);
     return answer;
 }
 

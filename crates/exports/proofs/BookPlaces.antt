@@ -10,7 +10,7 @@ use lib.ListN.{length, length-append}
 use Rattle.lists.proofs.Cases.{le-or-lt}
 use Rattle.answers.specs.declared.refusals.Refusal.{Refusal}
 use Rattle.answers.specs.Refusals.{placeOf}
-use Rattle.answers.specs.Paper.{Answer, accepted, refused}
+use Rattle.answers.specs.Paper.{Answer}
 use Rattle.answers.specs.Rows.{answerBy}
 use Rattle.silences.specs.Silences.{Silence}
 use Rattle.silences.specs.Layout.{mostSilences, mostBytes}

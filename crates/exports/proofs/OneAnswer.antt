@@ -1,11 +1,13 @@
--- Any two answers of an exported call that meet its contract are equal, and so are the lent areas at exit: the struct is the five numbers of its paper.
+-- Any two answers of an exported call that meet its contract are equal, and so are the lent areas at exit: the struct is the numbers of its paper.
 use Prim.Native.Nat.{ℕ}
 use mathlib.Core.Path.{_≡_, sym, ap, _∙_}
 use mathlib.Core.List.{List}
 use Rattle.answers.specs.Paper.{Paper}
 use Rattle.outlines.specs.Report.{ReportCounts}
+use Rattle.two_way.specs.TwoWay.{TwoWayCounts}
 use Rattle.exports.specs.declared.answering.Answer.{Answer as AnswerStruct}
-use Rattle.exports.specs.Exported.{IsExported, IsSurveyExported, IsScanExported, IsReportExported, IsPackExported, IsUnpackExported, IsClosedExported, IsSurveyClosedExported, IsScanClosedExported, IsReportClosedExported}
+use Rattle.exports.specs.declared.two_way_scan.TwoWayAnswer.{TwoWayAnswer}
+use Rattle.exports.specs.Exported.{IsExported, IsSurveyExported, IsScanExported, IsReportExported, IsPackExported, IsUnpackExported, IsClosedExported, IsSurveyClosedExported, IsScanClosedExported, IsReportClosedExported, IsTwoWayExported}
 
 -- the struct that holds a paper
 abbrev structWith : Paper ReportCounts → AnswerStruct
@@ -63,3 +65,19 @@ pub report-closed-unique : (cell ringNumber : ℕ) (ring line : List ℕ) (k : �
     → IsReportClosedExported cell ringNumber ring line k book join words a joined out
     → IsReportClosedExported cell ringNumber ring line k book join words b joined′ out′ → (a ≡ b) × (joined ≡ joined′) × (out ≡ out′)
 report-closed-unique cell ringNumber ring line k book join words a b joined joined′ out out′ h h′ = closed-exported-unique h h′
+
+-- the struct of the two-way scan that holds a paper
+abbrev twoWayStructWith : Paper TwoWayCounts → TwoWayAnswer
+twoWayStructWith p = record {
+  refusal = p .number;
+  place = p .place;
+  «forward_found» = p .counts .forward .found;
+  «forward_looks» = p .counts .forward .looks;
+  «backward_found» = p .counts .backward .found;
+  «backward_looks» = p .counts .backward .looks;
+}
+
+-- Any two answers of `outlines_scan_two_way` are equal, and any two areas at exit.
+pub two-way-unique : (ring line : List ℕ) (k : ℕ) (words : List ℕ) (a b : TwoWayAnswer) (out out′ : List ℕ) → IsTwoWayExported ring line k words a out
+    → IsTwoWayExported ring line k words b out′ → (a ≡ b) × (out ≡ out′)
+two-way-unique ring line k words a b out out′ h h′ = (ap twoWayStructWith (h .paper ∙ sym (h′ .paper)), h .written ∙ sym (h′ .written))

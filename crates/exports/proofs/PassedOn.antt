@@ -1,17 +1,21 @@
--- What an exported call needs to pass its call's answer on. For each call: the place of any answer that meets its contract fits 32 bits. For all of them: the struct that
--- holds the call's answer, with the lent area as the call left it, meets the exported contract (`passed-on`).
+-- What an exported call needs to pass its call's answer on. For each call: the place of any answer that meets its contract fits 32 bits. For all that return the struct of
+-- five numbers: the struct that holds the call's answer, with the lent area as the call left it, meets the exported contract (`passed-on`).
 use Prim.Native.Nat.{ℕ, _<_, _^_}
-use mathlib.Core.Path.{_≡_, ap, _∙_}
+use mathlib.Core.Path.{_≡_, refl, ap, _∙_}
 use mathlib.Core.List.{List}
+use mathlib.Core.Option.{Option, none, some}
 use native.Mathlib.Omega.{arith}
 use lib.ListN.{length}
 use Rattle.meaning.specs.Closed.{closedLine}
-use Rattle.answers.specs.Paper.{Paper}
+use Rattle.answers.specs.declared.refusals.Refusal.{Refusal}
+use Rattle.answers.specs.Refusals.{placeOf}
+use Rattle.answers.specs.Paper.{Paper, answerPaper}
+use Rattle.answers.specs.Rows.{firstGiven, answerBy}
 use Rattle.book.specs.declared.answering.BookAnswer.{BookAnswer}
 use Rattle.book.specs.Calls.{paperOf as bookPaperOf, IsUnpacked}
 use Rattle.packing.specs.Calls.{IsPacked}
 use Rattle.findings.specs.declared.searching.Searched.{Searched}
-use Rattle.findings.specs.Admitting.{admitRows}
+use Rattle.findings.specs.Admitting.{mostRing, admitRows}
 use Rattle.findings.specs.Searching.{paperOf as searchPaperOf, IsSearched}
 use Rattle.findings.specs.ClosedRows.{closedRows}
 use Rattle.findings.specs.ClosedSearching.{IsClosedSearched}
@@ -22,6 +26,10 @@ use Rattle.findings.proofs.RowsOfClosedSearching.{rows-of-closed-search}
 use Rattle.outlines.specs.declared.reporting.Reported.{Reported}
 use Rattle.outlines.specs.Report.{ReportCounts, paperOf as reportPaperOf, IsReported}
 use Rattle.outlines.specs.ClosedReport.{IsClosedReported}
+use Rattle.two_way.specs.declared.passes.TwoWay.{TwoWay}
+use Rattle.two_way.specs.Admitting.{twoWayRows}
+use Rattle.two_way.specs.TwoWay.{noTwoWayCounts, twoWayCounts, twoWayAnswer, paperOf as twoWayScanPaperOf, IsScannedTwoWay}
+use Rattle.two_way.proofs.TwoWayAdmitRows.{two-way-row-places}
 use Rattle.exports.specs.declared.answering.Answer.{Answer as AnswerStruct}
 use Rattle.exports.specs.Exported.{paperOf, paperInStruct, IsExported, IsClosedExported}
 use Rattle.exports.proofs.BookPlaces.{packed-place-le, unpacked-place-le}
@@ -61,6 +69,19 @@ closed-report-place {cell} {ringNumber} {ring} {line} {k} {book} {join} {words} 
       place-is (h .paper),
       report-place-le (closedRows ring k n room joins) (closed-row-places ring k n room joins) ring (closedLine (length ring) line) k cell ringNumber book,
     )
+
+-- A place of `scan_two_way` fits 32 bits: it is 0, or a place of a ring of at most 256 edges.
+pub two-way-place : {ring line : List ℕ} {k : ℕ} {words out : List ℕ} {r : TwoWay} → IsScannedTwoWay ring line k words r out → twoWayScanPaperOf r .place < 2 ^ 32
+unfolding twoWayAnswer
+two-way-place {ring} {line} {k} {words} h =
+    let n = length line in
+    let room = length words in
+    omega (arith, place-is (h .paper), by-row (firstGiven (twoWayRows ring k n room)) (λ q e. two-way-row-places ring k n room q e .0))
+  where
+    by-row : (o : Option Refusal) → ((q : Refusal) → o ≡ some q → placeOf q < mostRing)
+        → answerPaper noTwoWayCounts (answerBy o (twoWayCounts ring line k)) .place < mostRing
+    by-row none each = omega arith
+    by-row (some q) each = each q refl
 
 -- A place of `pack` fits 32 bits.
 pub pack-place : {words area out : List ℕ} {r : BookAnswer} → IsPacked words area r out → bookPaperOf r .place < 2 ^ 32

@@ -4,12 +4,12 @@
 use Prim.Native.Nat.{ℕ, _<_}
 use mathlib.Core.Path.{_≡_, refl, ap, subst}
 use mathlib.Core.Logic.{_↔_, Iff·trans, Iff·and, Iff·rfl}
-use mathlib.Core.List.{List, _++_, List·Memᴰ}
+use mathlib.Core.List.{List, _++_}
 use mathlib.Core.Option.{Option, none}
 use native.Mathlib.Omega.{arith}
 use lib.ListN.{length}
 use Rattle.lists.specs.Areas.{written}
-use Rattle.meaning.specs.Findings.{Finding, IsFinding, findings, wordsOf}
+use Rattle.meaning.specs.Findings.{Finding, findings, wordsOf}
 use Rattle.meaning.specs.Looks.{quickLooks}
 use Rattle.answers.specs.declared.refusals.Refusal.{Refusal}
 use Rattle.answers.specs.Paper.{accepted}
@@ -117,6 +117,6 @@ report-meets cell ringNumber ring line k book words bytes e =
           (reported-by-rows rows cell ringNumber ring line k book words bytes e);
       demand-2 = accepted-demand-2 rows cell ringNumber ring line k book words bytes e some-edge;
       demand-3 = λ zero-is.
-          looks-demand-3 (report-edge rows cell ringNumber ring line k book words bytes e some-edge zero-is)
+          looks-demand-3 refl (report-edge rows cell ringNumber ring line k book words bytes e some-edge zero-is)
           (report-looks-are rows cell ringNumber ring line k book words bytes e some-edge zero-is);
     }

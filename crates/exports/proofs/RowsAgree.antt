@@ -1,8 +1,9 @@
 -- Demand 1, once for every call. If a call's list of rows (Rows of crates/answers) and the rows of the page of demands agree one by one (`AllAgree`), the first row that is
--- given has the same number and place in both, by induction on the rows. So a call that answers by the first of its rows (`GoesByRows`) meets demand 1 (`demand-1-met`).
+-- given has the same number and place in both, by induction on the rows. So an answer that the first of the call's rows decides is by the table, whatever it counts
+-- (`by-table-met`), and a call that returns the struct of five numbers and answers by its rows (`GoesByRows`) meets demand 1 (`demand-1-met`).
 use Prim.Native.Nat.{ℕ, _<_}
 use mathlib.Core.Path.{_≡_, refl, sym, ap, subst, _∙_}
-use mathlib.Core.Logic.{_↔_, _⊎_, inl, inr, ⊎-elim}
+use mathlib.Core.Logic.{_↔_, _⊎_, inl, inr, ⊎-elim, Iff·trans, Iff·symm}
 use mathlib.Core.List.{List, [], _∷_, _++_}
 use mathlib.Core.Option.{Option, none, some}
 use native.Mathlib.Omega.{arith}
@@ -13,11 +14,11 @@ use Rattle.answers.specs.Rows.{firstGiven, answerBy, areaBy}
 use Rattle.answers.proofs.OneAnswer.{number-in}
 use Rattle.answers.proofs.FirstRow.{none-some}
 use Rattle.answers.proofs.RowsExactly.{IsRow}
-use Rattle.answers.proofs.AnswerByRows.{accepted-number-iff, accepted-counts}
+use Rattle.answers.proofs.AnswerByRows.{row-place-iff, accepted-number-iff, accepted-counts, refused-counts, refused-area}
 use Rattle.outlines.specs.Report.{ReportCounts, noReportCounts}
 use Rattle.exports.specs.declared.answering.Answer.{Answer as AnswerStruct}
 use Rattle.exports.specs.Exported.{paperOf}
-use Rattle.exports.specs.Demands.{Row, rowOf, FirstRow, NoRow, Demand1}
+use Rattle.exports.specs.Demands.{Row, rowOf, FirstRow, NoRow, ByTable, Demand1}
 
 -- A refusal is given, and has this number and place.
 pub record IsGivenAt (o : Option Refusal) (number place : ℕ) : Type 0 where
@@ -77,6 +78,16 @@ faults-agree {A = A} {B = B} one other of-one of-other one-iff other-iff only nu
       (only (g .refusal) (g .given)),
 )
 
+-- A row that gives one refusal, at any place, agrees with the row of the page of demands with its condition.
+pub fault-agrees : {o : Option Refusal} {A : ℕ → Type 0} (one : ℕ → Refusal) {a : ℕ} → ((p : ℕ) → (numberOf (one p) ≡ a) × (placeOf (one p) ≡ p))
+    → ((p : ℕ) → (o ≡ some (one p)) ↔ A p) → ((q : Refusal) → o ≡ some q → (p : ℕ) × (q ≡ one p)) → Agrees o (λ number place. (number ≡ a) × A place)
+fault-agrees {A = A} one of-one one-iff only number place = (
+  λ h. record { refusal = one place; given = one-iff place .1 (h .1); number-is = h .0 ∙ sym (of-one place .0); place-is = sym (of-one place .1) },
+  λ g. let w = only (g .refusal) (g .given) in
+      let at : w .0 ≡ place = sym (g .place-is ∙ ap placeOf (w .1) ∙ of-one (w .0) .1) in
+      (g .number-is ∙ ap numberOf (w .1) ∙ of-one (w .0) .0, subst A at (one-iff (w .0) .0 (g .given ∙ ap some (w .1)))),
+)
+
 -- Where two lists agree, the first row that is given has the same number and place in both.
 pub first-agrees : (os : List (Option Refusal)) (rs : List Row) → AllAgree os rs
     → (number place : ℕ) → FirstRow rs number place ↔ IsGivenAt (firstGiven os) number place
@@ -114,53 +125,49 @@ pub record GoesByRows (os : List (Option Refusal)) (counts : ReportCounts) (new 
   pub paper : paperOf r ≡ answerPaper noReportCounts (answerBy (firstGiven os) counts)
   pub written : out ≡ areaBy (firstGiven os) new area
 
+-- where a call is refused, the first row that is given has the paper's number and place
+given-at : {C : Type 0} (zeros counts : C) (o : Option Refusal) {p : Paper C} → p ≡ answerPaper zeros (answerBy o counts) → 0 < p .number
+    → IsGivenAt o (p .number) (p .place)
+given-at {C} zeros counts none paper l = absurd (omega (arith, ap (λ (x : Paper C). x .number) paper))
+given-at {C} zeros counts (some q) paper l = record {
+  refusal = q;
+  given = refl;
+  number-is = ap (λ (x : Paper C). x .number) paper;
+  place-is = ap (λ (x : Paper C). x .place) paper;
+}
+
+-- An answer that the first row decides is accepted or refused by the table, whatever it counts, if the call's rows agree with the table's.
+pub by-table-met : {C : Type 0} (zeros counts : C) (os : List (Option Refusal)) {rs : List Row} {p : Paper C} → AllAgree os rs
+    → p ≡ answerPaper zeros (answerBy (firstGiven os) counts) → ByTable rs (p .number) (p .place)
+by-table-met {C} zeros counts os {rs} {p} agree paper =
+    let zero-iff : (p .number ≡ 0) ↔ (firstGiven os ≡ none) = accepted-number-iff zeros counts (firstGiven os) paper in
+    record {
+      accepted-iff = Iff·trans zero-iff (Iff·symm (none-agrees os rs agree));
+      accepted-place = λ zero-is. ap (λ (x : Paper C). x .place) paper ∙ rw (zero-iff .0 zero-is) refl;
+      refused-iff = λ number place. (
+        λ f.
+            let g = first-agrees os rs agree number place .0 f in
+            let is = row-place-iff zeros counts (firstGiven os) paper (g .refusal) .1 (g .given) in
+            (omega (arith, g .number-is, number-in (g .refusal) .0), is .0 ∙ sym (g .number-is), is .1 ∙ sym (g .place-is)),
+        λ h.
+            let g = given-at zeros counts (firstGiven os) paper (omega (arith, h .0, h .1)) in
+            first-agrees os rs agree number place .1
+            (record { refusal = g .refusal; given = g .given; number-is = sym (h .1) ∙ g .number-is; place-is = sym (h .2) ∙ g .place-is }),
+      );
+    }
+
 -- A call that answers by its rows meets demand 1, if its rows agree with those of the page of demands.
 pub demand-1-met : {os : List (Option Refusal)} {rs : List Row} {counts : ReportCounts} {new area out : List ℕ} {r : AnswerStruct}
     → AllAgree os rs → GoesByRows os counts new area r out → Demand1 rs r area out
-demand-1-met {os} {rs} {counts} {new} {area} {out} {r} agree by = go (firstGiven os) refl (by .paper) (by .written)
-  where
-    go : (o : Option Refusal) → firstGiven os ≡ o → paperOf r ≡ answerPaper noReportCounts (answerBy o counts) → out ≡ areaBy o new area → Demand1 rs r area out
-    go none e paper written =
-        let accepted : r .refusal ≡ 0 = ap (λ (p : Paper ReportCounts). p .number) paper in
-        record {
-          accepted-iff = (λ _. none-agrees os rs agree .1 e, λ _. accepted);
-          accepted-place = λ _. ap (λ (p : Paper ReportCounts). p .place) paper;
-          refused-iff = λ number place. (
-            λ f. absurd (not-given e (first-agrees os rs agree number place .0 f)),
-            λ h. absurd (omega (arith, h .0, h .1)),
-          );
-          no-found = λ l. absurd (omega arith);
-          no-hidden = λ l. absurd (omega arith);
-          no-looks = λ l. absurd (omega arith);
-          untouched = λ l. absurd (omega arith);
-        }
-    go (some q) e paper written =
-        let number : r .refusal ≡ numberOf q = ap (λ (p : Paper ReportCounts). p .number) paper in
-        let place : r .place ≡ placeOf q = ap (λ (p : Paper ReportCounts). p .place) paper in
-        let some-number : 0 < numberOf q = number-in q .0 in
-        record {
-          accepted-iff = (
-            λ zero. absurd (omega arith),
-            λ none-given. absurd (none-some (sym (none-agrees os rs agree .0 none-given) ∙ e)),
-          );
-          accepted-place = λ zero. absurd (omega arith);
-          refused-iff = λ n p. (
-            λ f. let g = first-agrees os rs agree n p .0 f in
-                let same : q ≡ g .refusal = some-same (sym e ∙ g .given) in (
-                  omega (arith, g .number-is, number-in (g .refusal) .0),
-                  number ∙ ap numberOf same ∙ sym (g .number-is),
-                  place ∙ ap placeOf same ∙ sym (g .place-is),
-                ),
-            λ h. first-agrees os rs agree n p .1 (record { refusal = q; given = e; number-is = sym (h .1) ∙ number; place-is = sym (h .2) ∙ place }),
-          );
-          no-found = λ _. ap (λ (p : Paper ReportCounts). p .counts .found) paper;
-          no-hidden = λ _. ap (λ (p : Paper ReportCounts). p .counts .hidden) paper;
-          no-looks = λ _. ap (λ (p : Paper ReportCounts). p .counts .looks) paper;
-          untouched = λ _. written;
-        }
-      where
-        some-same : {q′ : Refusal} → _≡_ {A = Option Refusal} (some q) (some q′) → q ≡ q′
-        some-same h = cc
+demand-1-met {os} {counts = counts} {new} {area} {r = r} agree by =
+    let zeros : 0 < r .refusal → paperOf r .counts ≡ noReportCounts = refused-counts noReportCounts counts (firstGiven os) (by .paper) in
+    record {
+      by-table = by-table-met noReportCounts counts os agree (by .paper);
+      no-found = λ l. ap (λ (c : ReportCounts). c .found) (zeros l);
+      no-hidden = λ l. ap (λ (c : ReportCounts). c .hidden) (zeros l);
+      no-looks = λ l. ap (λ (c : ReportCounts). c .looks) (zeros l);
+      untouched = refused-area noReportCounts counts (firstGiven os) (by .paper) new area (by .written);
+    }
 
 -- What an accepted call that answers by its rows gives: no row is given, and the counts and the area at exit are the call's own.
 pub record Accepts (os : List (Option Refusal)) (counts : ReportCounts) (new : List ℕ) (r : AnswerStruct) (out : List ℕ) : Type 0 where

@@ -26,16 +26,21 @@ use Rattle.findings.proofs.AdmitRows.{is-row-4, accepted-edge}
 use Rattle.outlines.specs.Report.{ReportCounts, noReportCounts}
 use Rattle.exports.specs.declared.answering.Answer.{Answer as AnswerStruct}
 use Rattle.exports.specs.Exported.{paperOf, paperInStruct, searchInStruct, IsSearchExported, IsSurveyExported, IsScanExported}
-use Rattle.exports.specs.Demands.{limitTable, searchTable, NeverHidden, Demand2, Demand3, SurveyMeets, ScanMeets, SurveyScanSame}
+use Rattle.exports.specs.Demands.{ringTable, limitTable, searchTable, NeverHidden, Demand2, Demand3, SurveyMeets, ScanMeets, SurveyScanSame}
 use Rattle.exports.proofs.RowsAgree.{AllAgree, agree-append, row-agrees, GoesByRows, Accepts, demand-1-met, accepts}
 
--- The rows that every search has, 1, 12, 2, 3, agree with those of the page of demands.
-pub limits-agree : (ring : List ℕ) (k n : ℕ) → AllAgree (limitRows ring k n) (limitTable ring k n)
-unfolding limitRows ringRows
-limits-agree ring k n = (
+-- Rows 1, 12, 2, with which every search begins, agree with those of the page of demands.
+pub ring-agrees : (ring : List ℕ) (k : ℕ) → AllAgree (ringRows ring k) (ringTable ring k)
+unfolding ringRows
+ring-agrees ring k = (
   row-agrees (is-row-1 ring k) refl,
-  λ _. (row-agrees (is-row-12 ring k) refl, λ _. (row-agrees (is-row-2 ring k) refl, λ _. (row-agrees (is-row-3 n) refl, λ _. tt))),
+  λ _. (row-agrees (is-row-12 ring k) refl, λ _. (row-agrees (is-row-2 ring k) refl, λ _. tt)),
 )
+
+-- Rows 1, 12, 2, 3 agree with those of the page of demands.
+pub limits-agree : (ring : List ℕ) (k n : ℕ) → AllAgree (limitRows ring k n) (limitTable ring k n)
+unfolding limitRows
+limits-agree ring k n = agree-append (ringRows ring k) (ringTable ring k) _ _ (ring-agrees ring k) (λ _. (row-agrees (is-row-3 n) refl, λ _. tt))
 
 -- The rows of a search agree with those of the page of demands, 1, 12, 2, 3, 4.
 pub search-agrees : (ring : List ℕ) (k n room : ℕ) → AllAgree (admitRows ring k n room) (searchTable ring k n room)
@@ -106,14 +111,15 @@ module _ (rows : List (Option Refusal)) (ring line : List ℕ) (k looks : ℕ) (
           words-are = taken .written;
         }
 
--- An answer whose looks are those of the quick scan meets demand 3, if the ring is not empty.
-pub looks-demand-3 : {ring line : List ℕ} {k : ℕ} {r : AnswerStruct} → 0 < length ring → r .looks ≡ quickLooks ring line k → Demand3 ring line k r
-looks-demand-3 {ring} {line} {k} pos are = record {
+-- Looks that are those of the quick scan for a ring of m edges meet demand 3, if the ring is not empty.
+pub looks-demand-3 : {m : ℕ} {ring line : List ℕ} {k looks : ℕ} → length ring ≡ m → 0 < length ring → looks ≡ quickLooks ring line k
+    → Demand3 m ring line k looks
+looks-demand-3 {ring = ring} {line} {k} {looks} long pos are = subst (λ (m : ℕ). Demand3 m ring line k looks) long (record {
   looks-are = are;
   looks-le = λ fits. omega (arith, quickLooks-le ring line k fits);
   looks-most = omega (arith, quickLooks-most ring line k pos);
   no-looks = λ short. are ∙ quickLooks-short ring line k short;
-}
+})
 
 module _ (ring line : List ℕ) (k : ℕ) (words : List ℕ) where
   abbrev own-rows : List (Option Refusal)
@@ -143,7 +149,7 @@ module _ (ring line : List ℕ) (k : ℕ) (words : List ℕ) where
         demand-1 = demand-1-met (search-agrees ring k (length line) (length words)) (searched-by-rows own-rows ring line k looks words e);
         demand-2 = search-demand-2 own-rows ring line k looks words e some-edge;
         demand-3 = λ zero-is.
-            looks-demand-3 (ring-edge own-rows ring line k looks words e some-edge zero-is) (looks-are own-rows ring line k looks words e some-edge zero-is);
+            looks-demand-3 refl (ring-edge own-rows ring line k looks words e some-edge zero-is) (looks-are own-rows ring line k looks words e some-edge zero-is);
       }
 
 -- Two answers by the same first row, with the same found, agree in all but their looks.

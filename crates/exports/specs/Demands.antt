@@ -1,32 +1,37 @@
--- The three demands on the calls, stated for what a C caller gets: the struct of five numbers and the lent areas at exit. Read this page beside document 01 and
--- tickets 1 to 4 of document 02. Nothing here says how a call works. proofs/SearchDemands.antt (survey and scan), proofs/ReportDemands.antt,
--- proofs/ClosedDemands.antt (the three on a closed line) and proofs/BookDemands.antt prove that each call meets its demands.
+-- The three demands on the calls, stated for what a C caller gets: the struct of five numbers, six from the two-way scan, and the lent areas at exit. Read this
+-- page beside document 01 and tickets 1 to 4 and 6 of document 02. Nothing here says how a call works. proofs/SearchDemands.antt (survey and scan),
+-- proofs/ReportDemands.antt, proofs/ClosedDemands.antt (the three on a closed line), proofs/TwoWayDemands.antt and proofs/BookDemands.antt prove that each call
+-- meets its demands.
 --
 --   Row, rowOf, FirstRow, NoRow              a row of the table of refusals; the first row that is given; no row is given
---   limitTable                               the rows that every search has
+--   ringTable, limitTable                    rows 1, 12, 2, with which every search begins; the same and row 3
 --   searchTable, bookTable, reportTable,     the rows of each call in its order, "Given exactly when"
 --   closedSearchTable, closedReportTable,
---   unpackTable, packTable
---   Demand1                                  accepted, or refused by the first row that is given; a refusal has 0 in every count and writes nothing
+--   twoWayTable, unpackTable, packTable
+--   ByTable                                  accepted, or refused by the first row that is given
+--   Demand1                                  the same, and a refusal has 0 in every count and writes nothing
 --   BookHides, NeverHidden                   which findings a book hides
 --   Demand2                                  which findings are written, and which are hidden
 --   UnpackDemand2, PackDemand2               books: what is accepted, and what is written
 --   GivesBack, ReadsBack                     unpacking gives back what was packed; packing what was unpacked reads back the same, up to 1,000 records
---   Demand3                                  the looks of scan and report
+--   Demand3                                  the looks of scan and report, and of each pass of the two-way scan
 --   JoinDemand, ClosedDemand2,               a closed line: the join area at exit, and demands 2 and 3
 --   ClosedDemand3
+--   TwoWayDemand1, PassDemand2,              the two-way scan: demand 1; demand 2 on one pass, and on both
+--   TwoWayDemand2
 --   SurveyMeets, ScanMeets, ReportMeets,     the demands on each call
 --   SurveyClosedMeets, ScanClosedMeets,
---   ReportClosedMeets, UnpackMeets,
---   PackMeets
+--   ReportClosedMeets, TwoWayMeets,
+--   UnpackMeets, PackMeets
 --   SurveyScanSame                           survey and scan give the same findings
+--   PassIsScan                               a pass of the two-way scan gives what the scan for its ring gives
 --
 -- The theorems require that a book's numbers are below 256 and that words are below 2^32. A C caller's types guarantee both.
 use Prim.Native.Nat.{ℕ, _+_, _-_, _*_, _%_, _≤_, _<_}
 use mathlib.Core.Path.{_≡_}
 use mathlib.Core.Logic.{_↔_, _⊎_}
 use mathlib.Core.List.{List, [], _∷_, _++_, List·Memᴰ}
-use lib.ListN.{length, take, drop}
+use lib.ListN.{length, getD, take, drop}
 use Rattle.lists.specs.Areas.{written}
 use Rattle.meaning.specs.Meanings.{HoldsMark, IsStart, distance}
 use Rattle.meaning.specs.Findings.{Finding, IsFinding, Rising, wordsOf}
@@ -37,7 +42,9 @@ use Rattle.silences.specs.Layout.{layout}
 use Rattle.silences.specs.Books.{LaidDown, NoTag21, IsBook}
 use Rattle.silences.specs.Packing.{silencesOf, wordsOfSilences}
 use Rattle.silences.specs.Faults.{IsFieldFault, IsOrderFault, IsNumberFault, IsRecordFault, IsPackable}
+use Rattle.reversal.specs.Reversing.{reversedRing}
 use Rattle.exports.specs.declared.answering.Answer.{Answer as AnswerStruct}
+use Rattle.exports.specs.declared.two_way_scan.TwoWayAnswer.{TwoWayAnswer}
 
 -- A row of a call: `r number place` says that the row is given, with this number and this place.
 abbrev pub Row : Type 1
@@ -57,17 +64,23 @@ unfoldable pub NoRow : List Row → Type 0
 NoRow [] = Unit {0}
 NoRow (r ∷ rows) = ((n p : ℕ) → r n p → ⊥) × NoRow rows
 
--- The rows that every search has: 1, 2, 3, and 12 "after 1 and before 2" (document 02, ticket 2). The ring, m edges long, allowance k, n edges of the line.
-abbrev pub limitTable : List ℕ → ℕ → ℕ → List Row
-limitTable ring k n =
+-- The rows that the ring, m edges long, and the allowance k decide, with which every search begins: 1, 2, and 12 "after 1 and before 2" (document 02, ticket 2).
+abbrev pub ringTable : List ℕ → ℕ → List Row
+ringTable ring k =
     -- "m = 0 or m > 256"
     rowOf 1 ((length ring ≡ 0) ⊎ (256 < length ring))
     -- "a ring holding 255" (document 02, ticket 2)
     ∷ rowOf 12 (HoldsMark ring)
     -- "k ≥ m"
     ∷ rowOf 2 (length ring ≤ k)
+    ∷ []
+
+-- The same, then row 3 for a line of n bytes.
+abbrev pub limitTable : List ℕ → ℕ → ℕ → List Row
+limitTable ring k n =
+    ringTable ring k
     -- "n > 65,536"
-    ∷ rowOf 3 (65536 < n)
+    ++ rowOf 3 (65536 < n)
     ∷ []
 
 -- "Order: survey and scan 1 to 4": with `room` words lent for findings.
@@ -86,6 +99,18 @@ closedSearchTable ring k n room joins =
     ++ rowOf 4 ((length ring ≤ n) × (room < 4 * n))
     -- "10, after 4, is given when the join area is below 2·m − 2 bytes and n ≥ m"
     ∷ rowOf 10 ((length ring ≤ n) × (joins < 2 * length ring - 2))
+    ∷ []
+
+-- The two-way scan (document 02, ticket 6): with `room` words lent for the findings of both passes.
+abbrev pub twoWayTable : List ℕ → ℕ → ℕ → ℕ → List Row
+twoWayTable ring k n room =
+    ringTable ring k
+    -- "14, a ring code above 247, place the first such ring place, after 2": the code at this place is above 247, and none before it is
+    ++ (λ number place. (number ≡ 14) × ((place < length ring) × (247 < getD ring place 0) × ((q : ℕ) → q < place → getD ring q 0 ≤ 247)))
+    -- "n > 65,536"
+    ∷ rowOf 3 (65536 < n)
+    -- "n ≥ m and fewer than" 8·(n − m + 1) "words are lent for findings": "4 asks room for both passes, 8·(n − m + 1) words"
+    ∷ rowOf 4 ((length ring ≤ n) × (room < 8 * (n - length ring + 1)))
     ∷ []
 
 -- Rows 5, 6 and 7 of a book that is read. "Within a book the first faulty field decides, 6 before 7": a fault requires that all fields before it are right.
@@ -126,14 +151,19 @@ packTable words room =
     ∷ rowOf 10 (room < length (layout (silencesOf words)))
     ∷ []
 
--- Demand 1: a call is accepted, or refused with a number of the table under exactly the condition given there; a refusal has zero in every count and writes
--- nothing. `rows` are the call's rows, `area` its lent area at entry and `out` the same area at exit.
+-- Demand 1 on an answer's refusal and place: a call is accepted, or refused with a number of the table under exactly the condition given there. `rows` are the
+-- call's rows.
+pub record ByTable (rows : List Row) (refusal at : ℕ) : Type 0 where
+  -- The refusal is 0 exactly when no row is given, and then the place is 0.
+  pub accepted-iff : (refusal ≡ 0) ↔ NoRow rows
+  pub accepted-place : refusal ≡ 0 → at ≡ 0
+  -- Refusal and place are those of the first row that is given, and of no other.
+  pub refused-iff : (number place : ℕ) → FirstRow rows number place ↔ ((0 < number) × (refusal ≡ number) × (at ≡ place))
+
+-- Demand 1: a call is accepted or refused by the table; a refusal has zero in every count and writes nothing. `area` is the call's lent area at entry and `out`
+-- the same area at exit.
 pub record Demand1 (rows : List Row) (r : AnswerStruct) (area out : List ℕ) : Type 0 where
-  -- The answer's refusal is 0 exactly when no row is given, and then its place is 0.
-  pub accepted-iff : (r .refusal ≡ 0) ↔ NoRow rows
-  pub accepted-place : r .refusal ≡ 0 → r .place ≡ 0
-  -- The answer's refusal and place are those of the first row that is given, and of no other.
-  pub refused-iff : (number place : ℕ) → FirstRow rows number place ↔ ((0 < number) × (r .refusal ≡ number) × (r .place ≡ place))
+  pub by-table : ByTable rows (r .refusal) (r .place)
   -- "zero in every count"
   pub no-found : 0 < r .refusal → r .found ≡ 0
   pub no-hidden : 0 < r .refusal → r .hidden ≡ 0
@@ -190,15 +220,16 @@ pub record PackDemand2 (words area : List ℕ) (r : AnswerStruct) (out : List �
   pub book-is : r .refusal ≡ 0 → IsBook (silencesOf words) (layout (silencesOf words))
   pub bytes-are : r .refusal ≡ 0 → out ≡ written (layout (silencesOf words)) area
 
--- Demand 3 on an accepted scan or report: its looks are the steps of rules 1 to 5, within the document's bound.
-pub record Demand3 (ring line : List ℕ) (k : ℕ) (r : AnswerStruct) : Type 0 where
+-- Demand 3 on the looks of an accepted scan or report, or of a pass of the two-way scan, for a ring of m edges: they are the steps of rules 1 to 5, within the
+-- document's bound.
+pub record Demand3 (m : ℕ) (ring line : List ℕ) (k looks : ℕ) : Type 0 where
   -- "Looks are the sum over rules 1 and 5."
-  pub looks-are : r .looks ≡ quickLooks ring line k
+  pub looks-are : looks ≡ quickLooks ring line k
   -- "For n ≥ m they are never above 3·m·n − 2·m·m + m, which is at most 3·m·n."
-  pub looks-le : length ring ≤ length line → r .looks ≤ 3 * length ring * length line - 2 * length ring * length ring + length ring
-  pub looks-most : r .looks ≤ 3 * length ring * length line
+  pub looks-le : m ≤ length line → looks ≤ 3 * m * length line - 2 * m * m + m
+  pub looks-most : looks ≤ 3 * m * length line
   -- "A line shorter than the ring is accepted: no start, no look, zero findings."
-  pub no-looks : length line < length ring → r .looks ≡ 0
+  pub no-looks : length line < m → looks ≡ 0
 
 -- The join area of a call on a closed line at exit, `joined`; at entry it is `join` (document 02, ticket 3).
 pub record JoinDemand (ring line join : List ℕ) (r : AnswerStruct) (joined : List ℕ) : Type 0 where
@@ -244,6 +275,40 @@ pub record ClosedDemand3 (ring line : List ℕ) (k : ℕ) (r : AnswerStruct) : T
   -- "for n < m there are none, and no look"
   pub no-looks : length line < length ring → r .looks ≡ 0
 
+-- Demand 1 on the two-way scan: as `Demand1`, with the counts of both passes.
+pub record TwoWayDemand1 (rows : List Row) (r : TwoWayAnswer) (area out : List ℕ) : Type 0 where
+  pub by-table : ByTable rows (r .refusal) (r .place)
+  -- "zero in every count"
+  pub no-forward-found : 0 < r .refusal → r .«forward_found» ≡ 0
+  pub no-forward-looks : 0 < r .refusal → r .«forward_looks» ≡ 0
+  pub no-backward-found : 0 < r .refusal → r .«backward_found» ≡ 0
+  pub no-backward-looks : 0 < r .refusal → r .«backward_looks» ≡ 0
+  -- "writes nothing to any lent area"
+  pub untouched : 0 < r .refusal → out ≡ area
+
+-- Demand 2 on one pass of an accepted two-way scan, "each as by demand 2 for that ring" (document 02, ticket 6). `listed` are the findings that the pass lists,
+-- `found` is its count.
+pub record PassDemand2 (ring line : List ℕ) (k : ℕ) (listed : List Finding) (found : ℕ) : Type 0 where
+  -- A start is listed exactly when some rotation of that ring differs from its window in at most k places.
+  pub start-iff : (i : ℕ)
+      → ((f : Finding) × (f .start ≡ i) × List·Memᴰ f listed) ↔ (IsStart ring line i × ((q : ℕ) × (q < length ring) × (distance ring line i q ≤ k)))
+  -- Exactly the findings of that ring are listed; by `IsFinding` each carries the least distance, the lowest rotation that reaches it, and ties.
+  pub listed-iff : (f : Finding) → List·Memᴰ f listed ↔ IsFinding ring line k f
+  -- "by rising start": so none is listed twice.
+  pub rising : Rising 0 (length line) listed
+  pub found-is : found ≡ length listed
+
+-- Demand 2 on an accepted two-way scan: it "lists forward findings, then backward ones" (document 02, ticket 6). The forward pass is for the ring, the backward
+-- pass for the reversed ring: "Reversed, the edges come in opposite order and each octant turns by 4 modulo 8, length class kept" (`reversedRing`). So the rotation
+-- of a backward finding counts on the reversed ring.
+pub record TwoWayDemand2 (ring line : List ℕ) (k : ℕ) (words : List ℕ) (r : TwoWayAnswer) (out : List ℕ) : Type 0 where
+  pub forward : List Finding
+  pub backward : List Finding
+  pub forward-pass : PassDemand2 ring line k forward (r .«forward_found»)
+  pub backward-pass : PassDemand2 (reversedRing ring) line k backward (r .«backward_found»)
+  -- The forward findings' words stand first, and the backward findings' words right behind them. "Words after the last one written keep their values."
+  pub words-are : out ≡ written (wordsOf forward ++ wordsOf backward) words
+
 -- Demand 2 on packing and unpacking in turn: the second call gives back what the first was given (`given`). It accepts what the first wrote, counts as many
 -- records, and its area at exit (`out`) begins with `given`.
 pub record GivesBack (given : List ℕ) (first second : AnswerStruct) (out : List ℕ) : Type 0 where
@@ -276,7 +341,7 @@ pub record SurveyMeets (ring line : List ℕ) (k : ℕ) (words : List ℕ) (r : 
 pub record ScanMeets (ring line : List ℕ) (k : ℕ) (words : List ℕ) (r : AnswerStruct) (out : List ℕ) : Type 0 where
   pub demand-1 : Demand1 (searchTable ring k (length line) (length words)) r words out
   pub demand-2 : r .refusal ≡ 0 → Demand2 NeverHidden ring line k words r out
-  pub demand-3 : r .refusal ≡ 0 → Demand3 ring line k r
+  pub demand-3 : r .refusal ≡ 0 → Demand3 (length ring) ring line k (r .looks)
 
 -- Demand 3: the quick scan lists exactly the survey's findings. For the same ring, line, allowance and lent words, survey and scan return the same refusal,
 -- place and found, and leave the same words.
@@ -290,7 +355,7 @@ pub record SurveyScanSame (survey scan : AnswerStruct) (survey-out scan-out : Li
 pub record ReportMeets (cell ringNumber : ℕ) (ring line : List ℕ) (k : ℕ) (book words : List ℕ) (r : AnswerStruct) (out : List ℕ) : Type 0 where
   pub demand-1 : Demand1 (reportTable ring k (length line) (length words) book) r words out
   pub demand-2 : r .refusal ≡ 0 → Demand2 (BookHides book cell ringNumber) ring line k words r out
-  pub demand-3 : r .refusal ≡ 0 → Demand3 ring line k r
+  pub demand-3 : r .refusal ≡ 0 → Demand3 (length ring) ring line k (r .looks)
 
 -- The demands on `outlines_survey_closed`. Its looks are the survey's for n + m − 1 edges: 2·m·(n + m − 1) − m·m for n ≥ m, else 0.
 pub record SurveyClosedMeets (ring line : List ℕ) (k : ℕ) (join words : List ℕ) (r : AnswerStruct) (joined out : List ℕ) : Type 0 where
@@ -314,6 +379,20 @@ pub record ReportClosedMeets (cell ringNumber : ℕ) (ring line : List ℕ) (k :
   pub join-area : JoinDemand ring line join r joined
   pub demand-2 : r .refusal ≡ 0 → ClosedDemand2 (BookHides book cell ringNumber) ring line k words r out
   pub demand-3 : r .refusal ≡ 0 → ClosedDemand3 ring line k r
+
+-- The demands on `outlines_scan_two_way`. "Each pass has its own found, looks and bound" (document 02, ticket 6): the reversed ring has m edges too, as the ring.
+pub record TwoWayMeets (ring line : List ℕ) (k : ℕ) (words : List ℕ) (r : TwoWayAnswer) (out : List ℕ) : Type 0 where
+  pub demand-1 : TwoWayDemand1 (twoWayTable ring k (length line) (length words)) r words out
+  pub demand-2 : r .refusal ≡ 0 → TwoWayDemand2 ring line k words r out
+  pub forward-demand-3 : r .refusal ≡ 0 → Demand3 (length ring) ring line k (r .«forward_looks»)
+  pub backward-demand-3 : r .refusal ≡ 0 → Demand3 (length ring) (reversedRing ring) line k (r .«backward_looks»)
+
+-- A pass of the two-way scan gives what an accepted `outlines_scan` for the pass's ring gives: the same found and looks, and as its words those that the scan has
+-- written, four for each finding.
+pub record PassIsScan (found looks : ℕ) (pass-words : List ℕ) (scan : AnswerStruct) (scan-out : List ℕ) : Type 0 where
+  pub found-is : found ≡ scan .found
+  pub looks-are : looks ≡ scan .looks
+  pub words-are : pass-words ≡ take (4 * scan .found) scan-out
 
 -- The demands on `outlines_unpack`.
 pub record UnpackMeets (book area : List ℕ) (r : AnswerStruct) (out : List ℕ) : Type 0 where

@@ -1,11 +1,12 @@
--- The contracts of the calls for C and Rust programs. Each returns one struct of five numbers. What survey, scan, report, pack and unpack answer is defined in
--- crates/findings, outlines, silences, book and meaning; this file only says how the struct holds that answer.
+-- The contracts of the calls for C and Rust programs. Each returns one struct: six numbers for the two-way scan, five for the others. What survey, scan, report,
+-- pack, unpack and the two-way scan answer is defined in crates/findings, outlines, silences, book, two_way and meaning; this file only says how the struct holds
+-- that answer.
 --
---   paperOf                              the number, place and counts that the struct stands for
+--   paperOf                              the number, place and counts that the struct of five numbers stands for
 --   searchInStruct                       "found and looks"; a search counts nothing hidden
 --   recordsInStruct                      "the number of records", as found
 --   paperInStruct                        a paper with its counts as the struct holds them
---   IsExported                           the contract that the five calls with one lent area share: the struct's paper, and the area at exit
+--   IsExported                           the contract that the five calls with one lent area and that struct share: its paper, and the area at exit
 --   IsSearchExported                     the same for a search, for its rows and its looks
 --   IsReportExportedBy                   the same for a report, for its rows of a search
 --   IsClosedExported                     the contract that the three calls on a closed line share: the join area at exit too
@@ -16,6 +17,8 @@
 --   IsSurveyClosedExported,              the contract of each call on a closed line
 --   IsScanClosedExported,
 --   IsReportClosedExported
+--   twoWayPaperOf                        the number, place and counts of both passes that the struct of the two-way scan stands for
+--   IsTwoWayExported                     the contract of the two-way scan
 use Prim.Native.Nat.{ℕ}
 use mathlib.Core.Path.{_≡_}
 use mathlib.Core.List.{List}
@@ -33,7 +36,9 @@ use Rattle.findings.specs.Searching.{Counts, searchPaper, searchedWords}
 use Rattle.findings.specs.ClosedRows.{closedRows}
 use Rattle.findings.specs.ClosedSearching.{joinAtExit}
 use Rattle.outlines.specs.Report.{ReportCounts, noReportCounts, reportRows, reportAnswer, reportedWords}
+use Rattle.two_way.specs.TwoWay.{TwoWayCounts, noTwoWayCounts, twoWayAnswer, twoWayWords}
 use Rattle.exports.specs.declared.answering.Answer.{Answer as AnswerStruct}
+use Rattle.exports.specs.declared.two_way_scan.TwoWayAnswer.{TwoWayAnswer}
 
 -- The paper of a struct. "A refusal carries its number and place, zero in every count"; an accepted answer has number 0, which no refusal has.
 abbrev pub paperOf : AnswerStruct → Paper ReportCounts
@@ -122,3 +127,19 @@ IsReportClosedExported cell ringNumber ring line k book join words r joined out 
     (reportAnswer (closedRows ring k (length line) (length words) (length join)) ring (closedLine (length ring) line) k cell ringNumber book))
     (reportedWords (closedRows ring k (length line) (length words) (length join)) ring (closedLine (length ring) line) k cell ringNumber book words)
     (joinAtExit (reportRows (closedRows ring k (length line) (length words) (length join)) book) (length ring) line join) r joined out
+
+-- The paper of the struct of the two-way scan (document 02, ticket 6): "Each pass has its own found, looks and bound."
+abbrev pub twoWayPaperOf : TwoWayAnswer → Paper TwoWayCounts
+twoWayPaperOf a = record {
+  number = a .refusal;
+  place = a .place;
+  counts = record {
+    forward = record { found = a .«forward_found»; looks = a .«forward_looks» };
+    backward = record { found = a .«backward_found»; looks = a .«backward_looks» };
+  };
+}
+
+-- The contract of `outlines_scan_two_way`: the returned struct has the paper of the two-way scan, and the words hold at exit what that scan leaves.
+pub record IsTwoWayExported (ring line : List ℕ) (k : ℕ) (words : List ℕ) (r : TwoWayAnswer) (out : List ℕ) : Type 0 where
+  pub paper : twoWayPaperOf r ≡ answerPaper noTwoWayCounts (twoWayAnswer ring line k (length words))
+  pub written : out ≡ twoWayWords ring line k words

@@ -1,4 +1,4 @@
-// The struct that every exported call returns: five numbers, in C's layout.
+// The struct that every exported call but the two-way scan returns: five numbers, in C's layout.
 use answers::Refusal;
 use answers::number_of;
 use answers::place_of;
@@ -14,8 +14,8 @@ ghost use Rattle.findings.specs.Searching.{paperOf as searchPaperOf};
 ghost use Rattle.outlines.specs.Report.{noReportCounts, paperOf as reportPaperOf};
 ghost use Rattle.exports.specs.Exported.{paperOf, searchInStruct, recordsInStruct, paperInStruct};
 
-// What every exported call returns. `refusal` is 0 where the call is accepted. A count that a call does not have is 0; pack and
-// unpack return the number of records in `found`.
+// What every exported call but the two-way scan returns. `refusal` is 0 where the call is accepted. A count that a call does
+// not have is 0; pack and unpack return the number of records in `found`.
 #[repr(C)]
 pub struct Answer {
     pub refusal: u32,
@@ -26,7 +26,7 @@ pub struct Answer {
 }
 
 // A refusal's number and place, "zero in every count". The proof of each call shows that its places fit 32 bits.
-fn refused_answer(refusal: Refusal) -> Answer
+pub fn refused_answer(refusal: Refusal) -> Answer
     requires { ⌜ placeOf refusal < 2 ^ 32 ⌝ }
     ensures { λ r. ⌜ paperOf r ≡ answerPaper noReportCounts (refused refusal) ⌝ }
 {

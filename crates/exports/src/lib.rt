@@ -1,10 +1,12 @@
-// The library's eight calls for programs in C and Rust, over the C calling convention; include/outlines.h declares them
+// The library's nine calls for programs in C and Rust, over the C calling convention; include/outlines.h declares them
 // for C. Each passes its arguments to the Rattle call of that name without `outlines_` and returns that call's answer as
-// one struct, by value. Each takes every input. A slice is a pointer and a length.
+// one struct, by value: `TwoWayAnswer` for the two-way scan, `Answer` for the others. Each takes every input. A slice is a
+// pointer and a length.
 mod answering;
 mod books;
 mod closed;
 mod searches;
+mod two_way_scan;
 
 pub use answering::Answer;
 pub use books::outlines_pack;
@@ -15,3 +17,5 @@ pub use closed::outlines_survey_closed;
 pub use searches::outlines_report;
 pub use searches::outlines_scan;
 pub use searches::outlines_survey;
+pub use two_way_scan::TwoWayAnswer;
+pub use two_way_scan::outlines_scan_two_way;
