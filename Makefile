@@ -4,7 +4,7 @@ help:
 	@echo 'make demo            prove the library and the report program, build both, run the example: 2 to 3 minutes from nothing'
 	@echo "make test            the gate: every proof, must-fail edit and test; 20 to 40 minutes; the last line is 'N passed, 0 failed'"
 	@echo 'make compare         compare the built library and program with the second program; SEED=S for other cases'
-	@echo 'make compare LONG=1  compare 20,000 long rings and lines, 25 minutes of one core, and 2,000 closed ones; SEED=S for others'
+	@echo 'make compare LONG=1  compare 20,000 long rings and lines, 25 minutes of one core, 2,000 closed ones and 2,000 scanned both ways; SEED=S for others'
 	@echo 'make bench           time the library beside the same rules in C and Rust and their limit, 3 minutes; writes docs/BENCH.md and docs/bench.svg'
 
 demo:

@@ -12,7 +12,7 @@ const USAGE: &str =
        compare --make-samples FOLDER
   --seed S         another seed than the fixed one
   --case N         only the case of this number, printed in full
-  --long           20,000 long rings and lines, 2,000 closed ones, and nothing else
+  --long           20,000 long rings and lines, 2,000 closed ones, 2,000 scanned both ways, and nothing else
   --try            spoil copies of the answers and check that each is noticed
   --samples ..     compare the file stdout of this folder as well, line by line
   --calls-only     leave the report program out

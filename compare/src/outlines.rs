@@ -14,7 +14,7 @@ pub const SILENCE_WORDS: usize = 4;
 /// the ceiling 0 and hide exact copies alone. A packed book has at most 1,000 silences; one of 13 bytes each may have 1,153.
 pub const SILENCE_BYTES: usize = 15;
 
-/// The struct that each call of the interface returns.
+/// The struct that each call of the interface returns, except the two-way scan.
 #[repr(C)]
 #[derive(Clone, Copy, Debug, Default, PartialEq, Eq)]
 pub struct Answer {
@@ -23,6 +23,18 @@ pub struct Answer {
     pub found: u64,
     pub hidden: u64,
     pub looks: u64,
+}
+
+/// The struct that the two-way scan returns. Each pass has its own counts.
+#[repr(C)]
+#[derive(Clone, Copy, Debug, Default, PartialEq, Eq)]
+pub struct TwoWay {
+    pub refusal: u32,
+    pub place: u32,
+    pub forward_found: u64,
+    pub forward_looks: u64,
+    pub backward_found: u64,
+    pub backward_looks: u64,
 }
 
 extern "C" {
@@ -94,6 +106,15 @@ extern "C" {
         words: *mut u32,
         words_length: usize,
     ) -> Answer;
+    fn outlines_scan_two_way(
+        ring: *const u8,
+        ring_length: usize,
+        line: *const u8,
+        line_length: usize,
+        k: usize,
+        words: *mut u32,
+        words_length: usize,
+    ) -> TwoWay;
     fn outlines_pack(words: *const u32, words_length: usize, bytes: *mut u8, bytes_length: usize) -> Answer;
     fn outlines_unpack(book: *const u8, book_length: usize, words: *mut u32, words_length: usize) -> Answer;
 }
@@ -116,10 +137,11 @@ pub enum Refusal {
     RoomForOutput = 10,
     ProgramInput = 11,
     MarkInRing = 12,
+    CodeInRing = 14,
 }
 
 impl Refusal {
-    pub const ALL: [Refusal; 12] = [
+    pub const ALL: [Refusal; 13] = [
         Refusal::RingLength,
         Refusal::Allowance,
         Refusal::LineLength,
@@ -132,6 +154,7 @@ impl Refusal {
         Refusal::RoomForOutput,
         Refusal::ProgramInput,
         Refusal::MarkInRing,
+        Refusal::CodeInRing,
     ];
 
     pub fn number(self) -> u32 {
@@ -157,14 +180,39 @@ pub struct Counts {
     pub looks: u64,
 }
 
-impl Answer {
+/// The counts of an accepted two-way scan: for the ring as it is given, and for the reversed ring. Neither hides anything.
+#[derive(Clone, Copy, Debug, PartialEq, Eq)]
+pub struct Passes {
+    pub forward: Counts,
+    pub backward: Counts,
+}
+
+impl Refused {
     /// A number outside the table breaks the interface, so it ends the program instead of passing for an answer.
+    fn new(number: u32, place: u32) -> Refused {
+        let refusal = Refusal::numbered(number).expect("a refusal of the documents' tables");
+        Refused { refusal, place }
+    }
+}
+
+impl Answer {
     pub fn result(self) -> Result<Counts, Refused> {
-        if self.refusal == 0 {
-            return Ok(Counts { found: self.found, hidden: self.hidden, looks: self.looks });
+        if self.refusal != 0 {
+            return Err(Refused::new(self.refusal, self.place));
         }
-        let refusal = Refusal::numbered(self.refusal).expect("a refusal of the documents' tables");
-        Err(Refused { refusal, place: self.place })
+        Ok(Counts { found: self.found, hidden: self.hidden, looks: self.looks })
+    }
+}
+
+impl TwoWay {
+    pub fn result(self) -> Result<Passes, Refused> {
+        if self.refusal != 0 {
+            return Err(Refused::new(self.refusal, self.place));
+        }
+        let pass = |found, looks| Counts { found, hidden: 0, looks };
+        let (forward, backward) =
+            (pass(self.forward_found, self.forward_looks), pass(self.backward_found, self.backward_looks));
+        Ok(Passes { forward, backward })
     }
 }
 
@@ -254,6 +302,14 @@ pub fn ask(request: Request, empty: Empty) -> Answer {
     }
 }
 
+/// The same for the two-way scan, whose answer has other counts.
+pub fn ask_two_way(search: Search, words: &mut [u32], empty: Empty) -> TwoWay {
+    let Search { ring, line, allowance } = search;
+    let (r, l, w) = (empty.read(ring), empty.read(line), empty.write(words));
+    // Sound: as in `ask`.
+    unsafe { outlines_scan_two_way(r, ring.len(), l, line.len(), allowance, w, words.len()) }
+}
+
 /// Writes `FINDING_WORDS` words for each finding, by rising start. The words lent must hold a finding for each window, with
 /// a mark in it or not: n − m + 1 findings.
 pub fn survey(search: Search, words: &mut [u32]) -> Result<Counts, Refused> {
@@ -299,6 +355,13 @@ pub fn report_closed(
     words: &mut [u32],
 ) -> Result<Counts, Refused> {
     ask(Request::ReportClosed(cell, ring_number, search, book, join, words), Empty::AsLent).result()
+}
+
+/// Scans for the ring, then for the reversed ring: its edges in opposite order, each octant turned by 4, the length class kept.
+/// Writes the words of `scan` for the ring, and behind them, without a gap, those for the reversed ring, on which their rotations
+/// count. A ring with a code above 247 is refused (14), and the words lent must hold two findings for each window.
+pub fn scan_two_way(search: Search, words: &mut [u32]) -> Result<Passes, Refused> {
+    ask_two_way(search, words, Empty::AsLent).result()
 }
 
 /// Packs silences of `SILENCE_WORDS` words each into `SILENCE_BYTES` bytes each.

@@ -48,6 +48,12 @@ impl Search {
         Search { room, join: Some(join), ..self }
     }
 
+    /// The same search for the two-way scan, with exactly the room that refusal 4 requires there.
+    pub fn two_way(self) -> Search {
+        let room = two_way_room(self.ring.len(), self.line.len());
+        Search { room, ..self }
+    }
+
     pub fn is_closed(&self) -> bool {
         self.join.is_some()
     }
@@ -84,6 +90,11 @@ pub fn closed_room(m: usize, n: usize) -> usize {
     } else {
         0
     }
+}
+
+/// The same for the two-way scan: a finding of each pass for each window.
+pub fn two_way_room(m: usize, n: usize) -> usize {
+    2 * room(m, n)
 }
 
 /// The bytes of the join area that a closed search of a line not shorter than the ring requires.

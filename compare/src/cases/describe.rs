@@ -42,6 +42,7 @@ impl Display for Case {
     fn fmt(&self, f: &mut Formatter) -> Result {
         match self {
             Case::Call(call, placement) => write!(f, "{call} placed {placement:?}"),
+            Case::TwoWay(search, placement) => write!(f, "two-way scan {search} placed {placement:?}"),
             Case::Three(calls, placement) => write!(f, "survey, scan, {} placed {placement:?}", calls[2]),
             Case::Two([first, second], bond, placement) => {
                 write!(f, "{first} and {second}: {bond:?}, placed {placement:?}")

@@ -5,7 +5,7 @@ use super::draw::Draw;
 use super::{
     books, bounds, ceilings, closed_kinds, closed_limits, faults, input_faults, inputs, long, mark_places, marks, nulls,
 };
-use super::{packing, searches, ties, Kind, Make};
+use super::{packing, searches, ties, two_way_kinds, two_way_limits, Kind, Make};
 use crate::second::ceilings_by_hand;
 use crate::second::samples::{self, silenced, Sample, SAMPLES, SILENCED};
 
@@ -61,6 +61,7 @@ pub static CALLS: &[Kind] = &[
 pub static LONG: &[Kind] = &[
     kind("long rings and lines", 20_000, Make::Three(long::long)),
     kind(closed_kinds::LONG, 2_000, Make::Three(closed_limits::long)),
+    kind(two_way_kinds::LONG, 2_000, Make::TwoWay(two_way_limits::long)),
 ];
 
 pub static INPUTS: &[Kind] = &[

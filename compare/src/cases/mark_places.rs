@@ -41,7 +41,12 @@ fn line_of(mut number: u64, codes: [u8; 3]) -> Vec<u8> {
 /// A line over two letters and the mark, out of the first `lines`, with a ring and an allowance. Either letter is drawn as the
 /// first, so every ring may begin with it.
 pub fn small_search(draw: &mut Draw, number: u64, lines: u64) -> Search {
-    let [a, b] = draw.one(&[[b'a', b'b'], [b'b', b'a'], [0, 254], [254, 0], [254, 253], [1, 0]]);
+    let letters = draw.one(&[[b'a', b'b'], [b'b', b'a'], [0, 254], [254, 0], [254, 253], [1, 0]]);
+    small_search_over(letters, number, lines)
+}
+
+/// The same over these letters. Every ring begins with the first of them.
+pub fn small_search_over([a, b]: [u8; 2], number: u64, lines: u64) -> Search {
     let line = line_of(number % lines, [a, b, MARK]);
     let (mut number, mut m) = (number / lines, 1);
     while number >= rings_of(m) {
@@ -59,7 +64,7 @@ pub fn every_small(index: u64, draw: &mut Draw) -> Call {
 }
 
 /// How many places the rings have, each ring `times` times.
-const fn places(rings: &[usize], times: usize) -> u64 {
+pub const fn places(rings: &[usize], times: usize) -> u64 {
     let (mut places, mut at) = (0, 0);
     while at < rings.len() {
         places += times * rings[at];
@@ -69,7 +74,7 @@ const fn places(rings: &[usize], times: usize) -> u64 {
 }
 
 /// The ring that a number below `places` stands for, and the place.
-fn ring_and_place(rings: &[usize], times: usize, number: u64) -> (usize, usize) {
+pub fn ring_and_place(rings: &[usize], times: usize, number: u64) -> (usize, usize) {
     let mut place = number as usize;
     for &m in rings {
         if place < times * m {

@@ -24,9 +24,15 @@ mod packing;
 mod searches;
 mod silences;
 mod ties;
+mod two_way;
+mod two_way_faults;
+mod two_way_kinds;
+mod two_way_limits;
+mod two_way_places;
 
 use crate::memory::Placement;
 pub use call::Call;
+use call::Search;
 use draw::Draw;
 pub use input::Input;
 
@@ -41,6 +47,8 @@ pub enum Bond {
 
 pub enum Case {
     Call(Call, Placement),
+    /// The two-way scan of a search.
+    TwoWay(Search, Placement),
     /// Survey, scan and report of one search.
     Three([Call; 3], Placement),
     /// Two reports, and what must hold between their answers.
@@ -58,7 +66,7 @@ impl Case {
     /// The library's calls and the program's runs that the case takes.
     pub fn calls_and_runs(&self) -> (u64, u64) {
         match self {
-            Case::Call(..) => (1, 0),
+            Case::Call(..) | Case::TwoWay(..) => (1, 0),
             Case::Three(..) => (3, 0),
             Case::Two(..) => (2, 0),
             Case::RoundTrip(_) => (2, 0),
@@ -72,6 +80,8 @@ impl Case {
 enum Make {
     Call(fn(u64, &mut Draw) -> Call),
     NullCall(fn(u64, &mut Draw) -> Call),
+    TwoWay(fn(u64, &mut Draw) -> Search),
+    NullTwoWay(fn(u64, &mut Draw) -> Search),
     Three(fn(u64, &mut Draw) -> [Call; 3]),
     Two(fn(u64, &mut Draw) -> ([Call; 2], Bond)),
     RoundTrip(fn(u64, &mut Draw) -> Vec<u32>),
@@ -97,10 +107,14 @@ pub enum Choice {
     Long,
 }
 
+fn calls() -> impl Iterator<Item = &'static Kind> {
+    kinds::CALLS.iter().chain(closed_kinds::CLOSED).chain(two_way_kinds::TWO_WAY)
+}
+
 pub fn kinds(choice: Choice) -> Vec<&'static Kind> {
     match choice {
-        Choice::All => kinds::CALLS.iter().chain(closed_kinds::CLOSED).chain(kinds::INPUTS).collect(),
-        Choice::Calls => kinds::CALLS.iter().chain(closed_kinds::CLOSED).collect(),
+        Choice::All => calls().chain(kinds::INPUTS).collect(),
+        Choice::Calls => calls().collect(),
         Choice::Long => kinds::LONG.iter().collect(),
     }
 }
@@ -134,6 +148,10 @@ impl Kind {
                 let placement = placement(&mut draw);
                 Case::Call(make(index, &mut draw), placement)
             }
+            Make::TwoWay(make) => {
+                let placement = placement(&mut draw);
+                Case::TwoWay(make(index, &mut draw), placement)
+            }
             Make::Three(make) => {
                 let placement = placement(&mut draw);
                 Case::Three(make(index, &mut draw), placement)
@@ -144,6 +162,7 @@ impl Kind {
                 Case::Two(calls, bond, placement)
             }
             Make::NullCall(make) => Case::Call(make(index, &mut draw), Placement::Null),
+            Make::NullTwoWay(make) => Case::TwoWay(make(index, &mut draw), Placement::Null),
             Make::RoundTrip(make) => Case::RoundTrip(make(index, &mut draw)),
             Make::BookTrip(make) => Case::BookTrip(make(index, &mut draw)),
             Make::Input(make) => Case::Input(make(index, &mut draw)),

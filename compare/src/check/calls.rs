@@ -1,9 +1,10 @@
 //! One call of the library compared with the second program.
 
-use super::compared::{Compared, Left, Lent, Side};
+use super::areas::{Areas, Parts};
+use super::compared::{Compared, Left, Lent};
 use crate::cases::call::{Call, Search};
-use crate::memory::{bytes_of, Area, Placement, WORD};
-use crate::outlines::{self, ask, Answer, Empty, Request};
+use crate::memory::{bytes_of, Placement};
+use crate::outlines::{self, ask, Answer, Request};
 use crate::second::book::{FIELD, SILENCE_WORDS};
 use crate::second::calls::{self, Answered, Outcome};
 use crate::second::ceilings::Ceilings;
@@ -15,79 +16,6 @@ use crate::second::seam::Seam;
 // The numbers that outlines.rs names to its users are those of the second program.
 const _: () = assert!(outlines::FINDING_WORDS == FINDING_WORDS && outlines::SILENCE_WORDS == SILENCE_WORDS);
 const _: () = assert!(outlines::MARK == MARK && outlines::SILENCE_BYTES == FIELD);
-
-/// More than any ring, line and book of a case has, refused ones included.
-const MOST_RING: usize = 4_096;
-const MOST_LINE: usize = 75_000;
-const MOST_BOOK: usize = 60_000;
-/// A finding for each edge of a line.
-const MOST_LENT: usize = WORD * FINDING_WORDS * MOST_LINE;
-const MOST_JOIN: usize = 2 * MOST_RING;
-
-/// Memory for one worker's calls.
-pub struct Areas {
-    ring: Area,
-    line: Area,
-    book: Area,
-    lent: Area,
-    join: Area,
-}
-
-impl Areas {
-    pub fn new() -> Areas {
-        let [ring, line, book, lent, join] = [MOST_RING, MOST_LINE, MOST_BOOK, MOST_LENT, MOST_JOIN].map(Area::new);
-        Areas { ring, line, book, lent, join }
-    }
-
-    fn inputs(&self) -> [&Area; 3] {
-        [&self.ring, &self.line, &self.book]
-    }
-
-    fn inputs_with_canaries(&self) -> [Vec<u8>; 3] {
-        self.inputs().map(|area| area.surrounded().to_vec())
-    }
-
-    /// Puts the inputs and the lent areas in place: open bytes at changing alignments, words at multiples of 4. A call that is
-    /// lent no join area has an empty one here.
-    fn lay(&mut self, call: &Call, placement: Placement) {
-        let (ring, line, book, room) = parts(call);
-        let packing = matches!(call, Call::Pack { .. });
-        let shift = (ring.len() + line.len() + book.len()) % 8;
-        self.ring.lay(placement, shift, ring);
-        self.line.lay(placement, 7 - shift, line);
-        self.book.lay(placement, if packing { 0 } else { shift }, &book);
-        self.lent.lay(placement, if packing { shift } else { 0 }, &unlike(room));
-        let join = call.search().and_then(|search| search.join.as_deref());
-        self.join.lay(placement, (shift + 3) % 8, join.unwrap_or_default());
-    }
-
-    /// The lent areas with their canaries.
-    fn written(&self) -> Lent {
-        let side = |area: &Area| Side { bytes: area.surrounded().to_vec(), front: area.front() };
-        Lent { words: side(&self.lent), join: side(&self.join) }
-    }
-}
-
-impl Default for Areas {
-    fn default() -> Areas {
-        Areas::new()
-    }
-}
-
-fn parts(call: &Call) -> (&[u8], &[u8], Vec<u8>, usize) {
-    match call {
-        Call::Survey(search) | Call::Scan(search) => (&search.ring, &search.line, Vec::new(), WORD * search.room),
-        Call::Report { search, book, .. } => (&search.ring, &search.line, book.clone(), WORD * search.room),
-        Call::Pack { words, room } => (&[], &[], bytes_of(words), *room),
-        Call::Unpack { book, room } => (&[], &[], book.clone(), WORD * room),
-    }
-}
-
-/// What the lent area holds beforehand: each word unlike its neighbours and unlike any word of a finding.
-fn unlike(length: usize) -> Vec<u8> {
-    let words = (0..length.div_ceil(WORD)).map(|at| 0xB000_0000 | (at as u32).wrapping_mul(0x9E_3779));
-    words.flat_map(u32::to_ne_bytes).take(length).collect()
-}
 
 fn request<'a>(call: &Call, areas: &'a mut Areas) -> Request<'a> {
     let Areas { ring, line, book, lent, join } = areas;
@@ -115,19 +43,8 @@ fn request<'a>(call: &Call, areas: &'a mut Areas) -> Request<'a> {
 }
 
 /// What the call left behind, and the lent areas before it.
-fn ask_library(call: &Call, placement: Placement, areas: &mut Areas) -> (Left, Lent) {
-    areas.lay(call, placement);
-    let (inputs, before) = (areas.inputs_with_canaries(), areas.written());
-    let empty = if placement == Placement::Null { Empty::Null } else { Empty::AsLent };
-    if placement.guarded() {
-        areas.inputs().into_iter().for_each(|area| area.writable(false));
-    }
-    let answer = ask(request(call, areas), empty);
-    if placement.guarded() {
-        areas.inputs().into_iter().for_each(|area| area.writable(true));
-    }
-    let inputs_kept = areas.inputs_with_canaries() == inputs;
-    (Left { answer, lent: areas.written(), inputs_kept }, before)
+pub(super) fn ask_library(call: &Call, placement: Placement, areas: &mut Areas) -> (Left, Lent) {
+    areas.call(&Parts::of(call), placement, |areas, empty| ask(request(call, areas), empty))
 }
 
 /// The open call on "the line followed by its first m−1 edges" that a closed call must agree with, where the open call accepts

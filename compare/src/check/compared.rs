@@ -8,6 +8,7 @@ use crate::second::meaning::FINDING_WORDS;
 use crate::second::rules::Marks;
 use crate::second::samples::bound;
 use crate::second::seam::Seam;
+use std::fmt::Debug;
 
 /// A lent area with the canaries about it, and where the area begins in them.
 #[derive(Clone, Debug, PartialEq, Eq)]
@@ -45,8 +46,8 @@ pub struct Lent {
 
 /// All that a call leaves behind: its answer, the lent areas, and whether the inputs with their canaries are as they were.
 #[derive(Clone, Debug, PartialEq, Eq)]
-pub struct Left {
-    pub answer: Answer,
+pub struct Left<A = Answer> {
+    pub answer: A,
     pub lent: Lent,
     pub inputs_kept: bool,
 }
@@ -60,6 +61,18 @@ impl Left {
         } else {
             0
         }
+    }
+}
+
+impl<A: Debug + PartialEq> Left<A> {
+    /// The first difference from what is expected: the answer, a byte of the lent areas, or an input that was written to.
+    pub(super) fn unlike(&self, expected: &Left<A>) -> Option<String> {
+        if self.answer != expected.answer {
+            return Some(format!("answer {:?}, expected {:?}", self.answer, expected.answer));
+        }
+        let words = self.lent.words.difference(&expected.lent.words, "lent area");
+        let areas = words.or_else(|| self.lent.join.difference(&expected.lent.join, "join area"));
+        areas.or_else(|| (!self.inputs_kept).then(|| "an input was written to".to_string()))
     }
 }
 
@@ -113,21 +126,18 @@ impl Compared {
         }
         self.given.lent.words.difference(&opened.lent.words, "lent area, against the open call on the longer line,")
     }
+}
 
-    pub fn difference(&self, call: &Call) -> Option<String> {
-        let (expected, given) = (&self.expected, &self.given);
-        if expected.answer != given.answer {
-            return Some(format!("answer {:?}, expected {:?}", given.answer, expected.answer));
-        }
-        let words = given.lent.words.difference(&expected.lent.words, "lent area");
-        let areas = words.or_else(|| given.lent.join.difference(&expected.lent.join, "join area"));
-        if areas.is_some() {
-            return areas;
-        }
-        if !given.inputs_kept {
-            return Some("an input was written to".to_string());
-        }
-        looks_out_of_bounds(call, &given.answer).or_else(|| self.unlike_opened())
+/// What a call left behind beside what is right, whatever kind of call it is.
+pub trait Judged<C>: Clone {
+    /// The first difference from what is right, if there is one.
+    fn difference(&self, call: &C) -> Option<String>;
+}
+
+impl Judged<Call> for Compared {
+    fn difference(&self, call: &Call) -> Option<String> {
+        let left = self.given.unlike(&self.expected);
+        left.or_else(|| looks_out_of_bounds(call, &self.given.answer)).or_else(|| self.unlike_opened())
     }
 }
 

@@ -4,7 +4,9 @@ use super::book_ledger::Books;
 use super::closed_ledger::Closed;
 use super::compared::Compared;
 use super::trips::Trip;
-use crate::cases::call::Call;
+use super::two_way;
+use super::two_way_ledger::TwoWays;
+use crate::cases::call::{Call, Search};
 use crate::cases::{Case, Kind};
 use crate::memory::Placement;
 use crate::outlines::{Answer, Refusal};
@@ -96,6 +98,7 @@ pub struct Ledger {
     sums: [u64; SUMS.len()],
     closed: Closed,
     books: Books,
+    two_ways: TwoWays,
     answers: Answers,
     outputs: Answers,
     told: Vec<String>,
@@ -117,12 +120,21 @@ impl Ledger {
         self.sums[sum as usize] += more;
     }
 
-    pub fn add_call(&mut self, call: &Call, placement: Placement, compared: &Compared) {
-        let answer = &compared.given.answer;
-        *self.answers.entry(answer.refusal).or_default() += 1;
+    fn add_answer(&mut self, placement: Placement, refusal: u32) {
+        *self.answers.entry(refusal).or_default() += 1;
         self.add(Sum::Behind, u64::from(placement == Placement::Behind));
         self.add(Sum::Before, u64::from(placement == Placement::Before));
         self.add(Sum::Null, u64::from(placement == Placement::Null));
+    }
+
+    pub fn add_two_way(&mut self, search: &Search, placement: Placement, compared: &two_way::Compared) {
+        self.add_answer(placement, compared.given.answer.refusal);
+        self.two_ways.add_call(search, compared);
+    }
+
+    pub fn add_call(&mut self, call: &Call, placement: Placement, compared: &Compared) {
+        let answer = &compared.given.answer;
+        self.add_answer(placement, answer.refusal);
         self.add(Sum::AtBound, u64::from(at_bound(call, answer)));
         self.add(Sum::Longest, u64::from(longest(call) && answer.refusal == 0));
         self.closed.add_call(call, compared);
@@ -177,6 +189,7 @@ impl Ledger {
         self.sums.iter_mut().zip(other.sums).for_each(|(sum, more)| *sum += more);
         self.closed.join(other.closed);
         self.books.join(other.books);
+        self.two_ways.join(other.two_ways);
         for (mine, others) in [(&mut self.answers, other.answers), (&mut self.outputs, other.outputs)] {
             others.into_iter().for_each(|(number, count)| *mine.entry(number).or_default() += count);
         }
@@ -229,6 +242,7 @@ impl Ledger {
         println!("windows with a mark that surveys moved through: {passed}");
         self.books.print();
         self.closed.print();
+        self.two_ways.print();
     }
 
     /// What no case led to, hence what was not compared: refusals of the library and of the program, and sums that are 0.
@@ -240,6 +254,7 @@ impl Ledger {
         let refusals = library.map(|number| format!("refusal {number}"));
         let of_program = program.map(|number| format!("refusal {number} of the program"));
         let sums = sums.map(|(name, _)| name.to_string());
-        refusals.chain(of_program).chain(sums).chain(self.books.missing()).chain(self.closed.missing()).collect()
+        let of_calls = [self.books.missing(), self.closed.missing(), self.two_ways.missing()].concat();
+        refusals.chain(of_program).chain(sums).chain(of_calls).collect()
     }
 }

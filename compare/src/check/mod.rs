@@ -1,5 +1,6 @@
 //! The comparison: the library and the program on one side, the second program on the other.
 
+pub mod areas;
 mod bonds;
 mod book_ledger;
 pub mod calls;
@@ -14,5 +15,9 @@ pub mod spoil;
 mod spoil_books;
 mod spoil_closed;
 mod spoil_marks;
+mod spoil_two_way;
+mod spoil_two_way_refusals;
 pub mod trial;
 mod trips;
+pub mod two_way;
+mod two_way_ledger;

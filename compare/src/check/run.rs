@@ -1,12 +1,16 @@
 //! The whole run: two workers over all cases, and a watch that ends the process if a case does not end.
 
+use super::areas::Areas;
 use super::bonds::unbound;
-use super::calls::{compare, compare_three, Areas};
+use super::calls::{compare, compare_three};
+use super::compared::Judged;
 use super::crash;
 use super::ledger::Ledger;
 use super::program::{self, Program, Slot};
-use super::trips;
+use super::{trips, two_way};
+use crate::cases::call::{Call, Search};
 use crate::cases::{kinds, locate, Case, Choice, Kind};
+use crate::memory::Placement;
 use std::panic::{catch_unwind, AssertUnwindSafe};
 use std::sync::atomic::{AtomicU64, Ordering::Relaxed};
 use std::thread;
@@ -63,13 +67,22 @@ impl<'a> Worker<'a> {
         Worker { plan, post, areas: Areas::new(), ledger: Ledger::default() }
     }
 
+    fn call(&mut self, call: &Call, placement: Placement) -> Option<String> {
+        let compared = compare(call, placement, &mut self.areas);
+        self.ledger.add_call(call, placement, &compared);
+        compared.difference(call)
+    }
+
+    fn two_way(&mut self, search: &Search, placement: Placement) -> Option<String> {
+        let compared = two_way::compare(search, placement, &mut self.areas);
+        self.ledger.add_two_way(search, placement, &compared);
+        compared.difference(search)
+    }
+
     fn difference(&mut self, case: &Case) -> Option<String> {
         match case {
-            Case::Call(call, placement) => {
-                let compared = compare(call, *placement, &mut self.areas);
-                self.ledger.add_call(call, *placement, &compared);
-                compared.difference(call)
-            }
+            Case::Call(call, placement) => self.call(call, *placement),
+            Case::TwoWay(search, placement) => self.two_way(search, *placement),
             Case::Three(calls, placement) => {
                 let compared = compare_three(calls, *placement, &mut self.areas);
                 for (call, compared) in calls.iter().zip(&compared) {

@@ -1,18 +1,18 @@
 //! Ways to spoil a copy of what the library returned and wrote. The comparison must notice each.
 
-use super::compared::{Compared, Left, DISTANCE, ROTATION, TIES};
+use super::compared::{Compared, Left, Side, DISTANCE, ROTATION, TIES};
 use crate::cases::call::Call;
 use crate::memory::WORD;
 use crate::second::book::{self, FIELD, SILENCE_WORDS};
 use crate::second::meaning::FINDING_WORDS;
 
 /// A way returns whether there was anything to spoil.
-pub struct Way {
+pub struct Way<C = Call, D = Compared> {
     pub name: &'static str,
-    pub spoil: fn(&Call, &mut Compared) -> bool,
+    pub spoil: fn(&C, &mut D) -> bool,
 }
 
-pub(super) const fn way(name: &'static str, spoil: fn(&Call, &mut Compared) -> bool) -> Way {
+pub(super) const fn way<C, D>(name: &'static str, spoil: fn(&C, &mut D) -> bool) -> Way<C, D> {
     Way { name, spoil }
 }
 
@@ -52,7 +52,11 @@ fn shown_words(call: &Call, spoilt: &Compared) -> usize {
 }
 
 pub(super) fn set_word(spoilt: &mut Compared, place: usize, value: u32) -> bool {
-    let words = &mut spoilt.given.lent.words;
+    set_word_of(&mut spoilt.given.lent.words, place, value)
+}
+
+/// Sets a word of the area, or of the canaries behind it; returns whether there is one.
+pub(super) fn set_word_of(words: &mut Side, place: usize, value: u32) -> bool {
     let at = words.front + WORD * place;
     let fits = at + WORD <= words.bytes.len();
     if fits {

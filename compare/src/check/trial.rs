@@ -1,7 +1,8 @@
 //! The comparison put to the test: it must notice each way of spoiling an answer.
 
-use super::calls::{compare, compare_three, Areas};
-use super::compared::Compared;
+use super::areas::Areas;
+use super::calls::{compare, compare_three};
+use super::compared::{Compared, Judged};
 use super::crash;
 use super::program::{self, Slot};
 use super::run::Plan;
@@ -9,6 +10,10 @@ use super::spoil::{Way, OF_REFUSALS_AND_BOOKS, OF_SEARCHES};
 use super::spoil_books::OF_BOOKS;
 use super::spoil_closed::{OF_CLOSED, OF_LONGEST};
 use super::spoil_marks::OF_MARKS;
+use super::spoil_two_way::OF_TWO_WAY;
+use super::spoil_two_way_refusals::OF_TWO_WAY_REFUSALS;
+use super::two_way;
+use crate::cases::call::Search;
 use crate::cases::{Call, Case};
 use crate::memory::{Area, Placement};
 use crate::rows::Lines;
@@ -37,18 +42,18 @@ impl Noticed {
 }
 
 /// Some ways on trial, with what was noticed of each.
-struct Trial {
-    ways: &'static [Way],
+struct Trial<C: 'static = Call, D: 'static = Compared> {
+    ways: &'static [Way<C, D>],
     noticed: Vec<Noticed>,
 }
 
-impl Trial {
-    fn new(ways: &'static [Way]) -> Trial {
+impl<C: 'static, D: Judged<C> + 'static> Trial<C, D> {
+    fn new(ways: &'static [Way<C, D>]) -> Trial<C, D> {
         Trial { ways, noticed: vec![Noticed::default(); ways.len()] }
     }
 
     /// Only an answer that agrees is spoilt: in another one there is a difference anyway.
-    fn spoil(&mut self, call: &Call, compared: &Compared) {
+    fn spoil(&mut self, call: &C, compared: &D) {
         if compared.difference(call).is_some() {
             return;
         }
@@ -69,6 +74,11 @@ impl Trial {
 /// Lines too long to be copied for every way.
 fn long(call: &Call) -> bool {
     call.search().is_some_and(|search| search.line.len() > 5_000)
+}
+
+/// Whether a two-way scan lends more words than can be copied for every way.
+fn wide(search: &Search) -> bool {
+    search.room > 20_000
 }
 
 /// The cases of a kind that are spoilt: all of a small one, else some from all over it. They are not a fixed step apart, which
@@ -193,42 +203,71 @@ fn spoil_lines(samples: Lines) -> Vec<bool> {
     LINES_WAYS.iter().map(trial).collect()
 }
 
-/// Prints a line for each way; returns the ways that passed and that failed.
-pub fn run_trial(plan: &Plan, samples: Option<Lines>) -> (usize, usize) {
-    let mut of_calls = [OF_SEARCHES, OF_MARKS, OF_CLOSED, OF_REFUSALS_AND_BOOKS, OF_BOOKS].map(Trial::new);
-    let mut of_long = [OF_SEARCHES, OF_LONGEST].map(Trial::new);
-    let mut text_ways = [Noticed::default(); TEXT_WAYS.len()];
-    let mut areas = Areas::new();
-    for kind in &plan.kinds {
-        for number in 0..SHARE.min(kind.count) {
-            let case = kind.case(plan.seed, spread(number, kind.count));
-            match &case {
-                Case::Call(call, placement) if !long(call) => {
-                    let compared = compare(call, *placement, &mut areas);
-                    of_calls.iter_mut().for_each(|trial| trial.spoil(call, &compared));
-                }
-                Case::Two(calls, _, placement) => {
-                    for call in calls {
-                        let compared = compare(call, *placement, &mut areas);
-                        of_calls.iter_mut().for_each(|trial| trial.spoil(call, &compared));
-                    }
-                }
-                Case::Three(calls, placement) if number < share_of(calls) => {
-                    let compared = compare_three(calls, *placement, &mut areas);
-                    for (call, compared) in calls.iter().zip(&compared) {
-                        of_long.iter_mut().for_each(|trial| trial.spoil(call, compared));
-                    }
-                }
-                Case::Input(_) if number < SHARE_OF_INPUTS => spoil_output(plan, &case, &mut text_ways),
-                _ => {}
-            }
+/// All ways on trial but those for the samples and the guards.
+struct Trials {
+    of_calls: [Trial; 5],
+    of_two_way: [Trial<Search, two_way::Compared>; 2],
+    of_long: [Trial; 2],
+    of_text: [Noticed; TEXT_WAYS.len()],
+    areas: Areas,
+}
+
+impl Trials {
+    fn new() -> Trials {
+        Trials {
+            of_calls: [OF_SEARCHES, OF_MARKS, OF_CLOSED, OF_REFUSALS_AND_BOOKS, OF_BOOKS].map(Trial::new),
+            of_two_way: [OF_TWO_WAY, OF_TWO_WAY_REFUSALS].map(Trial::new),
+            of_long: [OF_SEARCHES, OF_LONGEST].map(Trial::new),
+            of_text: [Noticed::default(); TEXT_WAYS.len()],
+            areas: Areas::new(),
         }
     }
-    let mut results: Vec<bool> = of_calls.iter().flat_map(|trial| trial.told("")).collect();
-    results.extend(of_long.iter().flat_map(|trial| trial.told("long: ")));
-    if plan.program.is_some() {
-        results.extend(TEXT_WAYS.iter().zip(text_ways).map(|(way, noticed)| told(way.0, noticed)));
+
+    fn spoil_call(&mut self, call: &Call, placement: Placement) {
+        let compared = compare(call, placement, &mut self.areas);
+        self.of_calls.iter_mut().for_each(|trial| trial.spoil(call, &compared));
     }
+
+    /// Spoils the case of this number in its kind.
+    fn spoil(&mut self, plan: &Plan, case: &Case, number: u64) {
+        match case {
+            Case::Call(call, placement) if !long(call) => self.spoil_call(call, *placement),
+            Case::Two(calls, _, placement) => calls.iter().for_each(|call| self.spoil_call(call, *placement)),
+            Case::TwoWay(search, placement) if !wide(search) => {
+                let compared = two_way::compare(search, *placement, &mut self.areas);
+                self.of_two_way.iter_mut().for_each(|trial| trial.spoil(search, &compared));
+            }
+            Case::Three(calls, placement) if number < share_of(calls) => {
+                let compared = compare_three(calls, *placement, &mut self.areas);
+                for (call, compared) in calls.iter().zip(&compared) {
+                    self.of_long.iter_mut().for_each(|trial| trial.spoil(call, compared));
+                }
+            }
+            Case::Input(_) if number < SHARE_OF_INPUTS => spoil_output(plan, case, &mut self.of_text),
+            _ => {}
+        }
+    }
+
+    fn told(&self, with_program: bool) -> Vec<bool> {
+        let mut results: Vec<bool> = self.of_calls.iter().flat_map(|trial| trial.told("")).collect();
+        results.extend(self.of_two_way.iter().flat_map(|trial| trial.told("")));
+        results.extend(self.of_long.iter().flat_map(|trial| trial.told("long: ")));
+        if with_program {
+            results.extend(TEXT_WAYS.iter().zip(self.of_text).map(|(way, noticed)| told(way.0, noticed)));
+        }
+        results
+    }
+}
+
+/// Prints a line for each way; returns the ways that passed and that failed.
+pub fn run_trial(plan: &Plan, samples: Option<Lines>) -> (usize, usize) {
+    let mut trials = Trials::new();
+    for kind in &plan.kinds {
+        for number in 0..SHARE.min(kind.count) {
+            trials.spoil(plan, &kind.case(plan.seed, spread(number, kind.count)), number);
+        }
+    }
+    let mut results = trials.told(plan.program.is_some());
     results.extend(samples.map(spoil_lines).unwrap_or_default());
     for (which, name) in OVERSTEPS {
         let mut noticed = Noticed::default();

@@ -2,16 +2,17 @@
 
 use super::given::{address, book, edges, words};
 use super::table::Row;
+use super::two_way;
 use crate::second::book::{read, Address, Silence, SILENCE_WORDS};
 use crate::second::calls::{pack, unpack, Answered, Outcome, Search};
 use crate::second::meaning::FINDING_WORDS;
 use crate::second::program::output;
 
 /// The most bytes or words that are shown one by one; for more a checksum is shown.
-const MOST_SHOWN: usize = 26;
+pub const MOST_SHOWN: usize = 26;
 
 /// "If a room is left out, it is more than any call requires." So is the join area of a closed call.
-fn room(row: &Row) -> usize {
+pub fn room(row: &Row) -> usize {
     row.number("room").unwrap_or(usize::MAX)
 }
 
@@ -20,7 +21,7 @@ fn join(row: &Row) -> usize {
 }
 
 /// A byte or a word that a call wrote.
-trait Written {
+pub trait Written {
     fn shown(&self) -> String;
     /// What the checksum is taken of: a byte counts as the word of four such bytes.
     fn as_word(&self) -> u32;
@@ -53,12 +54,12 @@ fn group<T: Written>(together: &[T]) -> String {
 }
 
 /// Word by word: 31 times the checksum so far, plus the word, mod 1,000,003.
-fn checksum(words: &[u32]) -> u64 {
+pub fn checksum(words: &[u32]) -> u64 {
     words.iter().fold(0, |sum, &word| (31 * sum + u64::from(word)) % 1_000_003)
 }
 
 /// What was written, in groups of `each`, behind the word for it; the second program writes nothing behind it.
-fn end<T: Written>(word: &str, written: &[T], each: usize) -> String {
+pub fn end<T: Written>(word: &str, written: &[T], each: usize) -> String {
     let shown = if written.len() <= MOST_SHOWN {
         written.chunks(each).map(group).collect()
     } else {
@@ -170,6 +171,9 @@ pub fn answer(call: &str, row: &Row) -> String {
         "seek" => seek(row),
         "scan" | "survey" | "report" | "scan_closed" | "survey_closed" | "report_closed" => searched(call, row),
         "answer" => answered(row),
+        "scan_two_way" => two_way::scanned(row),
+        "reversed_code" => two_way::codes(row),
+        "reversed" => two_way::ring(row),
         _ => panic!("the table names a call {call}"),
     }
 }

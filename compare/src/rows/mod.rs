@@ -4,6 +4,7 @@
 mod given;
 mod lines;
 mod table;
+mod two_way;
 
 use std::path::Path;
 use std::{fs, io};

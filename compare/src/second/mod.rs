@@ -1,5 +1,5 @@
-//! The second program: written from document 01 and tickets 1 to 4 of document 02 alone, word for word, and slow where that
-//! is plainer.
+//! The second program: written from document 01 and tickets 1 to 4 and 6 of document 02 alone, word for word, and slow where
+//! that is plainer. Ticket 5 changes no answer.
 
 pub mod book;
 pub mod by_hand;
@@ -10,7 +10,10 @@ pub mod line;
 pub mod meaning;
 pub mod program;
 pub mod refusals;
+pub mod reversed;
 pub mod rules;
 pub mod samples;
 pub mod seam;
 pub mod tally;
+pub mod two_way;
+pub mod two_way_by_hand;

@@ -1,6 +1,7 @@
 //! The table of refusals. Each check stands alone; the calls put them in their order.
 
 use super::meaning::{holds_mark, FINDING_WORDS};
+use super::reversed::NO_EDGE;
 
 #[derive(Clone, Copy, Debug, PartialEq, Eq)]
 pub struct Refused {
@@ -22,14 +23,23 @@ pub fn refuse_if(given: bool, number: u32, place: usize) -> Result<(), Refused> 
     }
 }
 
-/// Refusals 1, 12, 2 and 3, which every search has, open or closed. "12, a ring holding 255, place 0, after 1 and before 2"
-/// (ticket 2). Refusal 3 asks n alone: a closed search accepts 65,536 edges, though m − 1 more are read behind them.
-fn limits(ring: &[u8], n: usize, allowance: usize) -> Result<(), Refused> {
+/// Refusals 1, 12 and 2, which every search has. "12, a ring holding 255, place 0, after 1 and before 2" (ticket 2).
+fn ring_and_allowance(ring: &[u8], allowance: usize) -> Result<(), Refused> {
     let m = ring.len();
     refuse_if(m == 0 || m > LONGEST_RING, 1, 0)?;
     refuse_if(holds_mark(ring), 12, 0)?;
-    refuse_if(allowance >= m, 2, 0)?;
+    refuse_if(allowance >= m, 2, 0)
+}
+
+/// Refusal 3 asks n alone: a closed search accepts 65,536 edges, though m − 1 more are read behind them.
+fn line_length(n: usize) -> Result<(), Refused> {
     refuse_if(n > LONGEST_LINE, 3, 0)
+}
+
+/// Refusals 1, 12, 2 and 3, which open and closed searches begin with.
+fn limits(ring: &[u8], n: usize, allowance: usize) -> Result<(), Refused> {
+    ring_and_allowance(ring, allowance)?;
+    line_length(n)
 }
 
 /// The refusals that survey, scan and report share. "4 now asks 4·(n − m + 1) words" (ticket 1): a finding for each window,
@@ -47,4 +57,15 @@ pub fn closed_search(ring: &[u8], line: &[u8], allowance: usize, room: usize, jo
     limits(ring, n, allowance)?;
     refuse_if(n >= m && room < FINDING_WORDS * n, 4, 0)?;
     refuse_if(n >= m && join < 2 * m - 2, 10, 0)
+}
+
+/// "14, a ring code above 247, place the first such ring place, after 2 and in this scan only; 4 asks room for both passes,
+/// 8·(n − m + 1) words" (ticket 6).
+pub fn two_way(ring: &[u8], line: &[u8], allowance: usize, room: usize) -> Result<(), Refused> {
+    let (m, n) = (ring.len(), line.len());
+    ring_and_allowance(ring, allowance)?;
+    let first = ring.iter().position(|&code| code >= NO_EDGE);
+    refuse_if(first.is_some(), 14, first.unwrap_or(0))?;
+    line_length(n)?;
+    refuse_if(n >= m && room < 2 * FINDING_WORDS * (n - m + 1), 4, 0)
 }

@@ -23,6 +23,9 @@ pub const BOOK_ROOM: usize = PACKED_LENGTH * MOST_SILENCES + 40;
 // than any search requires.
 pub const SEARCH_ROOM: usize = WORDS_EACH * AREA_BYTES;
 
+// The same for both passes of a two-way scan.
+pub const TWO_WAY_ROOM: usize = 2 * SEARCH_ROOM;
+
 // Bytes to fill in. They come from a function because the check knows the length of a returned array at once, while it
 // counts the elements of an array made in place one by one; for a long one that takes seconds. Every array of more than
 // 10,000 elements here comes from a function for this reason.
@@ -43,6 +46,11 @@ pub fn book_room_bytes() -> [u8; BOOK_ROOM] {
 // Room for a search: words, all canaries.
 pub fn search_room() -> [u32; SEARCH_ROOM] {
     [CANARY_WORD; SEARCH_ROOM]
+}
+
+// Room for a two-way scan: words, all canaries.
+pub fn two_way_room() -> [u32; TWO_WAY_ROOM] {
+    [CANARY_WORD; TWO_WAY_ROOM]
 }
 
 // The first `room` words of an area, to be lent to a call. No row asks for more than there are.

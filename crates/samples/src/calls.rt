@@ -24,10 +24,16 @@ pub const SURVEY_CLOSED: usize = 9;
 
 pub const REPORT_CLOSED: usize = 10;
 
+pub const SCAN_TWO_WAY: usize = 11;
+
+pub const REVERSED_CODE: usize = 12;
+
+pub const REVERSED: usize = 13;
+
 // Begins the line of a row: prints the call and the row's name.
 pub fn begin_row(call: usize, row: &[u8]) {
     let names =
-        b"pack |read |unpack |seek |scan |survey |report |answer |scan_closed |survey_closed |report_closed ";
+        b"pack |read |unpack |seek |scan |survey |report |answer |scan_closed |survey_closed |report_closed |scan_two_way |reversed_code |reversed ";
     printing::print_text(table::field(names, call));
     printing::print_text(table::field(row, 0));
     printing::print_text(b":");

@@ -3,6 +3,7 @@ use crate::area;
 use crate::books;
 use crate::edges;
 use crate::table;
+use reversal::reversed_code;
 
 // What a field gives as bytes: codes that rise, a list of codes, letters, or a book.
 pub enum ByteKind {
@@ -31,11 +32,13 @@ pub fn fill_bytes(what: ByteKind, field: &[u8], bytes: &mut [u8]) {
     }
 }
 
-// What words are filled with: the words of the silences that a field gives, or the bytes of an area, each four times
-// over to make a word (as the canary in words is made).
+// What words are filled with: the words of the silences that a field gives; the bytes of an area, each four times over to
+// make a word (as the canary in words is made); or the reversed code of each byte; or each byte as it is.
 pub enum WordKind {
     Silences,
     Spread,
+    Reversed,
+    Codes,
 }
 
 // The word at place `at`.
@@ -43,6 +46,8 @@ fn word_to_fill(what: WordKind, from: &[u8], at: usize) -> u32 {
     match what {
         WordKind::Silences => books::word_of(from, at),
         WordKind::Spread => (area::byte_at(from, at) as u32) * 0x01010101,
+        WordKind::Reversed => reversed_code(area::byte_at(from, at)) as u32,
+        WordKind::Codes => area::byte_at(from, at) as u32,
     }
 }
 

@@ -15,14 +15,18 @@ mod report_rows;
 mod search_rows;
 mod seek_rows;
 mod table;
+mod two_way_rows;
 
 use calls::ANSWER;
 use calls::PACK;
 use calls::READ;
 use calls::REPORT;
 use calls::REPORT_CLOSED;
+use calls::REVERSED;
+use calls::REVERSED_CODE;
 use calls::SCAN;
 use calls::SCAN_CLOSED;
+use calls::SCAN_TWO_WAY;
 use calls::SEEK;
 use calls::SURVEY;
 use calls::SURVEY_CLOSED;
@@ -36,6 +40,8 @@ fn run_row(call: usize, row: &[u8]) {
         SEEK => seek_rows::seek_row(row),
         ANSWER => answer_rows::answer_row(row),
         SCAN_CLOSED | SURVEY_CLOSED | REPORT_CLOSED => closed_rows::closed_row(call, row),
+        SCAN_TWO_WAY => two_way_rows::two_way_row(row),
+        REVERSED_CODE | REVERSED => two_way_rows::reversal_row(call, row),
         _ => search_rows::search_row(call, row), // scan, survey, report
     }
 }
@@ -53,7 +59,7 @@ fn run(call: usize, text: &[u8], index: usize) {
     }
 }
 
-// Reads the table of rows and runs each of its nine sections through its calls.
+// Reads the table of rows and runs each of its twelve sections through its calls.
 fn main() {
     let mut input = area::zeros();
     let n = io::read_full(0, &mut input);
@@ -73,4 +79,7 @@ fn main() {
     run(SURVEY_CLOSED, text, 8);
     run(REPORT_CLOSED, text, 8);
     run(REPORT_CLOSED, text, 9);
+    run(SCAN_TWO_WAY, text, 10);
+    run(REVERSED_CODE, text, 11);
+    run(REVERSED, text, 12);
 }

@@ -1,5 +1,7 @@
 // Printing an answer as document 01's number, place and counts. An accepted answer has number 0 and place 0; "A refusal
 // carries its number and place, zero in every count".
+use crate::printing::BACKWARD_LABEL;
+use crate::printing::FORWARD_LABEL;
 use crate::printing::FOUND_LABEL;
 use crate::printing::HIDDEN_LABEL;
 use crate::printing::LOOKS_LABEL;
@@ -10,8 +12,10 @@ use crate::printing::print_number;
 use answers::number_of;
 use answers::place_of;
 use book::BookAnswer;
+use findings::SearchCounts;
 use outlines::Reported;
 use outlines::Searched;
+use two_way::TwoWay;
 
 // Prints the number of a refusal (0 for none) and its place.
 fn print_refusal(refusal: usize, place: usize) {
@@ -67,6 +71,29 @@ pub fn print_report(answer: Reported) {
             print_number(FOUND_LABEL, 0);
             print_number(HIDDEN_LABEL, 0);
             print_number(LOOKS_LABEL, 0);
+        }
+    }
+}
+
+// Prints found and looks of one pass.
+fn print_pass(label: usize, pass: SearchCounts) {
+    print_number(label, pass.found);
+    print_number(LOOKS_LABEL, pass.looks);
+}
+
+// "Each pass has its own found, looks" (document 02, ticket 6).
+pub fn print_two_way(answer: TwoWay) {
+    match answer {
+        TwoWay::Counts { forward, backward } => {
+            print_refusal(0, 0);
+            print_pass(FORWARD_LABEL, forward);
+            print_pass(BACKWARD_LABEL, backward);
+        }
+        TwoWay::Refused(refusal) => {
+            let none = SearchCounts { found: 0, looks: 0 };
+            print_refusal(number_of(refusal), place_of(refusal));
+            print_pass(FORWARD_LABEL, none);
+            print_pass(BACKWARD_LABEL, none);
         }
     }
 }

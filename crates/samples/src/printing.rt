@@ -7,10 +7,11 @@ use findings::WORDS_EACH;
 use silences::RECORD_WORDS;
 ghost use Prim.Native.Nat.{_<_};
 
-// How the bytes or words that a call wrote are shown: bytes in hex, the words of a finding or of a silence with commas
-// between them.
+// How the bytes or words that a call wrote are shown: bytes in hex, codes in decimal, the words of a finding or of a
+// silence with commas between them.
 pub enum PrintedAs {
     Bytes,
+    Codes,
     Findings,
     Silences,
 }
@@ -52,6 +53,12 @@ const CHECKSUM_LABEL: usize = 13;
 
 const JOINED_LABEL: usize = 14;
 
+pub const FORWARD_LABEL: usize = 15;
+
+pub const BACKWARD_LABEL: usize = 16;
+
+pub const EDGES_LABEL: usize = 17;
+
 // Prints a text.
 pub fn print_text(bytes: &[u8]) {
     io::write_all(1, bytes);
@@ -61,7 +68,7 @@ pub fn print_text(bytes: &[u8]) {
 // tenths of a second.
 pub fn print_number(label: usize, value: usize) {
     let labels =
-        b" number | place | records | found | hidden | looks | from | cell | ring number | start | ceiling | next | written | checksum | joined ";
+        b" number | place | records | found | hidden | looks | from | cell | ring number | start | ceiling | next | written | checksum | joined | forward | backward | edges ";
     print_text(table::field(labels, label));
     io::print_decimal(1, value as u64);
 }
@@ -80,6 +87,7 @@ fn print_value(shown: PrintedAs, at: usize, word: u32) {
             print_text(b" ");
             io::print_hex(1, (word % 256) as u64, 2);
         }
+        PrintedAs::Codes => print_word(0, word),
         PrintedAs::Findings => print_word(at % WORDS_EACH, word),
         PrintedAs::Silences => print_word(at % RECORD_WORDS, word),
     }
@@ -109,15 +117,20 @@ fn print_values(shown: PrintedAs, words: &[u32]) -> usize {
     sum
 }
 
+// Prints the words, or their checksum if they are many.
+pub fn print_words(shown: PrintedAs, words: &[u32]) {
+    let checksum = print_values(shown, words);
+    if MOST_SHOWN < words.len() {
+        print_number(CHECKSUM_LABEL, checksum);
+    }
+}
+
 // Prints what a call wrote into the first `room` words of an area, and whether all words after them are kept.
 fn print_area(label: usize, shown: PrintedAs, area: &[u32], room: usize) {
     let seen = area::inspect(area, room);
     let count = seen.written;
     print_number(label, count);
-    let checksum = print_values(shown, &area[0..count]);
-    if MOST_SHOWN < count {
-        print_number(CHECKSUM_LABEL, checksum);
-    }
+    print_words(shown, &area[0..count]);
     if seen.kept {
         print_text(b" behind kept");
     } else {
