@@ -7,15 +7,14 @@ use mathlib.Core.List.{List, [], _∷_}
 use mathlib.Core.Option.{none, some}
 use native.Mathlib.Omega.{arith}
 use lib.ListN.{length}
-use Rattle.lists.proofs.SizesTested.{lt-iff, le-iff, and-iff}
 use Rattle.meaning.specs.Meanings.{HoldsMark}
 use Rattle.answers.specs.declared.refusals.Refusal.{Refusal}
 use Rattle.answers.specs.declared.refusals.Refusal.the-variants.{Ring, Allowance, Line, FindingsRoom, RingMark}
 use Rattle.answers.specs.Refusals.{numberOf, placeOf}
 use Rattle.answers.specs.Rows.{row, firstGiven}
-use Rattle.answers.proofs.RowsExactly.{IsRow, is-row, EachRow, end, row-has, at-row, past-row, no-row, no-last-row}
+use Rattle.answers.proofs.RowsExactly.{IsRow, EachRow, end, row-has, at-row, past-row, no-row, no-last-row}
 use Rattle.findings.specs.Admitting.{mostRing, mostLine, roomRequired, isRow3, isRow4, ringRows, limitRows, admitRows, IsRingLength, Admitted}
-use Rattle.findings.proofs.LimitRows.{IsOwnRow, is-row-3, ring-1-iff, ring-12-iff, ring-2-iff, own-row-iff, no-own-row-iff, ring-row-iff, by-ring}
+use Rattle.findings.proofs.LimitRows.{IsOwnRow, is-room-row, is-row-3, ring-1-iff, ring-12-iff, ring-2-iff, own-row-iff, no-own-row-iff, ring-row-iff, by-ring}
 
 module _ (ring : List ℕ) (k n room : ℕ) where
   abbrev m : ℕ
@@ -23,11 +22,7 @@ module _ (ring : List ℕ) (k n room : ℕ) where
 
   -- Row 4 is given exactly when "n ≥ m and fewer than" 4·(n − m + 1) "words are lent for findings", and not given exactly when n ≥ m implies enough words.
   pub is-row-4 : IsRow (row (isRow4 m n room) FindingsRoom) FindingsRoom ((m ≤ n) × (room < roomRequired m n)) (m ≤ n → roomRequired m n ≤ room)
-  is-row-4 =
-      is-row (and-iff (le-iff m n) (lt-iff room (roomRequired m n))) (λ enough h. omega (arith, enough (h .0)))
-      (λ not starts.
-      let not-short : room < roomRequired m n → ⊥ = λ short. not (starts, short) in
-      omega arith)
+  is-row-4 = is-room-row m n room (roomRequired m n) FindingsRoom
 
   -- rows 3 and 4 have none of the numbers 1, 12 and 2
   own-rows : EachRow IsOwnRow (row (isRow3 n) Line ∷ row (isRow4 m n room) FindingsRoom ∷ [])

@@ -7,16 +7,15 @@ use mathlib.Core.List.{List, [], _∷_}
 use mathlib.Core.Option.{Option, none, some}
 use native.Mathlib.Omega.{arith}
 use lib.ListN.{length}
-use Rattle.lists.proofs.SizesTested.{lt-iff, le-iff, and-iff}
 use Rattle.meaning.specs.Meanings.{HoldsMark}
 use Rattle.answers.specs.declared.refusals.Refusal.{Refusal}
 use Rattle.answers.specs.declared.refusals.Refusal.the-variants.{Ring, Allowance, Line, FindingsRoom, OutputRoom, RingMark}
 use Rattle.answers.specs.Refusals.{numberOf, placeOf}
 use Rattle.answers.specs.Rows.{row, firstGiven}
-use Rattle.answers.proofs.RowsExactly.{FirstExactly, IsRow, is-row, EachRow, end, row-has, at-row, past-row, no-row, no-last-row}
+use Rattle.answers.proofs.RowsExactly.{FirstExactly, IsRow, EachRow, end, row-has, at-row, past-row, no-row, no-last-row}
 use Rattle.findings.specs.Admitting.{mostRing, mostLine, isRow3, ringRows, limitRows, IsRingLength}
 use Rattle.findings.specs.ClosedRows.{closedRoom, joinBytes, isClosedRow4, isRow10, closedRows, ClosedAdmitted}
-use Rattle.findings.proofs.LimitRows.{IsOwnRow, is-row-3, ring-1-iff, ring-12-iff, ring-2-iff, own-row-iff, no-own-row-iff, ring-row-iff, by-ring}
+use Rattle.findings.proofs.LimitRows.{IsOwnRow, is-room-row, is-row-3, ring-1-iff, ring-12-iff, ring-2-iff, own-row-iff, no-own-row-iff, ring-row-iff, by-ring}
 
 module _ (ring : List ℕ) (k n room joins : ℕ) where
   abbrev m : ℕ
@@ -24,19 +23,11 @@ module _ (ring : List ℕ) (k n room joins : ℕ) where
 
   -- Row 4 is given exactly when n ≥ m and fewer than 4·n words are lent, and not given exactly when n ≥ m implies enough words.
   pub is-closed-row-4 : IsRow (row (isClosedRow4 m n room) FindingsRoom) FindingsRoom ((m ≤ n) × (room < closedRoom n)) (m ≤ n → closedRoom n ≤ room)
-  is-closed-row-4 =
-      is-row (and-iff (le-iff m n) (lt-iff room (closedRoom n))) (λ enough h. omega (arith, enough (h .0)))
-      (λ not starts.
-      let not-short : room < closedRoom n → ⊥ = λ short. not (starts, short) in
-      omega arith)
+  is-closed-row-4 = is-room-row m n room (closedRoom n) FindingsRoom
 
   -- Row 10 is given exactly when n ≥ m and the join area is below 2·m − 2 bytes, and not given exactly when n ≥ m implies enough bytes.
   pub is-row-10 : IsRow (row (isRow10 m n joins) OutputRoom) OutputRoom ((m ≤ n) × (joins < joinBytes m)) (m ≤ n → joinBytes m ≤ joins)
-  is-row-10 =
-      is-row (and-iff (le-iff m n) (lt-iff joins (joinBytes m))) (λ enough h. omega (arith, enough (h .0)))
-      (λ not starts.
-      let not-short : joins < joinBytes m → ⊥ = λ short. not (starts, short) in
-      omega arith)
+  is-row-10 = is-room-row m n joins (joinBytes m) OutputRoom
 
   -- the call's own rows
   abbrev own : List (Option Refusal)

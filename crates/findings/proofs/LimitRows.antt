@@ -4,13 +4,14 @@
 -- none of this (`ring-row-iff`).
 use Prim.Native.Nat.{ℕ, _≤_, _<_}
 use mathlib.Core.Path.{_≡_, refl, sym, ap, _∙_}
-use mathlib.Core.Bool.{Bool, false, false≢true}
+use mathlib.Core.Bool.{Bool, false, _&&_, false≢true}
 use mathlib.Core.Logic.{_↔_, _⊎_, inl, inr, ⊎-elim}
 use mathlib.Core.List.{List, _++_}
 use mathlib.Core.Option.{Option, none, some}
 use native.Mathlib.Omega.{arith}
+use lib.Dec.{leb, ltb}
 use lib.ListN.{length}
-use Rattle.lists.proofs.SizesTested.{lt-iff, le-iff, eq-iff, or-iff}
+use Rattle.lists.proofs.SizesTested.{lt-iff, le-iff, eq-iff, and-iff, or-iff}
 use Rattle.meaning.specs.Meanings.{HoldsMark, holdsMark}
 use Rattle.meaning.proofs.Marks.{holds-iff}
 use Rattle.answers.specs.declared.refusals.Refusal.{Refusal}
@@ -37,6 +38,15 @@ pub record IsOwnRow (q : Refusal) : Type 0 where
 pub refused-early : {first : List (Option Refusal)} (own : List (Option Refusal)) {r : Verdict} {refusal : Refusal} → IsVerdict first r → verdictOf r ≡ some refusal
     → IsVerdict (first ++ own) r
 refused-early {first} own is refuses = record { is = refuses ∙ sym (first-append-some first own (sym (is .is) ∙ refuses)) }
+
+-- A row for too little room, in words or bytes, is given exactly when n ≥ m and less is lent than required, and not given exactly when n ≥ m implies enough.
+pub is-room-row : (m n lent required : ℕ) (refusal : Refusal)
+    → IsRow (row (leb m n && ltb lent required) refusal) refusal ((m ≤ n) × (lent < required)) (m ≤ n → required ≤ lent)
+is-room-row m n lent required refusal =
+    is-row (and-iff (le-iff m n) (lt-iff lent required)) (λ enough h. omega (arith, enough (h .0)))
+    (λ not starts.
+    let not-short : lent < required → ⊥ = λ short. not (starts, short) in
+    omega arith)
 
 -- Row 3 is given exactly when "n > 65,536", and not given exactly when n ≤ 65,536.
 pub is-row-3 : (n : ℕ) → IsRow (row (isRow3 n) Line) Line (mostLine < n) (n ≤ mostLine)

@@ -7,7 +7,7 @@ use mathlib.Core.List.{List, [], _∷_}
 use mathlib.Core.Option.{Option, none, some}
 use native.Mathlib.Omega.{arith}
 use lib.ListN.{length}
-use Rattle.lists.proofs.SizesTested.{lt-iff, le-iff, and-iff}
+use Rattle.lists.proofs.SizesTested.{lt-iff}
 use Rattle.meaning.specs.Meanings.{HoldsMark}
 use Rattle.answers.specs.declared.refusals.Refusal.{Refusal}
 use Rattle.answers.specs.declared.refusals.Refusal.the-variants.{Ring, Allowance, Line, FindingsRoom, RingMark, RingCode}
@@ -17,7 +17,7 @@ use Rattle.answers.proofs.RowsExactly.{IsRow, is-row, EachRow, end, row-has, at
 use Rattle.findings.specs.declared.admitting.Verdict.{Verdict}
 use Rattle.findings.specs.declared.admitting.Verdict.the-variants.{Accepted}
 use Rattle.findings.specs.Admitting.{mostRing, mostLine, isRow3, ringRows, IsRingLength, IsVerdict}
-use Rattle.findings.proofs.LimitRows.{IsOwnRow, within-ring, is-row-3, ring-1-iff, ring-12-iff, ring-2-iff, own-row-iff, no-own-row-iff, ring-row-iff, by-ring}
+use Rattle.findings.proofs.LimitRows.{IsOwnRow, within-ring, is-room-row, is-row-3, ring-1-iff, ring-12-iff, ring-2-iff, own-row-iff, no-own-row-iff, ring-row-iff, by-ring}
 use Rattle.two_way.specs.Admitting.{twoWayRoom, firstNoEdge, row14, isTwoWayRow4, twoWayRows, IsFirstNoEdge, AllEdges, TwoWayAdmitted, SaysFirstNoEdge}
 use Rattle.two_way.proofs.FirstNoEdge.{first-edges, first-no-edge, first-by}
 
@@ -63,11 +63,7 @@ module _ (ring : List ℕ) (k n room : ℕ) where
 
   -- Row 4 is given exactly when n ≥ m and fewer than 8·(n − m + 1) words are lent, and not given exactly when n ≥ m implies enough words.
   pub is-two-way-row-4 : IsRow (row (isTwoWayRow4 m n room) FindingsRoom) FindingsRoom ((m ≤ n) × (room < twoWayRoom m n)) (m ≤ n → twoWayRoom m n ≤ room)
-  is-two-way-row-4 =
-      is-row (and-iff (le-iff m n) (lt-iff room (twoWayRoom m n))) (λ enough h. omega (arith, enough (h .0)))
-      (λ not starts.
-      let not-short : room < twoWayRoom m n → ⊥ = λ short. not (starts, short) in
-      omega arith)
+  is-two-way-row-4 = is-room-row m n room (twoWayRoom m n) FindingsRoom
 
   -- the call's own rows
   abbrev own : List (Option Refusal)
