@@ -19,10 +19,11 @@
 --
 -- The other modules are their lemmas, and what the proofs of code cite. Each group below uses only itself and the groups above it.
 
--- counts, the lowest number at which a function is least, and whether some number below n passes a test: they mention no ring
+-- counts, the lowest number at which a function is least, whether some number below n passes a test, and the first that passes it: they mention no ring
 pub mod Count
 pub mod Lowest
 pub mod Some
+pub mod First
 -- the meanings: marks, windows, starts, what a place gives, the list of findings, their ties, windows with the same edges, the stretch that fits, and a start
 -- under a rotation as an alignment
 pub mod Marks

@@ -1,5 +1,5 @@
--- The helpers of the meanings, which mention no ring and no line: counting, the lowest number at which a function is least, and whether some number
--- below n passes a test.
+-- The helpers of the meanings, which mention no ring and no line: counting, the lowest number at which a function is least, whether some number below n
+-- passes a test, and the first that passes it.
 use Prim.Native.Nat.{ℕ, zero, suc, _+_}
 use mathlib.Core.Bool.{Bool, true, false, cond, _||_}
 use lib.Dec.{ltb}
@@ -23,3 +23,12 @@ lowest f (suc n) = let before : ℕ = lowest f n in cond (ltb (f n) (f before)) 
 unfoldable pub someBelow : (ℕ → Bool) → ℕ → Bool
 someBelow p zero = false
 someBelow p (suc n) = someBelow p n || p n
+
+-- The first of the n numbers a, a + 1, .. that passes the test; a + n if none does.
+unfoldable pub firstFrom : (ℕ → Bool) → ℕ → ℕ → ℕ
+firstFrom p a zero = a
+firstFrom p a (suc n) = let later : ℕ = firstFrom p (suc a) n in cond (p a) a later
+
+-- The first number below n that passes the test; n if none does.
+abbrev pub firstBelow : (ℕ → Bool) → ℕ → ℕ
+firstBelow p = firstFrom p 0

@@ -47,9 +47,10 @@
 -- | samples of closed lines      | `closed-samples`, `closed-samples-right`   | Samples     |
 -- | readings that look right     | each refuted                               | Misread     |
 -- | document 01 before marks     | `findingsBefore`, `quickLooksBefore`       | BeforeMarks |
--- | (helpers)                    | `count`, `lowest`, `someBelow`             | Counting    |
+-- | (helpers)                    | `count`, `lowest`, `someBelow`,            | Counting    |
+-- |                              | `firstBelow`                               |             |
 --
--- The table leaves out the parts of these definitions: `oneIf` (Counting); `unequal`, `reaches`, `rotationsReaching` (Meanings); `Finding`, `findingAt`,
+-- The table leaves out the parts of these definitions: `oneIf`, `firstFrom` (Counting); `unequal`, `reaches`, `rotationsReaching` (Meanings); `Finding`, `findingAt`,
 -- `foundAt`, `findingsBelow`, `wordsEach`, `findingWords` (Findings); `begins` (Stretch); `unread`, `markRead`, `grownRead`, `brokenRead`, `readLeft`,
 -- `windowsFrom`, `candidatesOf` (Rules); `verifyLooks`, `surveyLooksBelow` (Looks); `closedReaching` (Closed); `octants`, `lengthClasses`, `edgeCodes`
 -- (EdgeCodes); `Sample`, `finding`, `answered`, `marked`, `join-samples-right` (Samples); those of BeforeMarks.

@@ -1,63 +1,47 @@
--- The first place of a ring that has no edge code. By induction on the ring: every place before it has an edge code, and if it is a place of the ring, it has none.
--- No other number up to the ring's length has these two properties (`first-by`), so the loop of `first_no_edge`, whose invariant is the first of the two, ends
--- there.
-use Prim.Native.Nat.{ℕ, zero, suc, _+_, _≤_, _<_}
-use mathlib.Core.Path.{_≡_, refl, ap}
-use mathlib.Core.List.{List, [], _∷_}
-use mathlib.Core.Logic.{⊎-elim}
-use native.Mathlib.Nat.{eq-or-lt-of-le}
+-- The first place of a ring that has no edge code. The test `isNoEdge` passes exactly where the code is above 247 (`no-edge-iff`), so what First of crates/meaning
+-- proves of the first number that passes a test holds here in codes: every place before it has an edge code (`first-edges`), and if it is a place of the ring, it
+-- has none (`first-no-edge`).
+use Prim.Native.Nat.{ℕ, _≤_, _<_}
+use mathlib.Core.Path.{_≡_, sym, _∙_}
+use mathlib.Core.Bool.{true, false, false≢true}
+use mathlib.Core.List.{List}
+use mathlib.Core.Logic.{_↔_}
 use native.Mathlib.Omega.{arith}
 use lib.ListN.{length, getD}
-use borrow.Author.Tests.{ltb-true, ltb-false, lt-ltb, le-ltb}
-use Rattle.lists.proofs.Cases.{by-test}
-use Rattle.meaning.specs.EdgeCodes.{edgeCodes, isEdge}
-use Rattle.two_way.specs.Admitting.{firstNoEdge}
+use Rattle.lists.proofs.SizesTested.{lt-iff, not-iff, test-fails}
+use Rattle.meaning.specs.EdgeCodes.{edgeCodes}
+use Rattle.meaning.proofs.First.{first-below, first-by}
+use Rattle.two_way.specs.Admitting.{isNoEdge, firstNoEdge, IsFirstNoEdge}
 
--- q is at most the ring's length, and each place before q has an edge code.
-pub record EdgesBefore (ring : List ℕ) (q : ℕ) : Type 0 where
-  pub place-le : q ≤ length ring
-  pub each : (p : ℕ) → p < q → getD ring p 0 < edgeCodes
+module _ (ring : List ℕ) where
+  -- The test passes at a place exactly when its code is above 247.
+  pub no-edge-iff : (q : ℕ) → (isNoEdge ring q ≡ true) ↔ (edgeCodes ≤ getD ring q 0)
+  no-edge-iff q =
+      let tested = not-iff (lt-iff (getD ring q 0) edgeCodes) in
+      (λ e. omega (arith, tested .0 e), λ h. tested .1 (λ l. omega arith))
 
--- Before place 0 there is none.
-pub none-before : (ring : List ℕ) → EdgesBefore ring 0
-none-before ring = record { place-le = omega arith; each = λ p l. absurd (omega arith) }
+  -- It fails where the code is an edge's.
+  pub edge-fails : (q : ℕ) → getD ring q 0 < edgeCodes → isNoEdge ring q ≡ false
+  edge-fails q edge = sym (test-fails (no-edge-iff q) (λ h. omega arith))
 
--- If the first code is that of an edge, and in the rest each place before q has an edge code, then in the whole ring each place before q + 1 has one.
-begins-with : {code : ℕ} {codes : List ℕ} {q : ℕ} → code < edgeCodes → EdgesBefore codes q → EdgesBefore (code ∷ codes) (suc q)
-begins-with {code} {codes} {q} edge rest = record { place-le = omega (arith, rest .place-le); each = each }
-  where
-    each : (p : ℕ) → p < suc q → getD (code ∷ codes) p 0 < edgeCodes
-    each zero l = edge
-    each (suc p) l = rest .each p (omega arith)
+  -- A place where it fails has an edge code.
+  edge-at : (q : ℕ) → isNoEdge ring q ≡ false → getD ring q 0 < edgeCodes
+  edge-at q fails =
+      let no-more : edgeCodes ≤ getD ring q 0 → ⊥ = λ h. false≢true (sym fails ∙ no-edge-iff q .1 h) in
+      omega arith
 
--- Every place before the first without an edge code has one.
-pub first-edges : (ring : List ℕ) → EdgesBefore ring (firstNoEdge ring)
-unfolding firstNoEdge
-first-edges [] = none-before []
-first-edges (code ∷ codes) =
-    by-test (EdgesBefore (code ∷ codes)) (isEdge code) (λ e. begins-with (ltb-true code edgeCodes e) (first-edges codes)) (λ e. none-before (code ∷ codes))
+  -- Every place before the first without an edge code has one.
+  pub first-edges : (q : ℕ) → q < firstNoEdge ring → getD ring q 0 < edgeCodes
+  unfolding firstNoEdge
+  first-edges q l = edge-at q (first-below .none-before .fails q l)
 
--- The first place without an edge code has none, if it is a place of the ring.
-pub first-no-edge : (ring : List ℕ) → firstNoEdge ring < length ring → edgeCodes ≤ getD ring (firstNoEdge ring) 0
-unfolding firstNoEdge
-first-no-edge [] below = absurd (omega arith)
-first-no-edge (code ∷ codes) below =
-    by-test (λ (q : ℕ). q < length (code ∷ codes) → edgeCodes ≤ getD (code ∷ codes) q 0) (isEdge code) (λ e l. first-no-edge codes (omega arith))
-    (λ e l. ltb-false code edgeCodes e) below
+  -- The first place without an edge code has none, if it is a place of the ring.
+  pub first-no-edge : firstNoEdge ring < length ring → edgeCodes ≤ getD ring (firstNoEdge ring) 0
+  unfolding firstNoEdge
+  first-no-edge below = no-edge-iff (firstNoEdge ring) .0 (first-below .passes below)
 
--- If every place before q has an edge code, and q has none or is past the ring, then q is the first without one.
-pub first-by : (ring : List ℕ) (q : ℕ) → EdgesBefore ring q → (q < length ring → edgeCodes ≤ getD ring q 0) → firstNoEdge ring ≡ q
-unfolding firstNoEdge
-first-by [] zero before ends = refl
-first-by [] (suc q) before ends = absurd (omega (arith, before .place-le))
-first-by (code ∷ codes) zero before ends = rw (le-ltb code edgeCodes (ends (omega arith))) refl
-first-by (code ∷ codes) (suc q) before ends =
-    let rest : EdgesBefore codes q = record { place-le = omega (arith, before .place-le); each = λ p l. before .each (suc p) (omega arith) } in
-    rw (lt-ltb code edgeCodes (before .each 0 (omega arith))) (ap suc (first-by codes q rest (λ l. ends (omega arith))))
-
--- If place q has an edge code too, every place before q + 1 has one.
-pub one-more : {ring : List ℕ} {q : ℕ} → EdgesBefore ring q → q < length ring → getD ring q 0 < edgeCodes → EdgesBefore ring (q + 1)
-one-more {ring} {q} before below edge = record {
-  place-le = omega arith;
-  each = λ p l. ⊎-elim (λ here. rw here edge) (λ earlier. before .each p earlier) (eq-or-lt-of-le (omega arith));
-}
+  -- A place before which all codes are edges, and which has none, is the first without one.
+  pub first-no-edge-by : {q : ℕ} → IsFirstNoEdge ring q → q ≡ firstNoEdge ring
+  unfolding firstNoEdge
+  first-no-edge-by {q} is =
+      first-by (record { place-le = omega (arith, is .in-ring); fails = λ r l. edge-fails r (is .edges-before r l) }) (λ _. no-edge-iff q .1 (is .no-edge))

@@ -19,18 +19,18 @@ use Rattle.findings.specs.declared.admitting.Verdict.the-variants.{Accepted}
 use Rattle.findings.specs.Admitting.{mostRing, mostLine, isRow3, ringRows, IsRingLength, IsVerdict}
 use Rattle.findings.proofs.LimitRows.{IsOwnRow, within-ring, is-room-row, is-row-3, ring-1-iff, ring-12-iff, ring-2-iff, own-row-iff, no-own-row-iff, ring-row-iff, by-ring}
 use Rattle.two_way.specs.Admitting.{twoWayRoom, firstNoEdge, row14, isTwoWayRow4, twoWayRows, IsFirstNoEdge, AllEdges, TwoWayAdmitted, SaysFirstNoEdge}
-use Rattle.two_way.proofs.FirstNoEdge.{first-edges, first-no-edge, first-by}
+use Rattle.two_way.proofs.FirstNoEdge.{first-edges, first-no-edge, first-no-edge-by}
 
 module _ {ring : List ℕ} {place : ℕ} (first : SaysFirstNoEdge ring place) where
   -- What `first_no_edge` returns is the first place without an edge code, if it is a place of the ring.
   pub first-given : place < length ring → IsFirstNoEdge ring place
   first-given below =
       let given : firstNoEdge ring < length ring = omega (arith, first .is) in
-      subst (IsFirstNoEdge ring) (sym (first .is)) (record { in-ring = given; no-edge = first-no-edge ring given; edges-before = first-edges ring .each })
+      subst (IsFirstNoEdge ring) (sym (first .is)) (record { in-ring = given; no-edge = first-no-edge ring given; edges-before = first-edges ring })
 
   -- If it is not, all codes are edges.
   none-first : length ring ≤ place → AllEdges ring
-  none-first past = record { each = λ q l. first-edges ring .each q (omega (arith, first .is)) }
+  none-first past = record { each = λ q l. first-edges ring q (omega (arith, first .is)) }
 
 -- If the verdict on rows 1, 12 and 2 accepts, and no place is without an edge code, then none of rows 1, 12, 2 and 14 is given. P is what follows for rows 3 and 4.
 pub with-edges : {ring : List ℕ} {k place : ℕ} {r : Verdict} {P : Type 0} → IsVerdict (ringRows ring k) r → r ≡ Accepted → SaysFirstNoEdge ring place
@@ -43,7 +43,7 @@ with-edges {ring} {k} verdict accepts first past p =
 pub is-row-14 : (ring : List ℕ) → IsRow (row14 ring) (RingCode (firstNoEdge ring)) (firstNoEdge ring < length ring) (AllEdges ring)
 is-row-14 ring =
     is-row (lt-iff (firstNoEdge ring) (length ring)) (λ all below. omega (arith, all .each (firstNoEdge ring) below, first-no-edge ring below))
-    (λ not. record { each = λ q l. first-edges ring .each q (omega (arith, not)) })
+    (λ not. record { each = λ q l. first-edges ring q (omega (arith, not)) })
 
 -- Row 14 is given with this place exactly when it is "the first such ring place".
 pub row-14-at-iff : (ring : List ℕ) (place : ℕ) → (row14 ring ≡ some (RingCode place)) ↔ IsFirstNoEdge ring place
@@ -53,7 +53,7 @@ row-14-at-iff ring place = (
       let below : firstNoEdge ring < length ring = is-row-14 ring .yes .0 (e ∙ ap (λ (p : ℕ). some (RingCode p)) is) in
       first-given (record { is = is }) (omega arith),
   λ h.
-      let is : firstNoEdge ring ≡ place = first-by ring place (record { place-le = omega (arith, h .in-ring); each = h .edges-before }) (λ _. h .no-edge) in
+      let is : firstNoEdge ring ≡ place = sym (first-no-edge-by ring h) in
       is-row-14 ring .yes .1 (omega (arith, is, h .in-ring)) ∙ ap (λ (p : ℕ). some (RingCode p)) is,
 )
 

@@ -3,20 +3,22 @@
 -- 254.) The line's codes are not tested: there 248 to 254 are no fault, and 255 is a mark.
 --
 --   passes, twoWayRoom    two passes; the words that row 4 requires
---   firstNoEdge           the first ring place that has no edge code; the ring's length if there is none
+--   isNoEdge              whether a ring place has no edge code
+--   firstNoEdge           the first ring place that has none; the ring's length if there is none
 --   row14, isTwoWayRow4   row 14; the test whether row 4 is given
 --   twoWayRows            the rows in their order: 1, 12, 2, 14, 3, 4
 --   IsFirstNoEdge         this place is the first that has no edge code: "place the first such ring place"
 --   AllEdges              row 14 is not given
 --   TwoWayAdmitted        none of these rows is given
 --   SaysFirstNoEdge       the contract of the private `first_no_edge`
-use Prim.Native.Nat.{ℕ, suc, _+_, _-_, _*_, _≤_, _<_}
+use Prim.Native.Nat.{ℕ, _+_, _-_, _*_, _≤_, _<_}
 use mathlib.Core.Path.{_≡_}
-use mathlib.Core.Bool.{Bool, cond, _&&_}
+use mathlib.Core.Bool.{Bool, not, _&&_}
 use mathlib.Core.List.{List, [], _∷_, _++_}
 use mathlib.Core.Option.{Option}
 use lib.Dec.{ltb, leb}
 use lib.ListN.{length, getD}
+use Rattle.meaning.specs.Counting.{firstBelow}
 use Rattle.meaning.specs.Meanings.{HoldsMark}
 use Rattle.meaning.specs.Findings.{wordsEach}
 use Rattle.meaning.specs.EdgeCodes.{edgeCodes, isEdge}
@@ -33,10 +35,13 @@ passes = 2
 abbrev pub twoWayRoom : ℕ → ℕ → ℕ
 twoWayRoom m n = passes * wordsEach * (n - m + 1)
 
+-- "a ring code above 247": whether place q of the ring has no edge code.
+abbrev pub isNoEdge : List ℕ → ℕ → Bool
+isNoEdge ring q = not (isEdge (getD ring q 0))
+
 -- The first place of the ring that has no edge code; the ring's length if every place has one.
 unfoldable pub firstNoEdge : List ℕ → ℕ
-firstNoEdge [] = 0
-firstNoEdge (code ∷ codes) = cond (isEdge code) (suc (firstNoEdge codes)) 0
+firstNoEdge ring = firstBelow (isNoEdge ring) (length ring)
 
 -- Row 14: "a ring code above 247, place the first such ring place".
 abbrev pub row14 : List ℕ → Option Refusal

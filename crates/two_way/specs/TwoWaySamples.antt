@@ -3,7 +3,7 @@ use mathlib.Core.Path.{_≡_, refl}
 use mathlib.Core.List.{List, [], _∷_}
 use mathlib.Core.Option.{none, some}
 use Rattle.lists.specs.ByPlace.{listOf}
-use Rattle.meaning.specs.Counting.{count, lowest, someBelow}
+use Rattle.meaning.specs.Counting.{count, lowest, someBelow, firstFrom}
 use Rattle.meaning.specs.Meanings.{window, holdsMark, differs, distance, lowestRotation, rotationsReaching}
 use Rattle.meaning.specs.Findings.{foundAt, findingsBelow}
 use Rattle.meaning.specs.Stretch.{begins, fits}
@@ -27,7 +27,7 @@ pub row-samples-right : (firstGiven (twoWayRows (255 ∷ []) 0 0 0) ≡ some Rin
     × (firstGiven (twoWayRows (247 ∷ []) 0 1 7) ≡ some FindingsRoom)
     × (firstGiven (twoWayRows (247 ∷ []) 0 1 8) ≡ none)
     × (firstGiven (twoWayRows (247 ∷ []) 0 0 0) ≡ none)
-unfolding twoWayRows ringRows firstNoEdge holdsMark someBelow firstGiven
+unfolding twoWayRows ringRows firstNoEdge firstFrom holdsMark someBelow firstGiven
 row-samples-right = (refl, refl, refl, refl, refl, refl, refl, refl)
 
 -- Ring 0 in the line 0, 4 with k = 0: forward start 0, backward start 1, 3 looks each. A square of class 3, drawn north, east, south, west, and the same drawn the
