@@ -98,3 +98,12 @@ module _ {C : Type 0} (zeros counts : C) (o : Option Refusal) {p : Paper C} (pap
       by-row : (o : Option Refusal) → ((q : Refusal) → o ≡ some q → placeOf q ≡ 0) → answerPaper zeros (answerBy o counts) .place ≡ 0
       by-row none each = refl
       by-row (some q) each = each q refl
+
+  -- If every row that can be given has place 0, except those with one number, an answer with another number has place 0.
+  pub place-unless : (its-number : ℕ) → ((q : Refusal) → o ≡ some q → (numberOf q ≡ its-number → ⊥) → placeOf q ≡ 0) → (p .number ≡ its-number → ⊥) → p .place ≡ 0
+  place-unless its-number each other = ap (λ (x : Paper C). x .place) paper ∙ by-row o each (λ is. other (number-is ∙ is))
+    where
+      by-row : (o : Option Refusal) → ((q : Refusal) → o ≡ some q → (numberOf q ≡ its-number → ⊥) → placeOf q ≡ 0)
+          → (answerPaper zeros (answerBy o counts) .number ≡ its-number → ⊥) → answerPaper zeros (answerBy o counts) .place ≡ 0
+      by-row none each other = refl
+      by-row (some q) each other = each q refl other
