@@ -34,7 +34,7 @@ use Rattle.silences.proofs.PackRows.{is-row-8, is-room-row, packed-accepted-iff
 use Rattle.book.specs.Calls.{recordsPaper}
 use Rattle.outlines.specs.Report.{ReportCounts, noReportCounts}
 use Rattle.exports.specs.declared.answering.Answer.{Answer as AnswerStruct}
-use Rattle.exports.specs.Exported.{paperInStruct, recordsInStruct, IsExported, IsPackExported, IsUnpackExported}
+use Rattle.exports.specs.Exported.{paperInStruct, oneCountInStruct, IsExported, IsPackExported, IsUnpackExported}
 use Rattle.exports.specs.Demands.{rowOf, bookTable, packTable, UnpackDemand2, PackDemand2, GivesBack, ReadsBack, UnpackMeets, PackMeets}
 use Rattle.exports.proofs.RowsAgree.{Agrees, AllAgree, agree-append, row-agrees, faults-agree, demand-1-met}
 
@@ -45,7 +45,7 @@ record GivesRecords (output : List Silence → List ℕ) (ss : List Silence) (ar
   written-is : out ≡ written (output ss) area
 
 module _ (output : List Silence → List ℕ) (a : Answer (List Silence)) (area : List ℕ) {out : List ℕ} {r : AnswerStruct}
-    (e : IsExported (paperInStruct recordsInStruct (recordsPaper a)) (areaAtExit output a area) r out) where
+    (e : IsExported (paperInStruct oneCountInStruct (recordsPaper a)) (areaAtExit output a area) r out) where
   -- where the definition accepts with silences, the call is accepted, returns their number and writes their output
   gives-records : (ss : List Silence) → a ≡ accepted ss → GivesRecords output ss area r out
   gives-records ss is = record {
@@ -157,7 +157,7 @@ unpack-pack book area {out} {r} bytes e zero-is few area′ {out′} {r′} room
 
 -- the paper of pack and unpack in the struct, by the first row that is given
 records-by : (o : Option Refusal) (ss : List Silence)
-    → paperInStruct recordsInStruct (recordsPaper (answerBy o ss)) ≡ answerPaper noReportCounts (answerBy o (recordsInStruct (length ss)))
+    → paperInStruct oneCountInStruct (recordsPaper (answerBy o ss)) ≡ answerPaper noReportCounts (answerBy o (oneCountInStruct (length ss)))
 records-by none ss = refl
 records-by (some q) ss = refl
 

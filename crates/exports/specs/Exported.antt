@@ -4,7 +4,7 @@
 --
 --   paperOf                              the number, place and counts that the struct of five numbers stands for
 --   searchInStruct                       "found and looks"; a search counts nothing hidden
---   recordsInStruct                      "the number of records", as found
+--   oneCountInStruct                     one number, as found: "the number of records"
 --   paperInStruct                        a paper with its counts as the struct holds them
 --   IsExported                           the contract that the five calls with one lent area and that struct share: its paper, and the area at exit
 --   IsSearchExported                     the same for a search, for its rows and its looks
@@ -48,9 +48,9 @@ paperOf a = record { number = a .refusal; place = a .place; counts = record { fo
 abbrev pub searchInStruct : Counts → ReportCounts
 searchInStruct c = record { found = c .found; hidden = 0; looks = c .looks }
 
--- "Packer and unpacker return the number of records": they stand in found, and the rest is 0.
-abbrev pub recordsInStruct : ℕ → ReportCounts
-recordsInStruct records = record { found = records; hidden = 0; looks = 0 }
+-- A call that counts one thing has that number in found, and the rest is 0: "Packer and unpacker return the number of records".
+abbrev pub oneCountInStruct : ℕ → ReportCounts
+oneCountInStruct counted = record { found = counted; hidden = 0; looks = 0 }
 
 -- A paper with its counts as the struct holds them; number and place stay.
 abbrev pub paperInStruct : {C : Type 0} → (C → ReportCounts) → Paper C → Paper ReportCounts
@@ -86,12 +86,12 @@ IsReportExported cell ringNumber ring line k book words r out = IsReportExported
 -- The contract of `outlines_pack`. `area` is the area lent for the book, `out` the same at exit.
 abbrev pub IsPackExported : List ℕ → List ℕ → AnswerStruct → List ℕ → Type 0
 IsPackExported words area r out =
-    IsExported (paperInStruct recordsInStruct (recordsPaper (packed words (length area)))) (areaAtExit layout (packed words (length area)) area) r out
+    IsExported (paperInStruct oneCountInStruct (recordsPaper (packed words (length area)))) (areaAtExit layout (packed words (length area)) area) r out
 
 -- The contract of `outlines_unpack`. `area` is the area lent for the words, `out` the same at exit.
 abbrev pub IsUnpackExported : List ℕ → List ℕ → AnswerStruct → List ℕ → Type 0
 IsUnpackExported book area r out =
-    IsExported (paperInStruct recordsInStruct (recordsPaper (unpacked book (length area)))) (areaAtExit wordsOfSilences (unpacked book (length area)) area) r out
+    IsExported (paperInStruct oneCountInStruct (recordsPaper (unpacked book (length area)))) (areaAtExit wordsOfSilences (unpacked book (length area)) area) r out
 
 -- The contract of an exported call on a closed line (document 02, ticket 3): the returned struct has this paper, the words hold `words-given` at exit, and
 -- the join area holds `join-given`.

@@ -12,7 +12,7 @@ ghost use Rattle.answers.specs.Paper.{answerPaper, refused};
 ghost use Rattle.book.specs.Calls.{paperOf as bookPaperOf};
 ghost use Rattle.findings.specs.Searching.{paperOf as searchPaperOf};
 ghost use Rattle.outlines.specs.Report.{noReportCounts, paperOf as reportPaperOf};
-ghost use Rattle.exports.specs.Exported.{paperOf, searchInStruct, recordsInStruct, paperInStruct};
+ghost use Rattle.exports.specs.Exported.{paperOf, searchInStruct, oneCountInStruct, paperInStruct};
 
 // What every exported call but the two-way scan returns. `refusal` is 0 where the call is accepted. A count that a call does
 // not have is 0; pack and unpack return the number of records in `found`.
@@ -82,7 +82,7 @@ pub fn report_answer(reported: Reported) -> Answer
 // The answer of pack and unpack.
 pub fn book_answer(answer: BookAnswer) -> Answer
     requires { ⌜ bookPaperOf answer .place < 2 ^ 32 ⌝ }
-    ensures { λ r. ⌜ paperOf r ≡ paperInStruct recordsInStruct (bookPaperOf answer) ⌝ }
+    ensures { λ r. ⌜ paperOf r ≡ paperInStruct oneCountInStruct (bookPaperOf answer) ⌝ }
 {
     match answer {
         BookAnswer::Records(records) => Answer {
