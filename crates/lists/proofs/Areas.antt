@@ -1,19 +1,28 @@
 -- An area after numbers are written into it. Written at its beginning, they stand at the front, the rest is as it was, and more can be stored behind them.
 -- Written from any place on, two parts may be written one after the other (`writtenAt-append`), or the last number may be stored first (`writtenAt-last`): so a
 -- writer may go forwards or backwards.
-use Prim.Native.Nat.{ℕ, suc, _+_, _≤_, _<_}
+use Prim.Native.Nat.{ℕ, suc, _+_, _-_, _≤_, _<_}
 use mathlib.Core.Path.{_≡_, refl, sym, ap, _∙_}
 use mathlib.Core.List.{List, [], _∷_, _++_, append-assoc}
+use mathlib.Core.Logic.{dite}
+use native.Mathlib.Decide.{decLt}
 use native.Mathlib.Omega.{arith}
-use lib.ListN.{length, getD, take, drop, set, length-append, length-drop, take-append-drop}
-use lib.Seq.{sets, sets-eq, take-at, drop-at, getD-append-add, getD-drop, take-append-seam, drop-append-add, drop-drop, length-take-le, append-snoc, set-split, take-set-le, drop-set-add}
+use lib.ListN.{length, getD, take, drop, set, length-append, length-drop, take-append-drop, List·getD-append}
+use lib.Seq.{sets, sets-eq, take-at, drop-at, getD-append-add, getD-drop, take-append-seam, drop-append-add, drop-drop, length-take-le, append-snoc, set-split, take-set-le, drop-set-add, ext-getD}
 use Rattle.lists.specs.Areas.{written, writtenAt}
+use Rattle.lists.specs.ByPlace.{listOf, StoredFirst}
+use Rattle.lists.proofs.ByPlace.{listOf-length, listOf-at}
 
 module _ (numbers area : List ℕ) where
   -- If the numbers fit, the area keeps its length.
   pub written-length : length numbers ≤ length area → length (written numbers area) ≡ length area
   unfolding written
   written-length h = simp (length-append, length-drop) (omega arith)
+
+  -- At the front stand the numbers.
+  pub written-at : (p : ℕ) → p < length numbers → getD (written numbers area) p 0 ≡ getD numbers p 0
+  unfolding written
+  written-at p l = List·getD-append numbers (drop (length numbers) area) 0 p l
 
   -- "Words after the last one written keep their values."
   pub written-rest : (j : ℕ) → getD (written numbers area) (length numbers + j) 0 ≡ getD area (length numbers + j) 0
@@ -29,6 +38,19 @@ module _ (numbers area : List ℕ) where
   pub written-le : {out : List ℕ} → out ≡ written numbers area → length numbers ≤ length out
   unfolding written
   written-le is = omega (arith, ap length is, length-append numbers (drop (length numbers) area))
+
+-- A loop that has stored f p at each of the first m places p of an area has written these m numbers at its beginning.
+pub stored-written : {m : ℕ} {f : ℕ → ℕ} {area out : List ℕ} → StoredFirst m f area out → m ≤ length area → out ≡ written (listOf m f) area
+stored-written {m} {f} {area} {out} stored room =
+    let numbers : List ℕ = listOf m f in
+    let size : length numbers ≡ m = listOf-length m f in
+    ext-getD 0 out (written numbers area) (stored .size ∙ sym (written-length numbers area (omega arith)))
+    (λ p l.
+    dite (decLt p m)
+    (λ before. stored .first p before ∙ sym (written-at numbers area p (omega arith) ∙ listOf-at m f p before))
+    (λ behind.
+    let place : length numbers + (p - m) ≡ p = omega (arith, behind) in
+    stored .rest p (omega (arith, behind)) ∙ sym (rw place at (written-rest numbers area (p - m)))))
 
 -- With a written at the beginning, storing b right behind it gives the area with a ++ b written, if both fit.
 pub written-more : (a b area : List ℕ) → length a + length b ≤ length area → sets (written a area) (length a) b ≡ written (a ++ b) area

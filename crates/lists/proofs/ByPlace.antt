@@ -30,3 +30,7 @@ pub listOf-is : (xs : List ℕ) (n : ℕ) (f : ℕ → ℕ) → length xs ≡ n 
 listOf-is xs n f size each =
     ext-getD 0 xs (listOf n f) (size ∙ sym (listOf-length n f))
     (λ p l. each p (omega arith) ∙ sym (listOf-at n f p (omega arith)))
+
+-- If two functions agree at every place below n, they give the same list.
+pub listOf-same : (n : ℕ) {f g : ℕ → ℕ} → ((p : ℕ) → p < n → f p ≡ g p) → listOf n f ≡ listOf n g
+listOf-same n {f} {g} same = listOf-is (listOf n f) n g (listOf-length n f) (λ p l. listOf-at n f p l ∙ same p l)
