@@ -8,7 +8,7 @@ use native.Mathlib.Omega.{arith}
 use lib.Dec.{eqb}
 use borrow.Author.Tests.{ne-eqb}
 use Rattle.answers.specs.declared.refusals.Refusal.{Refusal}
-use Rattle.answers.specs.declared.refusals.Refusal.the-variants.{Ring, Allowance, Line, FindingsRoom, BookLength, Field, NotAbove, WordCount, NumberInRecord, OutputRoom, Input, RingMark, RingCode}
+use Rattle.answers.specs.declared.refusals.Refusal.the-variants.{Ring, Allowance, Line, FindingsRoom, BookLength, Field, NotAbove, WordCount, NumberInRecord, OutputRoom, Input, RingMark, RingCode, VertexCount, EqualNeighbours}
 use Rattle.answers.specs.declared.places.RingPlace.{RingPlace}
 use Rattle.answers.specs.declared.places.LinePlace.{LinePlace}
 use Rattle.answers.specs.Refusals.{numberOf, placeOf, IsNumber, IsPlace}
@@ -29,7 +29,9 @@ refusalOf number place =
     (cond (eqb number 9) (NumberInRecord place)
     (cond (eqb number 10) OutputRoom
     (cond (eqb number 11) (Input place)
-    (cond (eqb number 12) RingMark (RingCode place))))))))))))
+    (cond (eqb number 12) RingMark
+    (cond (eqb number 14) (RingCode place)
+    (cond (eqb number 15) VertexCount (EqualNeighbours place))))))))))))))
 
 -- From its number and place a refusal is computed back.
 refusal-back : (r : Refusal) → refusalOf (numberOf r) (placeOf r) ≡ r
@@ -47,13 +49,15 @@ refusal-back OutputRoom = refl
 refusal-back (Input place) = refl
 refusal-back RingMark = refl
 refusal-back (RingCode place) = refl
+refusal-back VertexCount = refl
+refusal-back (EqualNeighbours place) = refl
 
 -- Number and place determine the refusal.
 pub refusal-unique : (a b : Refusal) → numberOf a ≡ numberOf b → placeOf a ≡ placeOf b → a ≡ b
 refusal-unique a b n p = sym (refusal-back a) ∙ ap₂ refusalOf n p ∙ refusal-back b
 
--- The numbers of refusals are among 1 to 14.
-pub number-in : (r : Refusal) → (1 ≤ numberOf r) × (numberOf r ≤ 14)
+-- The numbers of refusals are among 1 to 16.
+pub number-in : (r : Refusal) → (1 ≤ numberOf r) × (numberOf r ≤ 16)
 number-in Ring = omega arith
 number-in Allowance = omega arith
 number-in Line = omega arith
@@ -67,6 +71,8 @@ number-in OutputRoom = omega arith
 number-in (Input place) = omega arith
 number-in RingMark = omega arith
 number-in (RingCode place) = omega arith
+number-in VertexCount = omega arith
+number-in (EqualNeighbours place) = omega arith
 
 module _ {C : Type 0} (zeros : C) where
   -- The answer that has this paper.

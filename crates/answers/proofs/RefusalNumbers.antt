@@ -5,18 +5,19 @@ use mathlib.Core.Logic.{_↔_}
 use mathlib.Core.Path.{_≡_, refl, sym, ap, subst, _∙_}
 use native.Mathlib.Omega.{arith}
 use Rattle.answers.specs.declared.refusals.Refusal.{Refusal}
-use Rattle.answers.specs.declared.refusals.Refusal.the-variants.{Ring, Allowance, Line, FindingsRoom, BookLength, Field, NotAbove, WordCount, NumberInRecord, OutputRoom, Input, RingMark, RingCode}
+use Rattle.answers.specs.declared.refusals.Refusal.the-variants.{Ring, Allowance, Line, FindingsRoom, BookLength, Field, NotAbove, WordCount, NumberInRecord, OutputRoom, Input, RingMark, RingCode, VertexCount, EqualNeighbours}
 use Rattle.answers.specs.Refusals.{numberOf, placeOf}
 use Rattle.answers.specs.Paper.{Answer, accepted, refused, Paper, answerPaper}
 use Rattle.answers.proofs.OneAnswer.{refusal-unique, number-in}
 
--- The table's place for this number is always 0: only rows 6, 7, 9, 11 and 14 give another place.
+-- The table's place for this number is always 0: only rows 6, 7, 9, 11, 14 and 16 give another place.
 pub record HasNoPlace (number : ℕ) : Type 0 where
   pub not-6 : number ≡ 6 → ⊥
   pub not-7 : number ≡ 7 → ⊥
   pub not-9 : number ≡ 9 → ⊥
   pub not-11 : number ≡ 11 → ⊥
   pub not-14 : number ≡ 14 → ⊥
+  pub not-16 : number ≡ 16 → ⊥
 
 -- Such a refusal has place 0.
 place-zero : (r : Refusal) → HasNoPlace (numberOf r) → placeOf r ≡ 0
@@ -33,6 +34,8 @@ place-zero OutputRoom h = refl
 place-zero (Input place) h = absurd (h .not-11 refl)
 place-zero RingMark h = refl
 place-zero (RingCode place) h = absurd (h .not-14 refl)
+place-zero VertexCount h = refl
+place-zero (EqualNeighbours place) h = absurd (h .not-16 refl)
 
 module _ {C : Type 0} (zeros : C) where
   -- If the paper of an answer has the number and place of q, the answer is the refusal q.

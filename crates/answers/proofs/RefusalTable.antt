@@ -1,5 +1,5 @@
--- Document 01's table and rows 12 and 14 of document 02 once more, as rows of name, number and place, and a test that the definitions give each row. antt
--- computes it, so a wrong number or place in the definitions is refused here. Rows 6, 7, 9, 11 and 14 have five different places, so that no two can be
+-- Document 01's table and rows 12, 14, 15 and 16 of document 02 once more, as rows of name, number and place, and a test that the definitions give each row.
+-- antt computes it, so a wrong number or place in the definitions is refused here. Rows 6, 7, 9, 11, 14 and 16 have six different places, so that no two can be
 -- confused.
 use Prim.Native.Nat.{ℕ}
 use mathlib.Core.Path.{_≡_, refl}
@@ -7,7 +7,7 @@ use mathlib.Core.Bool.{Bool, true, _&&_}
 use mathlib.Core.List.{List, [], _∷_}
 use lib.Dec.{eqb}
 use Rattle.answers.specs.declared.refusals.Refusal.{Refusal}
-use Rattle.answers.specs.declared.refusals.Refusal.the-variants.{Ring, Allowance, Line, FindingsRoom, BookLength, Field, NotAbove, WordCount, NumberInRecord, OutputRoom, Input, RingMark, RingCode}
+use Rattle.answers.specs.declared.refusals.Refusal.the-variants.{Ring, Allowance, Line, FindingsRoom, BookLength, Field, NotAbove, WordCount, NumberInRecord, OutputRoom, Input, RingMark, RingCode, VertexCount, EqualNeighbours}
 use Rattle.answers.specs.Refusals.{numberOf, placeOf}
 
 -- A row: the refusal's name, its number, its place.
@@ -39,6 +39,8 @@ table =
     ∷ tableRow (Input 27) 11 27
     ∷ tableRow RingMark 12 0
     ∷ tableRow (RingCode 3) 14 3
+    ∷ tableRow VertexCount 15 0
+    ∷ tableRow (EqualNeighbours 4095) 16 4095
     ∷ []
 
 -- The definitions give every row of the table.

@@ -1,19 +1,19 @@
--- Document 01, "What each call returns": the table of refusals, rows 1 to 11, and of document 02 row 12 (ticket 2) and row 14 (ticket 6). This file
--- gives the number and the place of each refusal. Each call defines when its rows are given.
+-- Document 01, "What each call returns": the table of refusals, rows 1 to 11, and of document 02 row 12 (ticket 2), row 14 (ticket 6) and rows 15 and 16
+-- (ticket 7). This file gives the number and the place of each refusal. Each call defines when its rows are given.
 --
 --   numberOf             the column "No."
 --   placeOf              the column "Place"
 --   numberOfRow          the number of a row, if the rows are counted from 1
 --   IsNumber, IsPlace    the contracts of `number_of` and `place_of`
 --
--- A refusal whose place is always 0 holds no place. All 13 rows built so far are here, 1 to 12 and 14, and no
+-- A refusal whose place is always 0 holds no place. All 15 rows built so far are here, 1 to 12 and 14 to 16, and no
 -- other. Row 13 comes with ticket 9.
 use Prim.Native.Nat.{ℕ, _+_}
 use mathlib.Core.Path.{_≡_}
 use mathlib.Core.Bool.{cond}
 use lib.Dec.{ltb}
 use Rattle.answers.specs.declared.refusals.Refusal.{Refusal}
-use Rattle.answers.specs.declared.refusals.Refusal.the-variants.{Ring, Allowance, Line, FindingsRoom, BookLength, Field, NotAbove, WordCount, NumberInRecord, OutputRoom, Input, RingMark, RingCode}
+use Rattle.answers.specs.declared.refusals.Refusal.the-variants.{Ring, Allowance, Line, FindingsRoom, BookLength, Field, NotAbove, WordCount, NumberInRecord, OutputRoom, Input, RingMark, RingCode, VertexCount, EqualNeighbours}
 
 -- The number of a refusal. Above each case stands the table's sentence for that row.
 abbrev pub numberOf : Refusal → ℕ
@@ -36,7 +36,8 @@ numberOf (NotAbove place) = 7
 numberOf WordCount = 8
 -- "a ring number to pack is above 65,535"; "9 also for a ceiling above 65,535" (document 02, ticket 4)
 numberOf (NumberInRecord place) = 9
--- "packing or unpacking lacks room for its whole output"; on a closed line, "when the join area is below 2·m − 2 bytes and n ≥ m" (document 02, ticket 3)
+-- "packing or unpacking lacks room for its whole output"; on a closed line, "when the join area is below 2·m − 2 bytes and n ≥ m" (document 02, ticket 3); importing
+-- vertices, "10 for room" (ticket 7)
 numberOf OutputRoom = 10
 -- "the program's input isn't as laid down below"
 numberOf (Input place) = 11
@@ -44,6 +45,10 @@ numberOf (Input place) = 11
 numberOf RingMark = 12
 -- "a ring code above 247" (document 02, ticket 6)
 numberOf (RingCode place) = 14
+-- "an odd count of numbers, or fewer than 3 or more than 4,096 vertices" (document 02, ticket 7)
+numberOf VertexCount = 15
+-- "two equal neighbours" (document 02, ticket 7)
+numberOf (EqualNeighbours place) = 16
 
 -- The place of a refusal. Above each case stand the row's number and the table's words; for row 11 the words of "The report program".
 abbrev pub placeOf : Refusal → ℕ
@@ -73,8 +78,13 @@ placeOf (Input place) = place
 placeOf RingMark = 0
 -- 14: "place the first such ring place" (document 02, ticket 6)
 placeOf (RingCode place) = place
+-- 15: "place 0" (document 02, ticket 7)
+placeOf VertexCount = 0
+-- 16: "place the first of the earliest pair, from 0 (the last vertex for the closing pair)" (document 02, ticket 7)
+placeOf (EqualNeighbours place) = place
 
--- The number of a row, if the rows are counted from 1. No row has number 13 yet, so the 13th row has number 14.
+-- The number of a row, if the rows are counted from 1. No row has number 13 yet, so the 13th row has number 14, and
+-- so on.
 abbrev pub numberOfRow : ℕ → ℕ
 numberOfRow row = cond (ltb row 13) row (row + 1)
 

@@ -1,5 +1,5 @@
-// Document 01's table of refusals and rows 12 and 14 of document 02: a name for each row, its number and its place. A variant
-// holds a place if the table gives one that is not always 0.
+// Document 01's table of refusals and rows 12, 14, 15 and 16 of document 02: a name for each row, its number and its place.
+// A variant holds a place if the table gives one that is not always 0.
 ghost use mathlib.Core.Path.{_≡_};
 ghost use Rattle.answers.specs.Refusals.{numberOf, numberOfRow, IsNumber, IsPlace};
 
@@ -29,8 +29,8 @@ pub enum Refusal {
     // 9: a number of a record to pack, its ring number or its ceiling (document 02, ticket 4), is above 65,535; record
     // number
     NumberInRecord(usize),
-    // 10: packing or unpacking lacks room for its whole output, or on a closed line n ≥ m and the join area is below
-    // 2·m − 2 bytes (document 02, ticket 3)
+    // 10: packing, unpacking or importing vertices (document 02, ticket 7) lacks room for its whole output, or on a closed
+    // line n ≥ m and the join area is below 2·m − 2 bytes (ticket 3)
     OutputRoom,
     // 11: the program's input isn't as laid down; the offset where the first such field begins or should begin, or 0 if
     // the input is too long
@@ -39,6 +39,10 @@ pub enum Refusal {
     RingMark,
     // 14: a ring code above 247 (document 02, ticket 6); the first such ring place
     RingCode(usize),
+    // 15: an odd count of numbers, or fewer than 3 or more than 4,096 vertices (document 02, ticket 7)
+    VertexCount,
+    // 16: two equal neighbours among the vertices (document 02, ticket 7); the first of the earliest pair, from 0
+    EqualNeighbours(usize),
 }
 
 // The row of a refusal, counted from 1 in the order of the enum. Up to row 12 it is the refusal's number.
@@ -59,6 +63,8 @@ fn row_of(refusal: Refusal) -> usize
         Refusal::Input(_) => 11,
         Refusal::RingMark => 12,
         Refusal::RingCode(_) => 13,
+        Refusal::VertexCount => 14,
+        Refusal::EqualNeighbours(_) => 15,
     }
 }
 
@@ -81,6 +87,7 @@ pub fn place_of(refusal: Refusal) -> usize
         Refusal::NumberInRecord(place) => place,
         Refusal::Input(place) => place,
         Refusal::RingCode(place) => place,
+        Refusal::EqualNeighbours(place) => place,
         Refusal::Ring => 0,
         Refusal::Allowance => 0,
         Refusal::Line => 0,
@@ -89,5 +96,6 @@ pub fn place_of(refusal: Refusal) -> usize
         Refusal::WordCount => 0,
         Refusal::OutputRoom => 0,
         Refusal::RingMark => 0,
+        Refusal::VertexCount => 0,
     }
 }
