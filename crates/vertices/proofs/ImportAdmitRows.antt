@@ -1,0 +1,90 @@
+-- When each of the rows of `import_vertices`, 15, 16, 10, is the first that is given: when its condition holds and no row before it is given (RowsExactly of
+-- crates/answers). `is-row-15`, `is-row-16` and `is-row-10` state when each is given and when it is not.
+use Prim.Native.Nat.{ℕ, _/_, _%_, _≤_, _<_}
+use mathlib.Core.Path.{_≡_, sym, ap, subst, _∙_}
+use mathlib.Core.Logic.{_↔_, _⊎_, inl, inr, ⊎-elim}
+use mathlib.Core.List.{List}
+use mathlib.Core.Option.{none, some}
+use native.Mathlib.Omega.{arith}
+use lib.Dec.{ltb}
+use lib.IntN.{ℤ}
+use lib.ListN.{length}
+use Rattle.lists.proofs.SizesTested.{lt-iff, eq-iff, or-iff}
+use Rattle.answers.specs.declared.refusals.Refusal.{Refusal}
+use Rattle.answers.specs.declared.refusals.Refusal.the-variants.{OutputRoom, VertexCount, EqualNeighbours}
+use Rattle.answers.specs.Refusals.{placeOf}
+use Rattle.answers.specs.Rows.{row, firstGiven}
+use Rattle.answers.proofs.RowsExactly.{IsRow, is-row, end, row-has, first-has, at-row, at-fault, past-row, no-row, no-last-row}
+use Rattle.vertices.specs.Boundary.{vertexCount, firstRepeat, IsFirstRepeat, NoRepeat}
+use Rattle.vertices.specs.Importing.{mostVertices, isRow15, row16, importRows}
+use Rattle.vertices.specs.ImportRows.{IsVertexCount}
+use Rattle.vertices.proofs.Repeats.{first-repeat-is, no-repeat-by, first-repeat-by}
+
+-- "an odd count of numbers, or fewer than 3 or more than 4,096 vertices".
+abbrev pub HasWrongCount : ℕ → Type 0
+HasWrongCount count = (count % 2 ≡ 1) ⊎ ((count / 2 < 3) ⊎ (4096 < count / 2))
+
+-- Row 15 is given exactly when the count is wrong, and not given exactly when it is even, and of 3 to 4,096 vertices.
+pub is-row-15 : (count : ℕ) → IsRow (row (isRow15 count) VertexCount) VertexCount (HasWrongCount count) (IsVertexCount count)
+is-row-15 count =
+    is-row (or-iff (eq-iff (count % 2) 1) (or-iff (lt-iff (count / 2) 3) (lt-iff mostVertices (count / 2))))
+    (λ fits. ⊎-elim (λ odd. omega (arith, fits .even)) (⊎-elim (λ few. omega (arith, fits .fewest)) (λ many. omega (arith, fits .most))))
+    (λ not.
+    let not-odd : count % 2 ≡ 1 → ⊥ = λ odd. not (inl odd) in
+    let not-few : count / 2 < 3 → ⊥ = λ few. not (inr (inl few)) in
+    let not-many : 4096 < count / 2 → ⊥ = λ many. not (inr (inr many)) in
+    record { even = omega arith; fewest = omega arith; most = omega arith })
+
+module _ (numbers : List ℤ) where
+  -- Row 16 is given exactly when the first of the earliest pair is a vertex, and not given exactly when no two neighbours are equal.
+  pub is-row-16 : IsRow (row16 numbers) (EqualNeighbours (firstRepeat numbers)) (firstRepeat numbers < vertexCount numbers) (NoRepeat numbers)
+  is-row-16 =
+      is-row (lt-iff (firstRepeat numbers) (vertexCount numbers)) (λ no-repeat below. no-repeat .none (firstRepeat numbers) below (first-repeat-is numbers below .repeat))
+      (λ not. no-repeat-by numbers (omega (arith, not)))
+
+  -- Row 16 is given with this place exactly when it is "the first of the earliest pair".
+  pub row-16-at-iff : (place : ℕ) → (row16 numbers ≡ some (EqualNeighbours place)) ↔ IsFirstRepeat numbers place
+  row-16-at-iff place = (
+    λ e.
+        let is : place ≡ firstRepeat numbers = ap placeOf (is-row-16 .only (EqualNeighbours place) e) in
+        let below : firstRepeat numbers < vertexCount numbers = is-row-16 .yes .0 (e ∙ ap (λ (p : ℕ). some (EqualNeighbours p)) is) in
+        subst (IsFirstRepeat numbers) (sym is) (first-repeat-is numbers below),
+    λ h.
+        let is : firstRepeat numbers ≡ place = sym (first-repeat-by numbers h) in
+        is-row-16 .yes .1 (omega (arith, is, h .in-boundary)) ∙ ap (λ (p : ℕ). some (EqualNeighbours p)) is,
+  )
+
+  module _ (room : ℕ) where
+    -- Row 10 is given exactly when fewer bytes are lent than there are vertices.
+    pub is-row-10 : IsRow (row (ltb room (vertexCount numbers)) OutputRoom) OutputRoom (room < vertexCount numbers) (vertexCount numbers ≤ room)
+    is-row-10 = is-row (lt-iff room (vertexCount numbers)) (λ enough few. omega arith) (λ not. omega arith)
+
+    -- Row 15 is the first exactly when the count is wrong.
+    pub import-15-iff : (firstGiven (importRows numbers room) ≡ some VertexCount) ↔ HasWrongCount (length numbers)
+    unfolding importRows
+    import-15-iff = at-row (is-row-15 (length numbers)) (row-has is-row-16 (omega arith) (row-has is-row-10 (omega arith) end)) .exactly
+
+    -- Row 16 is the first with this place exactly when it is the first of the earliest pair, and row 15 is not given.
+    pub import-16-iff : (place : ℕ) → (firstGiven (importRows numbers room) ≡ some (EqualNeighbours place)) ↔ (IsVertexCount (length numbers) × IsFirstRepeat numbers place)
+    unfolding importRows
+    import-16-iff place = past-row (is-row-15 (length numbers)) (omega arith) (at-fault (row-16-at-iff place) (row-has is-row-10 (omega arith) end)) .exactly
+
+    -- Row 10 is the first exactly when fewer bytes are lent than there are vertices, and rows 15 and 16 are not given.
+    pub import-10-iff : (firstGiven (importRows numbers room) ≡ some OutputRoom) ↔ (IsVertexCount (length numbers) × (NoRepeat numbers × (room < vertexCount numbers)))
+    unfolding importRows
+    import-10-iff = past-row (is-row-15 (length numbers)) (omega arith) (past-row is-row-16 (omega arith) (at-row is-row-10 end)) .exactly
+
+    -- None of these rows is given exactly when the count is right, no two neighbours are equal, and there is a byte for each vertex.
+    pub import-none-iff : (firstGiven (importRows numbers room) ≡ none) ↔ (IsVertexCount (length numbers) × (NoRepeat numbers × (vertexCount numbers ≤ room)))
+    unfolding importRows
+    import-none-iff = no-row (is-row-15 (length numbers)) (no-row is-row-16 (no-last-row is-row-10)) .exactly
+
+    -- If P holds for each row's refusal, for row 16 with a place of a boundary of at most 4,096 vertices, then P holds for the refusal of the first row that is given.
+    pub import-row-has : (P : Refusal → Type 0) → P VertexCount → ((place : ℕ) → place < mostVertices → P (EqualNeighbours place)) → P OutputRoom → (q : Refusal)
+        → firstGiven (importRows numbers room) ≡ some q → P q
+    unfolding importRows
+    import-row-has P fifteen sixteen ten q e =
+        first-has {P = λ (r : Refusal). firstGiven (importRows numbers room) ≡ some r → P r}
+        (row-has (is-row-15 (length numbers)) (λ _. fifteen)
+        (row-has is-row-16 (λ f. let h = import-16-iff (firstRepeat numbers) .0 f in sixteen (firstRepeat numbers) (omega (arith, h .0 .most, h .1 .in-boundary)))
+        (row-has is-row-10 (λ _. ten) end))) q e e
