@@ -1,11 +1,12 @@
--- Proofs that each exported call meets its demands (SearchDemands, BookDemands, ReportDemands, ClosedDemands, TwoWayDemands, from RowsAgree) and has one answer
--- only (OneAnswer); laws that the functions' proofs cite (BookPlaces, ReportPlaces, PassedOn).
+-- Proofs that each exported call meets its demands (SearchDemands, BookDemands, ReportDemands, ClosedDemands, TwoWayDemands, ImportDemands, from RowsAgree) and has one
+-- answer only (OneAnswer); laws that the functions' proofs cite (BookPlaces, ReportPlaces, PassedOn).
 pub mod RowsAgree
 pub mod SearchDemands
 pub mod BookDemands
 pub mod ReportDemands
 pub mod ClosedDemands
 pub mod TwoWayDemands
+pub mod ImportDemands
 pub mod BookPlaces
 pub mod ReportPlaces
 pub mod PassedOn

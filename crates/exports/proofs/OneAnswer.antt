@@ -2,12 +2,13 @@
 use Prim.Native.Nat.{ℕ}
 use mathlib.Core.Path.{_≡_, sym, ap, _∙_}
 use mathlib.Core.List.{List}
+use lib.IntN.{ℤ}
 use Rattle.answers.specs.Paper.{Paper}
 use Rattle.outlines.specs.Report.{ReportCounts}
 use Rattle.two_way.specs.TwoWay.{TwoWayCounts}
 use Rattle.exports.specs.declared.answering.Answer.{Answer as AnswerStruct}
 use Rattle.exports.specs.declared.two_way_scan.TwoWayAnswer.{TwoWayAnswer}
-use Rattle.exports.specs.Exported.{IsExported, IsSurveyExported, IsScanExported, IsReportExported, IsPackExported, IsUnpackExported, IsClosedExported, IsSurveyClosedExported, IsScanClosedExported, IsReportClosedExported, IsTwoWayExported}
+use Rattle.exports.specs.Exported.{IsExported, IsSurveyExported, IsScanExported, IsReportExported, IsPackExported, IsUnpackExported, IsImportExported, IsClosedExported, IsSurveyClosedExported, IsScanClosedExported, IsReportClosedExported, IsTwoWayExported}
 
 -- the struct that holds a paper
 abbrev structWith : Paper ReportCounts → AnswerStruct
@@ -42,6 +43,11 @@ pack-unique words area a b out out′ h h′ = exported-unique h h′
 pub unpack-unique : (book area : List ℕ) (a b : AnswerStruct) (out out′ : List ℕ) → IsUnpackExported book area a out → IsUnpackExported book area b out′
     → (a ≡ b) × (out ≡ out′)
 unpack-unique book area a b out out′ h h′ = exported-unique h h′
+
+-- Any two answers of `outlines_import_vertices` are equal, and any two areas at exit.
+pub import-unique : (numbers : List ℤ) (area : List ℕ) (a b : AnswerStruct) (out out′ : List ℕ) → IsImportExported numbers area a out → IsImportExported numbers area b out′
+    → (a ≡ b) × (out ≡ out′)
+import-unique numbers area a b out out′ h h′ = exported-unique h h′
 
 -- two structs with the same paper are equal, and so are two join areas and two areas of words with the same content
 closed-exported-unique : {p : Paper ReportCounts} {area join joined joined′ out out′ : List ℕ} {a b : AnswerStruct} → IsClosedExported p area join a joined out

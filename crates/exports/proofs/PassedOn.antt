@@ -1,10 +1,11 @@
 -- What an exported call needs to pass its call's answer on. For each call: the place of any answer that meets its contract fits 32 bits. For all that return the struct of
 -- five numbers: the struct that holds the call's answer, with the lent area as the call left it, meets the exported contract (`passed-on`).
-use Prim.Native.Nat.{ℕ, _<_, _^_}
+use Prim.Native.Nat.{ℕ, suc, _<_, _^_}
 use mathlib.Core.Path.{_≡_, refl, ap, _∙_}
 use mathlib.Core.List.{List}
 use mathlib.Core.Option.{Option, none, some}
 use native.Mathlib.Omega.{arith}
+use lib.IntN.{ℤ}
 use lib.ListN.{length}
 use Rattle.meaning.specs.Closed.{closedLine}
 use Rattle.answers.specs.declared.refusals.Refusal.{Refusal}
@@ -15,7 +16,7 @@ use Rattle.book.specs.declared.answering.BookAnswer.{BookAnswer}
 use Rattle.book.specs.Calls.{paperOf as bookPaperOf, IsUnpacked}
 use Rattle.packing.specs.Calls.{IsPacked}
 use Rattle.findings.specs.declared.searching.Searched.{Searched}
-use Rattle.findings.specs.Admitting.{mostRing, admitRows}
+use Rattle.findings.specs.Admitting.{admitRows}
 use Rattle.findings.specs.Searching.{paperOf as searchPaperOf, IsSearched}
 use Rattle.findings.specs.ClosedRows.{closedRows}
 use Rattle.findings.specs.ClosedSearching.{IsClosedSearched}
@@ -30,6 +31,10 @@ use Rattle.two_way.specs.declared.passes.TwoWay.{TwoWay}
 use Rattle.two_way.specs.Admitting.{twoWayRows}
 use Rattle.two_way.specs.TwoWay.{noTwoWayCounts, twoWayCounts, twoWayAnswer, paperOf as twoWayScanPaperOf, IsScannedTwoWay}
 use Rattle.two_way.proofs.TwoWayAdmitRows.{two-way-row-places}
+use Rattle.vertices.specs.declared.importing.Imported.{Imported}
+use Rattle.vertices.specs.Boundary.{vertexCount}
+use Rattle.vertices.specs.Importing.{importRows, importAnswer, paperOf as importPaperOf, IsImported}
+use Rattle.vertices.proofs.RowsOfImport.{import-row-places}
 use Rattle.exports.specs.declared.answering.Answer.{Answer as AnswerStruct}
 use Rattle.exports.specs.Exported.{paperOf, paperInStruct, IsExported, IsClosedExported}
 use Rattle.exports.proofs.BookPlaces.{packed-place-le, unpacked-place-le}
@@ -38,6 +43,12 @@ use Rattle.exports.proofs.ReportPlaces.{report-place-le}
 -- equal papers have equal places
 place-is : {C : Type 0} {p q : Paper C} → p ≡ q → p .place ≡ q .place
 place-is e = ap (λ p. p .place) e
+
+-- if every row that can be given has a place below a bound above 0, so has the paper of the answer
+place-lt : {C : Type 0} (zeros counts : C) (o : Option Refusal) {bound : ℕ} → ((q : Refusal) → o ≡ some q → placeOf q < suc bound)
+    → answerPaper zeros (answerBy o counts) .place < suc bound
+place-lt zeros counts none each = omega arith
+place-lt zeros counts (some q) each = each q refl
 
 -- A place of `survey` or `scan` fits 32 bits: it is 0.
 pub search-place : {ring line : List ℕ} {k looks : ℕ} {words out : List ℕ} {r : Searched}
@@ -76,12 +87,18 @@ unfolding twoWayAnswer
 two-way-place {ring} {line} {k} {words} h =
     let n = length line in
     let room = length words in
-    omega (arith, place-is (h .paper), by-row (firstGiven (twoWayRows ring k n room)) (λ q e. two-way-row-places ring k n room q e .0))
-  where
-    by-row : (o : Option Refusal) → ((q : Refusal) → o ≡ some q → placeOf q < mostRing)
-        → answerPaper noTwoWayCounts (answerBy o (twoWayCounts ring line k)) .place < mostRing
-    by-row none each = omega arith
-    by-row (some q) each = each q refl
+    omega (
+      arith,
+      place-is (h .paper),
+      place-lt noTwoWayCounts (twoWayCounts ring line k) (firstGiven (twoWayRows ring k n room)) (λ q e. two-way-row-places ring k n room q e .0),
+    )
+
+-- A place of `import_vertices` fits 32 bits: it is 0, or a vertex of a boundary of at most 4,096.
+pub import-place : {numbers : List ℤ} {area out : List ℕ} {r : Imported} → IsImported numbers area r out → importPaperOf r .place < 2 ^ 32
+unfolding importAnswer
+import-place {numbers} {area} h =
+    let room = length area in
+    omega (arith, place-is (h .paper), place-lt 0 (vertexCount numbers) (firstGiven (importRows numbers room)) (λ q e. import-row-places numbers room q e .0))
 
 -- A place of `pack` fits 32 bits.
 pub pack-place : {words area out : List ℕ} {r : BookAnswer} → IsPacked words area r out → bookPaperOf r .place < 2 ^ 32

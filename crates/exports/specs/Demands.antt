@@ -1,19 +1,21 @@
 -- The three demands on the calls, stated for what a C caller gets: the struct of five numbers, six from the two-way scan, and the lent areas at exit. Read this
--- page beside document 01 and tickets 1 to 4 and 6 of document 02. Nothing here says how a call works. proofs/SearchDemands.antt (survey and scan),
--- proofs/ReportDemands.antt, proofs/ClosedDemands.antt (the three on a closed line), proofs/TwoWayDemands.antt and proofs/BookDemands.antt prove that each call
--- meets its demands.
+-- page beside document 01 and tickets 1 to 4, 6 and 7 of document 02. Nothing here says how a call works. proofs/SearchDemands.antt (survey and scan),
+-- proofs/ReportDemands.antt, proofs/ClosedDemands.antt (the three on a closed line), proofs/TwoWayDemands.antt, proofs/BookDemands.antt and proofs/ImportDemands.antt
+-- prove that each call meets its demands.
 --
 --   Row, rowOf, FirstRow, NoRow              a row of the table of refusals; the first row that is given; no row is given
 --   ringTable, limitTable                    rows 1, 12, 2, with which every search begins; the same and row 3
 --   searchTable, bookTable, reportTable,     the rows of each call in its order, "Given exactly when"
 --   closedSearchTable, closedReportTable,
---   twoWayTable, unpackTable, packTable
+--   twoWayTable, unpackTable, packTable,
+--   importTable
 --   ByTable                                  accepted, or refused by the first row that is given
 --   Demand1                                  the same, and a refusal has 0 in every count and writes nothing
 --   BookHides, NeverHidden                   which findings a book hides
 --   Demand2                                  which findings are written, and which are hidden
 --   UnpackDemand2, PackDemand2               books: what is accepted, and what is written
 --   GivesBack, ReadsBack                     unpacking gives back what was packed; packing what was unpacked reads back the same, up to 1,000 records
+--   ImportDemand2                            vertices: the edges that are written
 --   Demand3                                  the looks of scan and report, and of each pass of the two-way scan
 --   JoinDemand, ClosedDemand2,               a closed line: the join area at exit, and demands 2 and 3
 --   ClosedDemand3
@@ -22,15 +24,16 @@
 --   SurveyMeets, ScanMeets, ReportMeets,     the demands on each call
 --   SurveyClosedMeets, ScanClosedMeets,
 --   ReportClosedMeets, TwoWayMeets,
---   UnpackMeets, PackMeets
+--   UnpackMeets, PackMeets, ImportMeets
 --   SurveyScanSame                           survey and scan give the same findings
 --   PassIsScan                               a pass of the two-way scan gives what the scan for its ring gives
 --
 -- The theorems require that a book's numbers are below 256 and that words are below 2^32. A C caller's types guarantee both.
-use Prim.Native.Nat.{ℕ, _+_, _-_, _*_, _%_, _≤_, _<_}
+use Prim.Native.Nat.{ℕ, _+_, _-_, _*_, _/_, _%_, _≤_, _<_}
 use mathlib.Core.Path.{_≡_}
 use mathlib.Core.Logic.{_↔_, _⊎_}
 use mathlib.Core.List.{List, [], _∷_, _++_, List·Memᴰ}
+use lib.IntN.{ℤ, _-ℤ_}
 use lib.ListN.{length, getD, take, drop}
 use Rattle.lists.specs.Areas.{written}
 use Rattle.meaning.specs.Meanings.{HoldsMark, IsStart, distance}
@@ -43,6 +46,8 @@ use Rattle.silences.specs.Books.{LaidDown, NoTag21, IsBook}
 use Rattle.silences.specs.Packing.{silencesOf, wordsOfSilences}
 use Rattle.silences.specs.Faults.{IsFieldFault, IsOrderFault, IsNumberFault, IsRecordFault, IsPackable}
 use Rattle.reversal.specs.Reversing.{reversedRing}
+use Rattle.vertices.specs.Steps.{IsCodeOf}
+use Rattle.vertices.specs.Boundary.{vertexAt, IsFirstRepeat}
 use Rattle.exports.specs.declared.answering.Answer.{Answer as AnswerStruct}
 use Rattle.exports.specs.declared.two_way_scan.TwoWayAnswer.{TwoWayAnswer}
 
@@ -151,6 +156,17 @@ packTable words room =
     ∷ rowOf 10 (room < length (layout (silencesOf words)))
     ∷ []
 
+-- "Refusals: 15 .. 16 .. 10 for room; in that order" (document 02, ticket 7): for the numbers of a boundary's vertices, with room for `room` bytes.
+abbrev pub importTable : List ℤ → ℕ → List Row
+importTable numbers room =
+    -- "an odd count of numbers, or fewer than 3 or more than 4,096 vertices, place 0"
+    rowOf 15 ((length numbers % 2 ≡ 1) ⊎ ((length numbers / 2 < 3) ⊎ (4096 < length numbers / 2)))
+    -- "two equal neighbours, place the first of the earliest pair, from 0 (the last vertex for the closing pair)"
+    ∷ (λ number place. (number ≡ 16) × IsFirstRepeat numbers place)
+    -- fewer bytes than vertices
+    ∷ rowOf 10 (room < length numbers / 2)
+    ∷ []
+
 -- Demand 1 on an answer's refusal and place: a call is accepted, or refused with a number of the table under exactly the condition given there. `rows` are the
 -- call's rows.
 pub record ByTable (rows : List Row) (refusal at : ℕ) : Type 0 where
@@ -219,6 +235,18 @@ pub record PackDemand2 (words area : List ℕ) (r : AnswerStruct) (out : List �
   pub found-is : r .refusal ≡ 0 → r .found ≡ length (silencesOf words)
   pub book-is : r .refusal ≡ 0 → IsBook (silencesOf words) (layout (silencesOf words))
   pub bytes-are : r .refusal ≡ 0 → out ≡ written (layout (silencesOf words)) area
+
+-- Demand 2 on an accepted import of vertices: "Only edge bytes come out, one per vertex". Edge i leads from vertex i to the one that follows, the last to the first. By
+-- `IsCodeOf` it has the octant and the length class that ticket 7 gives for its steps north and east.
+pub record ImportDemand2 (numbers : List ℤ) (area : List ℕ) (r : AnswerStruct) (out : List ℕ) : Type 0 where
+  pub edges : List ℕ
+  pub found-is : r .found ≡ length numbers / 2
+  pub one-per-vertex : length edges ≡ length numbers / 2
+  pub edge-is : (i : ℕ) → i < length numbers / 2
+      → IsCodeOf (vertexAt numbers ((i + 1) % (length numbers / 2)) .north -ℤ vertexAt numbers i .north)
+      (vertexAt numbers ((i + 1) % (length numbers / 2)) .east -ℤ vertexAt numbers i .east) (getD edges i 0)
+  -- Later bytes keep their values.
+  pub bytes-are : out ≡ written edges area
 
 -- Demand 3 on the looks of an accepted scan or report, or of a pass of the two-way scan, for a ring of m edges: they are the steps of rules 1 to 5, within the
 -- document's bound.
@@ -403,3 +431,8 @@ pub record UnpackMeets (book area : List ℕ) (r : AnswerStruct) (out : List ℕ
 pub record PackMeets (words area : List ℕ) (r : AnswerStruct) (out : List ℕ) : Type 0 where
   pub demand-1 : Demand1 (packTable words (length area)) r area out
   pub demand-2 : PackDemand2 words area r out
+
+-- The demands on `outlines_import_vertices`.
+pub record ImportMeets (numbers : List ℤ) (area : List ℕ) (r : AnswerStruct) (out : List ℕ) : Type 0 where
+  pub demand-1 : Demand1 (importTable numbers (length area)) r area out
+  pub demand-2 : r .refusal ≡ 0 → ImportDemand2 numbers area r out

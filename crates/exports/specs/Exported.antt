@@ -1,19 +1,19 @@
 -- The contracts of the calls for C and Rust programs. Each returns one struct: six numbers for the two-way scan, five for the others. What survey, scan, report,
--- pack, unpack and the two-way scan answer is defined in crates/findings, outlines, silences, book, two_way and meaning; this file only says how the struct holds
--- that answer.
+-- pack, unpack, the two-way scan and the import of vertices answer is defined in crates/findings, outlines, silences, book, two_way, vertices and meaning; this file
+-- only says how the struct holds that answer.
 --
 --   paperOf                              the number, place and counts that the struct of five numbers stands for
 --   searchInStruct                       "found and looks"; a search counts nothing hidden
---   oneCountInStruct                     one number, as found: "the number of records"
+--   oneCountInStruct                     one number, as found: "the number of records", or of edges
 --   paperInStruct                        a paper with its counts as the struct holds them
---   IsExported                           the contract that the five calls with one lent area and that struct share: its paper, and the area at exit
+--   IsExported                           the contract that the six calls with one lent area and that struct share: its paper, and the area at exit
 --   IsSearchExported                     the same for a search, for its rows and its looks
 --   IsReportExportedBy                   the same for a report, for its rows of a search
 --   IsClosedExported                     the contract that the three calls on a closed line share: the join area at exit too
 --   IsSearchClosedExported               the same for a search on a closed line, for its looks
 --   IsSurveyExported, IsScanExported,    the contract of each call
 --   IsReportExported, IsPackExported,
---   IsUnpackExported
+--   IsUnpackExported, IsImportExported
 --   IsSurveyClosedExported,              the contract of each call on a closed line
 --   IsScanClosedExported,
 --   IsReportClosedExported
@@ -23,6 +23,7 @@ use Prim.Native.Nat.{ℕ}
 use mathlib.Core.Path.{_≡_}
 use mathlib.Core.List.{List}
 use mathlib.Core.Option.{Option}
+use lib.IntN.{ℤ}
 use lib.ListN.{length}
 use Rattle.meaning.specs.Looks.{quickLooks, surveyLooks}
 use Rattle.meaning.specs.Closed.{closedLine}
@@ -37,6 +38,7 @@ use Rattle.findings.specs.ClosedRows.{closedRows}
 use Rattle.findings.specs.ClosedSearching.{joinAtExit}
 use Rattle.outlines.specs.Report.{ReportCounts, noReportCounts, reportRows, reportAnswer, reportedWords}
 use Rattle.two_way.specs.TwoWay.{TwoWayCounts, noTwoWayCounts, twoWayAnswer, twoWayWords}
+use Rattle.vertices.specs.Importing.{importAnswer, importedArea}
 use Rattle.exports.specs.declared.answering.Answer.{Answer as AnswerStruct}
 use Rattle.exports.specs.declared.two_way_scan.TwoWayAnswer.{TwoWayAnswer}
 
@@ -48,7 +50,8 @@ paperOf a = record { number = a .refusal; place = a .place; counts = record { fo
 abbrev pub searchInStruct : Counts → ReportCounts
 searchInStruct c = record { found = c .found; hidden = 0; looks = c .looks }
 
--- A call that counts one thing has that number in found, and the rest is 0: "Packer and unpacker return the number of records".
+-- A call that counts one thing has that number in found, and the rest is 0: "Packer and unpacker return the number of records", the import
+-- of vertices the number of edges.
 abbrev pub oneCountInStruct : ℕ → ReportCounts
 oneCountInStruct counted = record { found = counted; hidden = 0; looks = 0 }
 
@@ -92,6 +95,10 @@ IsPackExported words area r out =
 abbrev pub IsUnpackExported : List ℕ → List ℕ → AnswerStruct → List ℕ → Type 0
 IsUnpackExported book area r out =
     IsExported (paperInStruct oneCountInStruct (recordsPaper (unpacked book (length area)))) (areaAtExit wordsOfSilences (unpacked book (length area)) area) r out
+
+-- The contract of `outlines_import_vertices` (document 02, ticket 7). `area` is the area lent for the edges, `out` the same at exit.
+abbrev pub IsImportExported : List ℤ → List ℕ → AnswerStruct → List ℕ → Type 0
+IsImportExported numbers area r out = IsExported (paperInStruct oneCountInStruct (answerPaper 0 (importAnswer numbers (length area)))) (importedArea numbers area) r out
 
 -- The contract of an exported call on a closed line (document 02, ticket 3): the returned struct has this paper, the words hold `words-given` at exit, and
 -- the join area holds `join-given`.

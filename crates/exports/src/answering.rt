@@ -5,6 +5,7 @@ use answers::place_of;
 use book::BookAnswer;
 use outlines::Reported;
 use outlines::Searched;
+use vertices::Imported;
 ghost use mathlib.Core.Path.{_≡_};
 ghost use Prim.Native.Nat.{_<_, _^_};
 ghost use Rattle.answers.specs.Refusals.{placeOf};
@@ -12,10 +13,11 @@ ghost use Rattle.answers.specs.Paper.{answerPaper, refused};
 ghost use Rattle.book.specs.Calls.{paperOf as bookPaperOf};
 ghost use Rattle.findings.specs.Searching.{paperOf as searchPaperOf};
 ghost use Rattle.outlines.specs.Report.{noReportCounts, paperOf as reportPaperOf};
+ghost use Rattle.vertices.specs.Importing.{paperOf as importPaperOf};
 ghost use Rattle.exports.specs.Exported.{paperOf, searchInStruct, oneCountInStruct, paperInStruct};
 
 // What every exported call but the two-way scan returns. `refusal` is 0 where the call is accepted. A count that a call does
-// not have is 0; pack and unpack return the number of records in `found`.
+// not have is 0; pack and unpack return the number of records in `found`, the import of vertices the number of edges.
 #[repr(C)]
 pub struct Answer {
     pub refusal: u32,
@@ -93,5 +95,22 @@ pub fn book_answer(answer: BookAnswer) -> Answer
             looks: 0,
         },
         BookAnswer::Refused(refusal) => refused_answer(refusal),
+    }
+}
+
+// The answer of the import of vertices.
+pub fn import_answer(imported: Imported) -> Answer
+    requires { ⌜ importPaperOf imported .place < 2 ^ 32 ⌝ }
+    ensures { λ r. ⌜ paperOf r ≡ paperInStruct oneCountInStruct (importPaperOf imported) ⌝ }
+{
+    match imported {
+        Imported::Edges(edges) => Answer {
+            refusal: 0,
+            place: 0,
+            found: edges as u64,
+            hidden: 0,
+            looks: 0,
+        },
+        Imported::Refused(refusal) => refused_answer(refusal),
     }
 }
