@@ -129,6 +129,12 @@ impl Area {
         unsafe { slice::from_raw_parts_mut(self.first.add(self.at).cast(), self.word_count()) }
     }
 
+    /// The same words as signed numbers.
+    pub fn numbers(&self) -> &[i32] {
+        // Sound: as for `words`.
+        unsafe { slice::from_raw_parts(self.first.add(self.at).cast(), self.word_count()) }
+    }
+
     /// Opens the pages for writing, or closes them to it.
     pub fn writable(&self, wanted: bool) {
         self.open(if wanted { READ_AND_WRITE } else { READ });

@@ -115,6 +115,12 @@ extern "C" {
         words: *mut u32,
         words_length: usize,
     ) -> TwoWay;
+    fn outlines_import_vertices(
+        numbers: *const i32,
+        numbers_length: usize,
+        edges: *mut u8,
+        edges_length: usize,
+    ) -> Answer;
     fn outlines_pack(words: *const u32, words_length: usize, bytes: *mut u8, bytes_length: usize) -> Answer;
     fn outlines_unpack(book: *const u8, book_length: usize, words: *mut u32, words_length: usize) -> Answer;
 }
@@ -138,10 +144,12 @@ pub enum Refusal {
     ProgramInput = 11,
     MarkInRing = 12,
     CodeInRing = 14,
+    VertexCount = 15,
+    EqualNeighbours = 16,
 }
 
 impl Refusal {
-    pub const ALL: [Refusal; 13] = [
+    pub const ALL: [Refusal; 15] = [
         Refusal::RingLength,
         Refusal::Allowance,
         Refusal::LineLength,
@@ -155,6 +163,8 @@ impl Refusal {
         Refusal::ProgramInput,
         Refusal::MarkInRing,
         Refusal::CodeInRing,
+        Refusal::VertexCount,
+        Refusal::EqualNeighbours,
     ];
 
     pub fn number(self) -> u32 {
@@ -231,6 +241,7 @@ pub enum Request<'a> {
     SurveyClosed(Search<'a>, &'a mut [u8], &'a mut [u32]),
     ScanClosed(Search<'a>, &'a mut [u8], &'a mut [u32]),
     ReportClosed(u32, u16, Search<'a>, &'a [u8], &'a mut [u8], &'a mut [u32]),
+    ImportVertices(&'a [i32], &'a mut [u8]),
     Pack(&'a [u32], &'a mut [u8]),
     Unpack(&'a [u8], &'a mut [u32]),
 }
@@ -292,6 +303,9 @@ pub fn ask(request: Request, empty: Empty) -> Answer {
                 (empty.read(ring), empty.read(line), empty.read(book), empty.write(join), empty.write(words));
             let (rs, ls, bs, js, ws) = (ring.len(), line.len(), book.len(), join.len(), words.len());
             outlines_report_closed(cell, number, r, rs, l, ls, allowance, b, bs, j, js, w, ws)
+        },
+        Request::ImportVertices(numbers, edges) => unsafe {
+            outlines_import_vertices(empty.read(numbers), numbers.len(), empty.write(edges), edges.len())
         },
         Request::Pack(words, bytes) => unsafe {
             outlines_pack(empty.read(words), words.len(), empty.write(bytes), bytes.len())
@@ -362,6 +376,13 @@ pub fn report_closed(
 /// count. A ring with a code above 247 is refused (14), and the words lent must hold two findings for each window.
 pub fn scan_two_way(search: Search, words: &mut [u32]) -> Result<Passes, Refused> {
     ask_two_way(search, words, Empty::AsLent).result()
+}
+
+/// Turns a boundary into edges. A vertex is two numbers, north before east, and edge i goes from vertex i to the next one, the last
+/// to the first. Writes a byte for each vertex, 8·length class + octant, and no byte behind them. There are 3 to 4,096 vertices,
+/// and no two neighbours are equal.
+pub fn import_vertices(numbers: &[i32], edges: &mut [u8]) -> Result<Counts, Refused> {
+    ask(Request::ImportVertices(numbers, edges), Empty::AsLent).result()
 }
 
 /// Packs silences of `SILENCE_WORDS` words each into `SILENCE_BYTES` bytes each.

@@ -39,6 +39,21 @@ pub fn words(row: &Row) -> Vec<u32> {
     row.numbers("words").into_iter().map(|word| word as u32).collect()
 }
 
+/// "In a list of vertices, each vertex is two whole numbers, north before east, with a minus sign if negative; `*` stands for
+/// 4,098 vertices, of which vertex i has north i and east i times i, i from 0 on."
+pub fn vertices(text: &str) -> Vec<i32> {
+    if text == "*" {
+        return (0..4_098).flat_map(|i| [i, i * i]).collect();
+    }
+    let numbers = text.split(' ').filter(|part| !part.is_empty());
+    numbers.map(|part| part.parse().expect("a number of 32 bits")).collect()
+}
+
+/// How many of the row's words or numbers are passed; all of them if the row does not say it.
+pub fn how_many(row: &Row, all: usize) -> usize {
+    row.number("how many of them").unwrap_or(all)
+}
+
 pub fn address(row: &Row) -> Address {
     let [cell, ring_number, start] = row.numbers("address")[..] else { panic!("an address of three numbers") };
     (cell as u32, ring_number as u16, start as u32)

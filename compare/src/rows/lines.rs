@@ -1,8 +1,8 @@
 //! The line of a row: the answer's numbers with their names, then what the call wrote.
 
-use super::given::{address, book, edges, words};
+use super::given::{address, book, edges, how_many, words};
 use super::table::Row;
-use super::two_way;
+use super::{two_way, vertices};
 use crate::second::book::{read, Address, Silence, SILENCE_WORDS};
 use crate::second::calls::{pack, unpack, Answered, Outcome, Search};
 use crate::second::meaning::FINDING_WORDS;
@@ -70,7 +70,7 @@ pub fn end<T: Written>(word: &str, written: &[T], each: usize) -> String {
 }
 
 /// The number, the place, the counts that this call returns, and what it wrote, in groups of `each`.
-fn line<T: Written + Default>(outcome: Outcome<T>, each: usize, counts: fn(&Answered<T>) -> String) -> String {
+pub fn line<T: Written + Default>(outcome: Outcome<T>, each: usize, counts: fn(&Answered<T>) -> String) -> String {
     let (number, place) = outcome.as_ref().err().map_or((0, 0), |refused| (refused.number, refused.place));
     let answered = outcome.unwrap_or_default();
     format!(" number {number} place {place}{}{}", counts(&answered), end("written", &answered.written, each))
@@ -90,8 +90,7 @@ fn found_hidden_looks<T>(answered: &Answered<T>) -> String {
 
 fn packed(row: &Row) -> String {
     let words = words(row);
-    let count = row.number("how many of them").unwrap_or(words.len());
-    line(pack(&words[..count], room(row)), 1, records)
+    line(pack(&words[..how_many(row, words.len())], room(row)), 1, records)
 }
 
 /// Reading is lent no room, so nothing is written.
@@ -174,6 +173,8 @@ pub fn answer(call: &str, row: &Row) -> String {
         "scan_two_way" => two_way::scanned(row),
         "reversed_code" => two_way::codes(row),
         "reversed" => two_way::ring(row),
+        "import_vertices" => vertices::imported(row),
+        "scan_vertices" => vertices::scanned(row),
         _ => panic!("the table names a call {call}"),
     }
 }

@@ -5,6 +5,7 @@ mod given;
 mod lines;
 mod table;
 mod two_way;
+mod vertices;
 
 use std::path::Path;
 use std::{fs, io};

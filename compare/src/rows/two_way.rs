@@ -10,11 +10,14 @@ use crate::second::refusals::LONGEST_RING;
 use crate::second::reversed::{reversed, reversed_code};
 use crate::second::two_way::scan_two_way;
 
-/// The number, the place, found and looks of each pass, and the words of both.
 pub fn scanned(row: &Row) -> String {
-    let (ring, line) = (edges(row.text("ring")), edges(row.text("line")));
+    scan(&edges(row.text("ring")), &edges(row.text("line")), row)
+}
+
+/// The number, the place, found and looks of each pass, and the words of both.
+pub fn scan(ring: &[u8], line: &[u8], row: &Row) -> String {
     let k = row.number("k").expect("a search has an allowance");
-    let outcome = scan_two_way(&ring, &line, k, room(row));
+    let outcome = scan_two_way(ring, line, k, room(row));
     let (number, place) = outcome.as_ref().err().map_or((0, 0), |refused| (refused.number, refused.place));
     let passes = outcome.unwrap_or_default();
     let pass = |name: &str, pass: &Answered<u32>| format!(" {name} {} looks {}", pass.found, pass.looks);

@@ -1,4 +1,4 @@
-//! The second program: written from document 01 and tickets 1 to 4 and 6 of document 02 alone, word for word, and slow where
+//! The second program: written from document 01 and tickets 1 to 4, 6 and 7 of document 02 alone, word for word, and slow where
 //! that is plainer. Ticket 5 changes no answer.
 
 pub mod book;
@@ -17,3 +17,5 @@ pub mod seam;
 pub mod tally;
 pub mod two_way;
 pub mod two_way_by_hand;
+pub mod vertices;
+pub mod vertices_by_hand;

@@ -2,6 +2,7 @@
 
 use super::meaning::{holds_mark, FINDING_WORDS};
 use super::reversed::NO_EDGE;
+use super::vertices::equal_neighbours;
 
 #[derive(Clone, Copy, Debug, PartialEq, Eq)]
 pub struct Refused {
@@ -14,6 +15,9 @@ pub const LONGEST_LINE: usize = 65_536;
 /// "5 at 15,000 bytes; [..] 8 a multiple of 4, at most 4,000" (ticket 4).
 pub const LONGEST_BOOK: usize = 15_000;
 pub const MOST_WORDS_TO_PACK: usize = 4_000;
+/// "fewer than 3 or more than 4,096 vertices" (ticket 7).
+pub const FEWEST_VERTICES: usize = 3;
+pub const MOST_VERTICES: usize = 4_096;
 
 pub fn refuse_if(given: bool, number: u32, place: usize) -> Result<(), Refused> {
     if given {
@@ -68,4 +72,14 @@ pub fn two_way(ring: &[u8], line: &[u8], allowance: usize, room: usize) -> Resul
     refuse_if(first.is_some(), 14, first.unwrap_or(0))?;
     line_length(n)?;
     refuse_if(n >= m && room < 2 * FINDING_WORDS * (n - m + 1), 4, 0)
+}
+
+/// "15, an odd count of numbers, or fewer than 3 or more than 4,096 vertices, place 0; 16, two equal neighbours, place the
+/// first of the earliest pair [..]; 10 for room; in that order" (ticket 7).
+pub fn vertices(numbers: &[i32], room: usize) -> Result<(), Refused> {
+    let count = numbers.len() / 2;
+    refuse_if(numbers.len() % 2 == 1 || !(FEWEST_VERTICES..=MOST_VERTICES).contains(&count), 15, 0)?;
+    let equal = equal_neighbours(numbers);
+    refuse_if(!equal.is_empty(), 16, equal.first().copied().unwrap_or(0))?;
+    refuse_if(room < count, 10, 0)
 }
