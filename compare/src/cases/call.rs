@@ -16,6 +16,7 @@ pub struct Search {
     pub join: Option<Vec<u8>>,
 }
 
+/// The numbers to import are vertices, each north before east.
 #[derive(Clone, Debug)]
 pub enum Call {
     Survey(Search),
@@ -23,14 +24,15 @@ pub enum Call {
     Report { cell: u32, ring_number: u16, search: Search, book: Vec<u8> },
     Pack { words: Vec<u32>, room: usize },
     Unpack { book: Vec<u8>, room: usize },
+    Import { numbers: Vec<i32>, room: usize },
 }
 
 impl Call {
-    /// What survey, scan and report have in common; the packer and the unpacker have none.
+    /// What survey, scan and report have in common; the other calls have none.
     pub fn search(&self) -> Option<&Search> {
         match self {
             Call::Survey(search) | Call::Scan(search) | Call::Report { search, .. } => Some(search),
-            Call::Pack { .. } | Call::Unpack { .. } => None,
+            Call::Pack { .. } | Call::Unpack { .. } | Call::Import { .. } => None,
         }
     }
 }

@@ -1,8 +1,9 @@
 //! A case in words, so that a difference can be read without running anything.
 
 use super::call::Search;
+use super::chains::Chain;
 use super::{Call, Case};
-use std::fmt::{Display, Formatter, Result};
+use std::fmt::{Debug, Display, Formatter, Result};
 
 /// The bytes in hex; of many only the first.
 fn hex(bytes: &[u8]) -> String {
@@ -11,7 +12,7 @@ fn hex(bytes: &[u8]) -> String {
     format!("[{}: {}{rest}]", bytes.len(), shown.join(" "))
 }
 
-fn words(words: &[u32]) -> String {
+fn words<T: Debug>(words: &[T]) -> String {
     let rest = if words.len() > 30 { " .." } else { "" };
     format!("[{}: {:?}{rest}]", words.len(), &words[..words.len().min(30)])
 }
@@ -34,6 +35,7 @@ impl Display for Call {
             }
             Call::Pack { words: given, room } => write!(f, "pack {} room {room}", words(given)),
             Call::Unpack { book, room } => write!(f, "unpack {} room {room}", hex(book)),
+            Call::Import { numbers, room } => write!(f, "import {} room {room}", words(numbers)),
         }
     }
 }
@@ -44,8 +46,13 @@ impl Display for Case {
             Case::Call(call, placement) => write!(f, "{call} placed {placement:?}"),
             Case::TwoWay(search, placement) => write!(f, "two-way scan {search} placed {placement:?}"),
             Case::Three(calls, placement) => write!(f, "survey, scan, {} placed {placement:?}", calls[2]),
-            Case::Two([first, second], bond, placement) => {
+            Case::Two(([first, second], bond), placement) => {
                 write!(f, "{first} and {second}: {bond:?}, placed {placement:?}")
+            }
+            Case::Chain(Chain { ring, boundaries, allowance, drawn }, placement) => {
+                let boundaries: Vec<String> = boundaries.iter().map(|numbers| words(numbers)).collect();
+                write!(f, "import {} and {}, scan two ways ", words(ring), boundaries.join(", "))?;
+                write!(f, "k {allowance}, {drawn:?}, placed {placement:?}")
             }
             Case::RoundTrip(given) => write!(f, "round trip {}", words(given)),
             Case::BookTrip(book) => write!(f, "round trip of the book {}", hex(book)),

@@ -4,6 +4,7 @@ mod books;
 mod bounds;
 pub mod call;
 mod ceilings;
+pub mod chains;
 mod closed;
 mod closed_faults;
 mod closed_kinds;
@@ -29,21 +30,38 @@ mod two_way_faults;
 mod two_way_kinds;
 mod two_way_limits;
 mod two_way_places;
+pub mod vertices;
+mod vertices_counts;
+mod vertices_kinds;
+mod vertices_laws;
+mod vertices_steps;
 
 use crate::memory::Placement;
 pub use call::Call;
 use call::Search;
+use chains::Chain;
 use draw::Draw;
 pub use input::Input;
 
-/// What must hold between the answers of two reports.
+/// What must hold between the answers of two reports, or of two imports.
 #[derive(Clone, Copy, Debug, PartialEq, Eq)]
 pub enum Bond {
-    /// The same answer and the same words.
+    /// The same answer, and the same words or edges.
     Same,
     /// The first hides the finding at this start, the second shows it.
     ShownAgain(u32),
+    /// The second has the first one's edges from this one on.
+    From(usize),
+    /// The second is drawn the other way round, from the last vertex: it has the reversed ring's edges from the second on.
+    Opposite,
+    /// The second is turned clockwise by a quarter: each octant is two further on.
+    Quarter,
+    /// The second is twice the size: each class is one higher, but none above 30.
+    Doubled,
 }
+
+/// Two calls, and what must hold between their answers.
+pub type Bound = ([Call; 2], Bond);
 
 pub enum Case {
     Call(Call, Placement),
@@ -51,8 +69,10 @@ pub enum Case {
     TwoWay(Search, Placement),
     /// Survey, scan and report of one search.
     Three([Call; 3], Placement),
-    /// Two reports, and what must hold between their answers.
-    Two([Call; 2], Bond, Placement),
+    /// Two reports or two imports, and what must hold between their answers.
+    Two(Bound, Placement),
+    /// Imports, and the two-way scan of what comes out of them.
+    Chain(Chain, Placement),
     /// Words packed by the library and unpacked by it again.
     RoundTrip(Vec<u32>),
     /// A good book unpacked by the library, packed and unpacked again.
@@ -69,6 +89,7 @@ impl Case {
             Case::Call(..) | Case::TwoWay(..) => (1, 0),
             Case::Three(..) => (3, 0),
             Case::Two(..) => (2, 0),
+            Case::Chain(chain, _) => (2 + chain.boundaries.len() as u64, 0),
             Case::RoundTrip(_) => (2, 0),
             Case::BookTrip(_) => (3, 0),
             Case::Input(_) => (0, 1),
@@ -83,7 +104,8 @@ enum Make {
     TwoWay(fn(u64, &mut Draw) -> Search),
     NullTwoWay(fn(u64, &mut Draw) -> Search),
     Three(fn(u64, &mut Draw) -> [Call; 3]),
-    Two(fn(u64, &mut Draw) -> ([Call; 2], Bond)),
+    Two(fn(u64, &mut Draw) -> Bound),
+    Chain(fn(u64, &mut Draw) -> Chain),
     RoundTrip(fn(u64, &mut Draw) -> Vec<u32>),
     BookTrip(fn(u64, &mut Draw) -> Vec<u8>),
     Input(fn(u64, &mut Draw) -> Input),
@@ -108,7 +130,8 @@ pub enum Choice {
 }
 
 fn calls() -> impl Iterator<Item = &'static Kind> {
-    kinds::CALLS.iter().chain(closed_kinds::CLOSED).chain(two_way_kinds::TWO_WAY)
+    let later = two_way_kinds::TWO_WAY.iter().chain(vertices_kinds::VERTICES);
+    kinds::CALLS.iter().chain(closed_kinds::CLOSED).chain(later)
 }
 
 pub fn kinds(choice: Choice) -> Vec<&'static Kind> {
@@ -158,8 +181,11 @@ impl Kind {
             }
             Make::Two(make) => {
                 let placement = placement(&mut draw);
-                let (calls, bond) = make(index, &mut draw);
-                Case::Two(calls, bond, placement)
+                Case::Two(make(index, &mut draw), placement)
+            }
+            Make::Chain(make) => {
+                let placement = placement(&mut draw);
+                Case::Chain(make(index, &mut draw), placement)
             }
             Make::NullCall(make) => Case::Call(make(index, &mut draw), Placement::Null),
             Make::NullTwoWay(make) => Case::TwoWay(make(index, &mut draw), Placement::Null),

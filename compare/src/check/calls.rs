@@ -12,6 +12,7 @@ use crate::second::meaning::{FINDING_WORDS, MARK};
 use crate::second::refusals::LONGEST_LINE;
 use crate::second::rules::Marks;
 use crate::second::seam::Seam;
+use crate::second::vertices;
 
 // The numbers that outlines.rs names to its users are those of the second program.
 const _: () = assert!(outlines::FINDING_WORDS == FINDING_WORDS && outlines::SILENCE_WORDS == SILENCE_WORDS);
@@ -39,6 +40,7 @@ fn request<'a>(call: &Call, areas: &'a mut Areas) -> Request<'a> {
         }
         Call::Pack { .. } => Request::Pack(book.words(), lent.bytes_mut()),
         Call::Unpack { .. } => Request::Unpack(book.bytes(), lent.words_mut()),
+        Call::Import { .. } => Request::ImportVertices(book.numbers(), lent.bytes_mut()),
     }
 }
 
@@ -60,7 +62,7 @@ fn opened(call: &Call) -> Option<Call> {
         Call::Report { cell, ring_number, book, .. } => {
             Call::Report { cell: *cell, ring_number: *ring_number, search, book: book.clone() }
         }
-        Call::Pack { .. } | Call::Unpack { .. } => return None,
+        Call::Pack { .. } | Call::Unpack { .. } | Call::Import { .. } => return None,
     })
 }
 
@@ -117,6 +119,7 @@ fn ask_second(call: &Call, search: Option<&calls::Search>) -> Second {
         }
         (Call::Pack { words, room }, _) => of_outcome(calls::pack(words, *room), |bytes| bytes),
         (Call::Unpack { book, room }, _) => of_words(calls::unpack(book, *room)),
+        (Call::Import { numbers, room }, _) => of_outcome(vertices::import(numbers, *room), |bytes| bytes),
         (_, None) => unreachable!("survey, scan and report have a search"),
     }
 }

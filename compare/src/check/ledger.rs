@@ -6,8 +6,10 @@ use super::compared::Compared;
 use super::trips::Trip;
 use super::two_way;
 use super::two_way_ledger::TwoWays;
+use super::vertices_ledger::Imports;
 use crate::cases::call::{Call, Search};
-use crate::cases::{Case, Kind};
+use crate::cases::chains::Chain;
+use crate::cases::{Bound, Case, Kind};
 use crate::memory::Placement;
 use crate::outlines::{Answer, Refusal};
 use crate::second::meaning::holds_mark;
@@ -99,6 +101,7 @@ pub struct Ledger {
     closed: Closed,
     books: Books,
     two_ways: TwoWays,
+    imports: Imports,
     answers: Answers,
     outputs: Answers,
     told: Vec<String>,
@@ -132,6 +135,14 @@ impl Ledger {
         self.two_ways.add_call(search, compared);
     }
 
+    pub fn add_bound(&mut self, bound: &Bound, compared: &[Compared; 2]) {
+        self.imports.add_bound(bound, compared);
+    }
+
+    pub fn add_chain(&mut self, chain: &Chain, compared: &two_way::Compared) {
+        self.imports.add_chain(chain, compared);
+    }
+
     pub fn add_call(&mut self, call: &Call, placement: Placement, compared: &Compared) {
         let answer = &compared.given.answer;
         self.add_answer(placement, answer.refusal);
@@ -139,6 +150,7 @@ impl Ledger {
         self.add(Sum::Longest, u64::from(longest(call) && answer.refusal == 0));
         self.closed.add_call(call, compared);
         self.books.add_call(call, compared);
+        self.imports.add_call(call, compared);
         if let Some(search) = call.search() {
             self.add(Sum::Found, answer.found);
             self.add(Sum::Hidden, answer.hidden);
@@ -190,6 +202,7 @@ impl Ledger {
         self.closed.join(other.closed);
         self.books.join(other.books);
         self.two_ways.join(other.two_ways);
+        self.imports.join(other.imports);
         for (mine, others) in [(&mut self.answers, other.answers), (&mut self.outputs, other.outputs)] {
             others.into_iter().for_each(|(number, count)| *mine.entry(number).or_default() += count);
         }
@@ -243,6 +256,7 @@ impl Ledger {
         self.books.print();
         self.closed.print();
         self.two_ways.print();
+        self.imports.print();
     }
 
     /// What no case led to, hence what was not compared: refusals of the library and of the program, and sums that are 0.
@@ -254,7 +268,8 @@ impl Ledger {
         let refusals = library.map(|number| format!("refusal {number}"));
         let of_program = program.map(|number| format!("refusal {number} of the program"));
         let sums = sums.map(|(name, _)| name.to_string());
-        let of_calls = [self.books.missing(), self.closed.missing(), self.two_ways.missing()].concat();
+        let of_calls =
+            [self.books.missing(), self.closed.missing(), self.two_ways.missing(), self.imports.missing()].concat();
         refusals.chain(of_program).chain(sums).chain(of_calls).collect()
     }
 }

@@ -1,7 +1,7 @@
 //! The whole run: two workers over all cases, and a watch that ends the process if a case does not end.
 
 use super::areas::Areas;
-use super::bonds::unbound;
+use super::bonds::{compare_two, edges};
 use super::calls::{compare, compare_three};
 use super::compared::Judged;
 use super::crash;
@@ -9,6 +9,7 @@ use super::ledger::Ledger;
 use super::program::{self, Program, Slot};
 use super::{trips, two_way};
 use crate::cases::call::{Call, Search};
+use crate::cases::chains::Chain;
 use crate::cases::{kinds, locate, Case, Choice, Kind};
 use crate::memory::Placement;
 use std::panic::{catch_unwind, AssertUnwindSafe};
@@ -79,6 +80,24 @@ impl<'a> Worker<'a> {
         compared.difference(search)
     }
 
+    /// The imports, and the two-way scan of what came out of them.
+    fn chain(&mut self, chain: &Chain, placement: Placement) -> Option<String> {
+        let mut imported = Vec::new();
+        for call in chain.imports() {
+            let compared = compare(&call, placement, &mut self.areas);
+            self.ledger.add_call(&call, placement, &compared);
+            if let Some(difference) = compared.difference(&call) {
+                return Some(difference);
+            }
+            imported.push(edges(&compared.given).to_vec());
+        }
+        let search = chain.search(&imported);
+        let compared = two_way::compare(&search, placement, &mut self.areas);
+        self.ledger.add_two_way(&search, placement, &compared);
+        self.ledger.add_chain(chain, &compared);
+        compared.difference(&search).or_else(|| compared.difference(chain))
+    }
+
     fn difference(&mut self, case: &Case) -> Option<String> {
         match case {
             Case::Call(call, placement) => self.call(call, *placement),
@@ -90,14 +109,15 @@ impl<'a> Worker<'a> {
                 }
                 calls.iter().zip(compared).find_map(|(call, compared)| compared.difference(call))
             }
-            Case::Two(calls, bond, placement) => {
-                let compared = calls.each_ref().map(|call| compare(call, *placement, &mut self.areas));
+            Case::Two(bound @ (calls, _), placement) => {
+                let compared = compare_two(calls, *placement, &mut self.areas);
                 for (call, compared) in calls.iter().zip(&compared) {
                     self.ledger.add_call(call, *placement, compared);
                 }
-                let each = calls.iter().zip(&compared).find_map(|(call, compared)| compared.difference(call));
-                each.or_else(|| unbound(*bond, calls, &compared))
+                self.ledger.add_bound(bound, &compared);
+                compared.difference(bound)
             }
+            Case::Chain(chain, placement) => self.chain(chain, *placement),
             Case::RoundTrip(words) => trips::of_words(words),
             Case::BookTrip(book) => {
                 let (trip, difference) = trips::of_book(book);

@@ -142,23 +142,23 @@ fn residue(call: &Call, spoilt: &mut Compared) -> bool {
 
 fn word_behind(call: &Call, spoilt: &mut Compared) -> bool {
     let behind = shown_words(call, spoilt);
-    !matches!(call, Call::Pack { .. })
+    !matches!(call, Call::Pack { .. } | Call::Import { .. })
         && spoilt.given.answer.refusal == 0
         && set_word(spoilt, behind, 0)
         && spoilt.given.lent != spoilt.expected.lent
 }
 
-fn byte_behind_area(call: &Call, spoilt: &mut Compared) -> bool {
+pub(super) fn byte_behind_area(call: &Call, spoilt: &mut Compared) -> bool {
     let length = match call {
         Call::Survey(search) | Call::Scan(search) | Call::Report { search, .. } => WORD * search.room,
-        Call::Pack { room, .. } => *room,
+        Call::Pack { room, .. } | Call::Import { room, .. } => *room,
         Call::Unpack { room, .. } => WORD * room,
     };
     let words = &mut spoilt.given.lent.words;
     words.bytes.get_mut(words.front + length).map(|byte| *byte ^= 1).is_some()
 }
 
-fn byte_before_area(_: &Call, spoilt: &mut Compared) -> bool {
+pub(super) fn byte_before_area(_: &Call, spoilt: &mut Compared) -> bool {
     let words = &mut spoilt.given.lent.words;
     words.front.checked_sub(1).map(|place| words.bytes[place] ^= 0x80).is_some()
 }

@@ -1,6 +1,7 @@
 //! The comparison put to the test: it must notice each way of spoiling an answer.
 
 use super::areas::Areas;
+use super::bonds::{compare_two, edges};
 use super::calls::{compare, compare_three};
 use super::compared::{Compared, Judged};
 use super::crash;
@@ -12,9 +13,12 @@ use super::spoil_closed::{OF_CLOSED, OF_LONGEST};
 use super::spoil_marks::OF_MARKS;
 use super::spoil_two_way::OF_TWO_WAY;
 use super::spoil_two_way_refusals::OF_TWO_WAY_REFUSALS;
+use super::spoil_vertices::{OF_BONDS, OF_CHAINS, OF_VERTICES};
+use super::spoil_vertices_refusals::OF_VERTICES_REFUSALS;
 use super::two_way;
 use crate::cases::call::Search;
-use crate::cases::{Call, Case};
+use crate::cases::chains::Chain;
+use crate::cases::{Bound, Call, Case};
 use crate::memory::{Area, Placement};
 use crate::rows::Lines;
 use std::process::{Command, Stdio};
@@ -205,8 +209,10 @@ fn spoil_lines(samples: Lines) -> Vec<bool> {
 
 /// All ways on trial but those for the samples and the guards.
 struct Trials {
-    of_calls: [Trial; 5],
+    of_calls: [Trial; 7],
     of_two_way: [Trial<Search, two_way::Compared>; 2],
+    of_bonds: Trial<Bound, [Compared; 2]>,
+    of_chains: Trial<Chain, two_way::Compared>,
     of_long: [Trial; 2],
     of_text: [Noticed; TEXT_WAYS.len()],
     areas: Areas,
@@ -215,8 +221,19 @@ struct Trials {
 impl Trials {
     fn new() -> Trials {
         Trials {
-            of_calls: [OF_SEARCHES, OF_MARKS, OF_CLOSED, OF_REFUSALS_AND_BOOKS, OF_BOOKS].map(Trial::new),
+            of_calls: [
+                OF_SEARCHES,
+                OF_MARKS,
+                OF_CLOSED,
+                OF_REFUSALS_AND_BOOKS,
+                OF_BOOKS,
+                OF_VERTICES,
+                OF_VERTICES_REFUSALS,
+            ]
+            .map(Trial::new),
             of_two_way: [OF_TWO_WAY, OF_TWO_WAY_REFUSALS].map(Trial::new),
+            of_bonds: Trial::new(OF_BONDS),
+            of_chains: Trial::new(OF_CHAINS),
             of_long: [OF_SEARCHES, OF_LONGEST].map(Trial::new),
             of_text: [Noticed::default(); TEXT_WAYS.len()],
             areas: Areas::new(),
@@ -228,11 +245,25 @@ impl Trials {
         self.of_calls.iter_mut().for_each(|trial| trial.spoil(call, &compared));
     }
 
+    fn spoil_bound(&mut self, bound: &Bound, placement: Placement) {
+        bound.0.iter().for_each(|call| self.spoil_call(call, placement));
+        let compared = compare_two(&bound.0, placement, &mut self.areas);
+        self.of_bonds.spoil(bound, &compared);
+    }
+
+    fn spoil_chain(&mut self, chain: &Chain, placement: Placement) {
+        let import = |call: &Call| compare(call, placement, &mut self.areas).expected;
+        let imported: Vec<Vec<u8>> = chain.imports().iter().map(import).map(|left| edges(&left).to_vec()).collect();
+        let compared = two_way::compare(&chain.search(&imported), placement, &mut self.areas);
+        self.of_chains.spoil(chain, &compared);
+    }
+
     /// Spoils the case of this number in its kind.
     fn spoil(&mut self, plan: &Plan, case: &Case, number: u64) {
         match case {
             Case::Call(call, placement) if !long(call) => self.spoil_call(call, *placement),
-            Case::Two(calls, _, placement) => calls.iter().for_each(|call| self.spoil_call(call, *placement)),
+            Case::Two(bound, placement) => self.spoil_bound(bound, *placement),
+            Case::Chain(chain, placement) => self.spoil_chain(chain, *placement),
             Case::TwoWay(search, placement) if !wide(search) => {
                 let compared = two_way::compare(search, *placement, &mut self.areas);
                 self.of_two_way.iter_mut().for_each(|trial| trial.spoil(search, &compared));
@@ -251,6 +282,8 @@ impl Trials {
     fn told(&self, with_program: bool) -> Vec<bool> {
         let mut results: Vec<bool> = self.of_calls.iter().flat_map(|trial| trial.told("")).collect();
         results.extend(self.of_two_way.iter().flat_map(|trial| trial.told("")));
+        results.extend(self.of_bonds.told(""));
+        results.extend(self.of_chains.told(""));
         results.extend(self.of_long.iter().flat_map(|trial| trial.told("long: ")));
         if with_program {
             results.extend(TEXT_WAYS.iter().zip(self.of_text).map(|(way, noticed)| told(way.0, noticed)));
