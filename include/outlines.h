@@ -1,9 +1,9 @@
 /* Outlines stored twice: finds a closed ring of edges in a line of edges, starting at any of its edges and with at most k edges that differ.
  * Link with target/native/libexports.a, which tools/native makes. docs/SPEC.md has all of this in full.
  *
- * Terms. A ring has m edges, one byte each; a line has n bytes, edges and boundary marks. The bytes 0 to 254 are edge codes, and a call only asks
+ * Terms. A ring has m edges, one byte each; a line has n bytes, edges and boundary marks. The bytes 0 to 254 are edge codes, and a search only asks
  * whether two of them are equal. outlines_scan_two_way also reads each code of its ring as 8 * length class + octant, so that ring may hold the codes 0
- * to 247 only (refusal 14). Byte 255 (OUTLINES_MARK) is a mark: it stands in a line where one boundary ends and the next begins. It counts as one of the
+ * to 247 only (refusal 14); these are the codes that outlines_import_vertices makes of a boundary's vertices. Byte 255 (OUTLINES_MARK) is a mark: it stands in a line where one boundary ends and the next begins. It counts as one of the
  * n bytes. A ring must not hold one (refusal 12). Turning the ring by r, 0 <= r < m, brings its edge (r + q) mod m to place q; r is called a rotation.
  * If i + m <= n, the line's places i to i + m - 1 are the window at i, and i is a start if that window holds no mark. The distance of such a place i
  * under a rotation counts the places at which the window and the turned ring differ; a mark differs from every ring edge. A start is a finding if its
@@ -49,9 +49,17 @@
  * octant turned by 4 modulo 8 and its length class kept: at place q stands the reversed code of the ring's edge at m - 1 - q, and the reversed code of c
  * is, in C, c / 8 * 8 + (c % 8 + 4) % 8. A ring that is reversed twice is the ring again. outlines_scan_two_way seeks the ring and the reversed ring.
  *
+ * From vertices. outlines_import_vertices makes the edge bytes of a boundary from its vertices, one byte for each: edge i leads from vertex i to vertex
+ * i + 1, the last from the last vertex to the first. A vertex is two signed 32-bit numbers, north before east; dn and de are the steps north and east of an
+ * edge. Its octant is 0 if dn > 0 and 0 <= de < dn, and so on clockwise, each octant with its first ray and without its last: the rays north, northeast, east,
+ * southeast, south, southwest, west and northwest begin the octants 0 to 7. Its length class is the bit length of the larger of |dn| and |de|, less one, and 30
+ * if that is 31: class c below 30 is 2^c <= larger < 2^(c + 1), class 30 is 2^30 and more. The byte is 8 * length class + octant, at most 247. So an imported
+ * ring holds no mark and no code that refusal 14 is for. To make a line of several boundaries, import each and put OUTLINES_MARK between them. Moving all
+ * vertices by the same step changes no byte; starting from vertex s turns the bytes by s; the vertices in opposite order give the reversed ring, turned by 1.
+ *
  * Calls. Every call takes every input. It is accepted or refused, and returns a struct by value: outlines_scan_two_way a struct outlines_two_way, each
  * other call a struct outlines_answer. A refused call has written nothing and returns zero in every count. A length counts elements: bytes of a ring, a
- * line, a book or a join area, 32-bit words of an area of words. A pointer may be null where its length is 0. An area that is lent for writing must not
+ * line, a book, a join area or an area for edges, 32-bit words of an area of words, numbers of a list of vertices, two for each vertex. A pointer may be null where its length is 0. An area that is lent for writing must not
  * overlap anything else that is passed to the same call. A call reads and writes only what it is passed, keeps no pointer to it, allocates nothing and
  * needs at most 6,000 bytes of stack, outlines_scan_two_way at most 6,400 (docs/LOOKS.md).
  */
@@ -75,6 +83,8 @@ extern "C" {
 #define OUTLINES_MOST_SILENCES 1000 /* most silences to pack */
 #define OUTLINES_MOST_RECORDS 1153  /* most records of a book that is read: all of tag 21; 4,612 words to unpack */
 #define OUTLINES_MOST_BOOK 15000    /* most bytes of a book */
+#define OUTLINES_FEWEST_VERTICES 3  /* fewest vertices of a boundary to import */
+#define OUTLINES_MOST_VERTICES 4096 /* most vertices of a boundary to import */
 
 /* Refusals: the condition of each, and its place. If several conditions hold, the call gives the first in the order stated at the call. Record numbers
  * count from 0. */
@@ -92,11 +102,14 @@ enum outlines_refusal {
                                     * (the reports, unpack) or its record number (pack) */
     OUTLINES_WORD_COUNT = 8,       /* the number of words to pack is not a multiple of 4, or is above 4,000; place 0 */
     OUTLINES_NUMBER_IN_RECORD = 9, /* a word to pack as a ring number or a ceiling is above 65,535; place: its record number */
-    OUTLINES_OUTPUT_ROOM = 10,     /* the area lent to pack or unpack is too small for the whole output; or, in a closed call, n >= m and the join area
-                                    * has fewer than 2 m - 2 bytes; place 0 */
+    OUTLINES_OUTPUT_ROOM = 10,     /* the area lent to pack, unpack or import_vertices is too small for the whole output; or, in a closed call, n >= m
+                                    * and the join area has fewer than 2 m - 2 bytes; place 0 */
     OUTLINES_INPUT = 11,           /* the report program's input is not laid out as SPEC, section 8, says; no call declared here gives it */
     OUTLINES_RING_MARK = 12,       /* the ring holds 255, a boundary mark; place 0 */
-    OUTLINES_RING_CODE = 14        /* two-way scan only: the ring holds a code above 247; place: the first ring place with such a code */
+    OUTLINES_RING_CODE = 14,       /* two-way scan only: the ring holds a code above 247; place: the first ring place with such a code */
+    OUTLINES_VERTEX_COUNT = 15,    /* import_vertices: an odd count of numbers, or fewer than 3 or more than 4,096 vertices; place 0 */
+    OUTLINES_EQUAL_NEIGHBOURS = 16 /* import_vertices: a vertex equals the one after it, or the last one the first; place: the first vertex of the
+                                    * earliest such pair, from 0 (the last vertex for the closing pair) */
 };
 
 /* What every call but the two-way scan returns. A look is one byte of the line read by the quick scan, a mark too, or one comparison of a byte of the line
@@ -104,9 +117,9 @@ enum outlines_refusal {
 struct outlines_answer {
     uint32_t refusal; /* 0 if the call is accepted, else a number of enum outlines_refusal */
     uint32_t place;   /* the place of the refusal; 0 if the call is accepted */
-    uint64_t found;   /* survey, scan and report, open and closed: findings, hidden ones included; pack and unpack: records */
+    uint64_t found;   /* survey, scan and report, open and closed: findings, hidden ones included; pack and unpack: records; import_vertices: edges */
     uint64_t hidden;  /* the two reports: findings that the book hides; 0 from the other calls */
-    uint64_t looks;   /* survey, scan and report, open and closed: looks; 0 from pack and unpack */
+    uint64_t looks;   /* survey, scan and report, open and closed: looks; 0 from pack, unpack and import_vertices */
 };
 
 /* What the two-way scan returns: found and looks of each of its two passes. */
@@ -201,6 +214,13 @@ struct outlines_answer outlines_pack(const uint32_t *words, size_t words_length,
  * Returns the number of records in found. Writes four words for each record (cell, ring number, start, ceiling), the ceiling 0 for tag 21, and no word
  * behind them. Refusals, in order: 5, then the first faulty field of the book, 6 before 7, then 10. */
 struct outlines_answer outlines_unpack(const uint8_t *book, size_t book_length, uint32_t *words, size_t words_length);
+
+/* Makes the edge bytes of a boundary from its vertices, as "From vertices" above says.
+ *   numbers, numbers_length   the vertices, two numbers each, north before east: 3 to 4,096 vertices, no two neighbours equal; the first is the last one's
+ *                             neighbour too, so it is not given again at the end. Vertices that are not neighbours may be equal
+ *   edges, edges_length       lent for the edges: at least one byte for each vertex
+ * Returns the number of edges in found. Writes one byte for each vertex, and no byte behind them. Refusals, in order: 15, 16, 10. */
+struct outlines_answer outlines_import_vertices(const int32_t *numbers, size_t numbers_length, uint8_t *edges, size_t edges_length);
 
 #ifdef __cplusplus
 }

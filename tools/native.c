@@ -14,6 +14,7 @@ struct outlines_answer *lowered_outlines_report_closed(struct outlines_answer *,
                                                        const uint8_t *, size_t, uint8_t *, size_t, uint32_t *, size_t);
 struct outlines_answer *lowered_outlines_pack(struct outlines_answer *, const uint32_t *, size_t, uint8_t *, size_t);
 struct outlines_answer *lowered_outlines_unpack(struct outlines_answer *, const uint8_t *, size_t, uint32_t *, size_t);
+struct outlines_answer *lowered_outlines_import_vertices(struct outlines_answer *, const int32_t *, size_t, uint8_t *, size_t);
 
 struct outlines_answer outlines_survey(const uint8_t *ring, size_t ring_length, const uint8_t *line, size_t line_length, size_t k, uint32_t *words,
                                        size_t words_length) {
@@ -75,5 +76,11 @@ struct outlines_answer outlines_pack(const uint32_t *words, size_t words_length,
 struct outlines_answer outlines_unpack(const uint8_t *book, size_t book_length, uint32_t *words, size_t words_length) {
     struct outlines_answer answer;
     lowered_outlines_unpack(&answer, book, book_length, words, words_length);
+    return answer;
+}
+
+struct outlines_answer outlines_import_vertices(const int32_t *numbers, size_t numbers_length, uint8_t *edges, size_t edges_length) {
+    struct outlines_answer answer;
+    lowered_outlines_import_vertices(&answer, numbers, numbers_length, edges, edges_length);
     return answer;
 }
