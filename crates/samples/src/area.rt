@@ -6,8 +6,11 @@ use silences::PACKED_LENGTH;
 ghost use Prim.Native.Nat.{_≤_};
 ghost use lib.ListN.{length};
 
+// The bytes for the text of all rows. It is more than they have.
+const TEXT_BYTES: usize = 100000;
+
 // The bytes of an area to fill in: the longest line of a row, which is one edge longer than a line may be. Nothing else
-// that a row gives is longer, nor is the text of all rows.
+// that a row gives is longer.
 const AREA_BYTES: usize = 65537;
 
 // The canary in bytes. No row's output ends with a canary, in bytes or in words.
@@ -31,6 +34,11 @@ pub const TWO_WAY_ROOM: usize = 2 * SEARCH_ROOM;
 // 10,000 elements here comes from a function for this reason.
 pub fn zeros() -> [u8; AREA_BYTES] {
     [0; AREA_BYTES]
+}
+
+// Room for the text of all rows.
+pub fn text_room() -> [u8; TEXT_BYTES] {
+    [0; TEXT_BYTES]
 }
 
 // Room for the unpacker: words, all canaries.
@@ -66,6 +74,15 @@ pub fn lend(area: &mut [u32], room: usize) -> &mut [u32] {
 pub fn lend_bytes(area: &mut [u8], room: usize) -> &mut [u8] {
     if room <= area.len() {
         &mut area[0..room]
+    } else {
+        area
+    }
+}
+
+// The first `count` numbers of an area.
+pub fn lend_numbers(area: &mut [i32], count: usize) -> &mut [i32] {
+    if count <= area.len() {
+        &mut area[0..count]
     } else {
         area
     }

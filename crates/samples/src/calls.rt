@@ -30,10 +30,14 @@ pub const REVERSED_CODE: usize = 12;
 
 pub const REVERSED: usize = 13;
 
+pub const IMPORT_VERTICES: usize = 14;
+
+pub const SCAN_VERTICES: usize = 15;
+
 // Begins the line of a row: prints the call and the row's name.
 pub fn begin_row(call: usize, row: &[u8]) {
     let names =
-        b"pack |read |unpack |seek |scan |survey |report |answer |scan_closed |survey_closed |report_closed |scan_two_way |reversed_code |reversed ";
+        b"pack |read |unpack |seek |scan |survey |report |answer |scan_closed |survey_closed |report_closed |scan_two_way |reversed_code |reversed |import_vertices |scan_vertices ";
     printing::print_text(table::field(names, call));
     printing::print_text(table::field(row, 0));
     printing::print_text(b":");

@@ -16,8 +16,10 @@ mod search_rows;
 mod seek_rows;
 mod table;
 mod two_way_rows;
+mod vertex_rows;
 
 use calls::ANSWER;
+use calls::IMPORT_VERTICES;
 use calls::PACK;
 use calls::READ;
 use calls::REPORT;
@@ -27,6 +29,7 @@ use calls::REVERSED_CODE;
 use calls::SCAN;
 use calls::SCAN_CLOSED;
 use calls::SCAN_TWO_WAY;
+use calls::SCAN_VERTICES;
 use calls::SEEK;
 use calls::SURVEY;
 use calls::SURVEY_CLOSED;
@@ -42,6 +45,8 @@ fn run_row(call: usize, row: &[u8]) {
         SCAN_CLOSED | SURVEY_CLOSED | REPORT_CLOSED => closed_rows::closed_row(call, row),
         SCAN_TWO_WAY => two_way_rows::two_way_row(row),
         REVERSED_CODE | REVERSED => two_way_rows::reversal_row(call, row),
+        IMPORT_VERTICES => vertex_rows::import_row(row),
+        SCAN_VERTICES => vertex_rows::scan_row(row),
         _ => search_rows::search_row(call, row), // scan, survey, report
     }
 }
@@ -59,9 +64,9 @@ fn run(call: usize, text: &[u8], index: usize) {
     }
 }
 
-// Reads the table of rows and runs each of its twelve sections through its calls.
+// Reads the table of rows and runs each of its fourteen sections through its calls.
 fn main() {
-    let mut input = area::zeros();
+    let mut input = area::text_room();
     let n = io::read_full(0, &mut input);
     let text = &input[..n];
     run(PACK, text, 1);
@@ -82,4 +87,6 @@ fn main() {
     run(SCAN_TWO_WAY, text, 10);
     run(REVERSED_CODE, text, 11);
     run(REVERSED, text, 12);
+    run(IMPORT_VERTICES, text, 13);
+    run(SCAN_VERTICES, text, 14);
 }

@@ -1,6 +1,7 @@
 // Printing an answer as document 01's number, place and counts. An accepted answer has number 0 and place 0; "A refusal
 // carries its number and place, zero in every count".
 use crate::printing::BACKWARD_LABEL;
+use crate::printing::EDGES_LABEL;
 use crate::printing::FORWARD_LABEL;
 use crate::printing::FOUND_LABEL;
 use crate::printing::HIDDEN_LABEL;
@@ -16,6 +17,7 @@ use findings::SearchCounts;
 use outlines::Reported;
 use outlines::Searched;
 use two_way::TwoWay;
+use vertices::Imported;
 
 // Prints the number of a refusal (0 for none) and its place.
 fn print_refusal(refusal: usize, place: usize) {
@@ -94,6 +96,20 @@ pub fn print_two_way(answer: TwoWay) {
             print_refusal(number_of(refusal), place_of(refusal));
             print_pass(FORWARD_LABEL, none);
             print_pass(BACKWARD_LABEL, none);
+        }
+    }
+}
+
+// "Only edge bytes come out, one per vertex" (document 02, ticket 7): the number of edges.
+pub fn print_import(answer: Imported) {
+    match answer {
+        Imported::Edges(edges) => {
+            print_refusal(0, 0);
+            print_number(EDGES_LABEL, edges);
+        }
+        Imported::Refused(refusal) => {
+            print_refusal(number_of(refusal), place_of(refusal));
+            print_number(EDGES_LABEL, 0);
         }
     }
 }

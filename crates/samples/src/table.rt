@@ -108,9 +108,14 @@ fn decimal(text: &[u8]) -> usize {
     value
 }
 
-// The number with this index in a field.
+// The number with this index in a field. A minus sign is ignored.
 pub fn nth_number(field: &[u8], index: usize) -> usize {
     decimal(part(field, NUMBER_MARK, index))
+}
+
+// Whether the number with this index in a field has a minus sign.
+pub fn is_minus(field: &[u8], index: usize) -> bool {
+    begins(part(field, NUMBER_MARK, index), b'-')
 }
 
 // How many numbers a field gives; an empty field gives none. (No field of a row consists of marks alone.)

@@ -18,7 +18,7 @@ use reversal::reversed;
 ghost use Prim.Native.Nat.{_≤_};
 
 // Scans a line for a ring both ways, and prints the answer and the words written.
-fn scan(row: &[u8], ring: &[u8], line: &[u8]) {
+pub fn scan(row: &[u8], ring: &[u8], line: &[u8]) {
     let k = table::number_or(row, 3, 0);
     let room = table::number_or(row, 4, TWO_WAY_ROOM);
     let mut words = area::two_way_room();
