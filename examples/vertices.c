@@ -11,12 +11,13 @@ static const int32_t elsewhere[] = {1040, -475, 1060, -475, 1060, -430, 1000, -4
 static const int32_t backwards[] = {-200, 70, -140, 70, -140, 25, -160, 25, -160, 0, -200, 0};
 enum { VERTICES = 6, LINE = 2 * VERTICES + 1 };
 
-/* Imports a boundary of 6 vertices and prints its edges: 8 * length class + octant. */
-static void import(const char *name, const int32_t *numbers, uint8_t *edges) {
+/* Imports a boundary of 6 vertices and prints its edges, 8 * length class + octant. Returns whether it was accepted. */
+static int import(const char *name, const int32_t *numbers, uint8_t *edges) {
     struct outlines_answer answer = outlines_import_vertices(numbers, 2 * VERTICES, edges, VERTICES);
-    printf("%s: %u edges", name, (unsigned)answer.found);
+    printf("%s: refusal %u, %u edges", name, (unsigned)answer.refusal, (unsigned)answer.found);
     for (uint64_t i = 0; i < answer.found; i++) printf(" %u", (unsigned)edges[i]);
     printf("\n");
+    return answer.refusal == OUTLINES_ACCEPTED;
 }
 
 static const uint32_t *print(const char *which, uint64_t found, const uint32_t *words) {
@@ -28,10 +29,8 @@ static const uint32_t *print(const char *which, uint64_t found, const uint32_t *
 int main(void) {
     uint8_t ring[VERTICES], line[LINE];
     uint32_t words[2 * OUTLINES_FINDING_WORDS * (LINE - VERTICES + 1)]; /* 8 (n - m + 1) words */
-    import("ring", outline, ring);
-    import("elsewhere", elsewhere, line);
-    line[VERTICES] = OUTLINES_MARK;
-    import("backwards", backwards, line + VERTICES + 1);
+    if (!import("ring", outline, ring) || !import("elsewhere", elsewhere, line) || !import("backwards", backwards, line + VERTICES + 1)) return 1;
+    line[VERTICES] = OUTLINES_MARK; /* between the two boundaries */
 
     struct outlines_two_way both = outlines_scan_two_way(ring, sizeof ring, line, sizeof line, 0, words, sizeof words / sizeof words[0]);
     print("backward", both.backward_found, print("forward", both.forward_found, words));

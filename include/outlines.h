@@ -3,8 +3,9 @@
  *
  * Terms. A ring has m edges, one byte each; a line has n bytes, edges and boundary marks. The bytes 0 to 254 are edge codes, and a search only asks
  * whether two of them are equal. outlines_scan_two_way also reads each code of its ring as 8 * length class + octant, so that ring may hold the codes 0
- * to 247 only (refusal 14); these are the codes that outlines_import_vertices makes of a boundary's vertices. Byte 255 (OUTLINES_MARK) is a mark: it stands in a line where one boundary ends and the next begins. It counts as one of the
- * n bytes. A ring must not hold one (refusal 12). Turning the ring by r, 0 <= r < m, brings its edge (r + q) mod m to place q; r is called a rotation.
+ * to 247 only (refusal 14); these are the codes that outlines_import_vertices makes of a boundary's vertices. Byte 255 (OUTLINES_MARK) is a mark: it
+ * stands in a line where one boundary ends and the next begins. It counts as one of the n bytes. A ring must not hold one (refusal 12). Turning the ring
+ * by r, 0 <= r < m, brings its edge (r + q) mod m to place q; r is called a rotation.
  * If i + m <= n, the line's places i to i + m - 1 are the window at i, and i is a start if that window holds no mark. The distance of such a place i
  * under a rotation counts the places at which the window and the turned ring differ; a mark differs from every ring edge. A start is a finding if its
  * distance is at most k, the allowance, for at least one rotation. A finding has four numbers: the start, the lowest rotation with the least distance,
@@ -50,18 +51,21 @@
  * is, in C, c / 8 * 8 + (c % 8 + 4) % 8. A ring that is reversed twice is the ring again. outlines_scan_two_way seeks the ring and the reversed ring.
  *
  * From vertices. outlines_import_vertices makes the edge bytes of a boundary from its vertices, one byte for each: edge i leads from vertex i to vertex
- * i + 1, the last from the last vertex to the first. A vertex is two signed 32-bit numbers, north before east; dn and de are the steps north and east of an
- * edge. Its octant is 0 if dn > 0 and 0 <= de < dn, and so on clockwise, each octant with its first ray and without its last: the rays north, northeast, east,
- * southeast, south, southwest, west and northwest begin the octants 0 to 7. Its length class is the bit length of the larger of |dn| and |de|, less one, and 30
- * if that is 31: class c below 30 is 2^c <= larger < 2^(c + 1), class 30 is 2^30 and more. The byte is 8 * length class + octant, at most 247. So an imported
- * ring holds no mark and no code that refusal 14 is for. To make a line of several boundaries, import each and put OUTLINES_MARK between them. Moving all
- * vertices by the same step changes no byte; starting from vertex s turns the bytes by s; the vertices in opposite order give the reversed ring, turned by 1.
+ * i + 1, the last from the last vertex to the first. A vertex is two signed 32-bit numbers, north before east. The steps dn and de of an edge, north
+ * and east, are its second vertex less its first, computed exactly: up to 2^32 - 1 in size, which does not fit an int32_t. Its octant is 0 if dn > 0
+ * and 0 <= de < dn, and so on clockwise, each octant with its first ray and without its last: the rays north, northeast, east, southeast, south,
+ * southwest, west and northwest begin the octants 0 to 7. Its length class is the bit length of the larger of |dn| and |de|, less one, and 30 if that
+ * is 31: class c below 30 is 2^c <= larger < 2^(c + 1), class 30 is 2^30 and more. The byte is 8 * length class + octant, at most 247. So an imported
+ * ring holds no mark and no code that refusal 14 is for. A boundary of more than 256 vertices can stand in a line; as a ring it is refused (1). To make
+ * a line of several boundaries, import each and put OUTLINES_MARK between them. Moving all vertices by the same step changes no byte; starting from
+ * vertex s turns the bytes by s; the vertices in opposite order give the reversed ring, turned by 1.
  *
  * Calls. Every call takes every input. It is accepted or refused, and returns a struct by value: outlines_scan_two_way a struct outlines_two_way, each
  * other call a struct outlines_answer. A refused call has written nothing and returns zero in every count. A length counts elements: bytes of a ring, a
- * line, a book, a join area or an area for edges, 32-bit words of an area of words, numbers of a list of vertices, two for each vertex. A pointer may be null where its length is 0. An area that is lent for writing must not
- * overlap anything else that is passed to the same call. A call reads and writes only what it is passed, keeps no pointer to it, allocates nothing and
- * needs at most 6,000 bytes of stack, outlines_scan_two_way at most 6,400 (docs/LOOKS.md).
+ * line, a book, a join area or an area for edges, 32-bit words of an area of words, numbers of a list of vertices, two for each vertex. A pointer may
+ * be null where its length is 0. An area that is lent for writing must not overlap anything else that is passed to the same call. A call reads and
+ * writes only what it is passed, keeps no pointer to it and no state, so calls may run at the same time if no area that one of them writes is passed to
+ * another. A call allocates nothing and needs at most 6,000 bytes of stack, outlines_scan_two_way at most 6,400 (docs/LOOKS.md).
  */
 #ifndef OUTLINES_H
 #define OUTLINES_H
@@ -216,8 +220,8 @@ struct outlines_answer outlines_pack(const uint32_t *words, size_t words_length,
 struct outlines_answer outlines_unpack(const uint8_t *book, size_t book_length, uint32_t *words, size_t words_length);
 
 /* Makes the edge bytes of a boundary from its vertices, as "From vertices" above says.
- *   numbers, numbers_length   the vertices, two numbers each, north before east: 3 to 4,096 vertices, no two neighbours equal; the first is the last one's
- *                             neighbour too, so it is not given again at the end. Vertices that are not neighbours may be equal
+ *   numbers, numbers_length   the vertices, two numbers each, north before east; numbers_length counts numbers, so it is even, 6 to 8,192. No two
+ *                             neighbours may be equal. The first vertex is the last one's neighbour too: do not give it again at the end
  *   edges, edges_length       lent for the edges: at least one byte for each vertex
  * Returns the number of edges in found. Writes one byte for each vertex, and no byte behind them. Refusals, in order: 15, 16, 10. */
 struct outlines_answer outlines_import_vertices(const int32_t *numbers, size_t numbers_length, uint8_t *edges, size_t edges_length);

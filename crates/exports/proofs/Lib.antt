@@ -6,8 +6,8 @@ pub mod BookDemands
 pub mod ReportDemands
 pub mod ClosedDemands
 pub mod TwoWayDemands
-pub mod ImportDemands
 pub mod BookPlaces
 pub mod ReportPlaces
 pub mod PassedOn
 pub mod OneAnswer
+pub mod ImportDemands

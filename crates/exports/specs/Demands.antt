@@ -47,7 +47,7 @@ use Rattle.silences.specs.Packing.{silencesOf, wordsOfSilences}
 use Rattle.silences.specs.Faults.{IsFieldFault, IsOrderFault, IsNumberFault, IsRecordFault, IsPackable}
 use Rattle.reversal.specs.Reversing.{reversedRing}
 use Rattle.vertices.specs.Steps.{IsCodeOf}
-use Rattle.vertices.specs.Boundary.{vertexAt, IsFirstRepeat}
+use Rattle.vertices.specs.Boundary.{vertexAt, IsFirstEqualPair}
 use Rattle.exports.specs.declared.answering.Answer.{Answer as AnswerStruct}
 use Rattle.exports.specs.declared.two_way_scan.TwoWayAnswer.{TwoWayAnswer}
 
@@ -162,8 +162,8 @@ importTable numbers room =
     -- "an odd count of numbers, or fewer than 3 or more than 4,096 vertices, place 0"
     rowOf 15 ((length numbers % 2 ≡ 1) ⊎ ((length numbers / 2 < 3) ⊎ (4096 < length numbers / 2)))
     -- "two equal neighbours, place the first of the earliest pair, from 0 (the last vertex for the closing pair)"
-    ∷ (λ number place. (number ≡ 16) × IsFirstRepeat numbers place)
-    -- fewer bytes than vertices
+    ∷ (λ number place. (number ≡ 16) × IsFirstEqualPair numbers place)
+    -- "10 for room": fewer bytes are lent than there are vertices
     ∷ rowOf 10 (room < length numbers / 2)
     ∷ []
 
@@ -236,8 +236,8 @@ pub record PackDemand2 (words area : List ℕ) (r : AnswerStruct) (out : List �
   pub book-is : r .refusal ≡ 0 → IsBook (silencesOf words) (layout (silencesOf words))
   pub bytes-are : r .refusal ≡ 0 → out ≡ written (layout (silencesOf words)) area
 
--- Demand 2 on an accepted import of vertices: "Only edge bytes come out, one per vertex". Edge i leads from vertex i to the one that follows, the last to the first. By
--- `IsCodeOf` it has the octant and the length class that ticket 7 gives for its steps north and east.
+-- Demand 2 on an accepted import of vertices: "Only edge bytes come out, one per vertex". Edge i leads from vertex i to the one that follows, the last edge from
+-- the last vertex to the first. By `IsCodeOf` it has the octant and the length class that ticket 7 gives for its steps north and east.
 pub record ImportDemand2 (numbers : List ℤ) (area : List ℕ) (r : AnswerStruct) (out : List ℕ) : Type 0 where
   pub edges : List ℕ
   pub found-is : r .found ≡ length numbers / 2

@@ -80,3 +80,17 @@ module _ {p : ℕ → Bool} {n : ℕ} where
   -- Where the loop ends, because q passes or is n, it has found the first.
   pub first-by : {q : ℕ} → NoneBefore p n q → (q < n → p q ≡ true) → q ≡ firstBelow p n
   first-by before passes = first-unique (record { none-before = before; passes = passes }) first-below
+
+-- Two tests that agree on every number below n have the same first number.
+pub first-same : {p p′ : ℕ → Bool} {n : ℕ} → ((r : ℕ) → r < n → p r ≡ p′ r) → firstBelow p n ≡ firstBelow p′ n
+first-same {p} {p′} {n} same =
+    let first : IsFirstBelow p n (firstBelow p n) = first-below in
+    first-unique
+    (record {
+      none-before = record {
+        place-le = first .none-before .place-le;
+        fails = λ r l. sym (same r (omega (arith, first .none-before .place-le))) ∙ first .none-before .fails r l;
+      };
+      passes = λ l. sym (same (firstBelow p n) l) ∙ first .passes l;
+    })
+    first-below

@@ -35,7 +35,7 @@ module _ (ring : List ℕ) where
   unfolding firstNoEdge
   first-edges q l = edge-at q (first-below .none-before .fails q l)
 
-  -- The first place without an edge code has none, if it is a place of the ring.
+  -- If `firstNoEdge` is a place of the ring, its code is above 247.
   pub first-no-edge : firstNoEdge ring < length ring → edgeCodes ≤ getD ring (firstNoEdge ring) 0
   unfolding firstNoEdge
   first-no-edge below = no-edge-iff (firstNoEdge ring) .0 (first-below .passes below)

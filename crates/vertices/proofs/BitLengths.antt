@@ -32,7 +32,7 @@ unfolding halvings
 halvings-zero zero = refl
 halvings-zero (suc most) = refl
 
--- A number with top bit j is halved j + 1 times, if so many are allowed.
+-- A number with top bit j is halved j + 1 times, if the limit allows it.
 halvings-are : (j most n : ℕ) → j < most → IsTopBit n j → halvings most n ≡ suc j
 unfolding halvings
 halvings-are j zero n allowed top = absurd (omega arith)
@@ -112,9 +112,10 @@ no-bits : bitLength 0 ≡ 0
 unfolding bitLength
 no-bits = halvings-zero 0
 
--- A step between two numbers of 32 bits is below 2^32, so its bit length less one is at most 31: no other class is taken as 30.
-pub class-before-31 : (size : ℕ) → size < 2 ^ 32 → bitLength size - 1 ≤ 31
-class-before-31 size below =
+-- A size below 2^32 has at most 32 bits. The steps between numbers of 32 bits have such sizes (`difference-size` of MachineNumbers), so the bit length less one is at
+-- most 31, and 31 is the only class that is taken as 30.
+pub bit-length-most : (size : ℕ) → size < 2 ^ 32 → bitLength size ≤ 32
+bit-length-most size below =
     ⊎-elim
     (λ none.
     let zero-is : size ≡ 0 = omega arith in

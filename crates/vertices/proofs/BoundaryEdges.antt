@@ -10,10 +10,10 @@ use lib.ListN.{length, getD}
 use Rattle.lists.proofs.ByPlace.{listOf-length, listOf-at}
 use Rattle.meaning.specs.Meanings.{HoldsMark}
 use Rattle.meaning.specs.EdgeCodes.{edgeCodes}
-use Rattle.vertices.specs.Boundary.{Vertex, vertexCount, vertexAt, following, boundaryEdge, boundaryEdges, NoRepeat}
+use Rattle.vertices.specs.Boundary.{Vertex, vertexCount, vertexAt, following, boundaryEdge, boundaryEdges, NoEqualPair}
 use Rattle.vertices.specs.Steps.{IsCodeOf}
 use Rattle.vertices.proofs.Codes.{code-lt, code-iff}
-use Rattle.vertices.proofs.Repeats.{step-between}
+use Rattle.vertices.proofs.EqualPairs.{step-between}
 
 module _ (numbers : List ℤ) where
   -- One edge per vertex.
@@ -42,9 +42,9 @@ module _ (numbers : List ℤ) where
   no-mark holds = omega (arith, edges-lt (holds .place) (omega (arith, holds .in-edges, edges-length)), holds .is-mark)
 
   -- If no two neighbours are equal, edge i has the octant and the length class of its steps, in the document's words.
-  pub edge-has : NoRepeat numbers → (i : ℕ) → i < vertexCount numbers
+  pub edge-has : NoEqualPair numbers → (i : ℕ) → i < vertexCount numbers
       → IsCodeOf (vertexAt numbers (following (vertexCount numbers) i) .north -ℤ vertexAt numbers i .north)
       (vertexAt numbers (following (vertexCount numbers) i) .east -ℤ vertexAt numbers i .east) (getD (boundaryEdges numbers) i 0)
-  edge-has no-repeat i l =
-      code-iff _ _ (step-between (vertexAt numbers i) (vertexAt numbers (following (vertexCount numbers) i)) (λ same. no-repeat .none i l (record { same = same })))
+  edge-has no-pair i l =
+      code-iff _ _ (step-between (vertexAt numbers i) (vertexAt numbers (following (vertexCount numbers) i)) (λ same. no-pair .none i l (record { same = same })))
       (getD (boundaryEdges numbers) i 0) .0 (edges-at i l)

@@ -1,4 +1,5 @@
--- The code of an edge. It is 8·class + octant with octant below 8 and class at most 30, so both can be read off it again (`code-iff`), and it is at most 247 (`code-lt`). The
+-- The code of an edge. It is 8·class + octant with octant below 8 and class at most 30, so both can be read off it again, and it is at most 247 (`code-lt`). So
+-- it is the only number with that octant and that class (`code-iff`). The
 -- edge drawn the other way has both steps negated: the sizes stay, and with them the class; the octant makes half a turn. So its code is the reversed code (`code-back`).
 use Prim.Native.Nat.{ℕ, _+_, _*_, _<_}
 use mathlib.Core.Path.{_≡_, refl, sym, ap, subst}

@@ -15,42 +15,38 @@ use Rattle.answers.specs.declared.refusals.Refusal.the-variants.{OutputRoom, Ve
 use Rattle.answers.specs.Refusals.{placeOf}
 use Rattle.answers.specs.Rows.{row, firstGiven}
 use Rattle.answers.proofs.RowsExactly.{IsRow, is-row, end, row-has, first-has, at-row, at-fault, past-row, no-row, no-last-row}
-use Rattle.vertices.specs.Boundary.{vertexCount, firstRepeat, IsFirstRepeat, NoRepeat}
+use Rattle.vertices.specs.Boundary.{vertexCount, firstEqualPair, IsFirstEqualPair, NoEqualPair}
 use Rattle.vertices.specs.Importing.{mostVertices, isRow15, row16, importRows}
-use Rattle.vertices.specs.ImportRows.{IsVertexCount}
-use Rattle.vertices.proofs.Repeats.{first-repeat-is, no-repeat-by, first-repeat-by}
+use Rattle.vertices.specs.ImportRows.{HasWrongCount, IsRightCount}
+use Rattle.vertices.proofs.EqualPairs.{first-pair-is, no-pair-by, first-pair-by}
 
--- "an odd count of numbers, or fewer than 3 or more than 4,096 vertices".
-abbrev pub HasWrongCount : ℕ → Type 0
-HasWrongCount count = (count % 2 ≡ 1) ⊎ ((count / 2 < 3) ⊎ (4096 < count / 2))
-
--- Row 15 is given exactly when the count is wrong, and not given exactly when it is even, and of 3 to 4,096 vertices.
-pub is-row-15 : (count : ℕ) → IsRow (row (isRow15 count) VertexCount) VertexCount (HasWrongCount count) (IsVertexCount count)
-is-row-15 count =
-    is-row (or-iff (eq-iff (count % 2) 1) (or-iff (lt-iff (count / 2) 3) (lt-iff mostVertices (count / 2))))
+-- Row 15 is given exactly when the count of numbers is wrong, and not given exactly when it is right.
+pub is-row-15 : (given : ℕ) → IsRow (row (isRow15 given) VertexCount) VertexCount (HasWrongCount given) (IsRightCount given)
+is-row-15 given =
+    is-row (or-iff (eq-iff (given % 2) 1) (or-iff (lt-iff (given / 2) 3) (lt-iff mostVertices (given / 2))))
     (λ fits. ⊎-elim (λ odd. omega (arith, fits .even)) (⊎-elim (λ few. omega (arith, fits .fewest)) (λ many. omega (arith, fits .most))))
     (λ not.
-    let not-odd : count % 2 ≡ 1 → ⊥ = λ odd. not (inl odd) in
-    let not-few : count / 2 < 3 → ⊥ = λ few. not (inr (inl few)) in
-    let not-many : 4096 < count / 2 → ⊥ = λ many. not (inr (inr many)) in
+    let not-odd : given % 2 ≡ 1 → ⊥ = λ odd. not (inl odd) in
+    let not-few : given / 2 < 3 → ⊥ = λ few. not (inr (inl few)) in
+    let not-many : 4096 < given / 2 → ⊥ = λ many. not (inr (inr many)) in
     record { even = omega arith; fewest = omega arith; most = omega arith })
 
 module _ (numbers : List ℤ) where
-  -- Row 16 is given exactly when the first of the earliest pair is a vertex, and not given exactly when no two neighbours are equal.
-  pub is-row-16 : IsRow (row16 numbers) (EqualNeighbours (firstRepeat numbers)) (firstRepeat numbers < vertexCount numbers) (NoRepeat numbers)
+  -- Row 16 is given exactly when `firstEqualPair` is below the number of vertices, and not given exactly when no two neighbours are equal.
+  pub is-row-16 : IsRow (row16 numbers) (EqualNeighbours (firstEqualPair numbers)) (firstEqualPair numbers < vertexCount numbers) (NoEqualPair numbers)
   is-row-16 =
-      is-row (lt-iff (firstRepeat numbers) (vertexCount numbers)) (λ no-repeat below. no-repeat .none (firstRepeat numbers) below (first-repeat-is numbers below .repeat))
-      (λ not. no-repeat-by numbers (omega (arith, not)))
+      is-row (lt-iff (firstEqualPair numbers) (vertexCount numbers)) (λ no-pair below. no-pair .none (firstEqualPair numbers) below (first-pair-is numbers below .pair))
+      (λ not. no-pair-by numbers (omega (arith, not)))
 
   -- Row 16 is given with this place exactly when it is "the first of the earliest pair".
-  pub row-16-at-iff : (place : ℕ) → (row16 numbers ≡ some (EqualNeighbours place)) ↔ IsFirstRepeat numbers place
+  pub row-16-at-iff : (place : ℕ) → (row16 numbers ≡ some (EqualNeighbours place)) ↔ IsFirstEqualPair numbers place
   row-16-at-iff place = (
     λ e.
-        let is : place ≡ firstRepeat numbers = ap placeOf (is-row-16 .only (EqualNeighbours place) e) in
-        let below : firstRepeat numbers < vertexCount numbers = is-row-16 .yes .0 (e ∙ ap (λ (p : ℕ). some (EqualNeighbours p)) is) in
-        subst (IsFirstRepeat numbers) (sym is) (first-repeat-is numbers below),
+        let is : place ≡ firstEqualPair numbers = ap placeOf (is-row-16 .only (EqualNeighbours place) e) in
+        let below : firstEqualPair numbers < vertexCount numbers = is-row-16 .yes .0 (e ∙ ap (λ (p : ℕ). some (EqualNeighbours p)) is) in
+        subst (IsFirstEqualPair numbers) (sym is) (first-pair-is numbers below),
     λ h.
-        let is : firstRepeat numbers ≡ place = sym (first-repeat-by numbers h) in
+        let is : firstEqualPair numbers ≡ place = sym (first-pair-by numbers h) in
         is-row-16 .yes .1 (omega (arith, is, h .in-boundary)) ∙ ap (λ (p : ℕ). some (EqualNeighbours p)) is,
   )
 
@@ -65,17 +61,17 @@ module _ (numbers : List ℤ) where
     import-15-iff = at-row (is-row-15 (length numbers)) (row-has is-row-16 (omega arith) (row-has is-row-10 (omega arith) end)) .exactly
 
     -- Row 16 is the first with this place exactly when it is the first of the earliest pair, and row 15 is not given.
-    pub import-16-iff : (place : ℕ) → (firstGiven (importRows numbers room) ≡ some (EqualNeighbours place)) ↔ (IsVertexCount (length numbers) × IsFirstRepeat numbers place)
+    pub import-16-iff : (place : ℕ) → (firstGiven (importRows numbers room) ≡ some (EqualNeighbours place)) ↔ (IsRightCount (length numbers) × IsFirstEqualPair numbers place)
     unfolding importRows
     import-16-iff place = past-row (is-row-15 (length numbers)) (omega arith) (at-fault (row-16-at-iff place) (row-has is-row-10 (omega arith) end)) .exactly
 
     -- Row 10 is the first exactly when fewer bytes are lent than there are vertices, and rows 15 and 16 are not given.
-    pub import-10-iff : (firstGiven (importRows numbers room) ≡ some OutputRoom) ↔ (IsVertexCount (length numbers) × (NoRepeat numbers × (room < vertexCount numbers)))
+    pub import-10-iff : (firstGiven (importRows numbers room) ≡ some OutputRoom) ↔ (IsRightCount (length numbers) × (NoEqualPair numbers × (room < vertexCount numbers)))
     unfolding importRows
     import-10-iff = past-row (is-row-15 (length numbers)) (omega arith) (past-row is-row-16 (omega arith) (at-row is-row-10 end)) .exactly
 
     -- None of these rows is given exactly when the count is right, no two neighbours are equal, and there is a byte for each vertex.
-    pub import-none-iff : (firstGiven (importRows numbers room) ≡ none) ↔ (IsVertexCount (length numbers) × (NoRepeat numbers × (vertexCount numbers ≤ room)))
+    pub import-none-iff : (firstGiven (importRows numbers room) ≡ none) ↔ (IsRightCount (length numbers) × (NoEqualPair numbers × (vertexCount numbers ≤ room)))
     unfolding importRows
     import-none-iff = no-row (is-row-15 (length numbers)) (no-row is-row-16 (no-last-row is-row-10)) .exactly
 
@@ -86,5 +82,5 @@ module _ (numbers : List ℤ) where
     import-row-has P fifteen sixteen ten q e =
         first-has {P = λ (r : Refusal). firstGiven (importRows numbers room) ≡ some r → P r}
         (row-has (is-row-15 (length numbers)) (λ _. fifteen)
-        (row-has is-row-16 (λ f. let h = import-16-iff (firstRepeat numbers) .0 f in sixteen (firstRepeat numbers) (omega (arith, h .0 .most, h .1 .in-boundary)))
+        (row-has is-row-16 (λ f. let h = import-16-iff (firstEqualPair numbers) .0 f in sixteen (firstEqualPair numbers) (omega (arith, h .0 .most, h .1 .in-boundary)))
         (row-has is-row-10 (λ _. ten) end))) q e e

@@ -13,12 +13,12 @@ use Rattle.answers.specs.declared.refusals.Refusal.the-variants.{OutputRoom, Ve
 use Rattle.answers.specs.Paper.{answerPaper}
 use Rattle.answers.specs.Rows.{firstGiven, answerBy, areaBy}
 use Rattle.vertices.specs.declared.importing.Imported.the-variants.{Edges, Refused}
-use Rattle.vertices.specs.Boundary.{vertexCount, boundaryEdges, firstRepeat, NoRepeat}
+use Rattle.vertices.specs.Boundary.{vertexCount, boundaryEdges, firstEqualPair, NoEqualPair}
 use Rattle.vertices.specs.Importing.{importRows, importAnswer, importedArea, IsImported}
-use Rattle.vertices.specs.ImportRows.{IsVertexCount}
+use Rattle.vertices.specs.ImportRows.{HasWrongCount, IsRightCount}
 use Rattle.vertices.specs.Putting.{CanPutEdges}
-use Rattle.vertices.proofs.Repeats.{first-repeat-is, no-repeat-by}
-use Rattle.vertices.proofs.ImportAdmitRows.{HasWrongCount, import-15-iff, import-16-iff, import-10-iff, import-none-iff}
+use Rattle.vertices.proofs.EqualPairs.{first-pair-is, no-pair-by}
+use Rattle.vertices.proofs.ImportAdmitRows.{import-15-iff, import-16-iff, import-10-iff, import-none-iff}
 
 module _ (numbers : List ℤ) (area : List ℕ) where
   -- Refusing by the first row that is given, and writing nothing.
@@ -33,31 +33,31 @@ module _ (numbers : List ℤ) (area : List ℕ) where
   pub refused-count : HasWrongCount (length numbers) → IsImported numbers area (Refused VertexCount) area
   refused-count wrong = refused-by (import-15-iff numbers (length area) .1 wrong)
 
-  module _ (fits : IsVertexCount (length numbers)) {place : ℕ} (first : place ≡ firstRepeat numbers) where
-    -- Row 16: what `first_repeat` returned is a vertex.
-    pub refused-repeat : place < vertexCount numbers → IsImported numbers area (Refused (EqualNeighbours place)) area
-    refused-repeat below =
-        refused-by (import-16-iff numbers (length area) (firstRepeat numbers) .1 (fits, first-repeat-is numbers (omega arith)) ∙ ap (λ (p : ℕ). some (EqualNeighbours p)) (sym first))
+  module _ (fits : IsRightCount (length numbers)) {place : ℕ} (first : place ≡ firstEqualPair numbers) where
+    -- Row 16: what `first_equal_pair` returned is below the number of vertices.
+    pub refused-pair : place < vertexCount numbers → IsImported numbers area (Refused (EqualNeighbours place)) area
+    refused-pair below =
+        refused-by (import-16-iff numbers (length area) (firstEqualPair numbers) .1 (fits, first-pair-is numbers (omega arith)) ∙ ap (λ (p : ℕ). some (EqualNeighbours p)) (sym first))
 
     module _ (past : vertexCount numbers ≤ place) where
-      -- It is none: no two neighbours are equal.
-      no-repeat : NoRepeat numbers
-      no-repeat = no-repeat-by numbers (omega arith)
+      -- It is not below: no two neighbours are equal.
+      no-pair : NoEqualPair numbers
+      no-pair = no-pair-by numbers (omega arith)
 
       -- Row 10.
       pub refused-room : length area < vertexCount numbers → IsImported numbers area (Refused OutputRoom) area
-      refused-room few = refused-by (import-10-iff numbers (length area) .1 (fits, (no-repeat, few)))
+      refused-room few = refused-by (import-10-iff numbers (length area) .1 (fits, (no-pair, few)))
 
       module _ (room : vertexCount numbers ≤ length area) where
         -- No row is given: the edges may be written.
         pub can-put : CanPutEdges numbers area
-        can-put = record { no-repeat = no-repeat; room = room }
+        can-put = record { no-pair = no-pair; room = room }
 
         -- Writing the edges and returning how many there are.
         pub imported : {out : List ℕ} → out ≡ written (boundaryEdges numbers) area → IsImported numbers area (Edges (vertexCount numbers)) out
         unfolding importAnswer importedArea
         imported is =
-            let none-given : firstGiven (importRows numbers (length area)) ≡ none = import-none-iff numbers (length area) .1 (fits, (no-repeat, room)) in
+            let none-given : firstGiven (importRows numbers (length area)) ≡ none = import-none-iff numbers (length area) .1 (fits, (no-pair, room)) in
             record {
               paper = ap (λ (o : Option Refusal). answerPaper 0 (answerBy o (vertexCount numbers))) (sym none-given);
               written = is ∙ ap (λ (o : Option Refusal). areaBy o (written (boundaryEdges numbers) area) area) (sym none-given);

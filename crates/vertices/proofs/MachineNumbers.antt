@@ -1,13 +1,13 @@
 -- Signed numbers as the machine reads them. A signed local is read back from its bits: `toZ w (ofZ w x)`, which is x where x fits w bits (the kit's `toZ-ofZ`). The laws
--- here are for one function each: `is_negative`, `size` and `difference` of src/steps.rt, `is_same_vertex` of src/boundary.rt.
+-- here are for `is_negative`, `size`, `difference`, `octant` and `step_code` of src/steps.rt, and `is_same_vertex` and `edge_between` of src/boundary.rt.
 use Prim.Native.Nat.{ℕ, zero, suc, _+_, _-_, _≤_, _<_, _^_}
 use mathlib.Core.Path.{_≡_, refl, sym, ap, ap₂, subst, _∙_}
 use mathlib.Core.Bool.{Bool, true, false, cond, false≢true, true≢false}
 use mathlib.Core.Logic.{_↔_}
 use native.Mathlib.Omega.{arith}
 use lib.Dec.{T, ltb, eqb}
-use lib.IntN.{ℤ, pos, negsuc, negℤ, subℕ, natAbs, _+ℤ_, _-ℤ_}
-use lib.Signed.{ltZ, nonNeg, mag}
+use lib.IntN.{ℤ, pos, negsuc, subℕ, natAbs, _-ℤ_}
+use lib.Signed.{ltZ, nonNeg}
 use borrow.Author.Tests.{le-ltb}
 use mir.Syntax.{w32, w64}
 use mir.Val.{SFits, toZ, ofZ}
@@ -74,27 +74,28 @@ module _ (x : ℤ) (fits : SFits w64 x) where
   pub read-whole : isNegative x ≡ false → IsSizeLess 0 x (read64 x)
   read-whole e = subst (IsSizeLess 0 x) (sym (toZ-ofZ w64 x fits)) (whole x fits e)
 
--- The difference of two numbers of 32 bits fits 64 bits.
-negative-mag : (x : ℤ) → mag x < 2 ^ 31 → mag (negℤ x) ≤ 2 ^ 31
-negative-mag (pos zero) h = omega arith
-negative-mag (pos (suc n)) h = omega arith
-negative-mag (negsuc n) h = omega arith
+-- the size of a number that is one of two
+branch-size : (t : Bool) (m k n : ℕ) → m < n → k ≤ n → natAbs (cond t (negsuc m) (pos k)) ≤ n
+branch-size true m k n h l = h
+branch-size false m k n h l = l
 
-branch-mag : (t : Bool) (m k n : ℕ) → m ≤ n → k ≤ n → mag (cond t (negsuc m) (pos k)) ≤ n
-branch-mag true m k n h l = h
-branch-mag false m k n h l = l
+-- a difference of two naturals is not larger than both
+less-size : (a b n : ℕ) → 0 < n → a ≤ n → b ≤ n → natAbs (subℕ a b) ≤ n
+less-size a b n some h l = branch-size (ltb a b) (b - suc a) (a - b) n (omega arith) (omega arith)
 
-less-mag : (a b n : ℕ) → a ≤ n → b ≤ n → mag (subℕ a b) ≤ n
-less-mag a b n h l = branch-mag (ltb a b) (b - suc a) (a - b) n (omega arith) (omega arith)
+-- The difference of two numbers of 32 bits is below 2^32 in size, by their signs: it needs 33 bits, and its bit length is at most 32.
+pub difference-size : (x y : ℤ) → SFits w32 x → SFits w32 y → natAbs (x -ℤ y) < 2 ^ 32
+difference-size (pos a) (pos zero) f g = omega (arith, f .sfits)
+difference-size (pos a) (pos (suc b)) f g = omega (arith, less-size a (suc b) (2 ^ 31) (omega arith) (omega (arith, f .sfits)) (omega (arith, g .sfits)))
+difference-size (pos a) (negsuc b) f g = omega (arith, f .sfits, g .sfits)
+difference-size (negsuc a) (pos zero) f g = omega (arith, less-size 0 (suc a) (2 ^ 31) (omega arith) (omega arith) (omega (arith, f .sfits)))
+difference-size (negsuc a) (pos (suc b)) f g = omega (arith, f .sfits, g .sfits)
+difference-size (negsuc a) (negsuc b) f g = omega (arith, less-size (suc b) (suc a) (2 ^ 31) (omega arith) (omega (arith, g .sfits)) (omega (arith, f .sfits)))
 
-sum-mag : (x y : ℤ) → mag x < 2 ^ 31 → mag y ≤ 2 ^ 31 → mag (x +ℤ y) < 2 ^ 63
-sum-mag (pos a) (pos b) h l = omega arith
-sum-mag (pos a) (negsuc b) h l = omega (arith, less-mag a (suc b) (2 ^ 32) (omega arith) (omega arith))
-sum-mag (negsuc a) (pos b) h l = omega (arith, less-mag b (suc a) (2 ^ 32) (omega arith) (omega arith))
-sum-mag (negsuc a) (negsuc b) h l = omega arith
-
-difference-fits : (x y : ℤ) → SFits w32 x → SFits w32 y → SFits w64 (x -ℤ y)
-difference-fits x y f g = record { sfits = sum-mag x (negℤ y) (f .sfits) (negative-mag y (g .sfits)) }
+-- a number of a small size fits 64 bits
+size-fits : (x : ℤ) → natAbs x < 2 ^ 32 → SFits w64 x
+size-fits (pos n) h = record { sfits = omega arith }
+size-fits (negsuc n) h = record { sfits = omega arith }
 
 -- A number of 32 bits fits 64 bits, as it is read back.
 pub wide-fits : (x : ℤ) → SFits w32 x → SFits w64 (read32 x)
@@ -106,7 +107,7 @@ wide-is x f = toZ-ofZ w64 (read32 x) (wide-fits x f) ∙ toZ-ofZ w32 x f
 
 -- The difference of the two, each cast to 64 bits, fits 64 bits.
 pub read-difference-fits : (x y : ℤ) → SFits w32 x → SFits w32 y → SFits w64 (read64 (read32 x) -ℤ read64 (read32 y))
-read-difference-fits x y f g = rw (wide-is x f, wide-is y g) (difference-fits x y f g)
+read-difference-fits x y f g = rw (wide-is x f, wide-is y g) (size-fits (x -ℤ y) (difference-size x y f g))
 
 -- It is the exact difference.
 pub read-difference : (x y : ℤ) → SFits w32 x → SFits w32 y → read64 (read64 (read32 x) -ℤ read64 (read32 y)) ≡ x -ℤ y

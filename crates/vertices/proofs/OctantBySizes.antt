@@ -1,5 +1,5 @@
 -- The octant by signs and sizes is the octant of the steps (`octant-by-sizes`), by the signs of both steps. A quarter turn clockwise takes the steps (dn, de) to
--- (−de, dn), and each octant two further on (`quarter-turn`): of the sizes it swaps the two, so in each case both octants compare the same two sizes.
+-- (−de, dn), and each octant two further on (`quarter-turn`). The turn swaps the two sizes, so the same two sizes are compared before and after it.
 use Prim.Native.Nat.{ℕ, zero, suc, _+_, _%_, _≤_, _<_}
 use mathlib.Core.Path.{_≡_, refl, sym, ap, _∙_}
 use mathlib.Core.Bool.{Bool, true, false}
@@ -40,7 +40,7 @@ octant-by-sizes (negsuc n) (pos zero) step = simp (above-zero n)
 octant-by-sizes (negsuc n) (pos (suc e)) step = simp (above-zero e, not-zero e, at-least-zero (suc n))
 octant-by-sizes (negsuc n) (negsuc e) step = simp (above-zero n, at-least-zero (suc e))
 
--- So it is with signs and sizes that are known to be those of the steps.
+-- The same, for signs and sizes given by equations.
 pub octant-known : {dn de : ℤ} {south west : Bool} {n e : ℕ} → IsStep dn de → south ≡ isNegative dn → n ≡ natAbs dn → west ≡ isNegative de → e ≡ natAbs de
     → octantBySizes south n west e ≡ stepOctant dn de
 octant-known {dn} {de} step south-is n-is west-is e-is = rw (south-is, n-is, west-is, e-is) (octant-by-sizes dn de step)

@@ -41,7 +41,7 @@ module _ {numbers : List ℤ} {area : List ℕ} {r : Imported} {out : List ℕ} 
   abbrev first : Option Refusal
   first = firstGiven (importRows numbers room)
 
-  -- the answer is decided by the first row that is given, and so is the area
+  -- the paper is that of the first row that is given, or of an accepted answer
   by-rows : paperOf r ≡ answerPaper 0 (answerBy first (vertexCount numbers))
   unfolding importAnswer
   by-rows = meets .paper
@@ -54,7 +54,7 @@ module _ {numbers : List ℤ} {area : List ℕ} {r : Imported} {out : List ℕ} 
     row-16 = λ at. Iff·trans (row-place-iff 0 (vertexCount numbers) first by-rows (EqualNeighbours at)) (import-16-iff numbers room at);
     row-10 = Iff·trans (row-number-iff 0 (vertexCount numbers) first by-rows OutputRoom (omega arith)) (import-10-iff numbers room);
     accepted = Iff·trans (accepted-number-iff 0 (vertexCount numbers) first by-rows) (import-none-iff numbers room);
-    numbers-are =
+    number-is-one-of =
         number-by 0 (vertexCount numbers) first by-rows (λ (n : ℕ). (n ≡ 0) ⊎ ((n ≡ 10) ⊎ ((n ≡ 15) ⊎ (n ≡ 16)))) (inl refl)
         (λ q e. inr (import-row-numbers numbers room q e));
     place-is = place-unless 0 (vertexCount numbers) first by-rows 16 (λ q e. import-row-places numbers room q e .1);

@@ -9,7 +9,7 @@ use Rattle.meaning.specs.Counting.{firstFrom}
 use Rattle.answers.specs.declared.refusals.Refusal.the-variants.{OutputRoom, VertexCount, EqualNeighbours}
 use Rattle.answers.specs.Rows.{firstGiven}
 use Rattle.vertices.specs.Steps.{stepOctant, halvings, bitLength, stepCode}
-use Rattle.vertices.specs.Boundary.{boundaryEdges, isRepeat, firstRepeat}
+use Rattle.vertices.specs.Boundary.{boundaryEdges, isEqualPair, firstEqualPair}
 use Rattle.vertices.specs.Importing.{importRows}
 
 -- The codes of edges whose steps north and east are given in pairs.
@@ -23,7 +23,8 @@ abbrev minus : ℕ → ℤ
 minus zero = pos 0
 minus (suc n) = negsuc n
 
--- The eight rays clockwise from north have octants 0 to 7, and class 0 at size 1. One step behind each ray, with sizes 2 and 1, the octant is the ray's, and the class is 1.
+-- The eight rays clockwise from north have octants 0 to 7, and class 0 at size 1. Between each ray and the next, at sizes 2 and 1, the
+-- octant is that of the earlier ray, and the class is 1.
 pub ray-samples-right :
     (codesOf (pos 1 ∷ pos 0 ∷ pos 1 ∷ pos 1 ∷ pos 0 ∷ pos 1 ∷ minus 1 ∷ pos 1
     ∷ minus 1 ∷ pos 0 ∷ minus 1 ∷ minus 1 ∷ pos 0 ∷ minus 1 ∷ pos 1 ∷ minus 1 ∷ []) ≡ 0 ∷ 1 ∷ 2 ∷ 3 ∷ 4 ∷ 5 ∷ 6 ∷ 7 ∷ [])
@@ -44,7 +45,7 @@ size-samples-right = refl
 abbrev square : List ℤ
 square = pos 0 ∷ pos 0 ∷ pos 8 ∷ pos 0 ∷ pos 8 ∷ pos 8 ∷ pos 0 ∷ pos 8 ∷ []
 
--- A triangle; the same with its second vertex twice, with its last vertex equal to its first, and both.
+-- A triangle; the same with its second vertex twice, with its first vertex again at the end, and both.
 abbrev triangle : List ℤ
 triangle = pos 0 ∷ pos 0 ∷ pos 5 ∷ pos 0 ∷ pos 5 ∷ minus 3 ∷ []
 
@@ -75,5 +76,5 @@ pub row-samples-right : (firstGiven (importRows [] 9) ≡ some VertexCount)
     × (firstGiven (importRows triangle 2) ≡ some OutputRoom)
     × (firstGiven (importRows triangle 3) ≡ none)
     × (firstGiven (importRows square 9) ≡ none)
-unfolding importRows isRepeat firstRepeat firstFrom firstGiven
+unfolding importRows isEqualPair firstEqualPair firstFrom firstGiven
 row-samples-right = (refl, refl, refl, refl, refl, refl, refl, refl, refl)

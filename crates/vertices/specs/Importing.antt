@@ -23,7 +23,7 @@ use Rattle.answers.specs.Paper.{Answer, accepted, refused, Paper, answerPaper}
 use Rattle.answers.specs.Rows.{row, firstGiven, answerBy, areaBy}
 use Rattle.vertices.specs.declared.importing.Imported.{Imported}
 use Rattle.vertices.specs.declared.importing.Imported.the-variants.{Edges, Refused}
-use Rattle.vertices.specs.Boundary.{numbersEach, vertexCount, boundaryEdges, firstRepeat}
+use Rattle.vertices.specs.Boundary.{numbersEach, vertexCount, boundaryEdges, firstEqualPair}
 
 -- "fewer than 3 .. vertices".
 abbrev pub fewestVertices : ℕ
@@ -33,13 +33,13 @@ fewestVertices = 3
 abbrev pub mostVertices : ℕ
 mostVertices = 4096
 
--- Row 15, for a count of numbers: "an odd count of numbers, or fewer than 3 or more than 4,096 vertices".
+-- Row 15, for this many numbers: "an odd count of numbers, or fewer than 3 or more than 4,096 vertices".
 abbrev pub isRow15 : ℕ → Bool
-isRow15 count = eqb (count % numbersEach) 1 || (ltb (count / numbersEach) fewestVertices || ltb mostVertices (count / numbersEach))
+isRow15 given = eqb (given % numbersEach) 1 || (ltb (given / numbersEach) fewestVertices || ltb mostVertices (given / numbersEach))
 
 -- Row 16: "two equal neighbours, place the first of the earliest pair".
 abbrev pub row16 : List ℤ → Option Refusal
-row16 numbers = row (ltb (firstRepeat numbers) (vertexCount numbers)) (EqualNeighbours (firstRepeat numbers))
+row16 numbers = row (ltb (firstEqualPair numbers) (vertexCount numbers)) (EqualNeighbours (firstEqualPair numbers))
 
 -- The rows for the numbers and the number of bytes lent, each with its refusal if it is given: 15, 16, and 10 if the call "lacks room for its whole output" (document
 -- 01), a byte per vertex.

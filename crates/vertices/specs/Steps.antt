@@ -18,12 +18,13 @@ use lib.IntN.{ℤ, pos, negℤ, natAbs}
 use lib.Signed.{_<ℤ_, _≤ℤ_, ltZ, leZ}
 use Rattle.meaning.specs.EdgeCodes.{edgeCodes, edgeCode, lengthClass, octantOf}
 
--- The two steps of an edge: its vertices differ, so at least one of them is not 0.
+-- Two steps that are not both 0, as an edge has: its vertices differ.
 pub record IsStep (dn de : ℤ) : Type 0 where
   pub some : 0 < natAbs dn + natAbs de
 
 -- The octant as a fact. "0 where dn > 0 and 0 ≤ de < dn": from the ray due north up to the ray northeast. Octant 1 goes on from that ray, where dn > 0 and dn ≤ de, up
 -- to the ray due east. "and so on clockwise": a quarter turn anticlockwise takes the steps (dn, de) to (de, −dn), and what it brings to octant o was in octant o + 2.
+-- (Octants count modulo 8 here; the laws take o below 8.)
 abbrev pub InOctant : ℕ → ℤ → ℤ → Type 0
 InOctant zero dn de = (pos 0 <ℤ dn) × ((pos 0 ≤ℤ de) × (de <ℤ dn))
 InOctant (suc zero) dn de = (pos 0 <ℤ dn) × (dn ≤ℤ de)
@@ -34,11 +35,11 @@ InOctant (suc (suc o)) dn de = InOctant o de (negℤ dn)
 abbrev pub inQuarter : ℤ → ℤ → Bool
 inQuarter lead side = ltZ (pos 0) lead && leZ (pos 0) side
 
--- The octant within a quarter whose first octant is `first`: up to the ray between the two rays the first, from that ray on the second.
+-- The octant within a quarter; `first` is the quarter's first octant. Before the diagonal, where side < lead, it is `first`, and from the diagonal on the next.
 abbrev pub octantIn : ℕ → ℤ → ℤ → ℕ
 octantIn first lead side = cond (ltZ side lead) first (suc first)
 
--- The octant, computed: quarter by quarter, from north, from east, from south, from west.
+-- The octant, computed: quarter by quarter, from north, from east, from south, from west. (0, 0) gets 7.
 unfoldable pub stepOctant : ℤ → ℤ → ℕ
 stepOctant dn de =
     cond (inQuarter dn de) (octantIn 0 dn de)
@@ -63,8 +64,8 @@ lastClass = 30
 abbrev pub larger : ℤ → ℤ → ℕ
 larger dn de = max (natAbs dn) (natAbs de)
 
--- "the bit length of the larger of |dn| and |de|, less one, with 31 taken as 30". Steps between numbers of 32 bits have at most 32 bits, so 31 is the only class
--- above 30 (`class-before-31` of proofs/).
+-- "the bit length of the larger of |dn| and |de|, less one, with 31 taken as 30". The size of a step between numbers of 32 bits has at most 32 bits, so 31 is
+-- the only class above 30 (`difference-size` and `bit-length-most` of proofs/).
 abbrev pub classOfSize : ℕ → ℕ
 classOfSize size = min lastClass (bitLength size - 1)
 
@@ -76,7 +77,7 @@ stepClass dn de = classOfSize (larger dn de)
 unfoldable pub stepCode : ℤ → ℤ → ℕ
 stepCode dn de = edgeCode (stepClass dn de) (stepOctant dn de)
 
--- The code of an edge as facts. Its octant is that of the steps. A class c below 30 says that the larger step has c + 1 bits: 2^c ≤ larger < 2^(c+1). Class 30 says that
+-- The code of an edge as facts. It is below 248, so its class is at most 30. Its octant is that of the steps. A class c below 30 says that the larger step has c + 1 bits: 2^c ≤ larger < 2^(c+1). Class 30 says that
 -- it has 31 bits or more.
 pub record IsCodeOf (dn de : ℤ) (code : ℕ) : Type 0 where
   pub is-edge : code < edgeCodes

@@ -4,8 +4,8 @@ use crate::steps::difference;
 use crate::steps::step_code;
 ghost use mathlib.Core.Path.{_≡_};
 ghost use Rattle.lists.specs.Areas.{written};
-ghost use Rattle.vertices.specs.Boundary.{vertexAt, edgeBetween, boundaryEdges, isSameVertex, firstRepeat};
-ghost use Rattle.vertices.specs.Putting.{AreVertices, IsEdge, CanPutEdges};
+ghost use Rattle.vertices.specs.Boundary.{vertexAt, edgeBetween, boundaryEdges, isSameVertex, firstEqualPair};
+ghost use Rattle.vertices.specs.Putting.{AreVertices, AreDifferent, CanPutEdges};
 
 // "pairs of signed 32-bit whole numbers": two numbers a vertex.
 pub const NUMBERS_EACH: usize = 2;
@@ -23,10 +23,10 @@ fn is_same_vertex(numbers: &[i32], i: usize, j: usize) -> bool
     numbers[north + 1] == numbers[other_north + 1]
 }
 
-// The first vertex that equals the one after it, the first vertex being after the last; the number of vertices if there is
-// none.
-pub fn first_repeat(numbers: &[i32]) -> usize
-    ensures { λ r. ⌜ r ≡ firstRepeat (now (numbers .entry)) ⌝ }
+// The first of the earliest pair of equal neighbours; after the last vertex comes the first. If there is no such pair, the
+// number of vertices.
+pub fn first_equal_pair(numbers: &[i32]) -> usize
+    ensures { λ r. ⌜ r ≡ firstEqualPair (now (numbers .entry)) ⌝ }
 {
     let count = numbers.len() / NUMBERS_EACH;
     let mut i = 0;
@@ -41,7 +41,7 @@ pub fn first_repeat(numbers: &[i32]) -> usize
 
 // The code of the edge from vertex i to vertex j.
 fn edge_between(numbers: &[i32], i: usize, j: usize) -> u8
-    requires { ⌜ IsEdge (now numbers) i j ⌝ }
+    requires { ⌜ AreDifferent (now numbers) i j ⌝ }
     ensures { λ r. ⌜ r ≡ edgeBetween (vertexAt (now (numbers .entry)) i) (vertexAt (now (numbers .entry)) j) ⌝ }
 {
     let from = NUMBERS_EACH * i;

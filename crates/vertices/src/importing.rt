@@ -1,6 +1,6 @@
 // Importing a boundary. Everything is tested before the first byte is written, so that a refusal writes nothing.
 use crate::boundary::NUMBERS_EACH;
-use crate::boundary::first_repeat;
+use crate::boundary::first_equal_pair;
 use crate::boundary::put_edges;
 use answers::Refusal;
 ghost use Rattle.vertices.specs.Importing.{IsImported};
@@ -17,8 +17,8 @@ pub enum Imported {
     Refused(Refusal),
 }
 
-// Writes the edge bytes of the boundary whose vertices these numbers are, north before east, and returns how many there are;
-// or refuses with 15, 16 or 10, in this order.
+// Writes the edge bytes of the boundary with these vertices, north before east, and returns how many there are; or refuses
+// with 15, 16 or 10, in this order.
 pub fn import_vertices(numbers: &[i32], edges: &mut [u8]) -> Imported
     ensures { λ r. ⌜ IsImported (now (numbers .entry)) (now (edges .entry)) r (now (edges .exit)) ⌝ }
 {
@@ -32,7 +32,7 @@ pub fn import_vertices(numbers: &[i32], edges: &mut [u8]) -> Imported
     if MOST_VERTICES < count {
         return Imported::Refused(Refusal::VertexCount);
     }
-    let place = first_repeat(numbers);
+    let place = first_equal_pair(numbers);
     if place < count {
         return Imported::Refused(Refusal::EqualNeighbours(place));
     }

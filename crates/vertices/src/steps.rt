@@ -25,7 +25,7 @@ fn is_negative(step: i64) -> bool
     step < 0
 }
 
-// The size of a step, |step|. The smallest i64 has no negative, so one is taken off before the sign turns.
+// The size of a step, |step|. The smallest i64 has no negative, so |step| − 1 is computed first, as −1 − step.
 fn size(step: i64) -> u64
     ensures { λ r. ⌜ r ≡ natAbs step ⌝ }
 {
@@ -69,7 +69,8 @@ fn octant(dn: i64, de: i64) -> u8
     octant_by_sizes(is_negative(dn), size(dn), is_negative(de), size(de))
 }
 
-// "the bit length .. less one, with 31 taken as 30": the length class of an edge whose larger step has this size.
+// "the bit length .. less one, with 31 taken as 30": the length class of an edge whose larger step has this size. In 64
+// bits, the bit length less one is 63 less the number of leading zeros.
 fn class_of_size(larger: u64) -> u8
     requires { ⌜ 0 < larger ⌝ }
     ensures { λ r. ⌜ r ≡ classOfSize larger ⌝ }

@@ -5,7 +5,7 @@ use borrow.Author.Needs.{needs}
 use Rattle.vertices.specs.Steps.{stepCode}
 use Rattle.vertices.specs.Boundary.{Vertex, vertexAt}
 use Rattle.vertices.proofs.MachineNumbers.{read64, read-step}
-use Rattle.vertices.proofs.Repeats.{step-between}
+use Rattle.vertices.proofs.EqualPairs.{step-between}
 use Rattle.vertices.proofs.boundary.edge_between.Statement.{statement}
 use Rattle.vertices.proofs.boundary.edge_between.Tie as tie
 

@@ -31,7 +31,7 @@ edge-between-requires c κs =
     let i = c .before .loop .i in
     record {
       vertices = record { from-lt = omega arith; to-lt = mod-lt (i + 1) (omega arith) };
-      differ = λ same. c .before .before .before .pre .no-repeat .none i (omega arith) (record { same = same });
+      differ = λ same. c .before .before .before .pre .no-pair .none i (omega arith) (record { same = same });
     }
 
 slice-write-edges : tie.Need-slice-write-edges Inv-loop μ-loop

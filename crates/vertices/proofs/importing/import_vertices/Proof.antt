@@ -3,8 +3,8 @@ use mathlib.Core.Logic.{inl, inr}
 use native.Mathlib.Omega.{arith}
 use lib.ListN.{length}
 use borrow.Author.Needs.{needs}
-use Rattle.vertices.specs.ImportRows.{IsVertexCount}
-use Rattle.vertices.proofs.ImportCases.{refused-count, refused-repeat, refused-room, can-put, imported}
+use Rattle.vertices.specs.ImportRows.{IsRightCount}
+use Rattle.vertices.proofs.ImportCases.{refused-count, refused-pair, refused-room, can-put, imported}
 use Rattle.vertices.proofs.importing.import_vertices.Statement.{statement}
 use Rattle.vertices.proofs.importing.import_vertices.Tie as tie
 
@@ -21,7 +21,7 @@ returns-3 : tie.Need-returns-3
 returns-3 c = refused-count _ _ (inr (inr (c .if3 .taken)))
 
 -- Past these tests the count is right.
-fits : (c : tie.Else3) → IsVertexCount (length (c .before .before .before .before .args .numbers .now))
+fits : (c : tie.Else3) → IsRightCount (length (c .before .before .before .before .args .numbers .now))
 fits c =
     record {
       even = omega (arith, c .before .before .if1 .left);
@@ -29,23 +29,23 @@ fits c =
       most = omega (arith, c .if3 .left);
     }
 
-first-repeat-requires : tie.Need-first-repeat-requires
-first-repeat-requires c κs = search needs
+first-equal-pair-requires : tie.Need-first-equal-pair-requires
+first-equal-pair-requires c κs = search needs
 
 -- Row 16.
 returns-4 : tie.Need-returns-4
-returns-4 c = refused-repeat _ _ (fits (c .before .before)) (c .before .first-repeat .ensures) (c .if4 .taken)
+returns-4 c = refused-pair _ _ (fits (c .before .before)) (c .before .first-equal-pair .ensures) (c .if4 .taken)
 
 -- Row 10.
 returns-5 : tie.Need-returns-5
 returns-5 c =
-    let at-repeat = c .before .before in
-    refused-room _ _ (fits (at-repeat .before)) (at-repeat .first-repeat .ensures) (c .before .if4 .left) (c .if5 .taken)
+    let at-pair = c .before .before in
+    refused-room _ _ (fits (at-pair .before)) (at-pair .first-equal-pair .ensures) (c .before .if4 .left) (c .if5 .taken)
 
 put-edges-requires : tie.Need-put-edges-requires
 put-edges-requires c κs =
-    let at-repeat = c .before .before .before in
-    can-put _ _ (fits (at-repeat .before)) (at-repeat .first-repeat .ensures) (c .before .before .if4 .left) (c .before .if5 .left)
+    let at-pair = c .before .before .before in
+    can-put _ _ (fits (at-pair .before)) (at-pair .first-equal-pair .ensures) (c .before .before .if4 .left) (c .before .if5 .left)
 
 same-length : tie.Need-same-length
 same-length c = search needs
@@ -55,8 +55,8 @@ returns-6 : tie.Need-returns-6
 returns-6 c =
     let at-put = c .before .before in
     let at-room = at-put .before .before in
-    let at-repeat = at-room .before .before in
-    imported _ _ (fits (at-repeat .before)) (at-repeat .first-repeat .ensures) (at-room .before .if4 .left) (at-room .if5 .left) (at-put .put-edges .ensures)
+    let at-pair = at-room .before .before in
+    imported _ _ (fits (at-pair .before)) (at-pair .first-equal-pair .ensures) (at-room .before .if4 .left) (at-room .if5 .left) (at-put .put-edges .ensures)
 
 pub import-vertices-spec : {M : Type 1} → statement M
 import-vertices-spec =
@@ -65,7 +65,7 @@ import-vertices-spec =
     returns
     returns-2
     returns-3
-    first-repeat-requires
+    first-equal-pair-requires
     returns-4
     returns-5
     put-edges-requires

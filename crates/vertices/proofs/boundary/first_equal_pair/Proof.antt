@@ -1,4 +1,4 @@
--- `vertices::boundary::first_repeat` meets its contract: before turn i no vertex before i equals the one that follows it (`NoneBefore`), so the loop ends at the first that does,
+-- `vertices::boundary::first_equal_pair` meets its contract: before turn i no vertex before i equals the one that follows it (`NoneBefore`), so the loop ends at the first that does,
 -- or past the last vertex. The measure is the number of vertices left.
 use Prim.Native.Nat.{_+_, _-_}
 use mathlib.Core.Path.{sym, _∙_}
@@ -6,12 +6,12 @@ use native.Mathlib.Nat.{mod-lt}
 use native.Mathlib.Omega.{arith}
 use borrow.Author.Needs.{needs}
 use Rattle.meaning.proofs.First.{NoneBefore, none-start, none-turn, first-by}
-use Rattle.vertices.specs.Boundary.{isRepeat, firstRepeat}
-use Rattle.vertices.proofs.boundary.first_repeat.Statement.{statement}
-use Rattle.vertices.proofs.boundary.first_repeat.Tie as tie
+use Rattle.vertices.specs.Boundary.{isEqualPair, firstEqualPair}
+use Rattle.vertices.proofs.boundary.first_equal_pair.Statement.{statement}
+use Rattle.vertices.proofs.boundary.first_equal_pair.Tie as tie
 
 abbrev Inv-loop : tie.InvT-loop
-Inv-loop numbers count i₀ i = NoneBefore (isRepeat numbers) count i
+Inv-loop numbers count i₀ i = NoneBefore (isEqualPair numbers) count i
 
 abbrev μ-loop : tie.MeasureT-loop
 μ-loop numbers count i₀ i = count - i
@@ -30,7 +30,7 @@ is-same-vertex-requires c κs = record { from-lt = omega arith; to-lt = mod-lt (
 
 -- Vertex i equals the one that follows.
 returns : tie.Need-returns Inv-loop μ-loop
-unfolding isRepeat firstRepeat
+unfolding isEqualPair firstEqualPair
 returns c = first-by (c .before .before .before .loop .inv) (λ _. sym (c .before .is-same-vertex .ensures) ∙ c .if1 .taken)
 
 add-i : tie.Need-add-i Inv-loop μ-loop
@@ -40,16 +40,16 @@ loop-less : tie.Need-loop-less Inv-loop μ-loop
 loop-less c = search needs
 
 loop-again : tie.Need-loop-again Inv-loop μ-loop
-unfolding isRepeat
+unfolding isEqualPair
 loop-again c = none-turn (c .before .before .before .loop .inv) (omega arith) (sym (c .before .is-same-vertex .ensures) ∙ c .if1 .left)
 
 -- No vertex does.
 returns-2 : tie.Need-returns-2 Inv-loop μ-loop
-unfolding firstRepeat
+unfolding firstEqualPair
 returns-2 c = first-by (c .before .loop .inv) (λ below. absurd (omega arith))
 
-pub first-repeat-spec : {M : Type 1} → statement M
-first-repeat-spec =
+pub first-equal-pair-spec : {M : Type 1} → statement M
+first-equal-pair-spec =
     tie.close
     (tie.spec
     Inv-loop

@@ -11,11 +11,11 @@ use Rattle.lists.proofs.Cases.{le-or-lt}
 use Rattle.lists.proofs.SizesTested.{and-iff, test-fails}
 use Rattle.meaning.proofs.First.{first-below, first-by}
 use Rattle.vertices.specs.Steps.{IsStep}
-use Rattle.vertices.specs.Boundary.{Vertex, vertexCount, vertexAt, following, isSameVertex, isRepeat, firstRepeat, IsRepeat, IsFirstRepeat, NoRepeat}
+use Rattle.vertices.specs.Boundary.{Vertex, vertexCount, vertexAt, following, isSameVertex, isEqualPair, firstEqualPair, IsEqualPair, IsFirstEqualPair, NoEqualPair}
 use Rattle.vertices.proofs.WholeNumbers.{equal-by-difference, equal-iff}
 
 -- Two vertices with equal numbers are equal.
-vertex-by : {a b : Vertex} → a .north ≡ b .north → a .east ≡ b .east → a ≡ b
+pub vertex-by : {a b : Vertex} → a .north ≡ b .north → a .east ≡ b .east → a ≡ b
 vertex-by north east = λ i. record { north = north i; east = east i }
 
 -- The test `isSameVertex` passes exactly when the two vertices are equal.
@@ -35,35 +35,35 @@ step-between a b differ =
     (le-or-lt (natAbs dn + natAbs de) 0)
 
 module _ (numbers : List ℤ) where
-  -- The test `isRepeat` passes exactly when the two neighbours are equal.
-  pub repeat-iff : (i : ℕ) → (isRepeat numbers i ≡ true) ↔ IsRepeat numbers i
-  unfolding isRepeat
-  repeat-iff i =
+  -- The test `isEqualPair` passes exactly when the two neighbours are equal.
+  pub equal-pair-iff : (i : ℕ) → (isEqualPair numbers i ≡ true) ↔ IsEqualPair numbers i
+  unfolding isEqualPair
+  equal-pair-iff i =
       let tested = same-vertex-iff (vertexAt numbers i) (vertexAt numbers (following (vertexCount numbers) i)) in
-      (λ e. record { same = tested .0 e }, λ repeat. tested .1 (repeat .same))
+      (λ e. record { same = tested .0 e }, λ pair. tested .1 (pair .same))
 
   -- Before the first of the earliest pair no two neighbours are equal.
-  none-before : (i : ℕ) → i < firstRepeat numbers → IsRepeat numbers i → ⊥
-  unfolding firstRepeat
-  none-before i l repeat = true≢false (sym (repeat-iff i .1 repeat) ∙ first-below .none-before .fails i l)
+  none-before : (i : ℕ) → i < firstEqualPair numbers → IsEqualPair numbers i → ⊥
+  unfolding firstEqualPair
+  none-before i l pair = true≢false (sym (equal-pair-iff i .1 pair) ∙ first-below .none-before .fails i l)
 
-  -- If it is a vertex, its pair is the first.
-  pub first-repeat-is : firstRepeat numbers < vertexCount numbers → IsFirstRepeat numbers (firstRepeat numbers)
-  unfolding firstRepeat
-  first-repeat-is below = record {
+  -- If `firstEqualPair` is below the number of vertices, it is the first of the earliest pair.
+  pub first-pair-is : firstEqualPair numbers < vertexCount numbers → IsFirstEqualPair numbers (firstEqualPair numbers)
+  unfolding firstEqualPair
+  first-pair-is below = record {
     in-boundary = below;
-    repeat = repeat-iff (firstRepeat numbers) .0 (first-below .passes below);
+    pair = equal-pair-iff (firstEqualPair numbers) .0 (first-below .passes below);
     none-before = none-before;
   }
 
-  -- If it is not, no two neighbours are equal.
-  pub no-repeat-by : vertexCount numbers ≤ firstRepeat numbers → NoRepeat numbers
-  no-repeat-by past = record { none = λ i l. none-before i (omega arith) }
+  -- If it is not below, no two neighbours are equal.
+  pub no-pair-by : vertexCount numbers ≤ firstEqualPair numbers → NoEqualPair numbers
+  no-pair-by past = record { none = λ i l. none-before i (omega arith) }
 
   -- There is one first pair only.
-  pub first-repeat-by : {place : ℕ} → IsFirstRepeat numbers place → place ≡ firstRepeat numbers
-  unfolding firstRepeat
-  first-repeat-by {place} first =
+  pub first-pair-by : {place : ℕ} → IsFirstEqualPair numbers place → place ≡ firstEqualPair numbers
+  unfolding firstEqualPair
+  first-pair-by {place} first =
       first-by
-      (record { place-le = omega (arith, first .in-boundary); fails = λ i l. sym (test-fails (repeat-iff i) (first .none-before i l)) })
-      (λ _. repeat-iff place .1 (first .repeat))
+      (record { place-le = omega (arith, first .in-boundary); fails = λ i l. sym (test-fails (equal-pair-iff i) (first .none-before i l)) })
+      (λ _. equal-pair-iff place .1 (first .pair))
