@@ -1,17 +1,19 @@
 -- Exactly when each row of a call's list is the first that is given: when it is given itself ("Given exactly when") and no row before it is. A call states for
 -- each row when it is given and when it is not (`IsRow`). Its laws follow row by row: `past-row` for each row before, `at-row` for the row itself, and `no-row`
 -- for the case that none is given. Two rows of a list differ by their numbers (`OtherNumber`).
-use Prim.Native.Nat.{ℕ}
+use Prim.Native.Nat.{ℕ, _<_}
 use mathlib.Core.Path.{_≡_, refl, sym, ap, subst, _∙_}
 use mathlib.Core.Bool.{Bool, true, false, false≢true}
 use mathlib.Core.Logic.{_↔_, Iff·rfl, Iff·trans, Iff·and}
 use mathlib.Core.List.{List, [], _∷_, _++_}
 use mathlib.Core.Option.{Option, none, some}
 use native.Mathlib.Omega.{arith}
+use lib.Dec.{ltb}
+use borrow.Author.Tests.{ltb-true, lt-ltb}
 use Rattle.answers.specs.declared.refusals.Refusal.{Refusal}
-use Rattle.answers.specs.Refusals.{numberOf}
+use Rattle.answers.specs.Refusals.{numberOf, placeOf}
 use Rattle.answers.specs.Rows.{row, firstGiven}
-use Rattle.answers.proofs.FirstRow.{none-some, first-append-none, first-append-some}
+use Rattle.answers.proofs.FirstRow.{none-some, row-iff, first-append-none, first-append-some}
 
 -- The first row given in the list has this refusal exactly when P holds.
 pub record FirstExactly (rows : List (Option Refusal)) (refusal : Refusal) (P : Type 0) : Type 0 where
@@ -44,6 +46,20 @@ is-row {test = false} passes not-both one-of = record {
   no = (λ e. one-of (λ h. false≢true (passes .1 h)), λ h. refl);
   only = λ q e. absurd (none-some e);
 }
+
+-- A row whose place is the first of its kind: f is the first if it is below n, and the row's test is whether it is. The row gives the refusal with place p exactly when p is
+-- the first.
+pub first-place-iff : {f n : ℕ} {First : ℕ → Type 0} (at : ℕ → Refusal) → ((p : ℕ) → placeOf (at p) ≡ p) → (f < n → First f)
+    → ((p : ℕ) → First p → (p ≡ f) × (p < n)) → (p : ℕ) → (row (ltb f n) (at f) ≡ some (at p)) ↔ First p
+first-place-iff {f} {n} {First} at place-is is-first only p = (
+  λ e.
+      let given = row-iff (ltb f n) (at f) (at p) .0 e in
+      let same : p ≡ f = sym (place-is p) ∙ ap placeOf (given .1) ∙ place-is f in
+      subst First (sym same) (is-first (ltb-true f n (given .0))),
+  λ first.
+      let is = only p first in
+      row-iff (ltb f n) (at f) (at p) .1 (lt-ltb f n (omega (arith, is .0, is .1)), ap at (is .0)),
+)
 
 -- P holds for the refusal of every row of the list that is given.
 pub data EachRow (P : Refusal → Type 0) : List (Option Refusal) → Type 0 where

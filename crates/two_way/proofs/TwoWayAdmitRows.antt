@@ -1,7 +1,7 @@
 -- When each of the rows of the two-way scan, 1, 12, 2, 14, 3, 4, is the first that is given. LimitRows of crates/findings has rows 1, 12 and 2, and states when row
 -- 3 is given; the call's own rows are 14, 3 and 4. `is-row-14` and `is-two-way-row-4` state when rows 14 and 4 are given and when they are not.
 use Prim.Native.Nat.{ℕ, _≤_, _<_}
-use mathlib.Core.Path.{_≡_, refl, sym, ap, subst, _∙_}
+use mathlib.Core.Path.{_≡_, refl, sym, subst}
 use mathlib.Core.Logic.{_↔_, _⊎_, inl, inr, Iff·trans}
 use mathlib.Core.List.{List, [], _∷_}
 use mathlib.Core.Option.{Option, none, some}
@@ -13,7 +13,7 @@ use Rattle.answers.specs.declared.refusals.Refusal.{Refusal}
 use Rattle.answers.specs.declared.refusals.Refusal.the-variants.{Ring, Allowance, Line, FindingsRoom, RingMark, RingCode}
 use Rattle.answers.specs.Refusals.{numberOf, placeOf}
 use Rattle.answers.specs.Rows.{row, firstGiven}
-use Rattle.answers.proofs.RowsExactly.{IsRow, is-row, EachRow, end, row-has, at-row, at-fault, past-row, no-row, no-last-row}
+use Rattle.answers.proofs.RowsExactly.{IsRow, is-row, first-place-iff, EachRow, end, row-has, at-row, at-fault, past-row, no-row, no-last-row}
 use Rattle.findings.specs.declared.admitting.Verdict.{Verdict}
 use Rattle.findings.specs.declared.admitting.Verdict.the-variants.{Accepted}
 use Rattle.findings.specs.Admitting.{mostRing, mostLine, isRow3, ringRows, IsRingLength, IsVerdict}
@@ -47,15 +47,7 @@ is-row-14 ring =
 
 -- Row 14 is given with this place exactly when it is "the first such ring place".
 pub row-14-at-iff : (ring : List ℕ) (place : ℕ) → (row14 ring ≡ some (RingCode place)) ↔ IsFirstNoEdge ring place
-row-14-at-iff ring place = (
-  λ e.
-      let is : place ≡ firstNoEdge ring = ap placeOf (is-row-14 ring .only (RingCode place) e) in
-      let below : firstNoEdge ring < length ring = is-row-14 ring .yes .0 (e ∙ ap (λ (p : ℕ). some (RingCode p)) is) in
-      first-given (record { is = is }) (omega arith),
-  λ h.
-      let is : firstNoEdge ring ≡ place = sym (first-no-edge-by ring h) in
-      is-row-14 ring .yes .1 (omega (arith, is, h .in-ring)) ∙ ap (λ (p : ℕ). some (RingCode p)) is,
-)
+row-14-at-iff ring = first-place-iff RingCode (λ p. refl) (first-given (record { is = refl })) (λ p first. (first-no-edge-by ring first, first .in-ring))
 
 module _ (ring : List ℕ) (k n room : ℕ) where
   abbrev m : ℕ

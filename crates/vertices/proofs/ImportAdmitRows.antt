@@ -1,7 +1,7 @@
 -- When each of the rows of `import_vertices`, 15, 16, 10, is the first that is given: when its condition holds and no row before it is given (RowsExactly of
 -- crates/answers). `is-row-15`, `is-row-16` and `is-row-10` state when each is given and when it is not.
 use Prim.Native.Nat.{ℕ, _/_, _%_, _≤_, _<_}
-use mathlib.Core.Path.{_≡_, sym, ap, subst, _∙_}
+use mathlib.Core.Path.{_≡_, refl}
 use mathlib.Core.Logic.{_↔_, _⊎_, inl, inr, ⊎-elim}
 use mathlib.Core.List.{List}
 use mathlib.Core.Option.{none, some}
@@ -12,9 +12,8 @@ use lib.ListN.{length}
 use Rattle.lists.proofs.SizesTested.{lt-iff, eq-iff, or-iff}
 use Rattle.answers.specs.declared.refusals.Refusal.{Refusal}
 use Rattle.answers.specs.declared.refusals.Refusal.the-variants.{OutputRoom, VertexCount, EqualNeighbours}
-use Rattle.answers.specs.Refusals.{placeOf}
 use Rattle.answers.specs.Rows.{row, firstGiven}
-use Rattle.answers.proofs.RowsExactly.{IsRow, is-row, end, row-has, first-has, at-row, at-fault, past-row, no-row, no-last-row}
+use Rattle.answers.proofs.RowsExactly.{IsRow, is-row, first-place-iff, end, row-has, first-has, at-row, at-fault, past-row, no-row, no-last-row}
 use Rattle.vertices.specs.Boundary.{vertexCount, firstEqualPair, IsFirstEqualPair, NoEqualPair}
 use Rattle.vertices.specs.Importing.{mostVertices, isRow15, row16, importRows}
 use Rattle.vertices.specs.ImportRows.{HasWrongCount, IsRightCount}
@@ -40,15 +39,7 @@ module _ (numbers : List ℤ) where
 
   -- Row 16 is given with this place exactly when it is "the first of the earliest pair".
   pub row-16-at-iff : (place : ℕ) → (row16 numbers ≡ some (EqualNeighbours place)) ↔ IsFirstEqualPair numbers place
-  row-16-at-iff place = (
-    λ e.
-        let is : place ≡ firstEqualPair numbers = ap placeOf (is-row-16 .only (EqualNeighbours place) e) in
-        let below : firstEqualPair numbers < vertexCount numbers = is-row-16 .yes .0 (e ∙ ap (λ (p : ℕ). some (EqualNeighbours p)) is) in
-        subst (IsFirstEqualPair numbers) (sym is) (first-pair-is numbers below),
-    λ h.
-        let is : firstEqualPair numbers ≡ place = sym (first-pair-by numbers h) in
-        is-row-16 .yes .1 (omega (arith, is, h .in-boundary)) ∙ ap (λ (p : ℕ). some (EqualNeighbours p)) is,
-  )
+  row-16-at-iff = first-place-iff EqualNeighbours (λ p. refl) (first-pair-is numbers) (λ p first. (first-pair-by numbers first, first .in-boundary))
 
   module _ (room : ℕ) where
     -- Row 10 is given exactly when fewer bytes are lent than there are vertices.
