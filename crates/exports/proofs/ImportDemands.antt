@@ -138,13 +138,13 @@ module _ (numbers other : List ℤ) (area area′ : List ℕ) {r r′ : AnswerSt
       accepted-number-iff noReportCounts (oneCountInStruct (vertexCount other)) (firstGiven (importRows other (length area′))) (by-rows other area′ e′ .paper) .1
       (import-none-iff other (length area′) .1 (subst IsRightCount (sym same) right, (no-pair′, room)))
 
-  -- Begun at vertex s it is accepted too, and its bytes are rotation s of the bytes.
+  -- After an accepted import, the same boundary begun at vertex s is accepted too, if there is room; its bytes are rotation s of the first bytes.
   pub import-begun : (s : ℕ) → IsBegunAt s numbers other → (r′ .refusal ≡ 0) × (take (r′ .found) out′ ≡ rotated s (take (r .found) out))
   import-begun s is =
       let also = also-accepted (is .length-is) (begun-no-pair s is (no-pair numbers area e zero-is)) in
       (also, front-is other area′ e′ also ∙ begun-edges s is ∙ ap (rotated s) (sym (front-is numbers area e zero-is)))
 
-  -- In opposite order it is accepted too, and its bytes are rotation 1 of the reversed ring.
+  -- After an accepted import, the same boundary in opposite order is accepted too, if there is room; its bytes are rotation 1 of the reversed ring of the first bytes.
   pub import-opposite : IsOpposite numbers other → (r′ .refusal ≡ 0) × (take (r′ .found) out′ ≡ rotated 1 (reversedRing (take (r .found) out)))
   import-opposite is =
       let none = no-pair numbers area e zero-is in

@@ -1,6 +1,7 @@
 -- Document 02, ticket 6: what a code says of its edge. "An edge code is 8·length class + octant, classes 0 to 30; codes 248 to 255 aren't edges."
--- The meanings and rules of a search do not use these definitions: those only ask whether two codes are equal. Reversing a ring uses them
--- (crates/reversal). Every definition gives a value for all numbers; of a code from 248 on, class and octant mean nothing.
+-- The meanings and rules of a search do not use these definitions: those only ask whether two codes are equal. Reversing a ring
+-- (crates/reversal) and importing vertices (crates/vertices) use them. Every definition gives a value for all numbers; of a code from 248 on, class and
+-- octant mean nothing.
 --
 --   octants, lengthClasses   8 octants and 31 length classes
 --   edgeCodes                248: the codes below it are edges

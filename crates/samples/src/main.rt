@@ -1,5 +1,6 @@
-// Runs the calls at each limit that document 01 names, and prints a line for each row. The rows are read from standard
-// input (crates/samples/stdin), a section for each kind of row. What is printed is compared with crates/samples/stdout.
+// Runs the calls at each limit that documents 01 and 02 name, and prints a line for each row. The rows are read from
+// standard input (crates/samples/stdin), a section for each kind of row. What is printed is compared with
+// crates/samples/stdout.
 mod answer_rows;
 mod area;
 mod book_rows;

@@ -77,8 +77,8 @@ stepClass dn de = classOfSize (larger dn de)
 unfoldable pub stepCode : ℤ → ℤ → ℕ
 stepCode dn de = edgeCode (stepClass dn de) (stepOctant dn de)
 
--- The code of an edge as facts. It is below 248, so its class is at most 30. Its octant is that of the steps. A class c below 30 says that the larger step has c + 1 bits: 2^c ≤ larger < 2^(c+1). Class 30 says that
--- it has 31 bits or more.
+-- The code of an edge as facts. It is below 248, so its class is at most 30. Its octant is that of the steps. A class c below 30 says that the larger step has c + 1
+-- bits: 2^c ≤ larger < 2^(c+1). Class 30 says that it has 31 bits or more.
 pub record IsCodeOf (dn de : ℤ) (code : ℕ) : Type 0 where
   pub is-edge : code < edgeCodes
   pub octant-is : InOctant (octantOf code) dn de
