@@ -1,6 +1,6 @@
 /* A cell that delivers one boundary alone: its line is a ring. The copy lies across the line's first vertex, so the open scan loses it and the closed one
- * finds it; a silence hides it at its start. To build it: tools/native, then cc -Iinclude -o closed examples/closed.c target/native/libexports.a. It prints
- * examples/closed.out. */
+ * finds it; a silence hides it at its start. To build it after `make install`: cc examples/closed.c $(pkg-config --cflags --libs outlines).
+ * It prints examples/closed.out. */
 #include <stdio.h>
 
 #include "outlines.h"
@@ -18,8 +18,8 @@ static void print(const char *which, struct outlines_answer answer, const uint32
 }
 
 int main(void) {
-    uint32_t words[OUTLINES_FINDING_WORDS * sizeof line]; /* 4 n words: every place can be a start */
-    uint8_t join[2 * sizeof ring - 2], book[OUTLINES_SILENCE_BYTES];
+    uint32_t words[OUTLINES_ROOM_CLOSED(sizeof ring, sizeof line)]; /* 4 n words: every place can be a start */
+    uint8_t join[OUTLINES_ROOM_JOIN(sizeof ring, sizeof line)], book[OUTLINES_SILENCE_BYTES];
     size_t room = sizeof words / sizeof words[0];
 
     print("open", outlines_scan(ring, sizeof ring, line, sizeof line, 0, words, room), words);

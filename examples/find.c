@@ -1,6 +1,6 @@
 /* Finds an edited copy of a ring in a line, then silences it up to the distance that it has: the report of its cell hides it, the report of another cell
  * shows it. A silence with ceiling 0 hides exact copies only, so it does not hide this one.
- * To build it: tools/native, then cc -Iinclude -o find examples/find.c target/native/libexports.a. It prints examples/find.out. */
+ * To build it after `make install`: cc examples/find.c $(pkg-config --cflags --libs outlines). It prints examples/find.out. */
 #include <stdio.h>
 
 #include "outlines.h"
@@ -27,7 +27,7 @@ static struct outlines_answer report(uint32_t cell, const uint32_t *by, uint32_t
 }
 
 int main(void) {
-    uint32_t words[OUTLINES_FINDING_WORDS * (sizeof line - sizeof ring + 1)];
+    uint32_t words[OUTLINES_ROOM(sizeof ring, sizeof line)];
     size_t room = sizeof words / sizeof words[0];
 
     print("scan", outlines_scan(ring, sizeof ring, line, sizeof line, 1, words, room), words);

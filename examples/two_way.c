@@ -1,5 +1,5 @@
 /* One producer draws anticlockwise. The line holds a square drawn clockwise, a mark, and the same square drawn the other way from another corner. The scan finds
- * the first, the two-way scan both. To build it: tools/native, then cc -Iinclude -o two_way examples/two_way.c target/native/libexports.a. It prints
+ * the first, the two-way scan both. To build it after `make install`: cc examples/two_way.c $(pkg-config --cflags --libs outlines). It prints
  * examples/two_way.out. */
 #include <stdio.h>
 
@@ -18,7 +18,7 @@ static const uint32_t *print(const char *which, uint64_t found, uint64_t looks, 
 }
 
 int main(void) {
-    uint32_t words[2 * OUTLINES_FINDING_WORDS * (sizeof line - sizeof ring + 1)]; /* 8 (n - m + 1) words: both passes may find at every window */
+    uint32_t words[OUTLINES_ROOM_TWO_WAY(sizeof ring, sizeof line)]; /* 8 (n - m + 1) words: both passes may find at every window */
     size_t room = sizeof words / sizeof words[0];
 
     struct outlines_answer answer = outlines_scan(ring, sizeof ring, line, sizeof line, 0, words, room);
@@ -29,6 +29,6 @@ int main(void) {
 
     static const uint8_t no_edge[] = {24, 26, 250, 30}; /* 248 to 255 are no edges */
     both = outlines_scan_two_way(no_edge, sizeof no_edge, line, sizeof line, 0, words, room);
-    printf("a code above 247: refusal %u place %u\n", (unsigned)both.refusal, (unsigned)both.place);
+    printf("refusal %u place %u: %s\n", (unsigned)both.refusal, (unsigned)both.place, outlines_refusal_text(both.refusal));
     return 0;
 }

@@ -1,6 +1,6 @@
 /* From vertices to findings. A ring and two boundaries are imported; the boundaries, with a mark between them, are a cell's line. The first is the ring's outline
- * elsewhere, begun at another vertex; the second is drawn the other way. The two-way scan finds both. To build it: tools/native, then cc -Iinclude -o vertices
- * examples/vertices.c target/native/libexports.a. It prints examples/vertices.out. */
+ * elsewhere, begun at another vertex; the second is drawn the other way. The two-way scan finds both. To build it after `make install`: cc
+ * examples/vertices.c $(pkg-config --cflags --libs outlines). It prints examples/vertices.out. */
 #include <stdio.h>
 
 #include "outlines.h"
@@ -28,7 +28,7 @@ static const uint32_t *print(const char *which, uint64_t found, const uint32_t *
 
 int main(void) {
     uint8_t ring[VERTICES], line[LINE];
-    uint32_t words[2 * OUTLINES_FINDING_WORDS * (LINE - VERTICES + 1)]; /* 8 (n - m + 1) words */
+    uint32_t words[OUTLINES_ROOM_TWO_WAY(VERTICES, LINE)]; /* 8 (n - m + 1) words */
     if (!import("ring", outline, ring) || !import("elsewhere", elsewhere, line) || !import("backwards", backwards, line + VERTICES + 1)) return 1;
     line[VERTICES] = OUTLINES_MARK; /* between the two boundaries */
 
@@ -37,6 +37,7 @@ int main(void) {
 
     static const int32_t closed_twice[] = {0, 0, 40, 0, 40, 25, 0, 0}; /* the first vertex once more: the closing pair is equal */
     struct outlines_answer refused = outlines_import_vertices(closed_twice, 8, ring, sizeof ring);
-    printf("the first vertex given again: refusal %u place %u\n", (unsigned)refused.refusal, (unsigned)refused.place);
+    printf("the first vertex given again: refusal %u place %u: ", (unsigned)refused.refusal, (unsigned)refused.place);
+    puts(outlines_refusal_text(refused.refusal));
     return 0;
 }

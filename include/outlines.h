@@ -1,5 +1,6 @@
 /* Outlines stored twice: finds a closed ring of edges in a line of edges, starting at any of its edges and with at most k edges that differ.
- * Link with target/native/libexports.a, which tools/native makes. docs/SPEC.md has all of this in full.
+ * `make install` puts the library and this header in place; `pkg-config --cflags --libs outlines` prints what to compile and link with. docs/SPEC.md has all of
+ * this in full, CHANGES.md what stays compatible.
  *
  * Terms. A ring has m edges, one byte each; a line has n bytes, edges and boundary marks. The bytes 0 to 254 are edge codes, and a search only asks
  * whether two of them are equal. outlines_scan_two_way also reads each code of its ring as 8 * length class + octant, so that ring may hold the codes 0
@@ -64,8 +65,15 @@
  * other call a struct outlines_answer. A refused call has written nothing and returns zero in every count. A length counts elements: bytes of a ring, a
  * line, a book, a join area or an area for edges, 32-bit words of an area of words, numbers of a list of vertices, two for each vertex. A pointer may
  * be null where its length is 0. An area that is lent for writing must not overlap anything else that is passed to the same call. A call reads and
- * writes only what it is passed, keeps no pointer to it and no state, so calls may run at the same time if no area that one of them writes is passed to
- * another. A call allocates nothing and needs at most 6,000 bytes of stack, outlines_scan_two_way at most 6,400 (docs/LOOKS.md).
+ * writes only what it is passed, and keeps no pointer to it.
+ *
+ * Threads. The library keeps no state and takes no lock: calls may run at the same time, on any threads, as long as no area that one of them writes is
+ * passed to another. Two calls may read the same ring, line or book.
+ *
+ * Stack. A call allocates nothing. The most bytes of stack that it needs, on every processor, without the arguments that its caller pushes and without the
+ * frames of the C library's memcpy, memmove and memset (docs/LOOKS.md):
+ *   outlines_scan 6,000, outlines_scan_closed 6,000, outlines_report 6,000, outlines_report_closed 6,000, outlines_scan_two_way 6,400
+ *   outlines_survey 3,224, outlines_survey_closed 3,288, outlines_pack 200, outlines_unpack 320, outlines_import_vertices 400
  */
 #ifndef OUTLINES_H
 #define OUTLINES_H
@@ -77,18 +85,32 @@
 extern "C" {
 #endif
 
+#define OUTLINES_VERSION "0.1.0"
+
 /* Limits and sizes. */
-#define OUTLINES_MOST_RING 256      /* most edges of a ring; the least is 1 */
-#define OUTLINES_MOST_LINE 65536    /* most bytes of a line, marks included; the least is 0 */
-#define OUTLINES_MARK 255           /* the byte that is a boundary mark */
-#define OUTLINES_FINDING_WORDS 4    /* words of a finding: start, rotation, distance, ties */
-#define OUTLINES_SILENCE_WORDS 4    /* words of a silence: cell, ring number, start, ceiling */
-#define OUTLINES_SILENCE_BYTES 15   /* bytes of a silence that outlines_pack writes */
-#define OUTLINES_MOST_SILENCES 1000 /* most silences to pack */
-#define OUTLINES_MOST_RECORDS 1153  /* most records of a book that is read: all of tag 21; 4,612 words to unpack */
-#define OUTLINES_MOST_BOOK 15000    /* most bytes of a book */
-#define OUTLINES_FEWEST_VERTICES 3  /* fewest vertices of a boundary to import */
-#define OUTLINES_MOST_VERTICES 4096 /* most vertices of a boundary to import */
+#define OUTLINES_MOST_RING 256          /* most edges of a ring; the least is 1 */
+#define OUTLINES_MOST_LINE 65536        /* most bytes of a line, marks included; the least is 0 */
+#define OUTLINES_MARK 255               /* the byte that is a boundary mark */
+#define OUTLINES_MOST_CODE 247          /* highest edge code of a ring for outlines_scan_two_way, and of an imported edge */
+#define OUTLINES_FINDING_WORDS 4        /* words of a finding: start, rotation, distance, ties */
+#define OUTLINES_SILENCE_WORDS 4        /* words of a silence: cell, ring number, start, ceiling */
+#define OUTLINES_SILENCE_BYTES 15       /* bytes of a silence that outlines_pack writes */
+#define OUTLINES_MOST_SILENCES 1000     /* most silences to pack */
+#define OUTLINES_MOST_RING_NUMBER 65535 /* highest ring number of a silence and of a report */
+#define OUTLINES_MOST_CEILING 65535     /* highest ceiling of a silence */
+#define OUTLINES_MOST_RECORDS 1153      /* most records of a book that is read: all of tag 21; 4,612 words to unpack */
+#define OUTLINES_MOST_BOOK 15000        /* most bytes of a book */
+#define OUTLINES_FEWEST_VERTICES 3      /* fewest vertices of a boundary to import */
+#define OUTLINES_MOST_VERTICES 4096     /* most vertices of a boundary to import */
+
+/* Room to lend for a ring of m edges and a line of n bytes: words for the findings of an open line, of a closed line and of a two-way scan, and bytes of a join
+ * area. 0 if n < m, where no room is needed, and if n is above OUTLINES_MOST_LINE, which is refused (3) whatever is lent; so nothing wraps. m and n may be
+ * evaluated more than once. If both are constants, so is the room. */
+#define OUTLINES_ROOM(m, n) OUTLINES_IF_SEARCHED(m, n, OUTLINES_FINDING_WORDS * ((size_t)(n) - (size_t)(m) + 1))
+#define OUTLINES_ROOM_CLOSED(m, n) OUTLINES_IF_SEARCHED(m, n, OUTLINES_FINDING_WORDS * (size_t)(n))
+#define OUTLINES_ROOM_TWO_WAY(m, n) (2 * OUTLINES_ROOM(m, n))
+#define OUTLINES_ROOM_JOIN(m, n) OUTLINES_IF_SEARCHED(m, n, (m) ? 2 * (size_t)(m) - 2 : 0)
+#define OUTLINES_IF_SEARCHED(m, n, room) ((size_t)(n) < (size_t)(m) || (size_t)(n) > OUTLINES_MOST_LINE ? (size_t)0 : (size_t)(room))
 
 /* Refusals: the condition of each, and its place. If several conditions hold, the call gives the first in the order stated at the call. Record numbers
  * count from 0. */
@@ -115,6 +137,30 @@ enum outlines_refusal {
     OUTLINES_EQUAL_NEIGHBOURS = 16 /* import_vertices: a vertex equals the one after it, or the last one the first; place: the first vertex of the
                                     * earliest such pair, from 0 (the last vertex for the closing pair) */
 };
+
+/* A line of text for a refusal, in English, without a full stop; for a number that is none of them "unknown refusal". It is not part of the library's binary
+ * interface, and its words may change. */
+static inline const char *outlines_refusal_text(uint32_t refusal) {
+    switch (refusal) {
+    case OUTLINES_ACCEPTED: return "accepted";
+    case OUTLINES_RING: return "the ring has no edge, or more than 256";
+    case OUTLINES_ALLOWANCE: return "the allowance is not below the number of ring edges";
+    case OUTLINES_LINE: return "the line has more than 65536 bytes";
+    case OUTLINES_FINDINGS_ROOM: return "too few words are lent for the findings";
+    case OUTLINES_BOOK_LENGTH: return "the book has more than 15000 bytes";
+    case OUTLINES_FIELD: return "a field of the book is malformed or cut off";
+    case OUTLINES_NOT_ABOVE: return "the address of a record is not above that of the record before it";
+    case OUTLINES_WORD_COUNT: return "the number of words to pack is not a multiple of 4, or is above 4000";
+    case OUTLINES_NUMBER_IN_RECORD: return "a ring number or a ceiling to pack is above 65535";
+    case OUTLINES_OUTPUT_ROOM: return "too little room is lent for the output, or for the join area";
+    case OUTLINES_INPUT: return "the input of the report program is malformed";
+    case OUTLINES_RING_MARK: return "the ring holds byte 255, a boundary mark";
+    case OUTLINES_RING_CODE: return "the ring holds a code above 247";
+    case OUTLINES_VERTEX_COUNT: return "the count of numbers is odd, or there are fewer than 3 vertices or more than 4096";
+    case OUTLINES_EQUAL_NEIGHBOURS: return "two neighbouring vertices are equal";
+    default: return "unknown refusal";
+    }
+}
 
 /* What every call but the two-way scan returns. A look is one byte of the line read by the quick scan, a mark too, or one comparison of a byte of the line
  * with a ring edge in computing distances; to test whether edges read so far fit the ring costs none (SPEC, section 3). */

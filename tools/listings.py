@@ -1,4 +1,4 @@
-"""Spoilt copies for tools/stack --try: of the page, of the archive's listing, and of small listings made up for both processors."""
+"""Spoilt copies for tools/stack --try: of the page, of the header, of the archive's listing, and of small listings made up for both processors."""
 import re
 
 import frames
@@ -92,6 +92,10 @@ def copies(tree, check, section):
     other = next(line for line in tree["page"].split("\n") if line.startswith("| `scan` |") and line != row)
     yield on_page("too high a figure of another processor", other, re.sub(r"[\d,]+ \|$", "6,001 |", other), "has 6,001 bytes, and it allows 6,000")
     yield on_page("no bar", "| `survey` |", "| `another` |", "survey: ")
+    yield on_page("no bar of a call that does not search", "| `pack` | 200 |", "| `another` | 200 |", "pack: ")
+    for what, old, new in [("a figure of the header", "outlines_scan_two_way 6,400", "outlines_scan_two_way 6,000"), ("a figure of the header left out", "outlines_pack 200, ", ""),
+                           ("a figure given twice", "outlines_pack 200, ", "outlines_pack 200, outlines_pack 200, "), ("no paragraph in the header", " * Stack. ", " * ")]:
+        yield what, {**tree, "header": tree["header"].replace(old, new)}, "include/outlines.h: "
     yield in_code("a function outside", r"(R_\w+\s+)memset", r"\1malloc", "it calls malloc, which is neither")
     yield in_code("a function that comes back", rf"(<{lower}>:\n(?:.*\n)*?.*R_\w+\s+)mem\w+", rf"\1{upper}", "which has called it")
     yield in_code("two functions of one name", r"<outlines_pack>:", "<outlines_scan>:", "two functions have this name")
