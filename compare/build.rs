@@ -1,21 +1,8 @@
-//! Links the library's archive, whose folder OUTLINES_ARCHIVE names, and the same rules in C with their limit, compiled by $CLANG
-//! (clang) at -O3.
+//! Links the search rules written in C, and their limit, compiled by $CLANG (clang) at -O3. The crate `outlines` links the library itself.
 
+use std::env;
 use std::path::Path;
 use std::process::Command;
-use std::{env, fs};
-
-fn link_library() {
-    println!("cargo:rerun-if-env-changed=OUTLINES_ARCHIVE");
-    let named = env::var("OUTLINES_ARCHIVE").expect("OUTLINES_ARCHIVE must name the folder that holds libexports.a");
-    // The linker works in another folder than this script, so the path has to be whole.
-    let folder = fs::canonicalize(&named).unwrap_or_else(|error| panic!("OUTLINES_ARCHIVE={named}: {error}"));
-    let archive = folder.join("libexports.a");
-    assert!(archive.is_file(), "OUTLINES_ARCHIVE={named} holds no libexports.a");
-    println!("cargo:rerun-if-changed={}", archive.display());
-    println!("cargo:rustc-link-search=native={}", folder.display());
-    println!("cargo:rustc-link-lib=static=exports");
-}
 
 /// The first line that a program prints with `--version`.
 fn version_of(program: &str) -> String {
@@ -48,7 +35,6 @@ fn compile_rules() {
 
 fn main() {
     println!("cargo:rerun-if-changed=build.rs");
-    link_library();
     compile_rules();
     let rustc = env::var("RUSTC").expect("cargo sets RUSTC");
     println!("cargo:rustc-env=BUILT_WITH_RUSTC={}", version_of(&rustc));

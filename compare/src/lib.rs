@@ -6,8 +6,8 @@
 pub mod bench;
 pub mod cases;
 pub mod check;
+pub mod library;
 pub mod memory;
-pub mod outlines;
 pub mod peers;
 pub mod rows;
 pub mod second;

@@ -1,13 +1,14 @@
 //! The library's calls as contenders. No other file of the benchmark names the library.
-use crate::outlines::{self, ask, Empty, Request, Search};
+use crate::library::{ask, Empty, Request};
 use crate::peers::{Answer, Question, Rules};
+use outlines::{raw, Search};
 
 pub const OURS: Rules = Rules { scan, survey, report, scan_closed, survey_closed };
 
 /// The join bytes of the longest ring.
 const MOST_JOIN: usize = 2 * 256 - 2;
 
-fn answer(given: outlines::Answer) -> Answer {
+fn answer(given: raw::Answer) -> Answer {
     Answer {
         refusal: given.refusal as usize,
         place: given.place as usize,

@@ -2,8 +2,8 @@
 
 use super::compared::{Left, Lent, Side};
 use crate::cases::call::{Call, Search};
+use crate::library::Empty;
 use crate::memory::{bytes_of, Area, Placement, WORD};
-use crate::outlines::Empty;
 use crate::second::meaning::{FINDING_WORDS, MARK};
 use crate::second::reversed::NO_EDGE;
 use std::borrow::Cow;

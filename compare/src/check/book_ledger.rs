@@ -3,9 +3,9 @@
 use super::compared::Compared;
 use super::trips::Trip;
 use crate::cases::call::Call;
-use crate::outlines::Refusal;
 use crate::second::book::{self, Silence, SILENCE_WORDS};
 use crate::second::refusals::LONGEST_BOOK;
+use outlines::Refusal;
 
 /// Sums over the calls that have a book, and over the words to pack.
 #[derive(Clone, Copy)]

@@ -3,20 +3,28 @@
 use super::areas::{Areas, Parts};
 use super::compared::{Compared, Left, Lent};
 use crate::cases::call::{Call, Search};
+use crate::library::{ask, Request};
 use crate::memory::{bytes_of, Placement};
-use crate::outlines::{self, ask, Answer, Request};
-use crate::second::book::{FIELD, SILENCE_WORDS};
+use crate::second::book::{FIELD, OLD_FIELD, SILENCE_WORDS};
 use crate::second::calls::{self, Answered, Outcome};
 use crate::second::ceilings::Ceilings;
 use crate::second::meaning::{FINDING_WORDS, MARK};
-use crate::second::refusals::LONGEST_LINE;
+use crate::second::refusals::{self, LONGEST_LINE};
+use crate::second::reversed::NO_EDGE;
 use crate::second::rules::Marks;
 use crate::second::seam::Seam;
 use crate::second::vertices;
+use outlines::raw::Answer;
 
-// The numbers that outlines.rs names to its users are those of the second program.
+// The numbers that the crate `outlines` names to its users are those of the second program.
 const _: () = assert!(outlines::FINDING_WORDS == FINDING_WORDS && outlines::SILENCE_WORDS == SILENCE_WORDS);
-const _: () = assert!(outlines::MARK == MARK && outlines::SILENCE_BYTES == FIELD);
+const _: () = assert!(outlines::MARK == MARK && outlines::MOST_CODE + 1 == NO_EDGE && outlines::SILENCE_BYTES == FIELD);
+const _: () = assert!(outlines::MOST_RING == refusals::LONGEST_RING && outlines::MOST_LINE == LONGEST_LINE);
+const _: () = assert!(outlines::MOST_BOOK == refusals::LONGEST_BOOK);
+const _: () = assert!(outlines::MOST_RECORDS == refusals::LONGEST_BOOK / OLD_FIELD);
+const _: () = assert!(outlines::MOST_SILENCES * SILENCE_WORDS == refusals::MOST_WORDS_TO_PACK);
+const _: () = assert!(outlines::FEWEST_VERTICES == refusals::FEWEST_VERTICES);
+const _: () = assert!(outlines::MOST_VERTICES == refusals::MOST_VERTICES);
 
 fn request<'a>(call: &Call, areas: &'a mut Areas) -> Request<'a> {
     let Areas { ring, line, book, lent, join } = areas;

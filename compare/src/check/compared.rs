@@ -2,12 +2,12 @@
 
 use crate::cases::call::{Call, Search};
 use crate::memory::WORD;
-use crate::outlines::Answer;
 use crate::second::ceilings::Ceilings;
 use crate::second::meaning::FINDING_WORDS;
 use crate::second::rules::Marks;
 use crate::second::samples::bound;
 use crate::second::seam::Seam;
+use outlines::raw::Answer;
 use std::fmt::Debug;
 
 /// A lent area with the canaries about it, and where the area begins in them.

@@ -11,10 +11,11 @@ use crate::cases::call::{Call, Search};
 use crate::cases::chains::Chain;
 use crate::cases::{Bound, Case, Kind};
 use crate::memory::Placement;
-use crate::outlines::{Answer, Refusal};
 use crate::second::meaning::holds_mark;
 use crate::second::refusals::{LONGEST_LINE, LONGEST_RING};
 use crate::second::samples::bound;
+use outlines::raw::Answer;
+use outlines::Refusal;
 use std::collections::BTreeMap;
 
 /// Differences that are printed in full; further ones are only counted.
@@ -261,7 +262,8 @@ impl Ledger {
 
     /// What no case led to, hence what was not compared: refusals of the library and of the program, and sums that are 0.
     pub fn missing(&self, with_program: bool) -> Vec<String> {
-        let library = Refusal::ALL.into_iter().filter(|&refusal| refusal != Refusal::ProgramInput).map(Refusal::number);
+        let library =
+            Refusal::ALL.iter().copied().filter(|&refusal| refusal != Refusal::ProgramInput).map(Refusal::number);
         let library = library.filter(|number| !self.answers.contains_key(number));
         let program = OF_PROGRAM.into_iter().filter(|number| with_program && !self.outputs.contains_key(number));
         let sums = SUMS.iter().zip(self.sums).filter(|(_, sum)| *sum == 0);

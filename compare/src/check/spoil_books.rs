@@ -4,10 +4,11 @@
 use super::compared::Compared;
 use super::spoil::{set_word, way, Way};
 use crate::cases::call::Call;
-use crate::outlines::{Answer, Refusal};
 use crate::second::book::{self, Silence, FIELD, SILENCE_WORDS};
 use crate::second::meaning::Finding;
 use crate::second::rules::quick_scan;
+use outlines::raw::Answer;
+use outlines::Refusal;
 
 pub static OF_BOOKS: &[Way] = &[
     way("a ceiling ignored", |call, spoilt| hidden_by(call, spoilt, |_, _| true)),

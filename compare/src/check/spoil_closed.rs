@@ -6,12 +6,13 @@ use super::misread::{AtMark, Misread};
 use super::spoil::{way, Way};
 use super::spoil_marks::put;
 use crate::cases::call::{join_bytes, room, Call, Search};
-use crate::outlines::{Answer, Refusal};
 use crate::second::book;
 use crate::second::line::join;
 use crate::second::meaning::{FINDING_WORDS, MARK};
 use crate::second::refusals::LONGEST_LINE;
 use crate::second::rules::{quick_scan, Searched};
+use outlines::raw::Answer;
+use outlines::Refusal;
 use std::borrow::Cow;
 
 pub static OF_CLOSED: &[Way] = &[

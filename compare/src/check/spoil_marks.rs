@@ -5,10 +5,11 @@ use super::compared::Compared;
 use super::misread::{AtMark, Misread};
 use super::spoil::{set_word, way, Way};
 use crate::cases::call::{Call, Search};
-use crate::outlines::{Answer, Refusal};
 use crate::second::meaning::{holds_mark, Finding, MARK};
 use crate::second::refusals::{self, Refused};
 use crate::second::rules::{plain_survey, quick_scan, Searched};
+use outlines::raw::Answer;
+use outlines::Refusal;
 
 pub static OF_MARKS: &[Way] = &[
     way("a mark taken as a break", |call, spoilt| scanned(call, spoilt, AtMark::Break)),

@@ -7,11 +7,11 @@ use super::spoil::{set_word_of, way, Way};
 use super::two_way::{of_passes, passes, Compared, Pass};
 use crate::cases::call::{room, Search};
 use crate::memory::{bytes_of, WORD};
-use crate::outlines::TwoWay;
 use crate::second::line::Line;
 use crate::second::meaning::{FINDING_WORDS, MARK};
 use crate::second::reversed::{reversed, reversed_code, NO_EDGE, OCTANTS};
 use crate::second::rules::{quick_scan, Searched};
+use outlines::raw::TwoWay;
 
 pub type TwoWaySpoil = Way<Search, Compared>;
 

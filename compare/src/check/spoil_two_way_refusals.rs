@@ -4,10 +4,11 @@ use super::spoil::way;
 use super::spoil_two_way::{put, scanned, TwoWaySpoil};
 use super::two_way::Compared;
 use crate::cases::call::{room, two_way_room, Search};
-use crate::outlines::{Refusal, TwoWay};
 use crate::second::meaning::MARK;
 use crate::second::refusals::{two_way, LONGEST_LINE};
 use crate::second::reversed::NO_EDGE;
+use outlines::raw::TwoWay;
+use outlines::Refusal;
 
 pub static OF_TWO_WAY_REFUSALS: &[TwoWaySpoil] = &[
     way("two-way: 14 at the last such code", |search, spoilt| {

@@ -8,10 +8,10 @@ use super::spoil::{byte_before_area, byte_behind_area, set_word_of, way, Way};
 use super::two_way;
 use crate::cases::chains::{Chain, Drawn};
 use crate::cases::{Bond, Bound, Call};
-use crate::outlines::Answer;
 use crate::second::meaning::FINDING_WORDS;
 use crate::second::reversed::{reversed_code, CLASSES, OCTANTS};
 use crate::second::vertices::{bit_length_less_one, class, code, octant, steps, Pair, RAYS};
+use outlines::raw::Answer;
 
 pub static OF_VERTICES: &[Way] = &[
     way("vertices: one octant on", |call, spoilt| by_octant(call, spoilt, |step| octant(step) + 1)),

@@ -4,9 +4,10 @@ use super::compared::Compared;
 use super::spoil::{way, Way};
 use super::spoil_vertices::put;
 use crate::cases::Call;
-use crate::outlines::{Answer, Refusal};
 use crate::second::refusals::{refuse_if, Refused, FEWEST_VERTICES, MOST_VERTICES};
 use crate::second::vertices::{code, equal_neighbours, import, steps, vertices, Pair};
+use outlines::raw::Answer;
+use outlines::Refusal;
 
 pub static OF_VERTICES_REFUSALS: &[Way] = &[
     way("vertices: an odd number left out", |call, spoilt| {

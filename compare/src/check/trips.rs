@@ -1,8 +1,8 @@
 //! Round trips: the library's packer and unpacker against each other.
 
-use crate::outlines::{self, Counts, Refusal, Refused};
 use crate::second::book::{self, Silence, FIELD, SILENCE_WORDS};
 use crate::second::refusals::MOST_WORDS_TO_PACK;
+use outlines::{Counts, Refusal, Refused};
 
 /// What comes back of a good book that is unpacked and packed. "For books of at most 1,000 records the round trip is then of
 /// values, and of bytes where tag 21 is absent" (ticket 4).

@@ -4,8 +4,8 @@ use super::areas::{Areas, Parts};
 use super::calls::ask_library;
 use super::compared::{Judged, Left, Lent};
 use crate::cases::call::{Call, Search};
+use crate::library::ask_two_way;
 use crate::memory::{bytes_of, Placement};
-use crate::outlines::{self, ask_two_way, Answer, TwoWay};
 use crate::second::calls::Answered;
 use crate::second::meaning::FINDING_WORDS;
 use crate::second::refusals::Refused;
@@ -13,6 +13,7 @@ use crate::second::reversed::reversed;
 use crate::second::rules::Marks;
 use crate::second::samples::bound;
 use crate::second::two_way::{scan_two_way, Passes};
+use outlines::raw::{Answer, TwoWay};
 
 #[derive(Clone)]
 pub struct Compared {

@@ -3,11 +3,12 @@
 use super::compared::ROTATION;
 use super::two_way::{passes, Compared};
 use crate::cases::call::{two_way_room, Search};
-use crate::outlines::{Refusal, TwoWay};
 use crate::second::meaning::{holds_mark, FINDING_WORDS};
 use crate::second::refusals::{LONGEST_LINE, LONGEST_RING};
 use crate::second::reversed::NO_EDGE;
 use crate::second::samples::bound;
+use outlines::raw::TwoWay;
+use outlines::Refusal;
 use std::collections::{BTreeMap, BTreeSet};
 
 /// The refusals of the two-way scan, in their order.

@@ -6,12 +6,12 @@ use super::two_way;
 use crate::cases::call::Call;
 use crate::cases::chains::{Chain, Drawn};
 use crate::cases::{Bond, Bound};
-use crate::outlines::Refusal;
 use crate::second::refusals::{FEWEST_VERTICES, MOST_VERTICES};
 use crate::second::reversed::{CLASSES, NO_EDGE, OCTANTS};
 use crate::second::vertices::{
     bit_length_less_one, code, equal_neighbours, last_ray, octant, steps, vertices, Pair, RAYS,
 };
+use outlines::Refusal;
 
 /// Sums over the accepted imports, over the refused ones, and over pairs and chains of them.
 #[derive(Clone, Copy)]
