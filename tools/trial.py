@@ -1,5 +1,5 @@
-"""A check tried on spoilt copies of what it reads, for the `--try` of tools/looks, tools/names, tools/pages, tools/promises, tools/stack and
-tools/statements."""
+"""A check tried on spoilt copies of what it reads, for the `--try` of tools/header, tools/looks, tools/names, tools/packages, tools/pages, tools/promises,
+tools/stack and tools/statements."""
 
 
 def run(tree, faults_of, copies):
