@@ -23,8 +23,8 @@
  * byte, the tag, says which; numbers have their high byte first:
  *   22 00 0C hex, cell (4 bytes), ring number (2), start (4), ceiling (2)   tag 22, 15 bytes; outlines_pack writes this kind only
  *   21 00 0A hex, cell (4 bytes), ring number (2), start (4)                tag 21, 13 bytes; read with ceiling 0
- * Both kinds may stand in one book. A book that is read has at most 15,000 bytes, and so at most 1,153 records (all of tag 21: 15,000 / 13), which are
- * 4,612 words to unpack. To pack there are at most 1,000 records, 4,000 words.
+ * Both kinds may stand in one book. A book that is read has at most 15,000 bytes, and so at most 1,153 records (15,000 / 13; so many only if nearly all
+ * are of tag 21), which are 4,612 words to unpack. To pack there are at most 1,000 records, 4,000 words.
  *
  * Ceilings came with change request 4, and they change what old books hide. Before, there was tag 21 only, and a silence hid the finding at its address
  * whatever its distance. A book of tag 21 is still read, but from now on it hides exact copies only: a finding at one of its addresses with a distance of
@@ -63,15 +63,16 @@
  *
  * Calls. Every call takes every input. It is accepted or refused, and returns a struct by value: outlines_scan_two_way a struct outlines_two_way, each
  * other call a struct outlines_answer. A refused call has written nothing and returns zero in every count. A length counts elements: bytes of a ring, a
- * line, a book, a join area or an area for edges, 32-bit words of an area of words, numbers of a list of vertices, two for each vertex. A pointer may
- * be null where its length is 0. An area that is lent for writing must not overlap anything else that is passed to the same call. A call reads and
- * writes only what it is passed, and keeps no pointer to it.
+ * line, a book, a join area or an area for edges, 32-bit words of an area of words, numbers of a list of vertices, two for each vertex. A pointer must be
+ * aligned for its type. Where its length is 0 it is never followed and may be null. An area that is lent for writing may be uninitialised, and must not
+ * overlap anything else that is passed to the same call; inputs may overlap one another. A call reads and writes only what it is passed, and keeps no
+ * pointer to it.
  *
  * Threads. The library keeps no state and takes no lock: calls may run at the same time, on any threads, as long as no area that one of them writes is
  * passed to another. Two calls may read the same ring, line or book.
  *
- * Stack. A call allocates nothing. The most bytes of stack that it needs, on every processor, without the arguments that its caller pushes and without the
- * frames of the C library's memcpy, memmove and memset (docs/LOOKS.md):
+ * Stack. A call allocates nothing. The most bytes of stack that it needs, on x86-64 and aarch64, without the arguments that its caller pushes and without
+ * the frames of the C library's memcpy, memmove and memset (docs/LOOKS.md):
  *   outlines_scan 6,000, outlines_scan_closed 6,000, outlines_report 6,000, outlines_report_closed 6,000, outlines_scan_two_way 6,400
  *   outlines_survey 3,224, outlines_survey_closed 3,288, outlines_pack 200, outlines_unpack 320, outlines_import_vertices 400
  */
@@ -98,14 +99,15 @@ extern "C" {
 #define OUTLINES_MOST_SILENCES 1000     /* most silences to pack */
 #define OUTLINES_MOST_RING_NUMBER 65535 /* highest ring number of a silence and of a report */
 #define OUTLINES_MOST_CEILING 65535     /* highest ceiling of a silence */
-#define OUTLINES_MOST_RECORDS 1153      /* most records of a book that is read: all of tag 21; 4,612 words to unpack */
+#define OUTLINES_MOST_RECORDS 1153      /* most records of a book that is read; 4,612 words to unpack */
 #define OUTLINES_MOST_BOOK 15000        /* most bytes of a book */
 #define OUTLINES_FEWEST_VERTICES 3      /* fewest vertices of a boundary to import */
 #define OUTLINES_MOST_VERTICES 4096     /* most vertices of a boundary to import */
 
 /* Room to lend for a ring of m edges and a line of n bytes: words for the findings of an open line, of a closed line and of a two-way scan, and bytes of a join
- * area. 0 if n < m, where no room is needed, and if n is above OUTLINES_MOST_LINE, which is refused (3) whatever is lent; so nothing wraps. m and n may be
- * evaluated more than once. If both are constants, so is the room. */
+ * area. 0 if n < m, where no room is needed, and if n is above OUTLINES_MOST_LINE, which is refused (3) whatever is lent; so nothing wraps. A ring of 0 or of
+ * more than 256 edges is refused (1) whatever is lent, and its room means nothing. m and n may be evaluated more than once. If both are constants, so is the
+ * room. */
 #define OUTLINES_ROOM(m, n) OUTLINES_IF_SEARCHED(m, n, OUTLINES_FINDING_WORDS * ((size_t)(n) - (size_t)(m) + 1))
 #define OUTLINES_ROOM_CLOSED(m, n) OUTLINES_IF_SEARCHED(m, n, OUTLINES_FINDING_WORDS * (size_t)(n))
 #define OUTLINES_ROOM_TWO_WAY(m, n) (2 * OUTLINES_ROOM(m, n))

@@ -130,8 +130,10 @@ fn bytes_of_a_book() {
     let mut words = vec![0; SILENCE_WORDS * MOST_RECORDS];
     let longest: Vec<u8> = (0..MOST_SILENCES as u32).flat_map(|start| field(start, 0)).collect();
     let most: Vec<u8> = (0..MOST_RECORDS as u32).flat_map(old_field).collect();
-    assert_eq!((longest.len(), most.len()), (MOST_BOOK, 14_989));
-    for (book, records) in [(&longest, MOST_SILENCES), (&most, MOST_RECORDS)] {
+    // As many, with five of tag 22 among them.
+    let mixed = [&most[..13 * 1_148], &(1_148..1_153).flat_map(|start| field(start, 0)).collect::<Vec<u8>>()].concat();
+    assert_eq!((longest.len(), most.len(), mixed.len()), (MOST_BOOK, 14_989, 14_999));
+    for (book, records) in [(&longest, MOST_SILENCES), (&most, MOST_RECORDS), (&mixed, MOST_RECORDS)] {
         assert_eq!(unpack(book, &mut words).map(|counts| counts.found), Ok(records as u64));
         assert_eq!(report(7, 2, search, book, &mut words).map(|counts| counts.hidden), Ok(1));
     }
