@@ -393,6 +393,9 @@ class TheRefusals(Case):
             for book in (whole, old[:-13]):
                 self.assertEqual(getattr(outlines, name)(7, 2, b"a", b"a" * 2000, 0, book).hidden, len(outlines.unpack(book)))
         self.assertEqual([len(whole), len(old) - 13, len(outlines.unpack(old[:-13]))], [15000, 14989, outlines.MOST_RECORDS])
+        several = [(8, 0, start, 1) for start in range(6)]
+        self.assertEqual(outlines.unpack(old[:1148 * 13] + outlines.pack(several[:5]))[-6:], [(7, 2, 1147, 0)] + several[:5])
+        self.refused(Refusal.BOOK_LENGTH, 0, "unpack", old[:1147 * 13] + outlines.pack(several))
 
     def test_silences_to_pack(self):
         rising = [(0, 0, start, 0) for start in range(1001)]

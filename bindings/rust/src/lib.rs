@@ -92,8 +92,8 @@
 //!
 //! # Stack
 //!
-//! A call allocates nothing. The most bytes of stack that the library needs, on every processor, without the frame of this crate's
-//! function:
+//! A call allocates nothing. The most bytes of stack that the library needs, on x86-64 and aarch64, without the frame of this
+//! crate's function:
 //!
 //! | call | bytes |
 //! |---|---|
