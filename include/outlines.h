@@ -107,11 +107,11 @@ extern "C" {
 /* Room to lend for a ring of m edges and a line of n bytes: words for the findings of an open line, of a closed line and of a two-way scan, and bytes of a join
  * area. 0 if n < m, where no room is needed, and if n is above OUTLINES_MOST_LINE, which is refused (3) whatever is lent; so nothing wraps. A ring of 0 or of
  * more than 256 edges is refused (1) whatever is lent, and its room means nothing. m and n may be evaluated more than once. If both are constants, so is the
- * room. */
+ * room; a room of 0 is no array's length in C. */
 #define OUTLINES_ROOM(m, n) OUTLINES_IF_SEARCHED(m, n, OUTLINES_FINDING_WORDS * ((size_t)(n) - (size_t)(m) + 1))
 #define OUTLINES_ROOM_CLOSED(m, n) OUTLINES_IF_SEARCHED(m, n, OUTLINES_FINDING_WORDS * (size_t)(n))
 #define OUTLINES_ROOM_TWO_WAY(m, n) (2 * OUTLINES_ROOM(m, n))
-#define OUTLINES_ROOM_JOIN(m, n) OUTLINES_IF_SEARCHED(m, n, (m) ? 2 * (size_t)(m) - 2 : 0)
+#define OUTLINES_ROOM_JOIN(m, n) OUTLINES_IF_SEARCHED(m, n, (size_t)(m) > 0 ? 2 * (size_t)(m) - 2 : 0)
 #define OUTLINES_IF_SEARCHED(m, n, room) ((size_t)(n) < (size_t)(m) || (size_t)(n) > OUTLINES_MOST_LINE ? (size_t)0 : (size_t)(room))
 
 /* Refusals: the condition of each, and its place. If several conditions hold, the call gives the first in the order stated at the call. Record numbers
@@ -132,7 +132,8 @@ enum outlines_refusal {
     OUTLINES_NUMBER_IN_RECORD = 9, /* a word to pack as a ring number or a ceiling is above 65,535; place: its record number */
     OUTLINES_OUTPUT_ROOM = 10,     /* the area lent to pack, unpack or import_vertices is too small for the whole output; or, in a closed call, n >= m
                                     * and the join area has fewer than 2 m - 2 bytes; place 0 */
-    OUTLINES_INPUT = 11,           /* the report program's input is not laid out as SPEC, section 8, says; no call declared here gives it */
+    OUTLINES_INPUT = 11,           /* the report program's input is not laid out as SPEC, section 8, says, which has its place too; no call declared
+                                    * here gives it */
     OUTLINES_RING_MARK = 12,       /* the ring holds 255, a boundary mark; place 0 */
     OUTLINES_RING_CODE = 14,       /* two-way scan only: the ring holds a code above 247; place: the first ring place with such a code */
     OUTLINES_VERTEX_COUNT = 15,    /* import_vertices: an odd count of numbers, or fewer than 3 or more than 4,096 vertices; place 0 */
@@ -262,7 +263,8 @@ struct outlines_answer outlines_pack(const uint32_t *words, size_t words_length,
 /* Unpacks a book into words. Unpacking a packed book gives the words back, word for word. A book of at most 1,000 records, unpacked and packed, reads back
  * to the same values, and has the same bytes if no record is of tag 21. The words of more than 1,000 records are refused by outlines_pack (8).
  *   book, book_length     a silence book: 0 to 15,000 bytes, records of tag 21 and tag 22; an empty book is valid
- *   words, words_length   lent for the silences: at least four words for each record; 4 OUTLINES_MOST_RECORDS, which is 4,612, suffice for every book
+ *   words, words_length   lent for the silences: at least four words for each record; OUTLINES_SILENCE_WORDS * OUTLINES_MOST_RECORDS, which is
+ *                         4,612, suffice for every book
  * Returns the number of records in found. Writes four words for each record (cell, ring number, start, ceiling), the ceiling 0 for tag 21, and no word
  * behind them. Refusals, in order: 5, then the first faulty field of the book, 6 before 7, then 10. */
 struct outlines_answer outlines_unpack(const uint8_t *book, size_t book_length, uint32_t *words, size_t words_length);

@@ -194,7 +194,7 @@ static void make_book(size_t records, size_t length, uint8_t tag) {
     }
 }
 
-/* Each makes the quantity that a limit is for this number. */
+/* Each sets the quantity of one limit to the number. */
 static void ring_of(size_t edges) { make_search(edges, OUTLINES_MOST_RING + 2); }
 static void line_of(size_t length) { make_search(3, length); }
 static void ring_with(size_t code) { in.ring[3] = (uint8_t)code; }
@@ -250,7 +250,7 @@ static void try_limits_in_use(void) {
     expect_counts(REPORT, "the highest number of two bytes", 3, 1, 185);
 }
 
-/* A size: so many words or bytes are written, and no more. */
+/* A size: exactly this number of words or bytes is written. */
 static void try_size(const char *name, unsigned call, uint64_t found, size_t words_written, size_t bytes_written) {
     begin(name), expect(call, OUTLINES_ACCEPTED, 0, "words or bytes written"), same("found", found, answer.found);
     same("the last one is written", 1, changed(words_written - (words_written > 0), bytes_written - (bytes_written > 0)));
@@ -321,6 +321,7 @@ static void try_room_forms(void) {
     int m = 7, n = 3, each = OUTLINES_FINDING_WORDS;
     SAME_ROOMS("int constants", 5, 3, 0, 0, 0);
     SAME_ROOMS("int variables", m, n, 0, 0, 0);
+    SAME_ROOMS("products", 2 * n, 3 * m, (size_t)(16 * each), (size_t)(21 * each), 10);
     SAME_ROOMS("expressions", n < m ? n : m, n < m ? m : n, (size_t)(5 * each), (size_t)(7 * each), 4);
     same_room("OUTLINES_ROOM", "array dimensions", (size_t)(14 * each + 4), sizeof(struct rooms) / sizeof(uint32_t));
     same_room("OUTLINES_ROOM", "a divisor", 20, (size_t)(60 * each) / OUTLINES_ROOM(3, 5));
