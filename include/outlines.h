@@ -108,11 +108,17 @@ extern "C" {
  * area. 0 if n < m, where no room is needed, and if n is above OUTLINES_MOST_LINE, which is refused (3) whatever is lent; so nothing wraps. A ring of 0 or of
  * more than 256 edges is refused (1) whatever is lent, and its room means nothing. m and n may be evaluated more than once. If both are constants, so is the
  * room; a room of 0 is no array's length in C. */
-#define OUTLINES_ROOM(m, n) OUTLINES_IF_SEARCHED(m, n, OUTLINES_FINDING_WORDS * ((size_t)(n) - (size_t)(m) + 1))
-#define OUTLINES_ROOM_CLOSED(m, n) OUTLINES_IF_SEARCHED(m, n, OUTLINES_FINDING_WORDS * (size_t)(n))
+#define OUTLINES_ROOM(m, n) OUTLINES_IF_SEARCHED(m, n, OUTLINES_FINDING_WORDS * (OUTLINES_SIZE(n) - OUTLINES_SIZE(m) + 1))
+#define OUTLINES_ROOM_CLOSED(m, n) OUTLINES_IF_SEARCHED(m, n, OUTLINES_FINDING_WORDS * OUTLINES_SIZE(n))
 #define OUTLINES_ROOM_TWO_WAY(m, n) (2 * OUTLINES_ROOM(m, n))
-#define OUTLINES_ROOM_JOIN(m, n) OUTLINES_IF_SEARCHED(m, n, (size_t)(m) > 0 ? 2 * (size_t)(m) - 2 : 0)
-#define OUTLINES_IF_SEARCHED(m, n, room) ((size_t)(n) < (size_t)(m) || (size_t)(n) > OUTLINES_MOST_LINE ? (size_t)0 : (size_t)(room))
+#define OUTLINES_ROOM_JOIN(m, n) OUTLINES_IF_SEARCHED(m, n, OUTLINES_SIZE(m) > 0 ? 2 * OUTLINES_SIZE(m) - 2 : 0)
+#define OUTLINES_IF_SEARCHED(m, n, room) \
+    (OUTLINES_SIZE(n) < OUTLINES_SIZE(m) || OUTLINES_SIZE(n) > OUTLINES_MOST_LINE ? OUTLINES_SIZE(0) : OUTLINES_SIZE(room))
+#ifdef __cplusplus /* a cast in C's form is a warning to some */
+#define OUTLINES_SIZE(number) static_cast<size_t>(number)
+#else
+#define OUTLINES_SIZE(number) ((size_t)(number))
+#endif
 
 /* Refusals: the condition of each, and its place. If several conditions hold, the call gives the first in the order stated at the call. Record numbers
  * count from 0. */

@@ -321,6 +321,7 @@ static void try_room_forms(void) {
     int m = 7, n = 3, each = OUTLINES_FINDING_WORDS;
     SAME_ROOMS("int constants", 5, 3, 0, 0, 0);
     SAME_ROOMS("int variables", m, n, 0, 0, 0);
+    SAME_ROOMS("a negative int, which is no length", -1, n, 0, 0, 0);
     SAME_ROOMS("products", 2 * n, 3 * m, (size_t)(16 * each), (size_t)(21 * each), 10);
     SAME_ROOMS("expressions", n < m ? n : m, n < m ? m : n, (size_t)(5 * each), (size_t)(7 * each), 4);
     same_room("OUTLINES_ROOM", "array dimensions", (size_t)(14 * each + 4), sizeof(struct rooms) / sizeof(uint32_t));
