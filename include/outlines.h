@@ -1,6 +1,6 @@
 /* Outlines stored twice: finds a closed ring of edges in a line of edges, starting at any of its edges and with at most k edges that differ.
- * `make install` puts the library and this header in place; `pkg-config --cflags --libs outlines` prints what to compile and link with. docs/SPEC.md has all of
- * this in full, CHANGES.md what stays compatible.
+ * `make install` puts the library and this header in place; `pkg-config --cflags --libs outlines` prints what to compile and link with. It is C99 and C++11.
+ * docs/SPEC.md has all of this in full, CHANGES.md what stays compatible; both are installed in share/outlines, with docs/LOOKS.md.
  *
  * Terms. A ring has m edges, one byte each; a line has n bytes, edges and boundary marks. The bytes 0 to 254 are edge codes, and a search only asks
  * whether two of them are equal. outlines_scan_two_way also reads each code of its ring as 8 * length class + octant, so that ring may hold the codes 0
@@ -69,10 +69,11 @@
  * pointer to it.
  *
  * Threads. The library keeps no state and takes no lock: calls may run at the same time, on any threads, as long as no area that one of them writes is
- * passed to another. Two calls may read the same ring, line or book.
+ * passed to another. Two calls may read the same ring, line or book. While a call runs, no thread may write what it reads, or touch what it writes.
  *
  * Stack. A call allocates nothing. The most bytes of stack that it needs, on x86-64 and aarch64, without the arguments that its caller pushes and without
- * the frames of the C library's memcpy, memmove and memset (docs/LOOKS.md):
+ * the frames of the C library's memcpy, memmove and memset (docs/LOOKS.md). Where symbols are bound lazily, the first call takes some 3,200 bytes more, for
+ * the dynamic linker: on a small stack link the program with -Wl,-z,now, or run it with LD_BIND_NOW=1.
  *   outlines_scan 6,000, outlines_scan_closed 6,000, outlines_report 6,000, outlines_report_closed 6,000, outlines_scan_two_way 6,400
  *   outlines_survey 3,224, outlines_survey_closed 3,288, outlines_pack 200, outlines_unpack 320, outlines_import_vertices 400
  */
@@ -105,16 +106,17 @@ extern "C" {
 #define OUTLINES_MOST_VERTICES 4096     /* most vertices of a boundary to import */
 
 /* Room to lend for a ring of m edges and a line of n bytes: words for the findings of an open line, of a closed line and of a two-way scan, and bytes of a join
- * area. 0 if n < m, where no room is needed, and if n is above OUTLINES_MOST_LINE, which is refused (3) whatever is lent; so nothing wraps. A ring of 0 or of
- * more than 256 edges is refused (1) whatever is lent, and its room means nothing. m and n may be evaluated more than once. If both are constants, so is the
- * room; a room of 0 is no array's length in C. */
+ * area. 0 if n < m, where no room is needed, and if n is above OUTLINES_MOST_LINE, which is refused whatever is lent; so nothing wraps. A ring of 0 or of
+ * more than 256 edges is refused whatever is lent, and its room means nothing. A negative number counts as a very large one. m and n may be evaluated more
+ * than once. If both are constants, so is the room, but not for #if; a room of 0 is no array's length in C. */
 #define OUTLINES_ROOM(m, n) OUTLINES_IF_SEARCHED(m, n, OUTLINES_FINDING_WORDS * (OUTLINES_SIZE(n) - OUTLINES_SIZE(m) + 1))
 #define OUTLINES_ROOM_CLOSED(m, n) OUTLINES_IF_SEARCHED(m, n, OUTLINES_FINDING_WORDS * OUTLINES_SIZE(n))
 #define OUTLINES_ROOM_TWO_WAY(m, n) (2 * OUTLINES_ROOM(m, n))
 #define OUTLINES_ROOM_JOIN(m, n) OUTLINES_IF_SEARCHED(m, n, OUTLINES_SIZE(m) > 0 ? 2 * OUTLINES_SIZE(m) - 2 : 0)
+/* n < m, or n > OUTLINES_MOST_LINE, in a form in which no compiler warns that a narrow type is never so large */
 #define OUTLINES_IF_SEARCHED(m, n, room) \
-    (OUTLINES_SIZE(n) < OUTLINES_SIZE(m) || OUTLINES_SIZE(n) > OUTLINES_MOST_LINE ? OUTLINES_SIZE(0) : OUTLINES_SIZE(room))
-#ifdef __cplusplus /* a cast in C's form is a warning to some */
+    (OUTLINES_SIZE(n) + 1 <= OUTLINES_SIZE(m) || OUTLINES_SIZE(n) / (OUTLINES_MOST_LINE + 1) != 0 ? OUTLINES_SIZE(0) : OUTLINES_SIZE(room))
+#ifdef __cplusplus /* some are warned of a cast in C's form */
 #define OUTLINES_SIZE(number) static_cast<size_t>(number)
 #else
 #define OUTLINES_SIZE(number) ((size_t)(number))

@@ -319,9 +319,12 @@ static void try_room_values(void) {
 struct rooms { uint32_t open[OUTLINES_ROOM(3, 5)], closed[OUTLINES_ROOM_CLOSED(3, 5)], two_way[OUTLINES_ROOM_TWO_WAY(3, 5)], join[OUTLINES_ROOM_JOIN(3, 5)]; };
 static void try_room_forms(void) {
     int m = 7, n = 3, each = OUTLINES_FINDING_WORDS;
+    uint8_t narrow = 7;
     SAME_ROOMS("int constants", 5, 3, 0, 0, 0);
     SAME_ROOMS("int variables", m, n, 0, 0, 0);
     SAME_ROOMS("a negative int, which is no length", -1, n, 0, 0, 0);
+    SAME_ROOMS("narrow variables", narrow, (uint16_t)(narrow + 2), (size_t)(3 * each), (size_t)(9 * each), 12);
+    SAME_ROOMS("0 as a constant", 0, n, (size_t)(4 * each), (size_t)(3 * each), 0);
     SAME_ROOMS("products", 2 * n, 3 * m, (size_t)(16 * each), (size_t)(21 * each), 10);
     SAME_ROOMS("expressions", n < m ? n : m, n < m ? m : n, (size_t)(5 * each), (size_t)(7 * each), 4);
     same_room("OUTLINES_ROOM", "array dimensions", (size_t)(14 * each + 4), sizeof(struct rooms) / sizeof(uint32_t));

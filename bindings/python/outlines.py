@@ -181,7 +181,8 @@ _CALLS = {
 
 def _load() -> CDLL:
     """The library, with the types of each call declared."""
-    installed = os.path.join(os.path.dirname(os.path.realpath(__file__)), "../../../lib/liboutlines.so.0")
+    prefix, mine = os.path.split(os.path.realpath(__file__))[0], os.path.join("share", "outlines", "python")
+    installed = os.path.join(prefix[:-len(mine)], "lib", "liboutlines.so.0") if prefix.endswith(os.sep + mine) else ""
     path = os.environ.get("OUTLINES_LIBRARY") or (installed if os.path.exists(installed) else "liboutlines.so.0")
     try:
         library = CDLL(path)

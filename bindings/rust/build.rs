@@ -10,15 +10,24 @@ const ARCHIVE: &str = "liboutlines.a";
 const TO_INSTALL: &str = "run `make install PREFIX=/some/folder` in the library's repository and set \
                           PKG_CONFIG_PATH=/some/folder/lib/pkgconfig";
 
-/// The folder that pkg-config names, or why it names none.
-fn installed() -> Result<PathBuf, String> {
-    let asked = Command::new("pkg-config").args(["--variable=libdir", "outlines"]).output();
+/// What pkg-config prints; nothing if it finds no such package.
+fn pkg_config(arguments: &[&str]) -> Result<Option<String>, String> {
+    let asked = Command::new("pkg-config").args(arguments).output();
     let output = asked.map_err(|why| format!("pkg-config does not run ({why})"))?;
-    let printed = String::from_utf8_lossy(&output.stdout);
-    match printed.trim() {
-        folder if output.status.success() && !folder.is_empty() => Ok(PathBuf::from(folder)),
-        _ => Err("pkg-config finds no package `outlines`".to_string()),
-    }
+    Ok(output.status.success().then(|| String::from_utf8_lossy(&output.stdout).trim().to_string()))
+}
+
+/// The folder that pkg-config names, or why it names none. The library must not be older than this crate, and its version must have
+/// the same first number: with another one a call may have other arguments.
+fn installed() -> Result<PathBuf, String> {
+    let version = env!("CARGO_PKG_VERSION");
+    let first: u32 = env!("CARGO_PKG_VERSION_MAJOR").parse().expect("cargo's own number");
+    let (least, below) = (format!("outlines >= {version}"), format!("outlines < {}", first + 1));
+    let compatible = pkg_config(&["--exists", &least, &below])?.is_some();
+    let folder = pkg_config(&["--variable=libdir", "outlines"])?.filter(|folder| compatible && !folder.is_empty());
+    folder
+        .map(PathBuf::from)
+        .ok_or_else(|| format!("pkg-config finds no package `outlines` that is compatible with {version}"))
 }
 
 /// The whole path of the folder, if the archive is there. The linker works in another folder than this script.

@@ -71,7 +71,8 @@ pub fn scan(search: Search<'_>, words: &mut [u32]) -> Result<Counts, Refused> {
 /// record of this cell, this ring number and the finding's start, and the finding's distance is at most that record's ceiling. Zero
 /// is a cell, ring number, start and ceiling like any other, and no value stands for all.
 ///
-/// `book` is a silence book, as [`pack`](crate::pack) writes it, or empty. It is read even if the line is shorter than the ring.
+/// `book` is a silence book, as [`pack`](crate::pack) writes it, or empty; records of tag 21 are read with ceiling 0. It is read even
+/// if the line is shorter than the ring.
 ///
 /// Lend [`Search::room`] words, however many findings are hidden. Returns `found`, hidden ones included, `hidden`, and the `looks` of
 /// the scan. Writes the words of the shown findings only, by rising start and without a gap. The words behind them keep their values.
