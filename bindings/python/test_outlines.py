@@ -710,6 +710,16 @@ class TheLoading(Case):
                 self.assertEqual((os.path.normpath(name), found), (library, "2\n"))
             self.assertEqual(self.load(module, OUTLINES_LIBRARY=LIBRARY), f"{LIBRARY} 2\n")
 
+    def test_a_stranger_where_the_repository_lies(self):
+        """From bindings/python of a repository, ../../../lib is outside it: what lies there is not this library."""
+        with tempfile.TemporaryDirectory() as folder:
+            module, library = os.path.join(folder, "repository/bindings/python"), os.path.join(folder, "lib/liboutlines.so.0")
+            os.makedirs(module)
+            os.makedirs(os.path.dirname(library))
+            shutil.copy(outlines.__file__, module)
+            shutil.copy(LIBRARY, library)
+            self.assertNotIn(folder, self.load(module))
+
     def test_the_loader_search(self):
         with tempfile.TemporaryDirectory() as folder:
             os.makedirs(os.path.join(folder, "a/b/c/d"))
