@@ -23,8 +23,8 @@
  * byte, the tag, says which; numbers have their high byte first:
  *   22 00 0C hex, cell (4 bytes), ring number (2), start (4), ceiling (2)   tag 22, 15 bytes; outlines_pack writes this kind only
  *   21 00 0A hex, cell (4 bytes), ring number (2), start (4)                tag 21, 13 bytes; read with ceiling 0
- * Both kinds may stand in one book. A book that is read has at most 15,000 bytes, and so at most 1,153 records (15,000 / 13; so many only if nearly all
- * are of tag 21), which are 4,612 words to unpack. To pack there are at most 1,000 records, 4,000 words.
+ * Both kinds may stand in one book. A book that is read has at most 15,000 bytes, and so at most 1,153 records (15,000 / 13), which are 4,612 words to
+ * unpack; of 1,153 at most 5 can be of tag 22. To pack there are at most 1,000 records, 4,000 words.
  *
  * Ceilings came with change request 4, and they change what old books hide. Before, there was tag 21 only, and a silence hid the finding at its address
  * whatever its distance. A book of tag 21 is still read, but from now on it hides exact copies only: a finding at one of its addresses with a distance of
@@ -72,10 +72,11 @@
  * passed to another. Two calls may read the same ring, line or book. While a call runs, no thread may write what it reads, or touch what it writes.
  *
  * Stack. A call allocates nothing. The most bytes of stack that it needs, on x86-64 and aarch64, without the arguments that its caller pushes and without
- * the frames of the C library's memcpy, memmove and memset (docs/LOOKS.md). Where symbols are bound lazily, the first call takes some 3,200 bytes more, for
- * the dynamic linker: on a small stack link the program with -Wl,-z,now, or run it with LD_BIND_NOW=1.
+ * the frames of the C library's memcpy, memmove and memset (docs/LOOKS.md):
  *   outlines_scan 6,000, outlines_scan_closed 6,000, outlines_report 6,000, outlines_report_closed 6,000, outlines_scan_two_way 6,400
  *   outlines_survey 3,224, outlines_survey_closed 3,288, outlines_pack 200, outlines_unpack 320, outlines_import_vertices 400
+ * Where symbols are bound lazily, the first call takes some 3,200 bytes more, for the dynamic linker. On a small stack link the program with -Wl,-z,now, or
+ * run it with LD_BIND_NOW=1.
  */
 #ifndef OUTLINES_H
 #define OUTLINES_H

@@ -57,7 +57,7 @@ SILENCE_BYTES = 15  # bytes of a silence that pack writes
 MOST_SILENCES = 1000  # most silences to pack
 MOST_RING_NUMBER = 65535  # highest ring number of a silence and of a report
 MOST_CEILING = 65535  # highest ceiling of a silence
-MOST_RECORDS = 1153  # most records of a book that is read: so many only if nearly all are of tag 21
+MOST_RECORDS = 1153  # most records of a book that is read: 15,000 bytes / 13
 MOST_BOOK = 15000  # most bytes of a book
 FEWEST_VERTICES = 3  # fewest vertices of a boundary to import
 MOST_VERTICES = 4096  # most vertices of a boundary to import
@@ -181,8 +181,8 @@ _CALLS = {
 
 def _load() -> CDLL:
     """The library, with the types of each call declared."""
-    prefix, mine = os.path.split(os.path.realpath(__file__))[0], os.path.join("share", "outlines", "python")
-    installed = os.path.join(prefix[:-len(mine)], "lib", "liboutlines.so.0") if prefix.endswith(os.sep + mine) else ""
+    folder, mine = os.path.dirname(os.path.realpath(__file__)), os.path.join("share", "outlines", "python")
+    installed = os.path.join(folder[:-len(mine)], "lib", "liboutlines.so.0") if folder.endswith(os.sep + mine) else ""
     path = os.environ.get("OUTLINES_LIBRARY") or (installed if os.path.exists(installed) else "liboutlines.so.0")
     try:
         library = CDLL(path)

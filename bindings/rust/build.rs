@@ -1,5 +1,5 @@
 //! Links the library statically. The folder of liboutlines.a is the one that OUTLINES_ARCHIVE names or, if that is not set, the
-//! one that `pkg-config --variable=libdir outlines` prints.
+//! one that pkg-config has for the package `outlines`, in a version that this crate can call.
 
 use std::env;
 use std::path::{Path, PathBuf};

@@ -33,8 +33,7 @@ pub const MOST_RING_NUMBER: u16 = 65_535;
 /// Highest ceiling of a silence.
 pub const MOST_CEILING: u16 = 65_535;
 
-/// Most records of a book that is read: 15,000 bytes hold so many only if nearly all are of tag 21, with 13 bytes each. They are
-/// 4,612 words to unpack.
+/// Most records of a book that is read: 15,000 bytes / 13. At most 5 of 1,153 can be of tag 22. They are 4,612 words to unpack.
 pub const MOST_RECORDS: usize = 1_153;
 
 /// Most bytes of a book.
