@@ -11,11 +11,11 @@ ghost use Rattle.std.specs.Prelude.{◌≡◌, ◌+◌};
 ghost use Rattle.answers.specs.Places.{around, IsRingPlace, IsLinePlace};
 
 // A place of the ring, counted from 0.
-#[derive(Drop)]
+#[derive(Clone, Copy)]
 pub struct RingPlace(pub usize);
 
 // A place of the line, counted from 0.
-#[derive(Drop)]
+#[derive(Clone, Copy)]
 pub struct LinePlace(pub usize);
 
 // The largest place that a usize holds.

@@ -7,7 +7,7 @@ ghost use Rattle.answers.specs.Refusals.{number_of, number_of_row, IsNumber, IsP
 const GAP: usize = 13;
 
 // A refusal: one row of the table, with its place if the row has one.
-#[derive(Drop)]
+#[derive(Clone, Copy)]
 pub enum Refusal {
     // 1: m = 0 or m > 256
     Ring,

@@ -2,7 +2,7 @@
 use answers::Refusal;
 
 // What packing, unpacking and reading return: "the number of records", or a refusal.
-#[derive(Drop)]
+#[derive(Clone, Copy)]
 pub enum BookAnswer {
     Records(usize),
     Refused(Refusal),

@@ -1,5 +1,7 @@
 // The silence book: unpacking, reading and seeking, over the crate silences. Packing is a crate of its own. What each
 // function returns and writes, on every input, is its contract in specs/. No public function has a `requires`.
+#![tactic(auto)]
+
 mod answering;
 mod reading;
 mod seeking;

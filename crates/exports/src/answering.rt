@@ -16,7 +16,7 @@ use vertices::Imported;
 // What every exported call but the two-way scan returns. `refusal` is 0 where the call is accepted. A count that a call does
 // not have is 0; pack and unpack return the number of records in `found`, the import of vertices the number of edges.
 #[repr(C)]
-#[derive(Drop)]
+#[derive(Clone, Copy)]
 pub struct Answer {
     pub refusal: u32,
     pub place: u32,

@@ -2,6 +2,8 @@
 // for C. Each passes its arguments to the Rattle call of that name without `outlines_` and returns that call's answer as
 // one struct, by value: `TwoWayAnswer` for the two-way scan, `Answer` for the others. Each takes every input. A slice is a
 // pointer and a length.
+#![tactic(auto)]
+
 mod answering;
 mod books;
 mod boundaries;

@@ -9,7 +9,7 @@ use two_way::{TwoWay, scan_two_way};
 // What `outlines_scan_two_way` returns: six numbers, in C's layout. `refusal` is 0 where the call is accepted. The forward
 // pass is the quick scan for the ring, the backward pass that for the reversed ring.
 #[repr(C)]
-#[derive(Drop)]
+#[derive(Clone, Copy)]
 pub struct TwoWayAnswer {
     pub refusal: u32,
     pub place: u32,

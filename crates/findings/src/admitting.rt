@@ -13,7 +13,7 @@ pub const MOST_LINE: usize = 65536;
 pub const WORDS_EACH: usize = 4;
 
 // Whether a call is accepted; if not, the refusal of the first row that is given.
-#[derive(Drop)]
+#[derive(Clone, Copy)]
 pub enum Verdict {
     Accepted,
     Refused(Refusal),

@@ -7,6 +7,8 @@
 // `is_mark` says whether an edge is a boundary mark; its contract is in specs/Marks.antt.
 // `put_finding` writes a finding's words behind those of the findings before it; its contract is in specs/Putting.antt.
 // No public function has a `requires`: each takes every input.
+#![tactic(auto)]
+
 mod admitting;
 mod closed;
 mod marks;

@@ -4,6 +4,8 @@
 // are the tally of a start and the join area is right, they become the tally of the start reached: `moved_tallied` in
 // proofs/MovedTallied.antt.
 // The function has no `requires`.
+#![tactic(auto)]
+
 mod moving;
 mod steps;
 

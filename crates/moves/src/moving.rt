@@ -12,13 +12,13 @@ use windows::whole_length;
 pub const MOST_PLACES: usize = 1 << 32;
 
 // One count for each rotation.
-#[derive(Drop)]
+#[derive(Clone, Copy)]
 pub struct Tally {
     pub counts: [u16; MOST_COUNTS],
 }
 
 // The tally after a move, and what the move returned.
-#[derive(Drop)]
+#[derive(Clone, Copy)]
 pub struct Moved {
     pub tally: Tally,
     pub reached: Reached,

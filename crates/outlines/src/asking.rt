@@ -12,7 +12,7 @@ use silences::{Address, Sought};
 
 // How many findings were shown so far, how many were hidden, and the field that the book gave for the last finding (at
 // first the book's first field). Starts rise, so no field before that one is read again.
-#[derive(Drop)]
+#[derive(Clone, Copy)]
 pub struct BookAsked {
     pub shown: usize,
     pub hidden: usize,

@@ -5,6 +5,8 @@
 // specs/Report.antt. One loop serves both (src/quick.rt): the scan lends it an empty book. `survey`, the plain survey,
 // is re-exported from crates/survey. `survey_closed`, `scan_closed` and `report_closed` are the same for a line that is
 // closed as well (src/closed.rt). No function handed out here has a `requires`: each takes every input.
+#![tactic(auto)]
+
 mod asking;
 mod closed;
 mod quick;

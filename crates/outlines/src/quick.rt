@@ -16,7 +16,7 @@ use tally::{DOUBLED, MOST_COUNTS, double};
 use windows::whole_length;
 
 // "found (hidden ones included), hidden, looks" for one line.
-#[derive(Drop)]
+#[derive(Clone, Copy)]
 pub struct LineCounts {
     pub found: usize,
     pub hidden: usize,

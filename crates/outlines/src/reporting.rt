@@ -7,7 +7,7 @@ use book::{BookAnswer, read};
 use findings::{Verdict, admit};
 
 // The answer of a report: its counts, or a refusal.
-#[derive(Drop)]
+#[derive(Clone, Copy)]
 pub enum Reported {
     Counts {
         found: usize,

@@ -14,7 +14,7 @@ const MOST_RING_NUMBER: u32 = 65535;
 const MOST_CEILING: u32 = 65535;
 
 // What `judge` returns: how many records and bytes the output has, or the refusal of the first faulty record.
-#[derive(Drop)]
+#[derive(Clone, Copy)]
 pub enum Judged {
     Accepted { records: usize, bytes: usize },
     Refused(Refusal),

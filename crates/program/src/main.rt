@@ -2,6 +2,8 @@
 // (crates/request reads the request that the input holds, crates/reply writes the text. The built program is target/native/report.)
 // The exit status is 0 whenever the program ends by itself, so test the output: accept it only if its last line is a whole
 // `found F hidden H looks L`, ended by LF (docs/SPEC.md, section 8).
+#![tactic(auto)]
+
 ghost use Rattle.std.specs.Prelude.{◌≤◌, length};
 
 use reply::{MOST_INPUT, MOST_TEXT};

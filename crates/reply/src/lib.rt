@@ -2,6 +2,8 @@
 // makes the report (crates/outlines) and writes its lines, or the line of a refusal. crates/program reads standard input, calls
 // `answer` and writes the text. specs/Answering.antt defines the text for every input. No public function has a `requires`: each
 // takes every input.
+#![tactic(auto)]
+
 mod answering;
 mod bytes;
 mod digits;

@@ -4,7 +4,7 @@ ghost use Rattle.request.specs.Parsing.{IsPast};
 use fields::{HEAD_LENGTH, LENGTH_BYTES, TAG_BYTES, number_at};
 
 // A kind of field: its tag, and the least and the most bytes of its value.
-#[derive(Drop)]
+#[derive(Clone, Copy)]
 pub struct FieldKind {
     pub tag: u8,
     pub least: usize,
@@ -14,7 +14,7 @@ pub struct FieldKind {
 // How far the fields have been read. If `faulty` is false, every field so far stands and the last one ends at byte offset `next`.
 // If it is true, a field is missing, cut, wrongly tagged or wrongly long, and the first such field begins, or should begin, at
 // `next`. (An input that is too long is faulty at offset 0 before any field is read.)
-#[derive(Drop)]
+#[derive(Clone, Copy)]
 pub struct ReadTo {
     pub next: usize,
     pub faulty: bool,

@@ -57,7 +57,7 @@ const LINE: FieldKind = FieldKind {
 
 // A request by its numbers and its byte offsets in the input. The ring is the bytes from `ring_from` up to `ring_to`, the line
 // those from `line_from` up to `line_to`, and the book all bytes from `line_to` on.
-#[derive(Drop)]
+#[derive(Clone, Copy)]
 pub struct Parts {
     pub cell: u32,
     pub ring_number: u16,
@@ -69,7 +69,7 @@ pub struct Parts {
 }
 
 // What `read_request` returns: the parts of a request, or refusal 11.
-#[derive(Drop)]
+#[derive(Clone, Copy)]
 pub enum Requested {
     Parts(Parts),
     Refused(Refusal),

@@ -3,6 +3,8 @@
 //
 // The contracts are in specs/Reversing.antt. No public function has a `requires`: each takes every input and refuses
 // nothing.
+#![tactic(auto)]
+
 mod codes;
 mod rings;
 

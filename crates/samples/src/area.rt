@@ -98,7 +98,7 @@ pub fn byte_at(bytes: &[u8], at: usize) -> u8 {
 
 // What a call did to an area: the number of words up to the last one written, within those lent; and whether every word
 // after those lent is still a canary.
-#[derive(Drop)]
+#[derive(Clone, Copy)]
 pub struct Seen {
     pub written: usize,
     pub kept: bool,

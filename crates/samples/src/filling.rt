@@ -3,7 +3,7 @@ use crate::{area, books, edges, table};
 use reversal::reversed_code;
 
 // What a field gives as bytes: codes that rise, a list of codes, letters, or a book.
-#[derive(Drop)]
+#[derive(Clone, Copy)]
 pub enum ByteKind {
     Rising { first: u8, last: u8 },
     Codes,
@@ -32,7 +32,7 @@ pub fn fill_bytes(what: ByteKind, field: &[u8], bytes: &mut [u8]) {
 
 // What words are filled with: the words of the silences that a field gives; the bytes of an area, each four times over to
 // make a word (as the canary in words is made); or the reversed code of each byte; or each byte as it is.
-#[derive(Drop)]
+#[derive(Clone, Copy)]
 pub enum WordKind {
     Silences,
     Spread,

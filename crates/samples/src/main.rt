@@ -1,6 +1,8 @@
 // Runs the calls at each limit that documents 01 and 02 name, and prints a line for each row. The rows are read from
 // standard input (crates/samples/stdin), a section for each kind of row. What is printed is compared with
 // crates/samples/stdout.
+#![tactic(auto)]
+
 mod answer_rows;
 mod area;
 mod book_rows;

@@ -8,7 +8,7 @@ use silences::RECORD_WORDS;
 
 // How the bytes or words that a call wrote are shown: bytes in hex, codes in decimal, the words of a finding or of a
 // silence with commas between them.
-#[derive(Drop)]
+#[derive(Clone, Copy)]
 pub enum PrintedAs {
     Bytes,
     Codes,

@@ -15,7 +15,7 @@ const NUMBER_MARK: u8 = b' ';
 const LARGEST: usize = 18446744073709551615;
 
 // A part's beginning and end in its text, and how many marks stand before its end.
-#[derive(Drop)]
+#[derive(Clone, Copy)]
 struct Span {
     begin: usize,
     end: usize,

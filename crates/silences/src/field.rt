@@ -14,7 +14,7 @@ use fields::{HEAD_LENGTH, LENGTH_BYTES, TAG_BYTES, number_at};
 
 // What a tag says of its field: it holds a silence, with this number of bytes for the ceiling; or it is no silence's
 // tag.
-#[derive(Drop)]
+#[derive(Clone, Copy)]
 pub enum Kind {
     Silence { ceiling_bytes: usize },
     Unknown,

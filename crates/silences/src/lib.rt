@@ -1,6 +1,8 @@
 // Silences: the address of a silence, the order of addresses, and reading one field of a book. The crates book and
 // packing build on this. What a book is, and what reading, packing and unpacking give, is defined in specs/. No public
 // function has a `requires`: each takes every input.
+#![tactic(auto)]
+
 mod addresses;
 mod field;
 mod lengths;

@@ -38,7 +38,7 @@ pub fn is_same(a: Address, b: Address) -> bool
 }
 
 // The record before another one. The first record has none.
-#[derive(Drop)]
+#[derive(Clone, Copy)]
 pub enum Last {
     NoRecord,
     Record(Address),

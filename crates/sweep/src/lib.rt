@@ -4,6 +4,8 @@
 // specs/Sweeps.antt: what it returns on every input, whatever tables, join area and counts it is lent. `swept_by_rules`
 // in proofs/SweptByRules.antt proves that this is what the rules give if the ring holds no mark, the tables are its own,
 // the counts are the tally of the last verified start and the join area is right. The function has no `requires`.
+#![tactic(auto)]
+
 mod reading;
 mod sweeping;
 mod verifying;

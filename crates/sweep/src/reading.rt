@@ -14,7 +14,7 @@ use vectors::{first_bits, grown, no_bit};
 
 // How far a window was read: the number of edges left unread; the looks, one for each edge read; and whether the window was
 // stopped, at break k + 1 or at a mark. If not, all its edges were read, and it is a candidate.
-#[derive(Drop)]
+#[derive(Clone, Copy)]
 pub struct WindowRead {
     pub left: usize,
     pub looks: usize,

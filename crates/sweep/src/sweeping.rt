@@ -20,7 +20,7 @@ use windows::{whole_length, window};
 const MOST_LOOKS: usize = 1 << 62;
 
 // Where a sweep stands: the start of the window to be read next, the last verified start, the looks so far.
-#[derive(Drop)]
+#[derive(Clone, Copy)]
 pub struct Sweep {
     pub start: LinePlace,
     pub last: LastVerified,
@@ -29,7 +29,7 @@ pub struct Sweep {
 
 // The answer of `sweep_on`, with the sweep after it: no candidate any more, because no window fits in the line (or the
 // sweep cannot go on: `can_sweep`); a candidate that is no finding; a candidate that is a finding.
-#[derive(Drop)]
+#[derive(Clone, Copy)]
 pub enum Swept {
     Ended(Sweep),
     NoFinding(Sweep),
@@ -39,7 +39,7 @@ pub enum Swept {
 // How far windows were read: the candidate's start, the start of the window after it, and the looks of all windows up to
 // and including the candidate. If there is no candidate, both places are where the next window would start; none fits in
 // the line there.
-#[derive(Drop)]
+#[derive(Clone, Copy)]
 pub struct WindowsRead {
     pub start: LinePlace,
     pub next: LinePlace,

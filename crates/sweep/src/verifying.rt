@@ -10,7 +10,7 @@ use tally::{Least, MOST_COUNTS, count_afresh};
 use windows::window;
 
 // The last verified start, if there is one.
-#[derive(Drop)]
+#[derive(Clone, Copy)]
 pub enum LastVerified {
     Nothing,
     At(LinePlace),

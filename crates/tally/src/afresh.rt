@@ -93,7 +93,7 @@ fn count_four(
 
 // The result of `count_some` and `count_part`: how many edges were counted, the looks, and the place just past the last
 // mark up to there.
-#[derive(Drop)]
+#[derive(Clone, Copy)]
 pub struct EdgesCounted {
     pub edges: usize,
     pub looks: usize,
@@ -202,7 +202,7 @@ fn count_part(
 
 // The result of a fresh count: the least of the counts, the looks, and the place just past the last mark of the window,
 // counted from its own place 0; 0 if it holds none.
-#[derive(Drop)]
+#[derive(Clone, Copy)]
 pub struct Fresh {
     pub least: usize,
     pub looks: usize,

@@ -15,7 +15,7 @@ pub const MOST_COUNTS: usize = MOST_RING;
 const LAST_COUNT: usize = 65535;
 
 // The least of a start's counts, and the looks taken to compute them.
-#[derive(Drop)]
+#[derive(Clone, Copy)]
 pub struct Least {
     pub least: usize,
     pub looks: usize,

@@ -3,6 +3,8 @@
 //
 // The contracts are in specs/Marks.antt and specs/Counts.antt; specs/Tallied.antt says when counts are the tally of a
 // start. No public function has a `requires`: each takes every input, whatever the counts hold.
+#![tactic(auto)]
+
 mod afresh;
 mod counts;
 mod marks;

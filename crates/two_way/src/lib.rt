@@ -3,6 +3,8 @@
 //
 // `scan_two_way` scans the line for the ring and then for the reversed ring; its contract is in specs/TwoWay.antt. It has
 // no `requires`: it takes every input.
+#![tactic(auto)]
+
 mod admitting;
 mod passes;
 

@@ -9,7 +9,7 @@ use outlines::{Searched, scan};
 use reversal::{MOST_REVERSED, reverse};
 
 // The answer of a two-way scan: found and looks of each pass, or a refusal.
-#[derive(Drop)]
+#[derive(Clone, Copy)]
 pub enum TwoWay {
     Counts {
         forward: SearchCounts,

@@ -2,6 +2,8 @@
 // edge, and whether no bit is set. specs/ByValue.antt says what each function returns; specs/Bits.antt and
 // specs/Holding.antt say what that means for the bits of a vector. No public function has a `requires`: each takes every
 // input.
+#![tactic(auto)]
+
 mod held;
 mod widths;
 

@@ -11,7 +11,7 @@ const FEWEST_VERTICES: usize = 3;
 const MOST_VERTICES: usize = 4096;
 
 // The answer of an import: the number of edges, or a refusal.
-#[derive(Drop)]
+#[derive(Clone, Copy)]
 pub enum Imported {
     Edges(usize),
     Refused(Refusal),

@@ -3,6 +3,8 @@
 //
 // `import_vertices` turns the vertices of a boundary into its edge bytes; its contract is in specs/Importing.antt. It has no
 // `requires`: it takes every input.
+#![tactic(auto)]
+
 mod boundary;
 mod importing;
 mod steps;

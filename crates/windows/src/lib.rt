@@ -4,6 +4,8 @@
 //
 // The contracts are in specs/Windows.antt and specs/Joins.antt. No public function has a `requires`: each takes every
 // input.
+#![tactic(auto)]
+
 mod joins;
 mod windows;
 

@@ -1,0 +1,42 @@
+-- `moves::steps::move_along` meets its contract: the loop keeps `Moving`, and a turn goes on or ends the move. The measure is the number of steps left.
+use Prim.Native.Nat.{◌-◌}
+use borrow.Author.Rules.{rules}
+use native.Mathlib.Omega.{arith}
+use Rattle.windows.specs.Windows.{parts}
+use Rattle.windows.proofs.WindowEdges.{fitting_length}
+use Rattle.moves.proofs.MoveLoop.{Moving, moving_start, moving_has_counts, moving_turn, moving_stops, moving_end}
+use Rattle.moves.proofs.steps.move_along.Goals as goal
+
+pub loop-i-init : goal.loop-i-init
+loop-i-init c = moving_start _ _ _ _ _ _ c.requires
+
+pub bounds-next-m : goal.bounds-next-m
+bounds-next-m c =
+    omega (arith, fitting_length {ring = c.args.ring.now} c.requires.has_counts.some_edge c.window-next.ensures (omega arith))
+
+pub bounds-here-0 : goal.bounds-here-0
+bounds-here-0 c =
+    omega (arith, fitting_length {ring = c.args.ring.now} c.requires.has_counts.some_edge c.window-here.ensures (omega arith))
+
+pub step-stepped-requires : goal.step-stepped-requires
+step-stepped-requires c =
+    moving_has_counts _ _ _ _ _ _ c.requires _ _ _ _ _ c.loop-i.invariant
+
+pub overflow_add-looks : goal.overflow_add-looks
+overflow_add-looks c =
+    omega (arith, c.loop-i.invariant.looks_le, c.step-stepped.ensures.looks_are, c.requires.has_counts.most)
+
+-- The least count is below the bound: the move ends here.
+pub returns-then-least-below : goal.returns-then-least-below
+returns-then-least-below c =
+    moving_stops _ _ _ _ _ _ c.requires _ _ _ _ _ c.loop-i.invariant c.loop-i-test.true
+    _ _ _ _ c.window-here.ensures c.window-next.ensures c.step-stepped.ensures c.past_mark_lem.ensures c.if-least-below.true
+
+pub loop-i-preserved : goal.loop-i-preserved
+loop-i-preserved c =
+    moving_turn _ _ _ _ _ _ c.requires _ _ _ _ _ c.loop-i.invariant c.loop-i-test.true
+    _ _ _ _ c.window-here.ensures c.window-next.ensures c.step-stepped.ensures c.past_mark_lem.ensures c.if-least-below.false
+
+-- All steps are taken.
+pub returns : goal.returns
+returns c = moving_end _ _ _ _ _ _ c.requires _ _ _ _ _ c.loop-i.invariant c.loop-i-test.false

@@ -1,0 +1,9 @@
+-- `moves::steps::step` meets its contract: the counts are changed and then renumbered, and renumbering does not change their least (`SteppedCounts`).
+use borrow.Author.Rules.{rules}
+use Rattle.moves.proofs.SteppedCounts.{stepped_is}
+use Rattle.moves.proofs.steps.step.Goals as goal
+
+pub returns : goal.returns
+returns c =
+    let changed = c.change-least.ensures in
+    stepped_is _ _ _ _ _ _ _ changed.0 changed.1 changed.2 c.renumber.ensures

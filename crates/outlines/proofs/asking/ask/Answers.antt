@@ -1,0 +1,19 @@
+-- `outlines::asking::ask` meets its contract: the finding is hidden if the field sought for its address has this address, else shown (`AskCases`).
+use borrow.Author.Rules.{rules}
+use Rattle.findings.specs.Putting.{finding_of}
+use Rattle.outlines.proofs.AskCases.{ask_hidden, ask_shown}
+use Rattle.outlines.proofs.asking.ask.Goals as goal
+
+-- Hidden.
+pub returns-then-hides : goal.returns-then-hides
+returns-then-hides c =
+    let args = c.args in
+    ask_hidden args.asked args.cell args.ring-number (finding_of args.finding) c.seek_on-held.ensures c.hides.ensures
+    (cc c.address_of-address.ensures) c.if-hides.true
+
+-- Shown.
+pub returns : goal.returns
+returns c =
+    let args = c.args in
+    ask_shown args.asked args.cell args.ring-number (finding_of args.finding) c.seek_on-held.ensures c.hides.ensures
+    (cc c.address_of-address.ensures) c.if-hides.false

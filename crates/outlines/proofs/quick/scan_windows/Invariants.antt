@@ -1,0 +1,21 @@
+-- `outlines::quick::scan_windows` meets its contract: the loop keeps `QuickLoop`. The sweep's answer decides the turn: it reports no finding, or one, for which
+-- the book is asked. The measure is n + 1 - start.
+use Prim.Native.Nat.{◌+◌, ◌-◌}
+use mathlib.Core.Path.{◌≡◌, refl, ap}
+use native.Mathlib.Omega.{arith}
+use borrow.Author.Rules.{rules}
+use lib.ListN.{length}
+use Rattle.occurrences.specs.EdgeVectors.{edge_vectors}
+use Rattle.windows.specs.Windows.{parts, whole_length, IsWholeLength}
+use Rattle.windows.proofs.WindowEdges.{fits_whole, past_whole}
+use Rattle.sweep.specs.SweepRules.{state_of, found_of}
+use Rattle.outlines.proofs.QuickLoop.{QuickLoop, quick_start, quick_found_le, quick_length, quick_end, quick_less, quick_none, quick_can_ask, quick_found}
+use Rattle.outlines.proofs.quick.scan_windows.Given as goal
+
+abbrev pub invariant-loop-at : goal.invariant-loop-at
+invariant-loop-at l =
+    (l.m ≡ length l.ring) × (IsWholeLength (length l.ring) (parts l.line l.join) l.n × QuickLoop l.cell l.ring_number l.ring l.doubled (edge_vectors l.slots l.kept) (parts l.line l.join) l.k l.book l.initial.counts l.initial.words l.at l.asked l.counts l.words)
+
+abbrev pub decreases-loop-at : goal.decreases-loop-at
+decreases-loop-at l =
+    whole_length (length l.ring) l.line l.join + 1 - l.at.start.0

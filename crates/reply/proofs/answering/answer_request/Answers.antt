@@ -1,0 +1,38 @@
+-- `reply::answering::answer_request` meets its contract. A refusal of the report is one line. Counts give three pieces of text, put one after the other
+-- (`Answered`), and there is room for them.
+use mathlib.Core.Path.{sym}
+use native.Mathlib.Omega.{arith}
+use lib.Seq.{length-take-le}
+use Rattle.lists.specs.Texts.{ascii}
+use Rattle.reply.specs.Lines.{first_line, last_line}
+use Rattle.reply.specs.Writing.{filled, request}
+use Rattle.reply.proofs.TextWritten.{written_then, written_same, text_stands, text_same}
+use Rattle.reply.proofs.RequestAnswered.{Answered, refused_text, counted_text}
+use borrow.Author.Rules.{rules}
+use Rattle.reply.proofs.answering.answer_request.Goals as goal
+
+pub overflow_sub-to : goal.overflow_sub-to
+overflow_sub-to c = (c).hidden_le
+
+pub overflow_mul-to : goal.overflow_mul-to
+overflow_mul-to c = omega (arith, (c).words_le)
+
+pub slice_bounds-words-end : goal.slice_bounds-words-end
+slice_bounds-words-end c = (c).words_le
+
+pub slice_bounds-put_finding_lines-end : goal.slice_bounds-put_finding_lines-end
+slice_bounds-put_finding_lines-end c =
+    sym (length-take-le _ _ (c).words_le)
+
+-- a refusal of the report
+pub returns-in-Refused : goal.returns-in-Refused
+returns-in-Refused c =
+    text_same (refused_text c.report.ensures c.requires.line_le (search rules) _ c.in-Refused.is) c.put_refusal.ensures
+
+-- counts of the report
+pub returns-in-Counts : goal.returns-in-Counts
+unfolding ascii filled first_line last_line
+returns-in-Counts c =
+    text_stands (omega (arith, c.length_le, (c).requires.room_for))
+    (written_same c.pieces
+    (written_then c.put_line-findings_at.ensures (written_then c.put_finding_lines-last_at.ensures c.put_line.ensures)))

@@ -1,0 +1,10 @@
+-- `samples::run` is safe and ends: the number of lines left falls.
+use Prim.Native.Nat.{◌-◌}
+use native.Mathlib.Omega.{arith}
+use Rattle.samples.proofs.run.Given as goal
+
+abbrev pub invariant-loop-next : goal.invariant-loop-next
+invariant-loop-next l = Unit
+
+abbrev pub decreases-loop-next : goal.decreases-loop-next
+decreases-loop-next l = l.lines - l.next

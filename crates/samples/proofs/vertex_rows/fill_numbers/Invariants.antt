@@ -1,0 +1,13 @@
+-- `samples::vertex_rows::fill_numbers` is safe and ends: a store keeps the number of numbers, and the number of those left falls.
+use Prim.Native.Nat.{◌-◌}
+use mathlib.Core.Path.{◌≡◌}
+use native.Mathlib.Omega.{arith}
+use lib.ListN.{length, length-set}
+use borrow.Author.Rules.{rules}
+use Rattle.samples.proofs.vertex_rows.fill_numbers.Given as goal
+
+abbrev pub invariant-loop-at : goal.invariant-loop-at
+invariant-loop-at l = length l.initial.numbers ≡ length l.numbers
+
+abbrev pub decreases-loop-at : goal.decreases-loop-at
+decreases-loop-at l = length l.initial.numbers - l.at

@@ -1,0 +1,18 @@
+-- `sweep::reading::read_words` meets its contract: the loop keeps `StillToRead`. A turn grows the held vector, or sets every bit again at a break, or stops at
+-- break k + 1 or at a mark. The measure is the number of edges left.
+use mathlib.Core.Path.{◌≡◌, sym, ◌∙◌}
+use native.Mathlib.Omega.{arith}
+use borrow.Author.Rules.{rules}
+use lib.ListN.{length}
+use Rattle.vectors.specs.Bits.{first_bits}
+use Rattle.vectors.specs.ByValue.{vector_words}
+use Rattle.occurrences.specs.EdgeVectors.{edge_vectors}
+use Rattle.sweep.proofs.ReadTurns.{StillToRead, to_read_all, to_read_none, to_read_stops, to_read_empties, to_read_grows}
+use Rattle.sweep.proofs.reading.read_words.Given as goal
+
+abbrev pub invariant-loop-left : goal.invariant-loop-left
+invariant-loop-left l =
+    (l.full ≡ first_bits (length l.window) vector_words) × StillToRead (edge_vectors l.slots l.kept) l.window l.k l.words l.held l.left l.breaks l.looks
+
+abbrev pub decreases-loop-left : goal.decreases-loop-left
+decreases-loop-left l = l.left

@@ -1,0 +1,75 @@
+-- `sweep::sweeping::read_windows` meets its contract: the loop keeps `StillWindows`. A turn ends where `window` returns no edge, because no window fits in the whole
+-- line there (`none_is_past`); else it passes a window that is stopped, or ends at the candidate. The measure is n + 1 - i.
+use Prim.Native.Nat.{◌+◌, ◌-◌}
+use native.Mathlib.Omega.{arith}
+use borrow.Author.Rules.{rules}
+use borrow.Author.Tests.{not-true, not-false}
+use lib.ListN.{length}
+use Rattle.occurrences.specs.EdgeVectors.{edge_vectors}
+use Rattle.windows.specs.Windows.{parts, whole_length}
+use Rattle.windows.proofs.WindowEdges.{none_is_past}
+use Rattle.sweep.proofs.WindowTurns.{StillWindows, windows_start, windows_end, windows_fit, windows_size, windows_next_le, windows_looks_le, windows_stop, windows_turn}
+use Rattle.sweep.proofs.sweeping.read_windows.Goals as goal
+
+pub loop-edges-init : goal.loop-edges-init
+loop-edges-init c = windows_start c.requires
+
+-- No window fits in the whole line any more.
+pub returns-then-edges-eq0 : goal.returns-then-edges-eq0
+returns-then-edges-eq0 c =
+    let known = c.loop-edges.invariant in
+    windows_end known (none_is_past known.can.some_edge c.window-edges.ensures c.if-edges-eq0.true)
+
+pub read_window-read-requires : goal.read_window-read-requires
+read_window-read-requires c =
+    let handed = c.window-edges.ensures in
+    let known = c.loop-edges.invariant in
+    let size = windows_size known handed (omega (arith, c.if-edges-eq0.false)) in (omega (arith, size, known.can.some_edge), omega (arith, size, known.can.most))
+
+pub overflow_add-looks : goal.overflow_add-looks
+overflow_add-looks c =
+    let handed = c.window-edges.ensures in
+    let known = c.loop-edges.inv in
+    let in_line = windows_fit known handed (omega (arith, c.if-edges-eq0.left)) in
+    omega (
+      arith,
+      windows_looks_le known in_line handed c.read_window-read.ensures,
+      windows_next_le known in_line handed c.read_window-read.ensures,
+      known.can.most_line,
+    )
+
+pub overflow_add-next : goal.overflow_add-next
+overflow_add-next c =
+    let handed = c.window-edges.ensures in
+    let known = c.loop-edges.inv in
+    let in_line = windows_fit known handed (omega (arith, c.if-edges-eq0.left)) in
+    omega (arith, known.can.most_line, windows_next_le known in_line handed c.read_window-read.ensures)
+
+pub overflow_add-next-in-loop-edges : goal.overflow_add-next-in-loop-edges
+overflow_add-next-in-loop-edges c =
+    let handed = c.window-edges.ensures in
+    let known = c.loop-edges.inv in
+    let in_line = windows_fit known handed (omega (arith, c.if-edges-eq0.left)) in
+    omega (arith, known.can.most_line, windows_next_le known in_line handed c.read_window-read.ensures)
+
+-- The candidate.
+pub returns-then-not-read : goal.returns-then-not-read
+returns-then-not-read c =
+    let handed = c.window-edges.ensures in
+    let known = c.loop-edges.inv in
+    let in_line = windows_fit known handed (omega (arith, c.if-edges-eq0.left)) in
+    windows_stop known in_line handed c.read_window-read.ensures (not-true _ c.if-not-read.true)
+
+pub loop-edges-smaller : goal.loop-edges-smaller
+loop-edges-smaller c =
+    let known = c.loop-edges.inv in
+    let in_line = windows_fit known c.window-edges.ensures (omega (arith, c.if-edges-eq0.left)) in
+    omega (arith, in_line.in_line)
+
+-- A window that is stopped.
+pub loop-edges-preserved : goal.loop-edges-preserved
+loop-edges-preserved c =
+    let handed = c.window-edges.ensures in
+    let known = c.loop-edges.inv in
+    let in_line = windows_fit known handed (omega (arith, c.if-edges-eq0.left)) in
+    windows_turn known in_line handed c.read_window-read.ensures (not-false _ c.if-not-read.false)

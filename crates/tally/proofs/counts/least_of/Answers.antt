@@ -1,0 +1,23 @@
+-- `tally::counts::least_of` meets its contract: the least begins with the first count, and the loop keeps `LeastSoFar`. The measure is m - r.
+use Prim.Native.Nat.{◌-◌, ◌≤◌, ◌<◌}
+use mathlib.Core.Path.{sym}
+use mathlib.Core.Logic.{⊎_elim}
+use native.Mathlib.Omega.{arith}
+use borrow.Author.Rules.{rules}
+use Rattle.tally.proofs.LeastSoFar.{LeastSoFar, least_so_far_first, least_so_far_less, least_so_far_kept, least_so_far_end}
+use Rattle.tally.proofs.counts.least_of.Goals as goal
+
+pub loop-r-init : goal.loop-r-init
+loop-r-init c = (omega arith, omega arith, least_so_far_first _)
+
+-- The count is less and is taken, or it is not and the least is kept.
+pub loop-r-preserved : goal.loop-r-preserved
+loop-r-preserved c =
+    let so_far = c.loop-r.invariant.2 in (
+      omega arith,
+      omega arith,
+      ⊎_elim (λ less. rw less.1 (least_so_far_less so_far less.0.taken)) (λ kept. rw kept.1 (least_so_far_kept so_far kept.0.left)) c.if-count-least.branch,
+    )
+
+pub returns : goal.returns
+returns c = least_so_far_end c.loop-r.invariant.2 (omega arith) (omega arith) sym
