@@ -12,7 +12,7 @@ pub returns : goal.returns
 returns c =
     let dn-is = to_z-of_z w64 c.args.dn c.ranges.dn in
     let de-is = to_z-of_z w64 c.args.de c.ranges.de in
-    c.octant_by_sizes_lem.ensures
+    c.octant_by_sizes.ensures
     ∙ octant_known c.requires (c.is_negative.ensures ∙ ap is_negative dn-is)
     (c.size.ensures ∙ ap nat_abs dn-is) (c.is_negative-2.ensures ∙ ap is_negative de-is)
     (c.size-2.ensures ∙ ap nat_abs de-is)
