@@ -29,7 +29,7 @@ bounds-slots-at-in-loop-r c = omega (arith, ltb-true)
 
 pub loop-r-preserved : goal.loop-r-preserved
 loop-r-preserved c =
-    parts_turned _ _ _ _ _ _ _ _ c.loop-r.invariant c.loop-r-test.true (ltb-true _ _ c.if-r-lt-VECTOR_BITS.true)
+    parts_turned _ _ _ _ _ _ _ _ c.loop-r.invariant c.loop-r-test.true c.if-r-lt-VECTOR_BITS.true
     c.byte_index.ensures.0 c.byte_index.ensures.1 refl c.slot_from-slot.ensures c.word_place-word.ensures.0
 
 pub returns-else-r-lt-VECTOR_BITS : goal.returns-else-r-lt-VECTOR_BITS

@@ -58,7 +58,7 @@ returns-then-not-read c =
     let handed = c.window-edges.ensures in
     let known = c.loop-edges.inv in
     let in_line = windows_fit known handed (omega (arith, c.if-edges-eq0.left)) in
-    windows_stop known in_line handed c.read_window-read.ensures (not-true _ c.if-not-read.true)
+    windows_stop known in_line handed c.read_window-read.ensures c.if-not-read.true
 
 pub loop-edges-smaller : goal.loop-edges-smaller
 loop-edges-smaller c =
@@ -72,4 +72,4 @@ loop-edges-preserved c =
     let handed = c.window-edges.ensures in
     let known = c.loop-edges.inv in
     let in_line = windows_fit known handed (omega (arith, c.if-edges-eq0.left)) in
-    windows_turn known in_line handed c.read_window-read.ensures (not-false _ c.if-not-read.false)
+    windows_turn known in_line handed c.read_window-read.ensures c.if-not-read.false

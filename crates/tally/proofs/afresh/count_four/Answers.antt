@@ -14,18 +14,49 @@ pub loop-r-init : goal.loop-r-init
 loop-r-init c = (omega arith, omega arith, stored_start)
 
 pub overflow_add-part : goal.overflow_add-part
-overflow_add-part c = omega (arith, c)
+overflow_add-part c =
+    let four-le : c.differing-at_a.result + c.differing-at_b.result + c.differing-at_c.result + c.differing-at_d.result ≤ 4 = omega (
+      arith,
+      comparison_le c.differing-at_a.ensures,
+      comparison_le c.differing-at_b.ensures,
+      comparison_le c.differing-at_c.ensures,
+      comparison_le c.differing-at_d.ensures,
+    ) in
+    omega (arith, four-le)
 
 pub overflow_add-part-in-loop-r : goal.overflow_add-part-in-loop-r
-overflow_add-part-in-loop-r c = omega (arith, c)
+overflow_add-part-in-loop-r c =
+    let four-le : c.differing-at_a.result + c.differing-at_b.result + c.differing-at_c.result + c.differing-at_d.result ≤ 4 = omega (
+      arith,
+      comparison_le c.differing-at_a.ensures,
+      comparison_le c.differing-at_b.ensures,
+      comparison_le c.differing-at_c.ensures,
+      comparison_le c.differing-at_d.ensures,
+    ) in
+    omega (arith, four-le)
 
 pub overflow_add-part-in-loop-r-2 : goal.overflow_add-part-in-loop-r-2
-overflow_add-part-in-loop-r-2 c = omega (arith, c)
+overflow_add-part-in-loop-r-2 c =
+    let four-le : c.differing-at_a.result + c.differing-at_b.result + c.differing-at_c.result + c.differing-at_d.result ≤ 4 = omega (
+      arith,
+      comparison_le c.differing-at_a.ensures,
+      comparison_le c.differing-at_b.ensures,
+      comparison_le c.differing-at_c.ensures,
+      comparison_le c.differing-at_d.ensures,
+    ) in
+    omega (arith, four-le)
 
 pub overflow_add-part-in-loop-r-3 : goal.overflow_add-part-in-loop-r-3
 overflow_add-part-in-loop-r-3 c =
+    let four-le : c.differing-at_a.result + c.differing-at_b.result + c.differing-at_c.result + c.differing-at_d.result ≤ 4 = omega (
+      arith,
+      comparison_le c.differing-at_a.ensures,
+      comparison_le c.differing-at_b.ensures,
+      comparison_le c.differing-at_c.ensures,
+      comparison_le c.differing-at_d.ensures,
+    ) in
     let pre = c.requires in
-    omega (arith, c.loop-r.invariant.2.rest c.loop-r.r (omega arith), pre.2 _ c.loop-r-test.true, c)
+    omega (arith, c.loop-r.invariant.2.rest c.loop-r.r (omega arith), pre.2 _ c.loop-r-test.true, four-le)
 
 pub loop-r-preserved : goal.loop-r-preserved
 loop-r-preserved c =

@@ -11,33 +11,54 @@ pub part_end-end-requires : goal.part_end-end-requires
 part_end-end-requires c = c.requires.has_edge
 
 pub loop-q-init : goal.loop-q-init
-loop-q-init c = counting_afresh_start (c) c.requires.past_is
+loop-q-init c =
+    let begin : NoneCounted c.args.doubled.now c.args.window.now (replicate most_counts 0) c.args.from c.part_end-end.result = part_begins c.requires c.part_end-end.ensures in
+    counting_afresh_start (begin) c.requires.past_is
 
 pub count_some-counted-requires : goal.count_some-counted-requires
 count_some-counted-requires c =
-    counting_afresh_on (c) c.loop-q.invariant c.part_end-end.ensures.fits c.loop-q-test.true
+    let begin : NoneCounted c.args.doubled.now c.args.window.now (replicate most_counts 0) c.args.from c.part_end-end.result = part_begins c.requires c.part_end-end.ensures in
+    counting_afresh_on (begin) c.loop-q.invariant c.part_end-end.ensures.fits c.loop-q-test.true
 
 pub overflow_add-looks : goal.overflow_add-looks
 overflow_add-looks c =
-    omega (arith, (c).looks_le, (c).turn_le, c.part_end-end.ensures.fits)
+    let begin : NoneCounted c.args.doubled.now c.args.window.now (replicate most_counts 0) c.args.from c.part_end-end.result = part_begins c.requires c.part_end-end.ensures in
+    let after_turn : let before = c.loop-q in
+    CountingAfresh c.args.doubled.now c.args.window.now (replicate most_counts 0) c.args.from c.part_end-end.result
+    c.count_some-counted.new.0 (before.looks + c.count_some-counted.result.looks) c.count_some-counted.result.past (before.q + c.count_some-counted.result.edges) = counting_afresh_turn (begin) c.loop-q.invariant c.count_some-counted.ensures in
+    omega (arith, (after_turn).looks_le, (after_turn).turn_le, c.part_end-end.ensures.fits)
 
 pub overflow_add-q : goal.overflow_add-q
-overflow_add-q c = omega (arith, (c).turn_le)
+overflow_add-q c =
+    let begin : NoneCounted c.args.doubled.now c.args.window.now (replicate most_counts 0) c.args.from c.part_end-end.result = part_begins c.requires c.part_end-end.ensures in
+    let after_turn : let before = c.loop-q in
+    CountingAfresh c.args.doubled.now c.args.window.now (replicate most_counts 0) c.args.from c.part_end-end.result
+    c.count_some-counted.new.0 (before.looks + c.count_some-counted.result.looks) c.count_some-counted.result.past (before.q + c.count_some-counted.result.edges) = counting_afresh_turn (begin) c.loop-q.invariant c.count_some-counted.ensures in
+    omega (arith, (after_turn).turn_le)
 
 pub loop-q-smaller : goal.loop-q-smaller
 loop-q-smaller c =
     omega (arith, c.count_some-counted.ensures.some, c.count_some-counted.ensures.within)
 
 pub loop-q-preserved : goal.loop-q-preserved
-loop-q-preserved c = c
+loop-q-preserved c =
+    let begin : NoneCounted c.args.doubled.now c.args.window.now (replicate most_counts 0) c.args.from c.part_end-end.result = part_begins c.requires c.part_end-end.ensures in
+    let after_turn : let before = c.loop-q in
+    CountingAfresh c.args.doubled.now c.args.window.now (replicate most_counts 0) c.args.from c.part_end-end.result
+    c.count_some-counted.new.0 (before.looks + c.count_some-counted.result.looks) c.count_some-counted.result.past (before.q + c.count_some-counted.result.edges) = counting_afresh_turn (begin) c.loop-q.invariant c.count_some-counted.ensures in
+    after_turn
 
 pub add_part-requires : goal.add_part-requires
 add_part-requires c =
-    counting_part_add (c) c.loop-q.invariant c.requires
+    let begin : NoneCounted c.args.doubled.now c.args.window.now (replicate most_counts 0) c.args.from c.part_end-end.result = part_begins c.requires c.part_end-end.ensures in
+    counting_part_add (begin) c.loop-q.invariant c.requires
 
 pub overflow_sub-edges : goal.overflow_sub-edges
-overflow_sub-edges c = omega (arith, (c).has_edge)
+overflow_sub-edges c =
+    let begin : NoneCounted c.args.doubled.now c.args.window.now (replicate most_counts 0) c.args.from c.part_end-end.result = part_begins c.requires c.part_end-end.ensures in
+    omega (arith, (begin).has_edge)
 
 pub returns : goal.returns
 returns c =
-    counting_part_end (c) c.loop-q.invariant c.loop-q-test.false c.add_part.ensures
+    let begin : NoneCounted c.args.doubled.now c.args.window.now (replicate most_counts 0) c.args.from c.part_end-end.result = part_begins c.requires c.part_end-end.ensures in
+    counting_part_end (begin) c.loop-q.invariant c.loop-q-test.false c.add_part.ensures

@@ -21,18 +21,39 @@ returns-then-count-gt-MOST_VERTICES c = refused_count _ _ (inr (inr c.if-count-g
 
 -- Row 16.
 pub returns-then-place-count : goal.returns-then-place-count
-returns-then-place-count c = refused_pair _ _ (c) c.first_equal_pair-place.ensures c.if-place-count.true
+returns-then-place-count c =
+    let fits : IsRightCount (length c.args.numbers.now) = record {
+      even = omega (arith, c.if-numbers-eq1.false);
+      fewest = omega (arith, c.if-count-lt-FEWEST_VERTICES.false);
+      most = omega (arith, c.if-count-gt-MOST_VERTICES.false);
+    } in
+    refused_pair _ _ (fits) c.first_equal_pair-place.ensures c.if-place-count.true
 
 -- Row 10.
 pub returns-then-edges-count : goal.returns-then-edges-count
 returns-then-edges-count c =
-    refused_room _ _ (c) c.first_equal_pair-place.ensures c.if-place-count.false c.if-edges-count.true
+    let fits : IsRightCount (length c.args.numbers.now) = record {
+      even = omega (arith, c.if-numbers-eq1.false);
+      fewest = omega (arith, c.if-count-lt-FEWEST_VERTICES.false);
+      most = omega (arith, c.if-count-gt-MOST_VERTICES.false);
+    } in
+    refused_room _ _ (fits) c.first_equal_pair-place.ensures c.if-place-count.false c.if-edges-count.true
 
 pub put_edges-requires : goal.put_edges-requires
 put_edges-requires c =
-    can_put_lem _ _ (c) c.first_equal_pair-place.ensures c.if-place-count.false c.if-edges-count.false
+    let fits : IsRightCount (length c.args.numbers.now) = record {
+      even = omega (arith, c.if-numbers-eq1.false);
+      fewest = omega (arith, c.if-count-lt-FEWEST_VERTICES.false);
+      most = omega (arith, c.if-count-gt-MOST_VERTICES.false);
+    } in
+    can_put_lem _ _ (fits) c.first_equal_pair-place.ensures c.if-place-count.false c.if-edges-count.false
 
 -- All edges written.
 pub returns : goal.returns
 returns c =
-    imported _ _ (c) c.first_equal_pair-place.ensures c.if-place-count.false c.if-edges-count.false c.put_edges.ensures
+    let fits : IsRightCount (length c.args.numbers.now) = record {
+      even = omega (arith, c.if-numbers-eq1.false);
+      fewest = omega (arith, c.if-count-lt-FEWEST_VERTICES.false);
+      most = omega (arith, c.if-count-gt-MOST_VERTICES.false);
+    } in
+    imported _ _ (fits) c.first_equal_pair-place.ensures c.if-place-count.false c.if-edges-count.false c.put_edges.ensures
