@@ -33,5 +33,5 @@ returns-then-n-m-2 c = test_fails (can_move_iff _ _ _ _ _) (λ can. omega (arith
 pub returns : goal.returns
 returns c =
     can_move_last _ _ _ _ _
-    (record { some_edge = omega (arith, c.if-m-eq0.false); c = omega (arith, c.if-m-gt-MOST_COUNTS.false); room = omega (arith, c.if-room-m.false) })
+    (record { some_edge = omega (arith, c.if-m-eq0.false); most = omega (arith, c.if-m-gt-MOST_COUNTS.false); room = omega (arith, c.if-room-m.false) })
     (omega (arith, c.if-n-gt-MOST_PLACES.false)) (omega (arith, c.if-n-m.false)) (omega (arith, c.if-n-m-2.false))

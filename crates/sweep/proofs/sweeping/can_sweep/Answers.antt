@@ -27,7 +27,7 @@ returns c =
     can_sweep_last _ _ _ _
     (record {
       some_edge = omega (arith, c.if-m-eq0.false);
-      c = omega (arith, c.if-m-gt-MOST_COUNTS.false);
+      most = omega (arith, c.if-m-gt-MOST_COUNTS.false);
       most_line = omega (arith, c.if-n-ge-MOST_PLACES.false);
       start_le = omega (arith, c.if-n-start.false);
     })

@@ -21,4 +21,4 @@ returns-then-room-m c = test_fails (can_count_iff _ _ _) (λ can. omega (arith, 
 pub returns : goal.returns
 returns c =
     can_count_last _ _ _
-    (record { some_edge = omega (arith, c.if-m-eq0.false); c = omega (arith, c.if-m-gt-MOST_COUNTS.false); room = omega (arith, c.if-room-m.false) })
+    (record { some_edge = omega (arith, c.if-m-eq0.false); most = omega (arith, c.if-m-gt-MOST_COUNTS.false); room = omega (arith, c.if-room-m.false) })

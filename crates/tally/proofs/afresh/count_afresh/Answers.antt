@@ -7,13 +7,13 @@ use Rattle.tally.proofs.afresh.count_afresh.Goals as goal
 
 -- The window cannot be counted.
 pub returns-then-not-can_count : goal.returns-then-not-can_count
-returns-then-not-can_count c = counted_no _ _ _ (sym c.can_count.ensures ∙ not-true _ c.if-not-can_count.true)
+returns-then-not-can_count c = counted_no _ _ _ (sym c.can_count.ensures ∙ c.if-not-can_count.true)
 
 pub count_edges-requires : goal.count_edges-requires
 count_edges-requires c =
-    (can_count_iff _ _ _).0 (sym c.can_count.ensures ∙ not-false _ c.if-not-can_count.false)
+    (can_count_iff _ _ _).0 (sym c.can_count.ensures ∙ c.if-not-can_count.false)
 
 -- The window is counted.
 pub returns : goal.returns
 returns c =
-    counted_yes _ _ _ _ _ (sym c.can_count.ensures ∙ not-false _ c.if-not-can_count.false) c.count_edges.ensures
+    counted_yes _ _ _ _ _ (sym c.can_count.ensures ∙ c.if-not-can_count.false) c.count_edges.ensures

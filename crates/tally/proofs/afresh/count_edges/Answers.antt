@@ -13,28 +13,28 @@ clear-requires c = c.requires.has_counts
 
 pub loop-q-init : goal.loop-q-init
 loop-q-init c =
-    let begin : NoneCounted c.args.doubled.now c.args.window.now c.clear.new.0 0 (length c.args.window.now) = edges_begin c.requires c.clear.ensures in
+    let begin : NoneCounted c.args.doubled.now c.args.window.now c.clear.new.counts 0 (length c.args.window.now) = edges_begin c.requires c.clear.ensures in
     counting_afresh_start (begin) (sym (past_none _ 0))
 
 pub count_part-counted-requires : goal.count_part-counted-requires
 count_part-counted-requires c =
-    let begin : NoneCounted c.args.doubled.now c.args.window.now c.clear.new.0 0 (length c.args.window.now) = edges_begin c.requires c.clear.ensures in
+    let begin : NoneCounted c.args.doubled.now c.args.window.now c.clear.new.counts 0 (length c.args.window.now) = edges_begin c.requires c.clear.ensures in
     counting_afresh_on (begin) c.loop-q.invariant (omega (arith, (begin).can.has_counts.most)) c.loop-q-test.true
 
 pub overflow_add-looks : goal.overflow_add-looks
 overflow_add-looks c =
-    let begin : NoneCounted c.args.doubled.now c.args.window.now c.clear.new.0 0 (length c.args.window.now) = edges_begin c.requires c.clear.ensures in
+    let begin : NoneCounted c.args.doubled.now c.args.window.now c.clear.new.counts 0 (length c.args.window.now) = edges_begin c.requires c.clear.ensures in
     let after_turn : let before = c.loop-q in
-    CountingAfresh c.args.doubled.now c.args.window.now c.clear.new.0 0 (length c.args.window.now)
-    c.count_part-counted.new.0 (before.looks + c.count_part-counted.result.looks) c.count_part-counted.result.past (before.q + c.count_part-counted.result.edges) = counting_afresh_turn (begin) c.loop-q.invariant c.count_part-counted.ensures in
+    CountingAfresh c.args.doubled.now c.args.window.now c.clear.new.counts 0 (length c.args.window.now)
+    c.count_part-counted.new.counts (before.looks + c.count_part-counted.result.looks) c.count_part-counted.result.past (before.q + c.count_part-counted.result.edges) = counting_afresh_turn (begin) c.loop-q.invariant c.count_part-counted.ensures in
     omega (arith, (after_turn).looks_le, (after_turn).turn_le, c.requires.has_counts.most)
 
 pub overflow_add-q : goal.overflow_add-q
 overflow_add-q c =
-    let begin : NoneCounted c.args.doubled.now c.args.window.now c.clear.new.0 0 (length c.args.window.now) = edges_begin c.requires c.clear.ensures in
+    let begin : NoneCounted c.args.doubled.now c.args.window.now c.clear.new.counts 0 (length c.args.window.now) = edges_begin c.requires c.clear.ensures in
     let after_turn : let before = c.loop-q in
-    CountingAfresh c.args.doubled.now c.args.window.now c.clear.new.0 0 (length c.args.window.now)
-    c.count_part-counted.new.0 (before.looks + c.count_part-counted.result.looks) c.count_part-counted.result.past (before.q + c.count_part-counted.result.edges) = counting_afresh_turn (begin) c.loop-q.invariant c.count_part-counted.ensures in
+    CountingAfresh c.args.doubled.now c.args.window.now c.clear.new.counts 0 (length c.args.window.now)
+    c.count_part-counted.new.counts (before.looks + c.count_part-counted.result.looks) c.count_part-counted.result.past (before.q + c.count_part-counted.result.edges) = counting_afresh_turn (begin) c.loop-q.invariant c.count_part-counted.ensures in
     omega (arith, (after_turn).turn_le)
 
 pub loop-q-smaller : goal.loop-q-smaller
@@ -43,15 +43,15 @@ loop-q-smaller c =
 
 pub loop-q-preserved : goal.loop-q-preserved
 loop-q-preserved c =
-    let begin : NoneCounted c.args.doubled.now c.args.window.now c.clear.new.0 0 (length c.args.window.now) = edges_begin c.requires c.clear.ensures in
+    let begin : NoneCounted c.args.doubled.now c.args.window.now c.clear.new.counts 0 (length c.args.window.now) = edges_begin c.requires c.clear.ensures in
     let after_turn : let before = c.loop-q in
-    CountingAfresh c.args.doubled.now c.args.window.now c.clear.new.0 0 (length c.args.window.now)
-    c.count_part-counted.new.0 (before.looks + c.count_part-counted.result.looks) c.count_part-counted.result.past (before.q + c.count_part-counted.result.edges) = counting_afresh_turn (begin) c.loop-q.invariant c.count_part-counted.ensures in
+    CountingAfresh c.args.doubled.now c.args.window.now c.clear.new.counts 0 (length c.args.window.now)
+    c.count_part-counted.new.counts (before.looks + c.count_part-counted.result.looks) c.count_part-counted.result.past (before.q + c.count_part-counted.result.edges) = counting_afresh_turn (begin) c.loop-q.invariant c.count_part-counted.ensures in
     after_turn
 
 pub least_of-requires : goal.least_of-requires
 least_of-requires c =
-    let begin : NoneCounted c.args.doubled.now c.args.window.now c.clear.new.0 0 (length c.args.window.now) = edges_begin c.requires c.clear.ensures in
+    let begin : NoneCounted c.args.doubled.now c.args.window.now c.clear.new.counts 0 (length c.args.window.now) = edges_begin c.requires c.clear.ensures in
     (counting_afresh_can (begin) c.loop-q.invariant).has_counts
 
 pub returns : goal.returns

@@ -25,7 +25,7 @@ overflow_add-looks c =
     let begin : NoneCounted c.args.doubled.now c.args.window.now (replicate most_counts 0) c.args.from c.part_end-end.result = part_begins c.requires c.part_end-end.ensures in
     let after_turn : let before = c.loop-q in
     CountingAfresh c.args.doubled.now c.args.window.now (replicate most_counts 0) c.args.from c.part_end-end.result
-    c.count_some-counted.new.0 (before.looks + c.count_some-counted.result.looks) c.count_some-counted.result.past (before.q + c.count_some-counted.result.edges) = counting_afresh_turn (begin) c.loop-q.invariant c.count_some-counted.ensures in
+    c.count_some-counted.new.part (before.looks + c.count_some-counted.result.looks) c.count_some-counted.result.past (before.q + c.count_some-counted.result.edges) = counting_afresh_turn (begin) c.loop-q.invariant c.count_some-counted.ensures in
     omega (arith, (after_turn).looks_le, (after_turn).turn_le, c.part_end-end.ensures.fits)
 
 pub overflow_add-q : goal.overflow_add-q
@@ -33,7 +33,7 @@ overflow_add-q c =
     let begin : NoneCounted c.args.doubled.now c.args.window.now (replicate most_counts 0) c.args.from c.part_end-end.result = part_begins c.requires c.part_end-end.ensures in
     let after_turn : let before = c.loop-q in
     CountingAfresh c.args.doubled.now c.args.window.now (replicate most_counts 0) c.args.from c.part_end-end.result
-    c.count_some-counted.new.0 (before.looks + c.count_some-counted.result.looks) c.count_some-counted.result.past (before.q + c.count_some-counted.result.edges) = counting_afresh_turn (begin) c.loop-q.invariant c.count_some-counted.ensures in
+    c.count_some-counted.new.part (before.looks + c.count_some-counted.result.looks) c.count_some-counted.result.past (before.q + c.count_some-counted.result.edges) = counting_afresh_turn (begin) c.loop-q.invariant c.count_some-counted.ensures in
     omega (arith, (after_turn).turn_le)
 
 pub loop-q-smaller : goal.loop-q-smaller
@@ -45,7 +45,7 @@ loop-q-preserved c =
     let begin : NoneCounted c.args.doubled.now c.args.window.now (replicate most_counts 0) c.args.from c.part_end-end.result = part_begins c.requires c.part_end-end.ensures in
     let after_turn : let before = c.loop-q in
     CountingAfresh c.args.doubled.now c.args.window.now (replicate most_counts 0) c.args.from c.part_end-end.result
-    c.count_some-counted.new.0 (before.looks + c.count_some-counted.result.looks) c.count_some-counted.result.past (before.q + c.count_some-counted.result.edges) = counting_afresh_turn (begin) c.loop-q.invariant c.count_some-counted.ensures in
+    c.count_some-counted.new.part (before.looks + c.count_some-counted.result.looks) c.count_some-counted.result.past (before.q + c.count_some-counted.result.edges) = counting_afresh_turn (begin) c.loop-q.invariant c.count_some-counted.ensures in
     after_turn
 
 pub add_part-requires : goal.add_part-requires

@@ -11,21 +11,30 @@ use Rattle.tally.proofs.afresh.count_some.Goals as goal
 
 pub count_edge-looks-requires : goal.count_edge-looks-requires
 count_edge-looks-requires c =
-    let pre = (start c).requires in
-    (pre.can, omega (arith, place_is c, pre.has_edge, pre.end_le), λ r l. omega (arith, pre.has_edge, pre.each_le r l))
+    let pre = c.requires in
+    let place_is : c.to_ring-place.result.0 ≡ c.args.q = place_under_is _ _ _ _ _ (sym (zero-add _)) (omega (arith, pre.has_edge, pre.end_le)) c.to_ring-place.ensures in
+    (pre.can, omega (arith, place_is, pre.has_edge, pre.end_le), λ r l. omega (arith, pre.has_edge, pre.each_le r l))
 
 pub returns-then-end-q-lt4 : goal.returns-then-end-q-lt4
 returns-then-end-q-lt4 c =
-    one_counted _ _ _ _ (start c).requires (place_is c) c.count_edge-looks.ensures (past_first c)
+    let pre = c.requires in
+    let place_is : c.to_ring-place.result.0 ≡ c.args.q = place_under_is _ _ _ _ _ (sym (zero-add _)) (omega (arith, pre.has_edge, pre.end_le)) c.to_ring-place.ensures in
+    let past_first : c.past_mark-past_a.result ≡ past_mark c.args.window.now 0 (c.args.q + 1) = past_on _ _ _ (omega arith) pre.past_is c.past_mark-past_a.ensures in
+    one_counted _ _ _ _ pre place_is c.count_edge-looks.ensures past_first
 
 pub count_four-looks-requires : goal.count_four-looks-requires
 count_four-looks-requires c =
-    let pre = (start c).pre in
-    (pre.can, omega (arith, place_is c, c, pre.end_le), λ r l. omega (arith, c, pre.each_le r l))
+    let pre = c.requires in
+    let place_is : c.to_ring-place.result.0 ≡ c.args.q = place_under_is _ _ _ _ _ (sym (zero-add _)) (omega (arith, pre.has_edge, pre.end_le)) c.to_ring-place.ensures in
+    let four_left : c.args.q + 3 < c.args.end = omega arith in
+    (pre.can, omega (arith, place_is, pre.end_le), λ r l. omega (arith, four_left, pre.each_le r l))
 
 pub returns : goal.returns
 returns c =
-    let past-second = past_on _ _ _ (omega arith) (past_first c) c.past_mark-past_b.ensures in
+    let pre = c.requires in
+    let place_is : c.to_ring-place.result.0 ≡ c.args.q = place_under_is _ _ _ _ _ (sym (zero-add _)) (omega (arith, pre.has_edge, pre.end_le)) c.to_ring-place.ensures in
+    let past_first : c.past_mark-past_a.result ≡ past_mark c.args.window.now 0 (c.args.q + 1) = past_on _ _ _ (omega arith) pre.past_is c.past_mark-past_a.ensures in
+    let past-second = past_on _ _ _ (omega arith) past_first c.past_mark-past_b.ensures in
     let past-third = past_on _ _ _ (omega arith) past-second c.past_mark-past_c.ensures in
     let past-fourth = past_on _ _ _ (omega arith) past-third c.past_mark-past_d.ensures in
-    four_counted_lem _ _ _ _ (start c).requires (place_is c) (c) c.count_four-looks.ensures past-fourth
+    four_counted_lem _ _ _ _ pre place_is (omega arith) c.count_four-looks.ensures past-fourth

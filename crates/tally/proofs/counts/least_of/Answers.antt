@@ -6,6 +6,7 @@ use native.Mathlib.Omega.{arith}
 use borrow.Author.Rules.{rules}
 use Rattle.tally.proofs.LeastSoFar.{LeastSoFar, least_so_far_first, least_so_far_less, least_so_far_kept, least_so_far_end}
 use Rattle.tally.proofs.counts.least_of.Goals as goal
+use Rattle.tally.proofs.counts.least_of.Goals.{then-count-least, else-count-least}
 
 pub loop-r-init : goal.loop-r-init
 loop-r-init c = (omega arith, omega arith, least_so_far_first _)
@@ -16,7 +17,7 @@ loop-r-preserved c =
     let so_far = c.loop-r.invariant.2 in (
       omega arith,
       omega arith,
-      ⊎_elim (λ less. rw less.1 (least_so_far_less so_far less.0.taken)) (λ kept. rw kept.1 (least_so_far_kept so_far kept.0.left)) c.if-count-least.branch,
+      elim c.if-count-least.branch [ then-count-least w ↦ rw w.least-is (least_so_far_less so_far w.if-count-least.true) | else-count-least w ↦ rw w.least-is (least_so_far_kept so_far w.if-count-least.false) ],
     )
 
 pub returns : goal.returns
