@@ -12,6 +12,7 @@ use Rattle.tally.proofs.LeastSoFar.{LeastSoFar, least_so_far_start, least_so_far
 use Rattle.moves.specs.Moves.{changed_at}
 use Rattle.moves.proofs.ChangeLoop.{last_count, changed_here, changed_least}
 use Rattle.moves.proofs.steps.change.Goals as goal
+use Rattle.moves.proofs.steps.change.Goals.{then-count-least, else-count-least}
 
 pub loop-r-init : goal.loop-r-init
 loop-r-init c = (omega arith, omega arith, stored_start, least_so_far_start _ _)
@@ -24,10 +25,10 @@ loop-r-preserved c =
       omega arith,
       omega arith,
       stored_turn stored (omega arith) (changed_here _ _ _ _ stored c.differing-lost.ensures.is c.differing-won.ensures.is c.changed-count.ensures),
-      ⊎_elim
-          (λ lower. rw lower.1 (least_so_far_stored_less so_far (omega arith) lower.0.taken))
-          (λ kept. rw kept.1 (least_so_far_stored_kept so_far (omega arith) kept.0.left))
-          c.if-count-least.branch,
+      elim c.if-count-least.branch [
+        then-count-least w ↦ rw w.least-is (least_so_far_stored_less so_far (omega arith) w.if-count-least.true)
+        | else-count-least w ↦ rw w.least-is (least_so_far_stored_kept so_far (omega arith) w.if-count-least.false)
+      ],
     )
 
 pub overflow_cast-low : goal.overflow_cast-low

@@ -30,12 +30,12 @@ overflow_add-looks c =
 pub returns-then-least-below : goal.returns-then-least-below
 returns-then-least-below c =
     moving_stops _ _ _ _ _ _ c.requires _ _ _ _ _ c.loop-i.invariant c.loop-i-test.true
-    _ _ _ _ c.window-here.ensures c.window-next.ensures c.step-stepped.ensures c.past_mark.ensures c.if-least-below.true
+    _ _ _ _ c.window-here.ensures c.window-next.ensures c.step-stepped.ensures c.past_mark-past.ensures c.if-least-below.true
 
 pub loop-i-preserved : goal.loop-i-preserved
 loop-i-preserved c =
     moving_turn _ _ _ _ _ _ c.requires _ _ _ _ _ c.loop-i.invariant c.loop-i-test.true
-    _ _ _ _ c.window-here.ensures c.window-next.ensures c.step-stepped.ensures c.past_mark.ensures c.if-least-below.false
+    _ _ _ _ c.window-here.ensures c.window-next.ensures c.step-stepped.ensures c.past_mark-past.ensures c.if-least-below.false
 
 -- All steps are taken.
 pub returns : goal.returns
