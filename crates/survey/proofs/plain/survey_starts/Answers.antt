@@ -20,42 +20,42 @@ verify_on-reached-requires c = survey_can_verify c.loop-i.invariant.1 (fits_whol
 
 pub overflow_add-looks : goal.overflow_add-looks
 overflow_add-looks c =
-    omega (arith, survey_looks_le c.loop-i.inv.1 (fits_whole c.loop-i.inv.0 c.loop-i-test.taken) c.verify_on-reached.ensures)
+    omega (arith, survey_looks_le c.loop-i.invariant.1 (fits_whole c.loop-i.invariant.0 c.loop-i-test.true) c.verify_on-reached.ensures)
 
 pub overflow_add-i-in-loop-i : goal.overflow_add-i-in-loop-i
 overflow_add-i-in-loop-i c =
-    let keeps = c.loop-i.inv.1 in
-    omega (arith, survey_next_le keeps (fits_whole c.loop-i.inv.0 c.loop-i-test.taken) c.verify_on-reached.ensures, keeps.can.can_survey.can_search.most_places)
+    let keeps = c.loop-i.invariant.1 in
+    omega (arith, survey_next_le keeps (fits_whole c.loop-i.invariant.0 c.loop-i-test.true) c.verify_on-reached.ensures, keeps.can.can_survey.can_search.most_places)
 
 pub overflow_add-found : goal.overflow_add-found
 overflow_add-found c =
-    let keeps = (at_turn (c)).before.loop.inv.1 in
+    let keeps = c.loop-i.invariant.1 in
     omega (arith, survey_found_le keeps, keeps.start_le, keeps.can.can_survey.can_search.most_places)
 
 pub loop-i-smaller-then-is_finding : goal.loop-i-smaller-then-is_finding
 loop-i-smaller-then-is_finding c =
-    survey_less c.loop-i.inv.1 (fits_whole c.loop-i.inv.0 c.loop-i-test.taken) c.verify_on-reached.ensures
+    survey_less c.loop-i.invariant.1 (fits_whole c.loop-i.invariant.0 c.loop-i-test.true) c.verify_on-reached.ensures
 
 -- A finding.
 pub loop-i-preserved-then-is_finding : goal.loop-i-preserved-then-is_finding
 loop-i-preserved-then-is_finding c =
     (
-      c.loop-i.inv.0,
-      survey_found c.loop-i.inv.1 (fits_whole c.loop-i.inv.0 c.loop-i-test.taken) c.verify_on-reached.ensures
-          (c).later.ensures (sym c.is_finding.ensures ∙ c.if-is_finding.taken) c.finding_at.ensures c.put_finding.ensures,
+      c.loop-i.invariant.0,
+      survey_found c.loop-i.invariant.1 (fits_whole c.loop-i.invariant.0 c.loop-i-test.true) c.verify_on-reached.ensures
+          c.later-past.ensures (sym c.is_finding.ensures ∙ c.if-is_finding.true) c.finding_at.ensures c.put_finding.ensures,
     )
 
 pub loop-i-smaller : goal.loop-i-smaller
 loop-i-smaller c =
-    survey_less c.loop-i.inv.1 (fits_whole c.loop-i.inv.0 c.loop-i-test.taken) c.verify_on-reached.ensures
+    survey_less c.loop-i.invariant.1 (fits_whole c.loop-i.invariant.0 c.loop-i-test.true) c.verify_on-reached.ensures
 
 -- No finding.
 pub loop-i-preserved : goal.loop-i-preserved
 loop-i-preserved c =
     (
-      c.loop-i.inv.0,
-      survey_none c.loop-i.inv.1 (fits_whole c.loop-i.inv.0 c.loop-i-test.taken) c.verify_on-reached.ensures
-          (c).later.ensures (sym c.is_finding.ensures ∙ c.if-is_finding.false),
+      c.loop-i.invariant.0,
+      survey_none c.loop-i.invariant.1 (fits_whole c.loop-i.invariant.0 c.loop-i-test.true) c.verify_on-reached.ensures
+          c.later-past.ensures (sym c.is_finding.ensures ∙ c.if-is_finding.false),
     )
 
 pub shape_of-words : goal.shape_of-words

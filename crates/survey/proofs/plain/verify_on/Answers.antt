@@ -7,9 +7,9 @@ use Rattle.survey.proofs.plain.verify_on.Goals as goal
 -- Start 0.
 pub returns-then-start-eq0 : goal.returns-then-start-eq0
 returns-then-start-eq0 c =
-    first_verified (c).requires (omega (arith, c.if-start-eq0.true)) c.window.ensures c.count_afresh-first.ensures
+    first_verified c.requires (omega (arith, c.if-start-eq0.true)) c.window.ensures c.count_afresh-first.ensures
 
 -- A later start, and those after it.
 pub returns-else-start-eq0 : goal.returns-else-start-eq0
 returns-else-start-eq0 c =
-    moved_verified (c).requires (omega (arith, c.if-start-eq0.false)) c.whole_length.ensures c.move_counts.ensures
+    moved_verified c.requires (omega (arith, c.if-start-eq0.false)) c.whole_length.ensures c.move_counts.ensures

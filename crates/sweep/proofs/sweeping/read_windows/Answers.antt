@@ -29,8 +29,8 @@ read_window-read-requires c =
 pub overflow_add-looks : goal.overflow_add-looks
 overflow_add-looks c =
     let handed = c.window-edges.ensures in
-    let known = c.loop-edges.inv in
-    let in_line = windows_fit known handed (omega (arith, c.if-edges-eq0.left)) in
+    let known = c.loop-edges.invariant in
+    let in_line = windows_fit known handed (omega (arith, c.if-edges-eq0.false)) in
     omega (
       arith,
       windows_looks_le known in_line handed c.read_window-read.ensures,
@@ -41,35 +41,35 @@ overflow_add-looks c =
 pub overflow_add-next : goal.overflow_add-next
 overflow_add-next c =
     let handed = c.window-edges.ensures in
-    let known = c.loop-edges.inv in
-    let in_line = windows_fit known handed (omega (arith, c.if-edges-eq0.left)) in
+    let known = c.loop-edges.invariant in
+    let in_line = windows_fit known handed (omega (arith, c.if-edges-eq0.false)) in
     omega (arith, known.can.most_line, windows_next_le known in_line handed c.read_window-read.ensures)
 
 pub overflow_add-next-in-loop-edges : goal.overflow_add-next-in-loop-edges
 overflow_add-next-in-loop-edges c =
     let handed = c.window-edges.ensures in
-    let known = c.loop-edges.inv in
-    let in_line = windows_fit known handed (omega (arith, c.if-edges-eq0.left)) in
+    let known = c.loop-edges.invariant in
+    let in_line = windows_fit known handed (omega (arith, c.if-edges-eq0.false)) in
     omega (arith, known.can.most_line, windows_next_le known in_line handed c.read_window-read.ensures)
 
 -- The candidate.
 pub returns-then-not-read : goal.returns-then-not-read
 returns-then-not-read c =
     let handed = c.window-edges.ensures in
-    let known = c.loop-edges.inv in
-    let in_line = windows_fit known handed (omega (arith, c.if-edges-eq0.left)) in
-    windows_stop known in_line handed c.read_window-read.ensures c.if-not-read.true
+    let known = c.loop-edges.invariant in
+    let in_line = windows_fit known handed (omega (arith, c.if-edges-eq0.false)) in
+    windows_stop known in_line handed c.read_window-read.ensures (not-true _ c.if-not-read.true)
 
 pub loop-edges-smaller : goal.loop-edges-smaller
 loop-edges-smaller c =
-    let known = c.loop-edges.inv in
-    let in_line = windows_fit known c.window-edges.ensures (omega (arith, c.if-edges-eq0.left)) in
+    let known = c.loop-edges.invariant in
+    let in_line = windows_fit known c.window-edges.ensures (omega (arith, c.if-edges-eq0.false)) in
     omega (arith, in_line.in_line)
 
 -- A window that is stopped.
 pub loop-edges-preserved : goal.loop-edges-preserved
 loop-edges-preserved c =
     let handed = c.window-edges.ensures in
-    let known = c.loop-edges.inv in
-    let in_line = windows_fit known handed (omega (arith, c.if-edges-eq0.left)) in
-    windows_turn known in_line handed c.read_window-read.ensures c.if-not-read.false
+    let known = c.loop-edges.invariant in
+    let in_line = windows_fit known handed (omega (arith, c.if-edges-eq0.false)) in
+    windows_turn known in_line handed c.read_window-read.ensures (not-false _ c.if-not-read.false)

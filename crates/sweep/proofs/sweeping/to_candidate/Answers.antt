@@ -16,7 +16,7 @@ overflow_add-looks c =
 
 -- No candidate.
 pub returns-then-not-read : goal.returns-then-not-read
-returns-then-not-read c = way_ended _ _ _ _ _ _ _ _ (c).read-windows.ensures c.if-not-read.true
+returns-then-not-read c = way_ended _ _ _ _ _ _ _ _ c.read_windows-read.ensures (not-true _ c.if-not-read.true)
 
 pub verify-verified-requires : goal.verify-verified-requires
 verify-verified-requires c =
@@ -26,18 +26,18 @@ pub overflow_add-next : goal.overflow_add-next
 overflow_add-next c =
     omega (
       arith,
-      sweep_all_looks_le _ _ _ _ _ _ _ _ c.read_windows-read.ensures c.if-not-read.false _ _ c.verify-verified.ensures (c).pre,
+      sweep_all_looks_le _ _ _ _ _ _ _ _ c.read_windows-read.ensures (not-false _ c.if-not-read.false) _ _ c.verify-verified.ensures c.requires,
     )
 
 -- A candidate that is no finding.
 pub returns-then-k-least : goal.returns-then-k-least
 returns-then-k-least c =
-    way_none _ _ _ _ _ _ _ _ (c).read-windows.ensures c.if-not-read.false _ _ c.verify-verified.ensures
+    way_none _ _ _ _ _ _ _ _ c.read_windows-read.ensures (not-false _ c.if-not-read.false) _ _ c.verify-verified.ensures
     (omega (arith, c.if-k-least.true))
 
 -- A finding.
 pub returns : goal.returns
 returns c =
-    way_found _ _ _ _ _ _ _ _ (c).read-windows.ensures c.if-not-read.false _ _ c.verify-verified.ensures _
+    way_found _ _ _ _ _ _ _ _ c.read_windows-read.ensures (not-false _ c.if-not-read.false) _ _ c.verify-verified.ensures _
     (omega (arith, c.if-k-least.false))
     c.finding_at.ensures
