@@ -1,7 +1,7 @@
 -- The rows of the records to pack, "each record 9 before 7", as a walk. A record is fine if its numbers fit and it is above the one before it. Either all
 -- records are fine and no row is given, or the first one that is not gives row 9, or else row 7 (`PacksAs`). The first row that is given is the one that this
 -- walk gives (`packs_as`, `packs_as_is`).
-use Prim.Native.Nat.{ℕ, suc, ◌+◌, ◌≤◌, ◌<◌}
+use Prim.Native.Nat.{ℕ, suc, ◌+◌, ◌<◌}
 use mathlib.Core.Path.{◌≡◌, refl, sym, ap, subst, ◌∙◌}
 use mathlib.Core.Bool.{Bool, true, false, false≢true, not-eq-not}
 use mathlib.Core.List.{List, [], ◌∷◌, ◌++◌, append-nil}

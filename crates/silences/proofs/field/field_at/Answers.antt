@@ -1,9 +1,7 @@
 -- `silences::field::field_at` meets its contract: past the book's end and under a tag without a kind the field is faulty; under any other, `field_of_kind`
 -- returns it.
-use mathlib.Core.Path.{◌≡◌, refl, sym, ap, ◌∙◌}
-use mathlib.Core.Option.{none}
+use mathlib.Core.Path.{refl, sym, ◌∙◌}
 use native.Mathlib.Omega.{arith}
-use borrow.Author.Rules.{rules}
 use Rattle.silences.proofs.FieldTest.{kind_none, field_is_faulty}
 use Rattle.silences.proofs.field.field_at.Goals as goal
 

@@ -1,24 +1,21 @@
 -- `silences::field::field_of_kind` meets its contract: two returns for the ways in which a field of a known kind is faulty, and one for a whole field. Its kind
 -- is the one of its tag, so it has at most two bytes for a ceiling (`kind_length_le`).
-use Prim.Native.Nat.{◌≤◌}
-use mathlib.Core.Path.{◌≡◌, sym, ap, ◌∙◌}
-use mathlib.Core.Option.{Option, some}
+use mathlib.Core.Path.{sym, ap, ◌∙◌}
 use native.Mathlib.Omega.{arith}
-use lib.ListN.{get_or}
 use Rattle.fields.proofs.NumberWithin.{number_read}
-use Rattle.silences.specs.Layout.{Kind, kind_by_tag, value_length}
+use Rattle.silences.specs.Layout.{value_length}
 use Rattle.silences.specs.Reading.{silence_at}
 use Rattle.silences.proofs.FieldTest.{kind_length_le, kind_ceiling_lt, kind_unique, field_is_whole, field_is_faulty}
 use Rattle.silences.proofs.field.field_of_kind.Goals as goal
 
 pub overflow_add-long : goal.overflow_add-long
-overflow_add-long c = omega (arith, c)
+overflow_add-long c = omega (arith, kind_length_le _ _ c.requires.kind_is)
 
 pub overflow_sub-book : goal.overflow_sub-book
 overflow_sub-book c = omega (arith, c.requires.within)
 
 pub overflow_add-long-2 : goal.overflow_add-long-2
-overflow_add-long-2 c = omega (arith, c)
+overflow_add-long-2 c = omega (arith, kind_length_le _ _ c.requires.kind_is)
 
 -- cut off
 pub returns-then-book-at : goal.returns-then-book-at
@@ -54,7 +51,7 @@ overflow_add-result c = omega (arith, c.if-book-at.false)
 pub returns : goal.returns
 unfolding silence_at
 returns c =
-    let ceiling-is = number_read c.number_at-ceiling.ensures (omega (arith, c)) (omega (arith, c.if-book-at.false)) in
+    let ceiling-is = number_read c.number_at-ceiling.ensures (omega (arith, kind_length_le _ _ c.requires.kind_is)) (omega (arith, c.if-book-at.false)) in
     sym (field_is_whole _ _ _ (record {
       kind_is = c.requires.kind_is;
       long_is = sym (number_read c.number_at.ensures (omega arith) (omega (arith, c.if-book-at.false))) ∙ c.if-number_at-long.false;

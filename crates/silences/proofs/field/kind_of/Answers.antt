@@ -1,9 +1,6 @@
 -- `silences::field::kind_of` meets its contract: the two tags of the table, and no other.
-use mathlib.Core.Path.{◌≡◌, sym, ap}
-use mathlib.Core.Bool.{cond}
-use mathlib.Core.Option.{Option, none, some}
-use borrow.Author.Tests.{eq-eqb, ne_eqb}
-use lib.Dec.{eqb}
+use mathlib.Core.Path.{sym}
+use borrow.Author.Tests.{ne_eqb}
 use Rattle.silences.specs.Layout.{exact_tag, ceiling_tag, kind_by_tag}
 use Rattle.silences.proofs.FieldTest.{kind_exact, kind_ceiling}
 use Rattle.silences.proofs.field.kind_of.Goals as goal

@@ -1,5 +1,4 @@
 -- `silences::order::is_above` meets its contract: the first record is above; any other is if `is_below` says that the one before it is below it.
-use borrow.Author.Rules.{rules}
 use Rattle.silences.proofs.order.is_above.Goals as goal
 
 -- any other
