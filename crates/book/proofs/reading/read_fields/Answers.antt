@@ -1,16 +1,9 @@
 -- `book::reading::read_fields` meets its contract. Before the field at `at` the fields before it are read and counted (`ReadSoFar`); each return is one case of
 -- that field, or the book's end. The number of bytes left falls, because a whole field ends after it begins, within the book (`field_ends`).
-use Prim.Native.Nat.{◌-◌}
-use mathlib.Core.Path.{◌≡◌, sym, ◌∙◌}
+use mathlib.Core.Path.{sym, ◌∙◌}
 use native.Mathlib.Omega.{arith}
-use borrow.Author.Rules.{rules}
-use borrow.Author.Tests.{not-true, not-false}
-use lib.ListN.{length}
-use Rattle.silences.specs.Reading.{whole, field_at}
-use Rattle.silences.specs.Silences.{silence}
-use Rattle.silences.specs.Addresses.{address_of, last_of}
 use Rattle.silences.proofs.FieldTest.{field_ends}
-use Rattle.book.proofs.ReadLoop.{ReadSoFar, read_start, read_end, read_faulty, read_not_above, read_turn}
+use Rattle.book.proofs.ReadLoop.{read_start, read_end, read_faulty, read_not_above, read_turn}
 use Rattle.book.proofs.reading.read_fields.Goals as goal
 
 pub loop-at-init : goal.loop-at-init
@@ -24,15 +17,15 @@ returns-in-Nothing c =
 -- a record that is not above the last: row 7
 pub returns-then-not-is_above : goal.returns-then-not-is_above
 returns-then-not-is_above c =
-    read_not_above c.loop-at.invariant (c) (sym c.is_above.ensures ∙ not-true _ c.if-not-is_above.true)
+    read_not_above c.loop-at.invariant (rw c.in-Field.is at c.field_at-field.ensures) (sym c.is_above.ensures ∙ c.if-not-is_above.true)
 
 pub loop-at-smaller : goal.loop-at-smaller
-loop-at-smaller c = omega (arith, field_ends _ _ _ _ (sym (c)))
+loop-at-smaller c = omega (arith, field_ends _ _ _ _ (sym (rw c.in-Field.is at c.field_at-field.ensures)))
 
 -- one record more
 pub loop-at-preserved : goal.loop-at-preserved
 loop-at-preserved c =
-    read_turn c.loop-at.invariant (c) (sym c.is_above.ensures ∙ not-false _ c.if-not-is_above.false)
+    read_turn c.loop-at.invariant (rw c.in-Field.is at c.field_at-field.ensures) (sym c.is_above.ensures ∙ c.if-not-is_above.false)
 
 -- the book's end
 pub returns : goal.returns

@@ -1,16 +1,9 @@
 -- `book::seeking::seek` meets its contract. Before the field at `at`, seeking from `at` on finds what seeking from `from` on finds (`SeekSoFar`); each return
 -- is one case of that field. The number of bytes left falls, because a whole field ends after it begins, within the book (`field_ends`).
-use Prim.Native.Nat.{◌-◌}
-use mathlib.Core.Path.{◌≡◌, sym, ◌∙◌}
+use mathlib.Core.Path.{sym, ◌∙◌}
 use native.Mathlib.Omega.{arith}
-use borrow.Author.Rules.{rules}
-use borrow.Author.Tests.{not-true, not-false}
-use lib.ListN.{length}
-use Rattle.silences.specs.Reading.{whole, field_at}
-use Rattle.silences.specs.Silences.{silence}
-use Rattle.silences.specs.Addresses.{address_of}
 use Rattle.silences.proofs.FieldTest.{field_ends}
-use Rattle.book.proofs.SeekLoop.{SeekSoFar, seek_start, seek_nothing, seek_end, seek_turn}
+use Rattle.book.proofs.SeekLoop.{seek_start, seek_nothing, seek_end, seek_turn}
 use Rattle.book.proofs.seeking.seek.Goals as goal
 
 pub loop-found-init : goal.loop-found-init
@@ -25,13 +18,13 @@ returns-in-Nothing c =
 pub returns-then-not-is_below : goal.returns-then-not-is_below
 returns-then-not-is_below c =
     record {
-      is = seek_end c.loop-found.invariant (c) (sym c.is_below.ensures ∙ not-true _ c.if-not-is_below.true);
+      is = seek_end c.loop-found.invariant (rw c.in-Field.is at c.field_at-field.ensures) (sym c.is_below.ensures ∙ c.if-not-is_below.true);
     }
 
 pub loop-found-smaller : goal.loop-found-smaller
-loop-found-smaller c = omega (arith, field_ends _ _ _ _ (sym (c)))
+loop-found-smaller c = omega (arith, field_ends _ _ _ _ (sym (rw c.in-Field.is at c.field_at-field.ensures)))
 
 -- a field below it
 pub loop-found-preserved : goal.loop-found-preserved
 loop-found-preserved c =
-    seek_turn c.loop-found.invariant (c) (sym c.is_below.ensures ∙ not-false _ c.if-not-is_below.false)
+    seek_turn c.loop-found.invariant (rw c.in-Field.is at c.field_at-field.ensures) (sym c.is_below.ensures ∙ c.if-not-is_below.false)

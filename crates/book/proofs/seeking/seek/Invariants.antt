@@ -1,16 +1,9 @@
 -- `book::seeking::seek` meets its contract. Before the field at `at`, seeking from `at` on finds what seeking from `from` on finds (`SeekSoFar`); each return
 -- is one case of that field. The number of bytes left falls, because a whole field ends after it begins, within the book (`field_ends`).
 use Prim.Native.Nat.{◌-◌}
-use mathlib.Core.Path.{◌≡◌, sym, ◌∙◌}
-use native.Mathlib.Omega.{arith}
-use borrow.Author.Rules.{rules}
-use borrow.Author.Tests.{not-true, not-false}
 use lib.ListN.{length}
-use Rattle.silences.specs.Reading.{whole, field_at}
-use Rattle.silences.specs.Silences.{silence}
 use Rattle.silences.specs.Addresses.{address_of}
-use Rattle.silences.proofs.FieldTest.{field_ends}
-use Rattle.book.proofs.SeekLoop.{SeekSoFar, seek_start, seek_nothing, seek_end, seek_turn}
+use Rattle.book.proofs.SeekLoop.{SeekSoFar}
 use Rattle.book.proofs.seeking.seek.Given as goal
 
 abbrev pub invariant-loop-found : goal.invariant-loop-found

@@ -1,6 +1,5 @@
 -- `book::seeking::seek_on` meets its contract: `Nothing` stays `Nothing`, a field below the address is passed, and any other is kept.
 use mathlib.Core.Path.{sym, ◌∙◌}
-use borrow.Author.Rules.{rules}
 use Rattle.book.proofs.seeking.seek_on.Goals as goal
 
 -- a field below the address

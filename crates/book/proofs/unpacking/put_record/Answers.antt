@@ -1,7 +1,6 @@
 -- `book::unpacking::put_record` meets its contract: four stores, one after the other.
 use native.Mathlib.Numerals.{add-one, add-two, add-three}
 use native.Mathlib.Omega.{arith}
-use borrow.Author.Rules.{rules}
 use lib.ListN.{length-set}
 use Rattle.book.proofs.unpacking.put_record.Goals as goal
 

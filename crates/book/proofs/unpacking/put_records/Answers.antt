@@ -1,9 +1,7 @@
 -- `book::unpacking::put_records` meets its contract. Before the field at `at` the words of the first `done` records stand in the area (`PutSoFar`). The return
 -- at a faulty field is never reached. The number of records left falls.
-use Prim.Native.Nat.{◌-◌}
 use native.Mathlib.Omega.{arith}
-use borrow.Author.Rules.{rules}
-use Rattle.book.proofs.UnpackLoop.{PutSoFar, put_start, put_length_is, put_end, put_faulty_no, put_room_le, put_turn}
+use Rattle.book.proofs.UnpackLoop.{put_start, put_length_is, put_end, put_faulty_no, put_room_le, put_turn}
 use Rattle.book.proofs.unpacking.put_records.Goals as goal
 
 pub loop-done-init : goal.loop-done-init

@@ -1,6 +1,5 @@
 -- `book::unpacking::unpack` meets its contract, by the cases of UnpackCases: `read` refuses, there is no room, or `put_records` writes all words.
 use native.Mathlib.Omega.{arith}
-use borrow.Author.Rules.{rules}
 use Rattle.book.proofs.AcceptedBook.{read_answer_is, records_le}
 use Rattle.book.proofs.UnpackCases.{unpack_refused, unpack_no_room, unpack_written}
 use Rattle.book.proofs.unpacking.unpack.Goals as goal
