@@ -1,7 +1,7 @@
 -- Writing a field number by number: tag, length, cell, ring number, start, ceiling. Each number begins where the one before it ends, and together their bytes
 -- are the field's bytes (`field_of_is`).
 use Prim.Native.Nat.{ℕ, ◌+◌, ◌≤◌}
-use mathlib.Core.Path.{◌≡◌, sym, ap, ◌∙◌}
+use mathlib.Core.Path.{◌≡◌, ap, ◌∙◌}
 use mathlib.Core.List.{List, ◌++◌, append_assoc}
 use native.Mathlib.Omega.{arith}
 use lib.ListN.{length, length-append}

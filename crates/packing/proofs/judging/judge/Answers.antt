@@ -1,14 +1,10 @@
 -- `packing::judging::judge` meets its contract. The loop's invariant is `JudgedTo`: the records before `at` are passed and counted. Each return is one case of
 -- the record there, or that none is left. The number of words left falls.
-use Prim.Native.Nat.{◌-◌}
 use mathlib.Core.Path.{sym, ◌∙◌}
 use mathlib.Core.Logic.{inl, inr}
 use native.Mathlib.Omega.{arith}
-use lib.ListN.{length}
-use borrow.Author.Tests.{not-true, not-false}
-use Rattle.silences.specs.Addresses.{last_of}
 use Rattle.silences.proofs.FieldBytes.{packed_length_lem}
-use Rattle.packing.proofs.JudgeLoop.{JudgedTo, judge_start, judge_too_large, judge_not_above, judge_turn, judge_end}
+use Rattle.packing.proofs.JudgeLoop.{judge_start, judge_too_large, judge_not_above, judge_turn, judge_end}
 use Rattle.packing.proofs.judging.judge.Goals as goal
 
 pub loop-at-init : goal.loop-at-init
@@ -28,13 +24,13 @@ returns-then-ceiling-gt-MOST_CEILING c =
 pub returns-then-not-is_above : goal.returns-then-not-is_above
 returns-then-not-is_above c =
     judge_not_above c.loop-at.invariant (omega arith) (record { ring_number_le = omega (arith, c.if-ring_number-gt-MOST_RING_NUMBER.false); ceiling_le = omega (arith, c.if-ceiling-gt-MOST_CEILING.false) })
-    (sym c.is_above.ensures ∙ not-true _ c.if-not-is_above.true)
+    (sym c.is_above.ensures ∙ c.if-not-is_above.true)
 
 -- this record is passed
 pub loop-at-preserved : goal.loop-at-preserved
 loop-at-preserved c =
     judge_turn c.loop-at.invariant (omega arith) (record { ring_number_le = omega (arith, c.if-ring_number-gt-MOST_RING_NUMBER.false); ceiling_le = omega (arith, c.if-ceiling-gt-MOST_CEILING.false) })
-    (sym c.is_above.ensures ∙ not-false _ c.if-not-is_above.false) (packed_length_lem _)
+    (sym c.is_above.ensures ∙ c.if-not-is_above.false) (packed_length_lem _)
 
 -- no record is left
 pub returns : goal.returns

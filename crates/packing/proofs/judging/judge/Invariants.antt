@@ -1,14 +1,9 @@
 -- `packing::judging::judge` meets its contract. The loop's invariant is `JudgedTo`: the records before `at` are passed and counted. Each return is one case of
 -- the record there, or that none is left. The number of words left falls.
 use Prim.Native.Nat.{◌-◌}
-use mathlib.Core.Path.{sym, ◌∙◌}
-use mathlib.Core.Logic.{inl, inr}
-use native.Mathlib.Omega.{arith}
 use lib.ListN.{length}
-use borrow.Author.Tests.{not-true, not-false}
 use Rattle.silences.specs.Addresses.{last_of}
-use Rattle.silences.proofs.FieldBytes.{packed_length_lem}
-use Rattle.packing.proofs.JudgeLoop.{JudgedTo, judge_start, judge_too_large, judge_not_above, judge_turn, judge_end}
+use Rattle.packing.proofs.JudgeLoop.{JudgedTo}
 use Rattle.packing.proofs.judging.judge.Given as goal
 
 abbrev pub invariant-loop-at : goal.invariant-loop-at

@@ -2,8 +2,7 @@
 -- says what is known of the words.
 use mathlib.Core.Logic.{inl, inr}
 use native.Mathlib.Omega.{arith}
-use borrow.Author.Rules.{rules}
-use Rattle.packing.proofs.PackCases.{WordsJudged, judged_bytes_are, pack_word_count, pack_refused, pack_no_room, pack_written}
+use Rattle.packing.proofs.PackCases.{judged_bytes_are, pack_word_count, pack_refused, pack_no_room, pack_written}
 use Rattle.packing.proofs.packing.pack.Goals as goal
 
 -- not a multiple of 4: row 8
@@ -17,18 +16,18 @@ returns-then-words-gt-MOST_WORDS c = pack_word_count _ _ (inr (omega (arith, c.i
 -- row 10
 pub returns-then-out-bytes : goal.returns-then-out-bytes
 returns-then-out-bytes c =
-    pack_no_room _ _ (c) c.in-Accepted.is (omega (arith, c.if-out-bytes.true))
+    pack_no_room _ _ (record { word_count = record { multiple = c.if-words-ne0.false; words_le = omega (arith, c.if-words-gt-MOST_WORDS.false) }; is = c.judge.ensures }) c.in-Accepted.is (omega (arith, c.if-out-bytes.true))
 
 pub put_fields-requires : goal.put_fields-requires
 put_fields-requires c =
-    omega (arith, judged_bytes_are (c) c.in-Accepted.is)
+    omega (arith, judged_bytes_are (record { word_count = record { multiple = c.if-words-ne0.false; words_le = omega (arith, c.if-words-gt-MOST_WORDS.false) }; is = c.judge.ensures }) c.in-Accepted.is)
 
 -- all bytes written
 pub returns-else-out-bytes : goal.returns-else-out-bytes
 returns-else-out-bytes c =
-    pack_written _ _ (c) c.in-Accepted.is (omega (arith, c.if-out-bytes.false)) c.put_fields.ensures
+    pack_written _ _ (record { word_count = record { multiple = c.if-words-ne0.false; words_le = omega (arith, c.if-words-gt-MOST_WORDS.false) }; is = c.judge.ensures }) c.in-Accepted.is (omega (arith, c.if-out-bytes.false)) c.put_fields.ensures
 
 -- row 9 or 7
 pub returns-in-Refused : goal.returns-in-Refused
 returns-in-Refused c =
-    pack_refused _ _ (c) c.in-Refused.is
+    pack_refused _ _ (record { word_count = record { multiple = c.if-words-ne0.false; words_le = omega (arith, c.if-words-gt-MOST_WORDS.false) }; is = c.judge.ensures }) c.in-Refused.is

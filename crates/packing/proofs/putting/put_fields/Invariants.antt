@@ -1,9 +1,8 @@
 -- `packing::putting::put_fields` meets its contract. The loop's invariant is `PutFields`: the fields left, written into the area as it is now, give the whole
 -- layout. The number of words left falls.
 use Prim.Native.Nat.{◌-◌}
-use native.Mathlib.Omega.{arith}
 use lib.ListN.{length}
-use Rattle.packing.proofs.FieldsLoop.{PutFields, fields_start, fields_room, fields_turn, fields_end}
+use Rattle.packing.proofs.FieldsLoop.{PutFields}
 use Rattle.packing.proofs.putting.put_fields.Given as goal
 
 abbrev pub invariant-loop-at : goal.invariant-loop-at

@@ -1,7 +1,6 @@
 -- `packing::putting::put_number` meets its contract. The loop's invariant is `PutNumber`: the bytes left, written into the area as it is now, give the whole
 -- number. The number of bytes left falls.
-use native.Mathlib.Omega.{arith}
-use Rattle.packing.proofs.NumberPut.{PutNumber, put_number_start, put_number_turn, put_number_end}
+use Rattle.packing.proofs.NumberPut.{PutNumber}
 use Rattle.packing.proofs.putting.put_number.Given as goal
 
 abbrev pub invariant-loop-left : goal.invariant-loop-left
