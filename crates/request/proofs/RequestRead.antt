@@ -4,25 +4,22 @@ use Prim.Native.Nat.{ℕ, zero, suc, ◌+◌, ◌-◌, ◌*◌, ◌≤◌}
 use mathlib.Core.Path.{◌≡◌, refl, sym, ap, ap₂, ◌∙◌}
 use mathlib.Core.Bool.{true, false}
 use mathlib.Core.List.{List, [], ◌∷◌}
-use mathlib.Core.Option.{Option, none, some}
 use native.Mathlib.Nat.{add-zero}
 use native.Mathlib.Omega.{arith}
 use lib.Dec.{ltb}
 use lib.ListN.{length, get_or, take, drop, length-drop}
 use lib.Seq.{length-take-le, get_or-take, get_or-drop}
 use Rattle.answers.specs.declared.refusals.Refusal.TheVariants.{Input}
-use Rattle.answers.specs.Paper.{Answer, accepted}
+use Rattle.answers.specs.Paper.{accepted}
 use Rattle.fields.specs.Numbers.{number_at}
 use Rattle.fields.specs.Tagged.{head_length}
 use Rattle.request.specs.declared.reading.Requested.TheVariants.{Parts as PartsCase, Refused}
-use Rattle.request.specs.declared.reading.Parts.{Parts}
-use Rattle.request.specs.declared.field.FieldKind.{FieldKind}
 use Rattle.request.specs.declared.field.ReadTo.{ReadTo}
-use Rattle.request.specs.Fields.{cell_field, ring_number_field, allowance_field, ring_field, line_field, input_fields, between, next_at, value_at}
-use Rattle.request.specs.Input.{Request, most_input, first_fault, input_fault, number_in, parts_from, request_by, request_of}
+use Rattle.request.specs.Fields.{cell_field, ring_number_field, allowance_field, ring_field, line_field, between, next_at, value_at}
+use Rattle.request.specs.Input.{most_input, first_fault, input_fault, number_in, parts_from, request_by, request_of}
 use Rattle.request.specs.RowEleven.{IsFieldAt}
 use Rattle.request.specs.Parsing.{IsPast}
-use Rattle.request.specs.RequestReading.{request_at, IsRequestRead}
+use Rattle.request.specs.RequestReading.{IsRequestRead}
 use Rattle.request.proofs.PastFields.{fault_by, FieldRead, past_fault, past_stands}
 
 -- The five fields, read one after the other. An input that is too long is faulty before the first.

@@ -36,8 +36,8 @@ module _ (input : List ℕ) where
     where
       go : (t : Bool) → is_field_at kind input at ≡ t → (first_fault kinds input (next_at input at) ≡ some place → FirstFault input kinds (next_at input at) place)
           → cond t (first_fault kinds input (next_at input at)) (some at) ≡ some place → FirstFault input (kind ∷ kinds) at place
-      go true stands IsAmong-later e = later ((field_iff kind input at).0 stands) (IsAmong-later e)
-      go false missing IsAmong-later e = subst (FirstFault input (kind ∷ kinds) at) (place_same e) (here ((no_field_iff kind input at).0 missing))
+      go true stands among_later e = later ((field_iff kind input at).0 stands) (among_later e)
+      go false missing among_later e = subst (FirstFault input (kind ∷ kinds) at) (place_same e) (here ((no_field_iff kind input at).0 missing))
 
   -- the first fault is the one that `first_fault` gives
   fault_first : {kinds : List FieldKind} {at place : ℕ} → FirstFault input kinds at place → first_fault kinds input at ≡ some place
