@@ -157,21 +157,21 @@ module _ {cell ring_number : ℕ} {ring doubled : List ℕ} {table : EdgeVectors
 
               go : (t : Bool) → is_hidden ss cell ring_number f ≡ t → hides_finding cell ring_number book f (sought_of asked.held) ≡ t
                   → QuickLoop cell ring_number ring doubled table p k book counts₀ area next asked' counts' out
-              go true is_hidden same =
+              go true told same =
                   let shown_is : asked'.shown ≡ asked.shown = rw same at asks.shown_is in
                   next_loop
-                  (rw (taken_more_no (is_shown ss cell ring_number) h.so_far f (ap not is_hidden), shown_is, put.hidden_same (omega arith)) h.in_words)
+                  (rw (taken_more_no (is_shown ss cell ring_number) h.so_far f (ap not told), shown_is, put.hidden_same (omega arith)) h.in_words)
                   (rw same at asks.hidden_is
                   ∙ omega (
                     arith,
                     h.hidden_is,
-                    ap (λ (l : List Finding). length l) (taken_more_yes (is_hidden ss cell ring_number) h.so_far f is_hidden),
+                    ap (λ (l : List Finding). length l) (taken_more_yes (is_hidden ss cell ring_number) h.so_far f told),
                     length-append (hidden ss cell ring_number h.so_far) (f ∷ []),
                   ))
-              go false is_hidden same =
+              go false told same =
                   let shown_is : asked'.shown ≡ asked.shown + 1 = rw same at asks.shown_is in
                   next_loop
-                  (rw (taken_more_yes (is_shown ss cell ring_number) h.so_far f (ap not is_hidden), shown_is)
+                  (rw (taken_more_yes (is_shown ss cell ring_number) h.so_far f (ap not told), shown_is)
                   (so_far_more h.in_words room_behind (turn.found f e).are_words (put.shown_put (omega arith))))
                   (rw same at asks.hidden_is ∙ h.hidden_is
-                  ∙ ap (λ (l : List Finding). length l) (sym (taken_more_no (is_hidden ss cell ring_number) h.so_far f is_hidden)))
+                  ∙ ap (λ (l : List Finding). length l) (sym (taken_more_no (is_hidden ss cell ring_number) h.so_far f told)))
