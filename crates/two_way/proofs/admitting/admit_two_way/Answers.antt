@@ -18,32 +18,32 @@ returns-in_default c = refused_early _ c.admit_ring-of_ring.ensures (ap verdict_
 pub returns-then-place-m : goal.returns-then-place-m
 returns-then-place-m c =
     let within = within_ring _ _ c.admit_ring-of_ring.ensures c.in-Accepted.is in
-    record { is = sym ((two_way_14_iff _ _ _ _ _).1 (within.0, (within.1.0, (within.1.1, first_given_lem c.first_no_edge.ensures (omega arith))))) }
+    record { is = sym ((two_way_14_iff _ _ _ _ _).1 (within.0, (within.1.0, (within.1.1, first_given_lem c.first_no_edge-place.ensures (omega arith))))) }
 
 -- A line that is too long.
 pub returns-then-n-gt-MOST_LINE : goal.returns-then-n-gt-MOST_LINE
 returns-then-n-gt-MOST_LINE c =
     record {
-      is = sym ((two_way_3_iff _ _ _ _).1 (with_edges c.admit_ring-of_ring.ensures c.in-Accepted.is c.first_no_edge.ensures (omega arith) (omega arith)));
+      is = sym ((two_way_3_iff _ _ _ _).1 (with_edges c.admit_ring-of_ring.ensures c.in-Accepted.is c.first_no_edge-place.ensures (omega arith) (omega arith)));
     }
 
 -- A line shorter than the ring.
 pub returns-then-n-m : goal.returns-then-n-m
 returns-then-n-m c =
     record {
-      is = sym ((two_way_none_iff _ _ _ _).1 (with_edges c.admit_ring-of_ring.ensures c.in-Accepted.is c.first_no_edge.ensures (omega arith) (omega arith)));
+      is = sym ((two_way_none_iff _ _ _ _).1 (with_edges c.admit_ring-of_ring.ensures c.in-Accepted.is c.first_no_edge-place.ensures (omega arith) (omega arith)));
     }
 
 -- Too little room.
 pub returns-then-room-n : goal.returns-then-room-n
 returns-then-room-n c =
     record {
-      is = sym ((two_way_4_iff _ _ _ _).1 (with_edges c.admit_ring-of_ring.ensures c.in-Accepted.is c.first_no_edge.ensures (omega arith) (omega arith)));
+      is = sym ((two_way_4_iff _ _ _ _).1 (with_edges c.admit_ring-of_ring.ensures c.in-Accepted.is c.first_no_edge-place.ensures (omega arith) (omega arith)));
     }
 
 -- Room enough.
 pub returns : goal.returns
 returns c =
     record {
-      is = sym ((two_way_none_iff _ _ _ _).1 (with_edges c.admit_ring-of_ring.ensures c.in-Accepted.is c.first_no_edge.ensures (omega arith) (omega arith)));
+      is = sym ((two_way_none_iff _ _ _ _).1 (with_edges c.admit_ring-of_ring.ensures c.in-Accepted.is c.first_no_edge-place.ensures (omega arith) (omega arith)));
     }
