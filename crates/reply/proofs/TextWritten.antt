@@ -40,7 +40,7 @@ written_same e is_written = rw e at is_written
 -- with room for all, each byte is stored behind the one before it
 put_bytes_sets : (bytes area : List ℕ) (at : ℕ) → at + length bytes ≤ length area → put_bytes bytes (text_in area at) ≡ text_in (sets area at bytes) (at + length bytes)
 unfolding put_bytes
-put_bytes_sets [] area at room = let None-more : at ≡ at + 0 = omega arith in ap (text_in area) None-more
+put_bytes_sets [] area at room = let none_more : at ≡ at + 0 = omega arith in ap (text_in area) none_more
 put_bytes_sets (byte ∷ bytes) area at room =
     let more : suc at + length bytes ≡ at + length (byte ∷ bytes) = omega arith in
     ap (put_bytes bytes) (sym (byte_stored byte area at (omega arith)).is ∙ ap (text_in (set area at byte)) (add-one at))

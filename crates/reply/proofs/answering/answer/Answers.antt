@@ -7,31 +7,32 @@ use borrow.Author.Rules.{rules}
 use Rattle.reply.proofs.answering.answer.Goals as goal
 
 pub slice_bounds-answer_request-count : goal.slice_bounds-answer_request-count
-slice_bounds-answer_request-count c = omega arith
+slice_bounds-answer_request-count c = let within : PartsWithin _ _ = parts_within c.read_request.ensures c.in-Parts.is in omega arith
 
 pub slice_bounds-answer_request-start : goal.slice_bounds-answer_request-start
-slice_bounds-answer_request-start c = omega arith
+slice_bounds-answer_request-start c = let within : PartsWithin _ _ = parts_within c.read_request.ensures c.in-Parts.is in omega arith
 
 pub slice_bounds-answer_request-end : goal.slice_bounds-answer_request-end
-slice_bounds-answer_request-end c = omega arith
+slice_bounds-answer_request-end c = let within : PartsWithin _ _ = parts_within c.read_request.ensures c.in-Parts.is in omega arith
 
 pub slice_bounds-answer_request-count-in-Parts : goal.slice_bounds-answer_request-count-in-Parts
-slice_bounds-answer_request-count-in-Parts c = omega arith
+slice_bounds-answer_request-count-in-Parts c = let within : PartsWithin _ _ = parts_within c.read_request.ensures c.in-Parts.is in omega arith
 
 pub slice_bounds-answer_request-start-in-Parts : goal.slice_bounds-answer_request-start-in-Parts
-slice_bounds-answer_request-start-in-Parts c = omega arith
+slice_bounds-answer_request-start-in-Parts c = let within : PartsWithin _ _ = parts_within c.read_request.ensures c.in-Parts.is in omega arith
 
 pub slice_bounds-answer_request-end-in-Parts : goal.slice_bounds-answer_request-end-in-Parts
-slice_bounds-answer_request-end-in-Parts c = omega arith
+slice_bounds-answer_request-end-in-Parts c = let within : PartsWithin _ _ = parts_within c.read_request.ensures c.in-Parts.is in omega arith
 
 pub slice_bounds-answer_request-count-in-Parts-2 : goal.slice_bounds-answer_request-count-in-Parts-2
-slice_bounds-answer_request-count-in-Parts-2 c = omega arith
+slice_bounds-answer_request-count-in-Parts-2 c = let within : PartsWithin _ _ = parts_within c.read_request.ensures c.in-Parts.is in omega arith
 
 pub slice_bounds-answer_request-start-in-Parts-2 : goal.slice_bounds-answer_request-start-in-Parts-2
-slice_bounds-answer_request-start-in-Parts-2 c = omega arith
+slice_bounds-answer_request-start-in-Parts-2 c = let within : PartsWithin _ _ = parts_within c.read_request.ensures c.in-Parts.is in omega arith
 
 pub answer_request-requires : goal.answer_request-requires
 answer_request-requires c =
+    let within : PartsWithin _ _ = parts_within c.read_request.ensures c.in-Parts.is in
     record { line_le = simp (length-take, length-drop) (omega arith); room_for = search rules }
 
 pub returns-in-Refused : goal.returns-in-Refused

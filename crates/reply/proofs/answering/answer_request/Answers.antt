@@ -5,24 +5,31 @@ use native.Mathlib.Omega.{arith}
 use lib.Seq.{length-take-le}
 use Rattle.lists.specs.Texts.{ascii}
 use Rattle.reply.specs.Lines.{first_line, last_line}
-use Rattle.reply.specs.Writing.{filled, request}
+use Rattle.reply.specs.Writing.{filled}
 use Rattle.reply.proofs.TextWritten.{written_then, written_same, text_stands, text_same}
 use Rattle.reply.proofs.RequestAnswered.{Answered, refused_text, counted_text}
 use borrow.Author.Rules.{rules}
 use Rattle.reply.proofs.answering.answer_request.Goals as goal
 
 pub overflow_sub-to : goal.overflow_sub-to
-overflow_sub-to c = (c).hidden_le
+overflow_sub-to c =
+    let counted : Answered _ _ _ _ _ = counted_text c.report.ensures c.requires.line_le (search rules) (omega arith) (omega arith) c.in-Counts.is in
+    counted.hidden_le
 
 pub overflow_mul-to : goal.overflow_mul-to
-overflow_mul-to c = omega (arith, (c).words_le)
+overflow_mul-to c =
+    let counted : Answered _ _ _ _ _ = counted_text c.report.ensures c.requires.line_le (search rules) (omega arith) (omega arith) c.in-Counts.is in
+    omega (arith, counted.words_le)
 
 pub slice_bounds-words-end : goal.slice_bounds-words-end
-slice_bounds-words-end c = (c).words_le
+slice_bounds-words-end c =
+    let counted : Answered _ _ _ _ _ = counted_text c.report.ensures c.requires.line_le (search rules) (omega arith) (omega arith) c.in-Counts.is in
+    counted.words_le
 
 pub slice_bounds-put_finding_lines-end : goal.slice_bounds-put_finding_lines-end
 slice_bounds-put_finding_lines-end c =
-    sym (length-take-le _ _ (c).words_le)
+    let counted : Answered _ _ _ _ _ = counted_text c.report.ensures c.requires.line_le (search rules) (omega arith) (omega arith) c.in-Counts.is in
+    sym (length-take-le _ _ counted.words_le)
 
 -- a refusal of the report
 pub returns-in-Refused : goal.returns-in-Refused
@@ -33,6 +40,7 @@ returns-in-Refused c =
 pub returns-in-Counts : goal.returns-in-Counts
 unfolding ascii filled first_line last_line
 returns-in-Counts c =
-    text_stands (omega (arith, c.length_le, (c).requires.room_for))
-    (written_same c.pieces
+    let counted : Answered _ _ _ _ _ = counted_text c.report.ensures c.requires.line_le (search rules) (omega arith) (omega arith) c.in-Counts.is in
+    text_stands (omega (arith, counted.length_le, c.requires.room_for))
+    (written_same counted.pieces
     (written_then c.put_line-findings_at.ensures (written_then c.put_finding_lines-last_at.ensures c.put_line.ensures)))

@@ -1,6 +1,5 @@
 -- `reply::bytes::put_byte` meets its contract: the byte is stored, or there is no room and it is left out.
 use native.Mathlib.Omega.{arith}
-use borrow.Author.Rules.{rules}
 use Rattle.reply.proofs.TextWritten.{byte_stored, byte_left_out}
 use Rattle.reply.proofs.bytes.put_byte.Goals as goal
 

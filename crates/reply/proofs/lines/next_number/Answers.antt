@@ -1,8 +1,6 @@
 -- `reply::lines::next_number` meets its contract: past the end a list reads as 0.
 use mathlib.Core.Path.{sym}
-use native.Mathlib.Omega.{arith}
 use lib.ListN.{get_or-eq_default}
-use borrow.Author.Rules.{rules}
 use Rattle.reply.proofs.lines.next_number.Goals as goal
 
 pub returns : goal.returns

@@ -1,13 +1,7 @@
 -- `reply::lines::put_finding_lines` meets its contract. Its loop keeps `PuttingLines`; the number of words left falls.
 use Prim.Native.Nat.{◌-◌}
-use mathlib.Core.Path.{sym}
-use mathlib.Core.List.{[], ◌∷◌}
-use native.Mathlib.Omega.{arith}
 use lib.ListN.{length}
-use borrow.Author.Rules.{rules}
-use Rattle.lists.specs.ByPlace.{list_of}
-use Rattle.reply.specs.Writing.{filled}
-use Rattle.reply.proofs.LinesLoop.{PuttingLines, lines_start, lines_turn, lines_end}
+use Rattle.reply.proofs.LinesLoop.{PuttingLines}
 use Rattle.reply.proofs.lines.put_finding_lines.Given as goal
 
 abbrev pub invariant-loop-done : goal.invariant-loop-done

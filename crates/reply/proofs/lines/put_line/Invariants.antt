@@ -1,9 +1,7 @@
 -- `reply::lines::put_line` meets its contract. Its loop keeps `Filling`; the number of bytes left of the form falls.
 use Prim.Native.Nat.{◌-◌}
-use mathlib.Core.Logic.{⊎_elim}
-use native.Mathlib.Omega.{arith}
 use lib.ListN.{length}
-use Rattle.reply.proofs.FormLoop.{Filling, form_start, form_number, form_byte, form_end}
+use Rattle.reply.proofs.FormLoop.{Filling}
 use Rattle.reply.proofs.lines.put_line.Given as goal
 
 abbrev pub invariant-loop-done : goal.invariant-loop-done

@@ -6,7 +6,6 @@ use Rattle.reply.specs.Lines.{refusal_line_of}
 use Rattle.reply.specs.Writing.{filled}
 use Rattle.reply.proofs.TextRoom.{refusal_line_le}
 use Rattle.reply.proofs.TextWritten.{text_stands, text_same}
-use borrow.Author.Rules.{rules}
 use Rattle.reply.proofs.refusing.put_refusal.Goals as goal
 
 pub returns : goal.returns
