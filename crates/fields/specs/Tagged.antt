@@ -7,7 +7,7 @@
 --   length_at                the length in a field's two length bytes
 --   field_end                the byte offset just past a field
 --   is_whole                 whether a field has a given length and is not cut off
-use Rattle.std.specs.Prelude.{ℕ, ◌+◌, Bool, ◌&&◌, List, [], ◌∷◌, ◌++◌, leb, eqb, length}
+use Rattle.std.specs.Prelude.{ℕ, ◌+◌, Bool, ◌&&◌, List, ◌∷◌, ◌++◌, leb, eqb, length}
 use Rattle.fields.specs.Numbers.{bytes_of, number_at}
 
 -- "one-byte tag"

@@ -1,7 +1,7 @@
 -- A loop that stores f r at place r of a list in turn r, for r from 0 on. Before turn r the first r places have f and the others are as they were:
 -- `StoredFirst r` is the loop's invariant, and `StoredFirst m` is what m turns have done.
 use Prim.Native.Nat.{ℕ, ◌+◌, ◌≤◌, ◌<◌}
-use mathlib.Core.Path.{◌≡◌, refl, sym, ◌∙◌}
+use mathlib.Core.Path.{◌≡◌, refl, ◌∙◌}
 use mathlib.Core.List.{List}
 use mathlib.Core.Logic.{dite}
 use native.Mathlib.Decide.{ℕ_discrete}

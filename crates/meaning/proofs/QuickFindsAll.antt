@@ -2,7 +2,7 @@
 -- `distance_step` of TallyStep.) Induction over the windows from place i on: the findings below i, followed by what these windows report, are all findings. A
 -- candidate reports its own place; a window that was stopped jumps over places without a finding (`nothing_lost`); past the last window no place is a
 -- start (`findings_below_lem`).
-use Prim.Native.Nat.{ℕ, suc, ◌+◌, ◌-◌, ◌≤◌, ◌<◌, min}
+use Prim.Native.Nat.{ℕ, suc, ◌+◌, ◌-◌, ◌<◌, min}
 use mathlib.Core.Path.{◌≡◌, sym, ◌∙◌}
 use mathlib.Core.Logic.{⊎_elim}
 use mathlib.Core.List.{List, [], ◌∷◌, ◌++◌, append-nil, append_assoc}

@@ -1,6 +1,6 @@
 -- How many words a list of findings has. With `findings_length_le` of FindingsBelow it follows that the room that refusal 4 requires is enough for all
 -- findings.
-use Prim.Native.Nat.{ℕ, ◌*◌}
+use Prim.Native.Nat.{◌*◌}
 use mathlib.Core.Path.{◌≡◌, refl}
 use mathlib.Core.List.{List, ◌++◌}
 use lib.ListN.{length}

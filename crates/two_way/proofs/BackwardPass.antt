@@ -8,7 +8,7 @@ use mathlib.Core.Option.{none}
 use native.Mathlib.Omega.{arith}
 use lib.ListN.{length, take, drop, length-drop}
 use lib.Seq.{take_all, drop-length}
-use Rattle.lists.specs.Areas.{written, written_at}
+use Rattle.lists.specs.Areas.{written_at}
 use Rattle.meaning.specs.Findings.{findings, words_each}
 use Rattle.answers.specs.declared.refusals.Refusal.{Refusal}
 use Rattle.answers.specs.Paper.{accepted}

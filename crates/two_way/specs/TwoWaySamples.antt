@@ -1,5 +1,5 @@
 -- Samples of the two-way scan, worked out by hand and computed by the checker.
-use Rattle.std.specs.Prelude.{◌≡◌, refl, List, [], ◌∷◌}
+use Rattle.std.specs.Prelude.{◌≡◌, refl, [], ◌∷◌}
 use Rattle.std.proofs.Math.Option.{none, some}
 use Rattle.lists.specs.ByPlace.{list_of}
 use Rattle.meaning.specs.Counting.{count, lowest, some_below, first_from}

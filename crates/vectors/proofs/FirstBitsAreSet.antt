@@ -7,7 +7,7 @@ use Prim.Native.Nat.{ℕ, ◌+◌, ◌-◌, ◌*◌, ◌/◌, ◌%◌, ◌^◌, 
 use native.Mathlib.Nat.{mod-lt, one-mul, lt_of_lt_of_le}
 use native.Mathlib.Decide.{dec_lt}
 use native.Mathlib.Omega.{arith}
-use lib.ListN.{length, get_or}
+use lib.ListN.{length}
 use lib.Pow.{shl_exact, pow_mono, ones_lt}
 use Rattle.vectors.specs.Bits.{word_bits, Vector, bit, first_word, first_bits, FirstBits}
 use Rattle.vectors.specs.Rotating.{WithinBits}

@@ -11,7 +11,7 @@
 --     put_word, put_bit, PutBit              one bit put in: into a word, into a vector; the same as facts
 --     first_word, first_bits, FirstBits      the first m bits set: one word, the vector; the same as facts
 --     or_below, no_bit, NoBit                the first words joined; whether no bit of them is set; no bit is set
-use Rattle.std.specs.Prelude.{◌≡◌, Bool, true, false, ◌||◌, List, [], ◌∷◌, ℕ, zero, suc, ◌+◌, ◌-◌, ◌*◌, ◌/◌, ◌%◌, ◌^◌, ◌≤◌, ◌<◌, min, get_or, set, eqb}
+use Rattle.std.specs.Prelude.{◌≡◌, Bool, true, false, ◌||◌, List, ℕ, zero, suc, ◌+◌, ◌-◌, ◌*◌, ◌/◌, ◌%◌, ◌^◌, ◌≤◌, ◌<◌, min, get_or, set, eqb}
 use Rattle.std.specs.Int.Bits.{bit_or}
 use Rattle.lists.specs.ByPlace.{list_of}
 

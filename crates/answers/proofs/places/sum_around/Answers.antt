@@ -2,7 +2,6 @@
 -- subtracted from m is a number mod m.
 use native.Mathlib.Nat.{mod-lt}
 use native.Mathlib.Omega.{arith}
-use borrow.Author.Rules.{rules}
 use Rattle.answers.proofs.AroundRing.{around_none, around_sum_lt, around_sum_ge}
 use Rattle.answers.proofs.places.sum_around.Goals as goal
 

@@ -1,7 +1,6 @@
 -- `answers::places::to_line` meets its contract: each of its three returns is a law of Conversions, with the contract of `sum_around`.
 use native.Mathlib.Nat.{mod-lt}
 use native.Mathlib.Omega.{arith}
-use borrow.Author.Rules.{rules}
 use Rattle.answers.proofs.Conversions.{line_place_none, line_place_within, line_place_past}
 use Rattle.answers.proofs.places.to_line.Goals as goal
 

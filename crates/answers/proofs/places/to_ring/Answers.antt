@@ -1,5 +1,4 @@
 -- `answers::places::to_ring` meets its contract: each of its two returns is a law of Conversions, with the contract of `sum_around`.
-use borrow.Author.Rules.{rules}
 use Rattle.answers.proofs.Conversions.{ring_place_from, ring_place_before}
 use Rattle.answers.proofs.places.to_ring.Goals as goal
 

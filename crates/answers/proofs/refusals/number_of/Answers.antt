@@ -2,7 +2,6 @@
 use mathlib.Core.Path.{sym}
 use native.Mathlib.Omega.{arith}
 use borrow.Author.Tests.{lt-ltb, le-ltb}
-use borrow.Author.Rules.{rules}
 use Rattle.answers.proofs.OneAnswer.{number_in}
 use Rattle.answers.proofs.refusals.number_of.Goals as goal
 

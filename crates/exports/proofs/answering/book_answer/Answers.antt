@@ -3,7 +3,6 @@ use mathlib.Core.Path.{refl, ap}
 use native.Mathlib.Omega.{arith}
 use Rattle.book.specs.declared.answering.BookAnswer.{BookAnswer}
 use Rattle.book.specs.Calls.{paper_of as book_paper_of}
-use borrow.Author.Rules.{rules}
 use Rattle.exports.proofs.answering.book_answer.Goals as goal
 
 pub refused_answer-requires : goal.refused_answer-requires

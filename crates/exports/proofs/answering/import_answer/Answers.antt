@@ -3,7 +3,6 @@ use mathlib.Core.Path.{refl, ap}
 use native.Mathlib.Omega.{arith}
 use Rattle.vertices.specs.declared.importing.Imported.{Imported}
 use Rattle.vertices.specs.Importing.{paper_of as import_paper_of}
-use borrow.Author.Rules.{rules}
 use Rattle.exports.proofs.answering.import_answer.Goals as goal
 
 pub refused_answer-requires : goal.refused_answer-requires

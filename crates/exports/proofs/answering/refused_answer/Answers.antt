@@ -5,7 +5,6 @@ use native.Mathlib.Omega.{arith}
 use Rattle.answers.specs.Paper.{Paper}
 use Rattle.answers.proofs.OneAnswer.{number_in}
 use Rattle.outlines.specs.Report.{ReportCounts, no_report_counts}
-use borrow.Author.Rules.{rules}
 use Rattle.exports.proofs.answering.refused_answer.Goals as goal
 
 abbrev paper : ℕ → ℕ → Paper ReportCounts

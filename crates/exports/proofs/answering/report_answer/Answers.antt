@@ -3,7 +3,6 @@ use mathlib.Core.Path.{refl, ap}
 use native.Mathlib.Omega.{arith}
 use Rattle.outlines.specs.declared.reporting.Reported.{Reported}
 use Rattle.outlines.specs.Report.{paper_of as report_paper_of}
-use borrow.Author.Rules.{rules}
 use Rattle.exports.proofs.answering.report_answer.Goals as goal
 
 pub refused_answer-requires : goal.refused_answer-requires

@@ -3,7 +3,6 @@ use mathlib.Core.Path.{refl, ap}
 use native.Mathlib.Omega.{arith}
 use Rattle.findings.specs.declared.searching.Searched.{Searched}
 use Rattle.findings.specs.Searching.{paper_of as search_paper_of}
-use borrow.Author.Rules.{rules}
 use Rattle.exports.proofs.answering.search_answer.Goals as goal
 
 pub refused_answer-requires : goal.refused_answer-requires

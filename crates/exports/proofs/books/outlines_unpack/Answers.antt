@@ -1,7 +1,6 @@
 -- `exports::books::outlines_unpack` meets its contract: it returns the answer of `unpack` as a struct.
 use Rattle.exports.specs.Exported.{one_count_in_struct}
 use Rattle.exports.proofs.PassedOn.{unpack_place, passed_on}
-use borrow.Author.Rules.{rules}
 use Rattle.exports.proofs.books.outlines_unpack.Goals as goal
 
 pub book_answer-requires : goal.book_answer-requires

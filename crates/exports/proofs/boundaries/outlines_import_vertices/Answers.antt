@@ -1,7 +1,6 @@
 -- `exports::boundaries::outlines_import_vertices` meets its contract: it returns the answer of `import_vertices` as a struct.
 use Rattle.exports.specs.Exported.{one_count_in_struct}
 use Rattle.exports.proofs.PassedOn.{import_place, passed_on}
-use borrow.Author.Rules.{rules}
 use Rattle.exports.proofs.boundaries.outlines_import_vertices.Goals as goal
 
 pub import_answer-requires : goal.import_answer-requires

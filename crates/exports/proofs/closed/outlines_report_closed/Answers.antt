@@ -1,7 +1,6 @@
 -- `exports::closed::outlines_report_closed` meets its contract: it returns the answer of `report_closed` as a struct.
 use Rattle.outlines.specs.Report.{ReportCounts}
 use Rattle.exports.proofs.PassedOn.{closed_report_place, closed_passed_on}
-use borrow.Author.Rules.{rules}
 use Rattle.exports.proofs.closed.outlines_report_closed.Goals as goal
 
 pub report_answer-requires : goal.report_answer-requires

@@ -1,7 +1,6 @@
 -- `exports::closed::outlines_scan_closed` meets its contract: it returns the answer of `scan_closed` as a struct.
 use Rattle.exports.specs.Exported.{search_in_struct}
 use Rattle.exports.proofs.PassedOn.{closed_search_place, closed_passed_on}
-use borrow.Author.Rules.{rules}
 use Rattle.exports.proofs.closed.outlines_scan_closed.Goals as goal
 
 pub search_answer-requires : goal.search_answer-requires

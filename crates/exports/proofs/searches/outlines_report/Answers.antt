@@ -1,7 +1,6 @@
 -- `exports::searches::outlines_report` meets its contract: it returns the answer of `report` as a struct.
 use Rattle.outlines.specs.Report.{ReportCounts}
 use Rattle.exports.proofs.PassedOn.{report_place, passed_on}
-use borrow.Author.Rules.{rules}
 use Rattle.exports.proofs.searches.outlines_report.Goals as goal
 
 pub report_answer-requires : goal.report_answer-requires

@@ -1,7 +1,6 @@
 -- `exports::searches::outlines_scan` meets its contract: it returns the answer of `scan` as a struct.
 use Rattle.exports.specs.Exported.{search_in_struct}
 use Rattle.exports.proofs.PassedOn.{search_place, passed_on}
-use borrow.Author.Rules.{rules}
 use Rattle.exports.proofs.searches.outlines_scan.Goals as goal
 
 pub search_answer-requires : goal.search_answer-requires

@@ -6,7 +6,6 @@ use Rattle.answers.specs.Paper.{Paper}
 use Rattle.outlines.specs.Report.{ReportCounts}
 use Rattle.two_way.specs.declared.passes.TwoWay.{TwoWay}
 use Rattle.two_way.specs.TwoWay.{TwoWayCounts, no_two_way_counts, paper_of as two_way_scan_paper_of}
-use borrow.Author.Rules.{rules}
 use Rattle.exports.proofs.two_way_scan.two_way_answer.Goals as goal
 
 -- a refusal's number and place, with the counts of both passes zero

@@ -1,8 +1,8 @@
 -- `fields::numbers::number_at` meets its contract. It returns 0 for more than four bytes and for bytes that reach past the end. After `done` bytes the number
 -- is the one in these bytes (`Numbered`), and at the end the one in all of them. `count - done` falls.
-use Prim.Native.Nat.{◌+◌, ◌-◌}
+use Prim.Native.Nat.{◌+◌}
 use native.Mathlib.Omega.{arith}
-use Rattle.fields.proofs.NumberLoop.{Numbered, number_many, number_past, number_start, number_turn, number_lt, number_end}
+use Rattle.fields.proofs.NumberLoop.{number_many, number_past, number_start, number_turn, number_lt, number_end}
 use Rattle.fields.proofs.numbers.number_at.Goals as goal
 
 -- More than four bytes.

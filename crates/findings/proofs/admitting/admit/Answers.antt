@@ -2,7 +2,6 @@
 -- passed so far decide whether row 4 is given (`AdmitRows`).
 use mathlib.Core.Path.{sym, ap}
 use native.Mathlib.Omega.{arith}
-use borrow.Author.Rules.{rules}
 use Rattle.findings.specs.Admitting.{admit_rows, verdict_of}
 use Rattle.findings.proofs.LimitRows.{within_limits, refused_early}
 use Rattle.findings.proofs.AdmitRows.{row_4_iff, none_iff}

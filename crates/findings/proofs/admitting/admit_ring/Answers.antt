@@ -3,7 +3,6 @@
 use mathlib.Core.Path.{sym}
 use mathlib.Core.Logic.{inl, inr}
 use native.Mathlib.Omega.{arith}
-use borrow.Author.Rules.{rules}
 use Rattle.meaning.proofs.Marks.{holds_iff}
 use Rattle.findings.proofs.LimitRows.{unmarked, ring_1_iff, ring_12_iff, ring_2_iff, no_ring_iff}
 use Rattle.findings.proofs.admitting.admit_ring.Goals as goal

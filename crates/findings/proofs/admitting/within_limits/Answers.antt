@@ -2,7 +2,6 @@
 -- decides whether row 3 is given (`LimitRows`).
 use mathlib.Core.Path.{sym, ap}
 use native.Mathlib.Omega.{arith}
-use borrow.Author.Rules.{rules}
 use Rattle.findings.specs.Admitting.{limit_rows, verdict_of}
 use Rattle.findings.proofs.LimitRows.{within_ring, refused_early, limit_3_iff, no_limit_iff}
 use Rattle.findings.proofs.admitting.within_limits.Goals as goal

@@ -2,7 +2,6 @@
 -- passed so far decide whether row 4 or row 10 is given (`ClosedAdmitRows`).
 use mathlib.Core.Path.{sym, ap}
 use native.Mathlib.Omega.{arith}
-use borrow.Author.Rules.{rules}
 use Rattle.findings.specs.Admitting.{verdict_of}
 use Rattle.findings.specs.ClosedRows.{closed_rows}
 use Rattle.findings.proofs.LimitRows.{within_limits, refused_early}

@@ -1,9 +1,6 @@
 -- `findings::marks::holds_mark` meets its contract: before turn q none of the first q edges is a mark (`MarkLoop`). The measure is the number of edges left.
-use Prim.Native.Nat.{◌-◌}
 use native.Mathlib.Omega.{arith}
-use lib.ListN.{length}
-use borrow.Author.Rules.{rules}
-use Rattle.findings.proofs.MarkLoop.{NoneMarked, none_first, none_next, some_here, none_all}
+use Rattle.findings.proofs.MarkLoop.{none_first, none_next, some_here, none_all}
 use Rattle.findings.proofs.marks.holds_mark.Goals as goal
 
 pub loop-q-init : goal.loop-q-init

@@ -1,6 +1,5 @@
 -- `findings::putting::put_finding` meets its contract: its two ends are the two cases of the test (`PutCases`).
 use mathlib.Core.Path.{◌∙◌, sym}
-use borrow.Author.Rules.{rules}
 use Rattle.findings.proofs.PutCases.{can_put_iff, put_yes, put_no}
 use Rattle.findings.proofs.putting.put_finding.Goals as goal
 

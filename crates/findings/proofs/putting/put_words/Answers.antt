@@ -1,7 +1,6 @@
 -- `findings::putting::put_words` meets its contract: its stores, one after the other, are `sets` of the finding's words.
 use native.Mathlib.Numerals.{towards_suc}
 use native.Mathlib.Omega.{arith}
-use borrow.Author.Rules.{rules}
 use lib.ListN.{length-set}
 use Rattle.findings.proofs.putting.put_words.Goals as goal
 

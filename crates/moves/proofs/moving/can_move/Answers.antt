@@ -1,6 +1,5 @@
 -- `moves::moving::can_move` meets its contract: it returns false at the first comparison that fails, else the result of the last (`SizesTested` of crates/lists).
 use native.Mathlib.Omega.{arith}
-use borrow.Author.Rules.{rules}
 use Rattle.lists.proofs.SizesTested.{test_fails}
 use Rattle.moves.proofs.MoveCases.{can_move_iff, can_move_last}
 use Rattle.moves.proofs.moving.can_move.Goals as goal

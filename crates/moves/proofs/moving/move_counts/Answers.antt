@@ -1,7 +1,5 @@
 -- `moves::moving::move_counts` meets its contract: its two returns are the two cases of the test (`MoveCases`).
 use mathlib.Core.Path.{◌∙◌, sym}
-use borrow.Author.Rules.{rules}
-use borrow.Author.Tests.{not-true, not-false}
 use Rattle.moves.proofs.MoveCases.{can_be_moved, moved_yes, moved_no}
 use Rattle.moves.proofs.moving.move_counts.Goals as goal
 

@@ -1,16 +1,11 @@
 -- `moves::steps::change` meets its contract: before turn r the counts below r are changed, and their least is known (`ChangeLoop`). The measure is the number of ring
 -- edges left.
-use Prim.Native.Nat.{◌-◌, ◌*◌, ◌≤◌}
 use mathlib.Core.Path.{◌≡◌}
-use mathlib.Core.Logic.{⊎_elim}
 use native.Mathlib.Omega.{arith}
-use borrow.Author.Rules.{rules}
 use lib.ListN.{length}
-use Rattle.lists.specs.ByPlace.{StoredFirst}
 use Rattle.lists.proofs.StoreLoop.{stored_start, stored_turn, stored_end}
-use Rattle.tally.proofs.LeastSoFar.{LeastSoFar, least_so_far_start, least_so_far_stored_less, least_so_far_stored_kept}
-use Rattle.moves.specs.Moves.{changed_at}
-use Rattle.moves.proofs.ChangeLoop.{last_count, changed_here, changed_least}
+use Rattle.tally.proofs.LeastSoFar.{least_so_far_start, least_so_far_stored_less, least_so_far_stored_kept}
+use Rattle.moves.proofs.ChangeLoop.{changed_here, changed_least}
 use Rattle.moves.proofs.steps.change.Goals as goal
 use Rattle.moves.proofs.steps.change.Goals.{then-count-least, else-count-least}
 
@@ -26,7 +21,7 @@ loop-r-preserved c =
       omega arith,
       stored_turn stored (omega arith) (changed_here _ _ _ _ stored c.differing-lost.ensures.is c.differing-won.ensures.is c.changed-count.ensures),
       elim c.if-count-least.branch [
-        then-count-least w ↦ rw w.least-is (least_so_far_stored_less so_far (omega arith) w.if-count-least.true)
+        | then-count-least w ↦ rw w.least-is (least_so_far_stored_less so_far (omega arith) w.if-count-least.true)
         | else-count-least w ↦ rw w.least-is (least_so_far_stored_kept so_far (omega arith) w.if-count-least.false)
       ],
     )

@@ -2,15 +2,11 @@
 -- edges left.
 use Prim.Native.Nat.{◌-◌, ◌*◌, ◌≤◌}
 use mathlib.Core.Path.{◌≡◌}
-use mathlib.Core.Logic.{⊎_elim}
-use native.Mathlib.Omega.{arith}
-use borrow.Author.Rules.{rules}
 use lib.ListN.{length}
 use Rattle.lists.specs.ByPlace.{StoredFirst}
-use Rattle.lists.proofs.StoreLoop.{stored_start, stored_turn, stored_end}
-use Rattle.tally.proofs.LeastSoFar.{LeastSoFar, least_so_far_start, least_so_far_stored_less, least_so_far_stored_kept}
+use Rattle.tally.proofs.LeastSoFar.{LeastSoFar}
 use Rattle.moves.specs.Moves.{changed_at}
-use Rattle.moves.proofs.ChangeLoop.{last_count, changed_here, changed_least}
+use Rattle.moves.proofs.ChangeLoop.{last_count}
 use Rattle.moves.proofs.steps.change.Given as goal
 
 abbrev pub invariant-loop-r : goal.invariant-loop-r

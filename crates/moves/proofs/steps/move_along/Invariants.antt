@@ -1,10 +1,7 @@
 -- `moves::steps::move_along` meets its contract: the loop keeps `Moving`, and a turn goes on or ends the move. The measure is the number of steps left.
 use Prim.Native.Nat.{◌-◌}
-use borrow.Author.Rules.{rules}
-use native.Mathlib.Omega.{arith}
 use Rattle.windows.specs.Windows.{parts}
-use Rattle.windows.proofs.WindowEdges.{fitting_length}
-use Rattle.moves.proofs.MoveLoop.{Moving, moving_start, moving_has_counts, moving_turn, moving_stops, moving_end}
+use Rattle.moves.proofs.MoveLoop.{Moving}
 use Rattle.moves.proofs.steps.move_along.Given as goal
 
 abbrev pub invariant-loop-i : goal.invariant-loop-i

@@ -1,8 +1,7 @@
 -- `moves::steps::renumber` meets its contract: the loop keeps `Renumbering`, and the measure is r.
-use borrow.Author.Rules.{rules}
 use native.Mathlib.Omega.{arith}
 use mathlib.Core.Path.{refl}
-use Rattle.moves.proofs.RenumberLoop.{Renumbering, renumbering_start, renumbering_turn, renumbering_end}
+use Rattle.moves.proofs.RenumberLoop.{renumbering_start, renumbering_turn, renumbering_end}
 use Rattle.moves.proofs.steps.renumber.Goals as goal
 
 pub loop-r-init : goal.loop-r-init

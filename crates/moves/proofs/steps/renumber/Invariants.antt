@@ -1,8 +1,5 @@
 -- `moves::steps::renumber` meets its contract: the loop keeps `Renumbering`, and the measure is r.
-use borrow.Author.Rules.{rules}
-use native.Mathlib.Omega.{arith}
-use mathlib.Core.Path.{refl}
-use Rattle.moves.proofs.RenumberLoop.{Renumbering, renumbering_start, renumbering_turn, renumbering_end}
+use Rattle.moves.proofs.RenumberLoop.{Renumbering}
 use Rattle.moves.proofs.steps.renumber.Given as goal
 
 abbrev pub invariant-loop-r : goal.invariant-loop-r

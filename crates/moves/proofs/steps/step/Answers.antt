@@ -1,5 +1,4 @@
 -- `moves::steps::step` meets its contract: the counts are changed and then renumbered, and renumbering does not change their least (`SteppedCounts`).
-use borrow.Author.Rules.{rules}
 use Rattle.moves.proofs.SteppedCounts.{stepped_is}
 use Rattle.moves.proofs.steps.step.Goals as goal
 

@@ -1,9 +1,6 @@
 -- `occurrences::table::clear_slots` meets its contract: all slots are stored as those of the earlier parts, then those of the last part one by one (`Cleared` of
 -- SlotsCleared). The measure is 1024 - at.
-use Prim.Native.Nat.{◌-◌}
-use borrow.Author.Rules.{rules}
-use Rattle.occurrences.specs.Storing.{slot_count}
-use Rattle.occurrences.proofs.SlotsCleared.{Cleared, cleared_start, cleared_turn, cleared_end}
+use Rattle.occurrences.proofs.SlotsCleared.{cleared_start, cleared_turn, cleared_end}
 use Rattle.occurrences.proofs.table.clear_slots.Goals as goal
 
 pub loop-at-init : goal.loop-at-init

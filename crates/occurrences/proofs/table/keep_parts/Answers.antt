@@ -1,12 +1,9 @@
 -- `occurrences::table::keep_parts` meets its contract. Before turn r both arrays are those of the first r places (`PartsBelow`). Turn r makes r the slot of its part and
 -- code if they have none, and puts its bit into the word that the slot leads to. `length ring - r` falls.
-use Prim.Native.Nat.{◌-◌}
 use mathlib.Core.Path.{refl}
 use native.Mathlib.Omega.{arith}
 use borrow.Author.Tests.{ltb-true, ltb-false}
-use lib.ListN.{length}
-use Rattle.occurrences.proofs.OccurrencesLoop.{PartsBelow, parts_start, parts_turned, parts_end}
-use borrow.Author.Rules.{rules}
+use Rattle.occurrences.proofs.OccurrencesLoop.{parts_start, parts_turned, parts_end}
 use Rattle.occurrences.proofs.table.keep_parts.Goals as goal
 
 pub loop-r-init : goal.loop-r-init

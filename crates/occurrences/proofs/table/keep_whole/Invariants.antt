@@ -1,10 +1,8 @@
 -- `occurrences::table::keep_whole` meets its contract. Before turn r the words by code are those of the first r places (`WholeBelow`). Turn r puts bit r into the word of
 -- the code at place r. `length ring - r` falls.
 use Prim.Native.Nat.{◌-◌}
-use native.Mathlib.Omega.{arith}
 use lib.ListN.{length}
-use Rattle.occurrences.proofs.OccurrencesLoop.{WholeBelow, whole_start, whole_turned, whole_end}
-use borrow.Author.Rules.{rules}
+use Rattle.occurrences.proofs.OccurrencesLoop.{WholeBelow}
 use Rattle.occurrences.proofs.table.keep_whole.Given as goal
 
 abbrev pub invariant-loop-r : goal.invariant-loop-r

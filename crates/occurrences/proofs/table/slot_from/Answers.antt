@@ -1,6 +1,5 @@
 -- `occurrences::table::slot_from` meets its contract: it tests for `no_slot`. A ring place is a byte, so the cast keeps it.
 use mathlib.Core.Path.{refl, sym, ◌∙◌}
-use borrow.Author.Rules.{rules}
 use borrow.Author.Tests.{eq-eqb, ne_eqb}
 use Rattle.occurrences.proofs.table.slot_from.Goals as goal
 

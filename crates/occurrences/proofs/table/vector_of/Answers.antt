@@ -1,6 +1,5 @@
 -- `occurrences::table::vector_of` meets its contract: it reads the one word at the code, or the word of each part (`whole_words` and `parted_words` of VectorsRead).
 use native.Mathlib.Omega.{arith}
-use borrow.Author.Rules.{rules}
 use Rattle.occurrences.proofs.VectorsRead.{whole_words, parted_words}
 use Rattle.occurrences.proofs.table.vector_of.Goals as goal
 

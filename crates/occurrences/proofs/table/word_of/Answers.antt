@@ -1,6 +1,5 @@
 -- `occurrences::table::word_of` meets its contract: it reads the slot and the word that the slot leads to.
 use mathlib.Core.Path.{refl}
-use borrow.Author.Rules.{rules}
 use Rattle.occurrences.specs.EdgeVectors.{slot_word}
 use Rattle.occurrences.proofs.table.word_of.Goals as goal
 

@@ -1,7 +1,6 @@
 -- `occurrences::table::word_place` meets its contract, by the two laws of `word_place`. A slot is a byte, so there is a word for it.
 use mathlib.Core.Path.{sym, ◌∙◌}
 use native.Mathlib.Omega.{arith}
-use borrow.Author.Rules.{rules}
 use Rattle.occurrences.proofs.KeptWords.{word_place_early, word_place_last}
 use Rattle.occurrences.proofs.table.word_place.Goals as goal
 

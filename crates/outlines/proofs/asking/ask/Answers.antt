@@ -1,5 +1,4 @@
 -- `outlines::asking::ask` meets its contract: the finding is hidden if the field sought for its address has this address, else shown (`AskCases`).
-use borrow.Author.Rules.{rules}
 use Rattle.findings.specs.Putting.{finding_of}
 use Rattle.outlines.proofs.AskCases.{ask_hidden, ask_shown}
 use Rattle.outlines.proofs.asking.ask.Goals as goal

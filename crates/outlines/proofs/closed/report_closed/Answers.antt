@@ -2,7 +2,6 @@
 -- closed line is scanned with the book (`LentParts` of crates/windows, `ClosedReportAnswers`).
 use mathlib.Core.Path.{refl, sym}
 use lib.Seq.{length-take-le}
-use borrow.Author.Rules.{rules}
 use Rattle.windows.proofs.JoinFilled.{used_le}
 use Rattle.windows.proofs.LentParts.{closed_lent, closed_joined}
 use Rattle.findings.proofs.VerdictTold.{told_accepted, told_none, told_refused}

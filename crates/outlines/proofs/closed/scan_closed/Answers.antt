@@ -2,7 +2,6 @@
 -- book (`LentParts` of crates/windows, `empty_book_searched`). These are the two ways in which a search on a closed line meets its contract (`ClosedSearchAnswers` of crates/findings).
 use mathlib.Core.Path.{refl, sym}
 use lib.Seq.{length-take-le}
-use borrow.Author.Rules.{rules}
 use Rattle.windows.proofs.JoinFilled.{used_le}
 use Rattle.windows.proofs.LentParts.{closed_lent, closed_joined}
 use Rattle.findings.proofs.VerdictTold.{told_accepted, told_none, told_refused}

@@ -1,7 +1,6 @@
 -- `outlines::quick::scan` meets its contract: a row is given and the call is refused, or the line is scanned with an empty book (`empty_book_searched`). These are the
 -- two ways in which a search meets its contract (`SearchAnswers` of crates/findings).
 use mathlib.Core.Path.{refl}
-use borrow.Author.Rules.{rules}
 use Rattle.windows.proofs.LentParts.{open_lent}
 use Rattle.findings.proofs.VerdictTold.{told_accepted, told_none, told_refused}
 use Rattle.findings.proofs.AdmitRows.{no_row_iff}

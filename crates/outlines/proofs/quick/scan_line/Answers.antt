@@ -1,6 +1,5 @@
 -- `outlines::quick::scan_line` meets its contract: `double` leaves an array of 512 edges (`doubled_length`), which is lent to `scan_windows` as a slice.
 use mathlib.Core.Path.{sym}
-use borrow.Author.Rules.{rules}
 use Rattle.tally.proofs.DoubledLoop.{doubled_length}
 use Rattle.outlines.proofs.quick.scan_line.Goals as goal
 

@@ -1,15 +1,11 @@
 -- `outlines::quick::scan_windows` meets its contract: the loop keeps `QuickLoop`. The sweep's answer decides the turn: it reports no finding, or one, for which
 -- the book is asked. The measure is n + 1 - start.
 use Prim.Native.Nat.{◌+◌, ◌-◌}
-use mathlib.Core.Path.{◌≡◌, refl, ap}
-use native.Mathlib.Omega.{arith}
-use borrow.Author.Rules.{rules}
+use mathlib.Core.Path.{◌≡◌}
 use lib.ListN.{length}
 use Rattle.occurrences.specs.EdgeVectors.{edge_vectors}
 use Rattle.windows.specs.Windows.{parts, whole_length, IsWholeLength}
-use Rattle.windows.proofs.WindowEdges.{fits_whole, past_whole}
-use Rattle.sweep.specs.SweepRules.{state_of, found_of}
-use Rattle.outlines.proofs.QuickLoop.{QuickLoop, quick_start, quick_found_le, quick_length, quick_end, quick_less, quick_none, quick_can_ask, quick_found}
+use Rattle.outlines.proofs.QuickLoop.{QuickLoop}
 use Rattle.outlines.proofs.quick.scan_windows.Given as goal
 
 abbrev pub invariant-loop-at : goal.invariant-loop-at

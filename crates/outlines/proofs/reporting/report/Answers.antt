@@ -1,7 +1,6 @@
 -- `outlines::reporting::report` meets its contract: one of the search's rows is given; none of them is, and the book is refused; or the line is scanned with the
 -- book (`ReportAnswers`).
 use mathlib.Core.Path.{refl}
-use borrow.Author.Rules.{rules}
 use Rattle.windows.proofs.LentParts.{open_lent}
 use Rattle.findings.proofs.VerdictTold.{told_accepted, told_none, told_refused}
 use Rattle.findings.proofs.AdmitRows.{no_row_iff}

@@ -1,13 +1,10 @@
 -- `reversal::rings::reverse` meets its contract. Before turn q the first q places have the reversed ring's edges, and the others 0 (`ReversedBelow`). The measure
 -- is `length ring - q`. The loop ends where the ring ends, or where the array does.
-use Prim.Native.Nat.{◌-◌}
 use mathlib.Core.Logic.{inl, inr}
 use native.Mathlib.Omega.{arith}
-use lib.ListN.{length}
 use borrow.Author.Tests.{ltb-true, ltb-false}
-use borrow.Author.Rules.{rules}
 use Rattle.lists.proofs.StoreLoop.{stored_start}
-use Rattle.reversal.proofs.ReversingLoop.{ReversedBelow, reversing_turn, reversing_end}
+use Rattle.reversal.proofs.ReversingLoop.{reversing_turn, reversing_end}
 use Rattle.reversal.proofs.rings.reverse.Goals as goal
 
 pub loop-q-init : goal.loop-q-init

@@ -1,6 +1,5 @@
 -- `survey::plain::survey_line` meets its contract: `double` leaves an array of 512 edges (`doubled_length`), which is lent to `survey_starts` as a slice.
 use mathlib.Core.Path.{sym}
-use borrow.Author.Rules.{rules}
 use Rattle.tally.proofs.DoubledLoop.{doubled_length}
 use Rattle.survey.proofs.plain.survey_line.Goals as goal
 

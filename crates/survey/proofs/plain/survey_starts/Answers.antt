@@ -1,12 +1,8 @@
 -- `survey::plain::survey_starts` meets its contract: the loop keeps `SurveyKeeps`, and in a turn the start reached is a finding or not. The measure is n + 1 - i.
-use Prim.Native.Nat.{◌+◌, ◌-◌}
 use mathlib.Core.Path.{sym, ◌∙◌}
 use native.Mathlib.Omega.{arith}
-use borrow.Author.Rules.{rules}
-use lib.ListN.{length}
-use Rattle.windows.specs.Windows.{parts, whole_length, IsWholeLength}
 use Rattle.windows.proofs.WindowEdges.{fits_whole, past_whole}
-use Rattle.survey.proofs.SurveyLoop.{SurveyKeeps, survey_start, survey_can_verify, survey_end, survey_found_le, survey_looks_le, survey_next_le, survey_less, survey_none, survey_found}
+use Rattle.survey.proofs.SurveyLoop.{survey_start, survey_can_verify, survey_end, survey_found_le, survey_looks_le, survey_next_le, survey_less, survey_none, survey_found}
 use Rattle.survey.proofs.plain.survey_starts.Goals as goal
 
 pub loop-i-init : goal.loop-i-init
@@ -38,12 +34,11 @@ loop-i-smaller-then-is_finding c =
 
 -- A finding.
 pub loop-i-preserved-then-is_finding : goal.loop-i-preserved-then-is_finding
-loop-i-preserved-then-is_finding c =
-    (
-      c.loop-i.invariant.0,
-      survey_found c.loop-i.invariant.1 (fits_whole c.loop-i.invariant.0 c.loop-i-test.true) c.verify_on-reached.ensures
-          c.later-past.ensures (sym c.is_finding.ensures ∙ c.if-is_finding.true) c.finding_at.ensures c.put_finding.ensures,
-    )
+loop-i-preserved-then-is_finding c = (
+  c.loop-i.invariant.0,
+  survey_found c.loop-i.invariant.1 (fits_whole c.loop-i.invariant.0 c.loop-i-test.true) c.verify_on-reached.ensures
+      c.later-past.ensures (sym c.is_finding.ensures ∙ c.if-is_finding.true) c.finding_at.ensures c.put_finding.ensures,
+)
 
 pub loop-i-smaller : goal.loop-i-smaller
 loop-i-smaller c =
@@ -51,12 +46,11 @@ loop-i-smaller c =
 
 -- No finding.
 pub loop-i-preserved : goal.loop-i-preserved
-loop-i-preserved c =
-    (
-      c.loop-i.invariant.0,
-      survey_none c.loop-i.invariant.1 (fits_whole c.loop-i.invariant.0 c.loop-i-test.true) c.verify_on-reached.ensures
-          c.later-past.ensures (sym c.is_finding.ensures ∙ c.if-is_finding.false),
-    )
+loop-i-preserved c = (
+  c.loop-i.invariant.0,
+  survey_none c.loop-i.invariant.1 (fits_whole c.loop-i.invariant.0 c.loop-i-test.true) c.verify_on-reached.ensures
+      c.later-past.ensures (sym c.is_finding.ensures ∙ c.if-is_finding.false),
+)
 
 pub shape_of-words : goal.shape_of-words
 shape_of-words c = c.loop-i.invariant.1.length_is

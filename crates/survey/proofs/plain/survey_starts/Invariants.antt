@@ -1,12 +1,8 @@
 -- `survey::plain::survey_starts` meets its contract: the loop keeps `SurveyKeeps`, and in a turn the start reached is a finding or not. The measure is n + 1 - i.
 use Prim.Native.Nat.{◌+◌, ◌-◌}
-use mathlib.Core.Path.{sym, ◌∙◌}
-use native.Mathlib.Omega.{arith}
-use borrow.Author.Rules.{rules}
 use lib.ListN.{length}
 use Rattle.windows.specs.Windows.{parts, whole_length, IsWholeLength}
-use Rattle.windows.proofs.WindowEdges.{fits_whole, past_whole}
-use Rattle.survey.proofs.SurveyLoop.{SurveyKeeps, survey_start, survey_can_verify, survey_end, survey_found_le, survey_looks_le, survey_next_le, survey_less, survey_none, survey_found}
+use Rattle.survey.proofs.SurveyLoop.{SurveyKeeps}
 use Rattle.survey.proofs.plain.survey_starts.Given as goal
 
 abbrev pub invariant-loop-i : goal.invariant-loop-i

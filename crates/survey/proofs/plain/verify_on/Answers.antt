@@ -1,6 +1,5 @@
 -- `survey::plain::verify_on` meets its contract: start 0 is counted afresh, and for a later start the tally of the start before is moved (`SurveyCases`).
 use native.Mathlib.Omega.{arith}
-use borrow.Author.Rules.{rules}
 use Rattle.survey.proofs.SurveyCases.{first_verified, moved_verified}
 use Rattle.survey.proofs.plain.verify_on.Goals as goal
 

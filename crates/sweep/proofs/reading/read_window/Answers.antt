@@ -1,6 +1,5 @@
 -- `sweep::reading::read_window` meets its contract: m bits need 1 word up to m = 64, 2 up to 128, 3 up to 192, and 4 up to 256 (`fewest_words`).
 use native.Mathlib.Omega.{arith}
-use borrow.Author.Rules.{rules}
 use Rattle.sweep.proofs.ReadTurns.{fewest_words}
 use Rattle.sweep.proofs.reading.read_window.Goals as goal
 

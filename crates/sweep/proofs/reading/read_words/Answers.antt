@@ -1,13 +1,8 @@
 -- `sweep::reading::read_words` meets its contract: the loop keeps `StillToRead`. A turn grows the held vector, or sets every bit again at a break, or stops at
 -- break k + 1 or at a mark. The measure is the number of edges left.
-use mathlib.Core.Path.{◌≡◌, sym, ◌∙◌}
+use mathlib.Core.Path.{sym, ◌∙◌}
 use native.Mathlib.Omega.{arith}
-use borrow.Author.Rules.{rules}
-use lib.ListN.{length}
-use Rattle.vectors.specs.Bits.{first_bits}
-use Rattle.vectors.specs.ByValue.{vector_words}
-use Rattle.occurrences.specs.EdgeVectors.{edge_vectors}
-use Rattle.sweep.proofs.ReadTurns.{StillToRead, to_read_all, to_read_none, to_read_stops, to_read_empties, to_read_grows}
+use Rattle.sweep.proofs.ReadTurns.{to_read_all, to_read_none, to_read_stops, to_read_empties, to_read_grows}
 use Rattle.sweep.proofs.reading.read_words.Goals as goal
 
 pub loop-left-init : goal.loop-left-init
@@ -31,11 +26,10 @@ loop-left-preserved-then-no_bit c =
 
 -- No break: the stretch has grown.
 pub loop-left-preserved : goal.loop-left-preserved
-loop-left-preserved c =
-    (
-      c.first_bits-full.ensures,
-      to_read_grows c.loop-left.invariant.1 c.loop-left-test.true c.vector_of.ensures c.grown-next.ensures (sym c.no_bit.ensures ∙ c.if-no_bit.false),
-    )
+loop-left-preserved c = (
+  c.first_bits-full.ensures,
+  to_read_grows c.loop-left.invariant.1 c.loop-left-test.true c.vector_of.ensures c.grown-next.ensures (sym c.no_bit.ensures ∙ c.if-no_bit.false),
+)
 
 pub returns : goal.returns
 returns c = to_read_none c.loop-left.invariant.1 (omega (arith, c.loop-left-test.false))

@@ -1,13 +1,11 @@
 -- `sweep::reading::read_words` meets its contract: the loop keeps `StillToRead`. A turn grows the held vector, or sets every bit again at a break, or stops at
 -- break k + 1 or at a mark. The measure is the number of edges left.
-use mathlib.Core.Path.{◌≡◌, sym, ◌∙◌}
-use native.Mathlib.Omega.{arith}
-use borrow.Author.Rules.{rules}
+use mathlib.Core.Path.{◌≡◌}
 use lib.ListN.{length}
 use Rattle.vectors.specs.Bits.{first_bits}
 use Rattle.vectors.specs.ByValue.{vector_words}
 use Rattle.occurrences.specs.EdgeVectors.{edge_vectors}
-use Rattle.sweep.proofs.ReadTurns.{StillToRead, to_read_all, to_read_none, to_read_stops, to_read_empties, to_read_grows}
+use Rattle.sweep.proofs.ReadTurns.{StillToRead}
 use Rattle.sweep.proofs.reading.read_words.Given as goal
 
 abbrev pub invariant-loop-left : goal.invariant-loop-left

@@ -1,7 +1,6 @@
 -- `sweep::reading::stops_at` meets its contract: its two returns are the two cases of the test for breaks.
 use mathlib.Core.Path.{refl}
 use native.Mathlib.Omega.{arith}
-use borrow.Author.Rules.{rules}
 use borrow.Author.Tests.{le-leb, lt-ltb, le-ltb}
 use Prim.Native.Nat.{◌+◌, ◌≤◌}
 use Rattle.sweep.proofs.reading.stops_at.Goals as goal

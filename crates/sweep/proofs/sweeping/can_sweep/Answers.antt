@@ -1,6 +1,5 @@
 -- `sweep::sweeping::can_sweep` meets its contract: it returns false at the first comparison that fails, else the result of the last (`SizesTested` of crates/lists).
 use native.Mathlib.Omega.{arith}
-use borrow.Author.Rules.{rules}
 use Rattle.lists.proofs.SizesTested.{test_fails}
 use Rattle.sweep.proofs.SweepCases.{can_sweep_iff, can_sweep_last}
 use Rattle.sweep.proofs.sweeping.can_sweep.Goals as goal

@@ -1,14 +1,10 @@
 -- `sweep::sweeping::read_windows` meets its contract: the loop keeps `StillWindows`. A turn ends where `window` returns no edge, because no window fits in the whole
 -- line there (`none_is_past`); else it passes a window that is stopped, or ends at the candidate. The measure is n + 1 - i.
 use Prim.Native.Nat.{◌+◌, ◌-◌}
-use native.Mathlib.Omega.{arith}
-use borrow.Author.Rules.{rules}
-use borrow.Author.Tests.{not-true, not-false}
 use lib.ListN.{length}
 use Rattle.occurrences.specs.EdgeVectors.{edge_vectors}
 use Rattle.windows.specs.Windows.{parts, whole_length}
-use Rattle.windows.proofs.WindowEdges.{none_is_past}
-use Rattle.sweep.proofs.WindowTurns.{StillWindows, windows_start, windows_end, windows_fit, windows_size, windows_next_le, windows_looks_le, windows_stop, windows_turn}
+use Rattle.sweep.proofs.WindowTurns.{StillWindows}
 use Rattle.sweep.proofs.sweeping.read_windows.Given as goal
 
 abbrev pub invariant-loop-edges : goal.invariant-loop-edges

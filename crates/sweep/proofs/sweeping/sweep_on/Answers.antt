@@ -1,7 +1,5 @@
 -- `sweep::sweeping::sweep_on` meets its contract: its two returns are the two cases of the test (`SweepCases`).
 use mathlib.Core.Path.{◌∙◌, sym}
-use borrow.Author.Rules.{rules}
-use borrow.Author.Tests.{not-true, not-false}
 use Rattle.sweep.proofs.SweepCases.{can_go_on, swept_yes, swept_no}
 use Rattle.sweep.proofs.sweeping.sweep_on.Goals as goal
 

@@ -1,6 +1,5 @@
 -- `sweep::sweeping::to_candidate` meets its contract: its three returns are the three cases of `sweep_by` (`SweepWays`).
 use native.Mathlib.Omega.{arith}
-use borrow.Author.Rules.{rules}
 use borrow.Author.Tests.{not-true, not-false}
 use Rattle.occurrences.specs.EdgeVectors.{edge_vectors}
 use Rattle.windows.specs.Windows.{parts}

@@ -1,6 +1,5 @@
 -- `sweep::verifying::verify` meets its contract: its four returns are the four cases of `tally_by` (`TallyWays`).
 use native.Mathlib.Omega.{arith}
-use borrow.Author.Rules.{rules}
 use Rattle.sweep.proofs.TallyWays.{tallied_first, tallied_behind, tallied_far, tallied_moved}
 use Rattle.sweep.proofs.verifying.verify.Goals as goal
 

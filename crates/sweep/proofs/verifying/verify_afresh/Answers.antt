@@ -1,5 +1,4 @@
 -- `sweep::verifying::verify_afresh` meets its contract: the window at the start is counted afresh (`afresh_is` of TallyWays).
-use borrow.Author.Rules.{rules}
 use Rattle.sweep.proofs.TallyWays.{afresh_is}
 use Rattle.sweep.proofs.verifying.verify_afresh.Goals as goal
 

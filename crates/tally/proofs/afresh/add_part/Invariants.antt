@@ -1,11 +1,8 @@
 -- `tally::afresh::add_part` meets its contract: a turn stores rotation r's count with the part's added (`StoreLoop` of crates/lists). Sixteen
 -- bits hold the sum by the precondition. The measure is m - r.
 use Prim.Native.Nat.{◌+◌, ◌-◌, ◌≤◌}
-use native.Mathlib.Omega.{arith}
-use borrow.Author.Rules.{rules}
 use lib.ListN.{get_or}
 use Rattle.lists.specs.ByPlace.{StoredFirst}
-use Rattle.lists.proofs.StoreLoop.{stored_start, stored_turn, stored_end}
 use Rattle.tally.proofs.afresh.add_part.Given as goal
 
 abbrev pub invariant-loop-r : goal.invariant-loop-r

@@ -1,6 +1,5 @@
 -- `tally::afresh::can_count` meets its contract: it returns false at the first comparison that fails, else the result of the last (`SizesTested` of crates/lists).
 use native.Mathlib.Omega.{arith}
-use borrow.Author.Rules.{rules}
 use Rattle.lists.proofs.SizesTested.{test_fails}
 use Rattle.tally.proofs.CountCases.{can_count_iff, can_count_last}
 use Rattle.tally.proofs.afresh.can_count.Goals as goal

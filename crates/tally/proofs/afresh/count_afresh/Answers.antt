@@ -1,7 +1,5 @@
 -- `tally::afresh::count_afresh` meets its contract: its two returns are the two cases of the test (`CountCases`).
 use mathlib.Core.Path.{◌∙◌, sym}
-use borrow.Author.Rules.{rules}
-use borrow.Author.Tests.{not-true, not-false}
 use Rattle.tally.proofs.CountCases.{can_count_iff, counted_yes, counted_no}
 use Rattle.tally.proofs.afresh.count_afresh.Goals as goal
 

@@ -1,13 +1,9 @@
 -- `tally::afresh::count_edge` meets its contract: a turn stores rotation r's count with the comparison added (`StoreLoop` of crates/lists). A comparison
 -- adds at most 1, and eight bits hold that by the precondition. The measure is m - r.
 use Prim.Native.Nat.{◌-◌, ◌≤◌}
-use mathlib.Core.Path.{◌≡◌, refl}
-use native.Mathlib.Omega.{arith}
-use borrow.Author.Rules.{rules}
+use mathlib.Core.Path.{◌≡◌}
 use Rattle.lists.specs.ByPlace.{StoredFirst}
-use Rattle.lists.proofs.StoreLoop.{stored_start, stored_turn, stored_end}
 use Rattle.tally.specs.Counts.{edge_counted}
-use Rattle.tally.proofs.SomeCounted.{comparison_le}
 use Rattle.tally.proofs.afresh.count_edge.Given as goal
 
 abbrev pub invariant-loop-r : goal.invariant-loop-r

@@ -1,11 +1,7 @@
 -- `tally::afresh::count_edges` meets its contract: the counts are cleared, the loop keeps `CountingAfresh`, and then the least is taken. The measure is m - q.
-use Prim.Native.Nat.{◌+◌, ◌-◌}
-use mathlib.Core.Path.{sym}
-use native.Mathlib.Omega.{arith}
-use borrow.Author.Rules.{rules}
+use Prim.Native.Nat.{◌-◌}
 use lib.ListN.{length}
-use Rattle.tally.proofs.PastMark.{past_none}
-use Rattle.tally.proofs.AfreshLoop.{NoneCounted, CountingAfresh, edges_begin, counting_afresh_start, counting_afresh_can, counting_afresh_on, counting_afresh_turn, counting_afresh_end}
+use Rattle.tally.proofs.AfreshLoop.{CountingAfresh}
 use Rattle.tally.proofs.afresh.count_edges.Given as goal
 
 abbrev pub invariant-loop-q : goal.invariant-loop-q

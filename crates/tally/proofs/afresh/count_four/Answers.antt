@@ -1,12 +1,8 @@
 -- `tally::afresh::count_four` meets its contract: a turn stores rotation r's count with four comparisons added (`StoreLoop` of crates/lists). Each is at most 1, and
 -- eight bits hold a count with 4 added, by the precondition. The measure is m - r.
-use Prim.Native.Nat.{◌+◌, ◌*◌, ◌-◌, ◌≤◌}
-use mathlib.Core.Path.{◌≡◌}
+use Prim.Native.Nat.{◌+◌, ◌≤◌}
 use native.Mathlib.Omega.{arith}
-use borrow.Author.Rules.{rules}
-use Rattle.lists.specs.ByPlace.{StoredFirst}
 use Rattle.lists.proofs.StoreLoop.{stored_start, stored_turn, stored_end}
-use Rattle.tally.specs.Counts.{four_counted}
 use Rattle.tally.proofs.SomeCounted.{comparison_le}
 use Rattle.tally.proofs.afresh.count_four.Goals as goal
 

@@ -1,6 +1,6 @@
 -- `tally::afresh::count_part` meets its contract: the loop keeps `CountingAfresh` for the part's own counts, and then they are added. A part has at most 255 edges, so
 -- eight bits hold its counts. The measure is end - q.
-use Prim.Native.Nat.{◌+◌, ◌-◌}
+use Prim.Native.Nat.{◌+◌}
 use native.Mathlib.Omega.{arith}
 use lib.ListN.{replicate}
 use Rattle.tally.specs.Counts.{most_counts}

@@ -1,10 +1,7 @@
 -- `tally::afresh::count_part` meets its contract: the loop keeps `CountingAfresh` for the part's own counts, and then they are added. A part has at most 255 edges, so
 -- eight bits hold its counts. The measure is end - q.
-use Prim.Native.Nat.{◌+◌, ◌-◌}
-use native.Mathlib.Omega.{arith}
-use lib.ListN.{replicate}
-use Rattle.tally.specs.Counts.{most_counts}
-use Rattle.tally.proofs.AfreshLoop.{NoneCounted, CountingAfresh, part_begins, counting_afresh_start, counting_afresh_on, counting_afresh_turn, counting_part_add, counting_part_end}
+use Prim.Native.Nat.{◌-◌}
+use Rattle.tally.proofs.AfreshLoop.{CountingAfresh}
 use Rattle.tally.proofs.afresh.count_part.Given as goal
 
 abbrev pub invariant-loop-q : goal.invariant-loop-q

@@ -4,7 +4,6 @@ use Prim.Native.Nat.{◌+◌, ◌<◌}
 use mathlib.Core.Path.{◌≡◌, sym}
 use native.Mathlib.Nat.{zero-add}
 use native.Mathlib.Omega.{arith}
-use borrow.Author.Rules.{rules}
 use Rattle.tally.specs.Marks.{past_mark}
 use Rattle.tally.proofs.SomeCounted.{place_under_is, past_on, one_counted, four_counted_lem}
 use Rattle.tally.proofs.afresh.count_some.Goals as goal

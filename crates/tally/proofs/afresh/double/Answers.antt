@@ -1,7 +1,5 @@
 -- `tally::afresh::double` meets its contract: the loop keeps `Doubling`, and the measure is m - p.
-use Prim.Native.Nat.{◌-◌}
-use borrow.Author.Rules.{rules}
-use Rattle.tally.proofs.DoubledLoop.{Doubling, not_doubled, doubling_start, doubling_turn, doubling_end}
+use Rattle.tally.proofs.DoubledLoop.{not_doubled, doubling_start, doubling_turn, doubling_end}
 use Rattle.tally.proofs.afresh.double.Goals as goal
 
 pub returns-then-m-gt-MOST_COUNTS : goal.returns-then-m-gt-MOST_COUNTS

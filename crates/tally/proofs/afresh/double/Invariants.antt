@@ -1,7 +1,6 @@
 -- `tally::afresh::double` meets its contract: the loop keeps `Doubling`, and the measure is m - p.
 use Prim.Native.Nat.{◌-◌}
-use borrow.Author.Rules.{rules}
-use Rattle.tally.proofs.DoubledLoop.{Doubling, not_doubled, doubling_start, doubling_turn, doubling_end}
+use Rattle.tally.proofs.DoubledLoop.{Doubling}
 use Rattle.tally.proofs.afresh.double.Given as goal
 
 abbrev pub invariant-loop-p : goal.invariant-loop-p

@@ -1,9 +1,6 @@
 -- `tally::counts::clear` meets its contract: a turn stores 0 at r (`StoreLoop` of crates/lists). The measure is m - r.
-use Prim.Native.Nat.{◌-◌, ◌≤◌}
 use mathlib.Core.Path.{refl}
 use native.Mathlib.Omega.{arith}
-use borrow.Author.Rules.{rules}
-use Rattle.lists.specs.ByPlace.{StoredFirst}
 use Rattle.lists.proofs.StoreLoop.{stored_start, stored_turn, stored_end}
 use Rattle.tally.proofs.counts.clear.Goals as goal
 

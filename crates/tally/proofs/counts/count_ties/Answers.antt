@@ -1,9 +1,7 @@
 -- `tally::counts::count_ties` meets its contract: before turn r the ties are those of the rotations below r (`TiesLoop`). A count has sixteen bits, so none is
 -- above 65,535. The measure is the number of rotations left.
-use Prim.Native.Nat.{◌-◌, ◌≤◌}
 use native.Mathlib.Omega.{arith}
-use borrow.Author.Rules.{rules}
-use Rattle.tally.proofs.TiesLoop.{TiesSoFar, ties_start, ties_turn, ties_end, ties_none}
+use Rattle.tally.proofs.TiesLoop.{ties_start, ties_turn, ties_end, ties_none}
 use Rattle.tally.proofs.counts.count_ties.Goals as goal
 
 -- `least` is larger than a count can be.

@@ -1,6 +1,5 @@
 -- `tally::counts::finding_at` meets its contract: start and distance are passed on, the rotation is the one that `lowest_rotation` returns, and the ties are those that
 -- `count_ties` returns.
-use borrow.Author.Rules.{rules}
 use Rattle.tally.specs.Counts.{finding_with}
 use Rattle.tally.proofs.counts.finding_at.Goals as goal
 

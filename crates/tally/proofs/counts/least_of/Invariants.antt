@@ -1,10 +1,6 @@
 -- `tally::counts::least_of` meets its contract: the least begins with the first count, and the loop keeps `LeastSoFar`. The measure is m - r.
 use Prim.Native.Nat.{◌-◌, ◌≤◌, ◌<◌}
-use mathlib.Core.Path.{sym}
-use mathlib.Core.Logic.{⊎_elim}
-use native.Mathlib.Omega.{arith}
-use borrow.Author.Rules.{rules}
-use Rattle.tally.proofs.LeastSoFar.{LeastSoFar, least_so_far_first, least_so_far_less, least_so_far_kept, least_so_far_end}
+use Rattle.tally.proofs.LeastSoFar.{LeastSoFar}
 use Rattle.tally.proofs.counts.least_of.Given as goal
 
 abbrev pub invariant-loop-r : goal.invariant-loop-r

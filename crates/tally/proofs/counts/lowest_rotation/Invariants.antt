@@ -1,12 +1,8 @@
 -- `tally::counts::lowest_rotation` meets its contract: before turn r no rotation below r has the count, so the loop ends at the right rotation (`LowestLoop`). The
 -- measure is the number of rotations left.
 use Prim.Native.Nat.{ℕ, ◌-◌, ◌≤◌, ◌<◌}
-use mathlib.Core.Path.{◌≡◌, ◌∙◌, sym}
-use native.Mathlib.Omega.{arith}
+use mathlib.Core.Path.{◌≡◌}
 use lib.ListN.{get_or}
-use borrow.Author.Count.{below_more}
-use borrow.Author.Rules.{rules}
-use Rattle.tally.proofs.LowestLoop.{seeking_ends}
 use Rattle.tally.proofs.counts.lowest_rotation.Given as goal
 
 abbrev pub invariant-loop-rotation : goal.invariant-loop-rotation

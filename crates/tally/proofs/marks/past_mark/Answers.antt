@@ -1,6 +1,5 @@
 -- `tally::marks::past_mark` meets its contract: its two returns are the two cases of the test.
 use mathlib.Core.Path.{refl, sym, ◌∙◌}
-use borrow.Author.Rules.{rules}
 use Rattle.tally.proofs.marks.past_mark.Goals as goal
 
 -- The edge is a mark.

@@ -2,7 +2,6 @@
 -- returned and the comparisons passed so far decide which of rows 14, 3, 4 is the first, or that none is given (`TwoWayAdmitRows`).
 use mathlib.Core.Path.{sym, ap}
 use native.Mathlib.Omega.{arith}
-use borrow.Author.Rules.{rules}
 use Rattle.findings.specs.Admitting.{verdict_of}
 use Rattle.findings.proofs.LimitRows.{within_ring, refused_early}
 use Rattle.two_way.specs.Admitting.{two_way_rows}

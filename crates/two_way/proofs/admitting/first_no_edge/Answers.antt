@@ -1,11 +1,8 @@
 -- `two_way::admitting::first_no_edge` meets its contract: before turn q every place before q has an edge code (`NoneBefore` for the test `is_no_edge`), so the loop
 -- ends at the first place without one, or past the ring. The measure is the number of places left.
-use Prim.Native.Nat.{◌-◌}
 use native.Mathlib.Omega.{arith}
-use lib.ListN.{length}
-use borrow.Author.Rules.{rules}
-use Rattle.meaning.proofs.First.{NoneBefore, none_start, none_turn, first_by}
-use Rattle.two_way.specs.Admitting.{is_no_edge, first_no_edge}
+use Rattle.meaning.proofs.First.{none_start, none_turn, first_by}
+use Rattle.two_way.specs.Admitting.{first_no_edge}
 use Rattle.two_way.proofs.FirstNoEdge.{no_edge_iff, edge_fails}
 use Rattle.two_way.proofs.admitting.first_no_edge.Goals as goal
 

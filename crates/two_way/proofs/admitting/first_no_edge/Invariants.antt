@@ -1,12 +1,9 @@
 -- `two_way::admitting::first_no_edge` meets its contract: before turn q every place before q has an edge code (`NoneBefore` for the test `is_no_edge`), so the loop
 -- ends at the first place without one, or past the ring. The measure is the number of places left.
 use Prim.Native.Nat.{◌-◌}
-use native.Mathlib.Omega.{arith}
 use lib.ListN.{length}
-use borrow.Author.Rules.{rules}
-use Rattle.meaning.proofs.First.{NoneBefore, none_start, none_turn, first_by}
-use Rattle.two_way.specs.Admitting.{is_no_edge, first_no_edge}
-use Rattle.two_way.proofs.FirstNoEdge.{no_edge_iff, edge_fails}
+use Rattle.meaning.proofs.First.{NoneBefore}
+use Rattle.two_way.specs.Admitting.{is_no_edge}
 use Rattle.two_way.proofs.admitting.first_no_edge.Given as goal
 
 abbrev pub invariant-loop-q : goal.invariant-loop-q

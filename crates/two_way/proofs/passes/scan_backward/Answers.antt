@@ -3,7 +3,6 @@
 use mathlib.Core.Path.{sym}
 use native.Mathlib.Omega.{arith}
 use lib.Seq.{length-take-le}
-use borrow.Author.Rules.{rules}
 use Rattle.two_way.proofs.BackwardPass.{found_le, behind_le, ring_le, backward_not_refused, scanned_backward}
 use Rattle.two_way.proofs.passes.scan_backward.Goals as goal
 

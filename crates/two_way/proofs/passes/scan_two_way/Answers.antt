@@ -1,6 +1,5 @@
 -- `two_way::passes::scan_two_way` meets its contract: a row is given and the call is refused; or none is, the forward scan does not refuse, and with the backward
 -- scan behind it the contract is met (`TwoWayAnswers`).
-use borrow.Author.Rules.{rules}
 use Rattle.findings.proofs.VerdictTold.{told_none, told_refused}
 use Rattle.two_way.proofs.TwoWayAdmitRows.{two_way_no_row_iff}
 use Rattle.two_way.proofs.PassesAccepted.{forward_not_refused, can_scan_backward}

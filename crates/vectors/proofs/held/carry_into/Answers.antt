@@ -2,7 +2,6 @@
 use mathlib.Core.Path.{sym}
 use native.Mathlib.Omega.{arith}
 use Rattle.vectors.proofs.GrownWords.{carry_next, carry_last}
-use borrow.Author.Rules.{rules}
 use Rattle.vectors.proofs.held.carry_into.Goals as goal
 
 pub returns-then-w-words : goal.returns-then-w-words

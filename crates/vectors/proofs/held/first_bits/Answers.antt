@@ -2,13 +2,10 @@
 -- m − 64·w bits of word w. `vector_words - w` falls.
 use mathlib.Core.Path.{◌≡◌, ◌∙◌}
 use native.Mathlib.Omega.{arith}
-use Prim.Native.Nat.{◌-◌, ◌*◌, ◌≤◌}
-use Rattle.vectors.specs.Bits.{word_bits, first_word, first_bits}
-use Rattle.vectors.specs.ByValue.{vector_words}
-use Rattle.lists.specs.ByPlace.{StoredFirst}
+use Prim.Native.Nat.{◌-◌, ◌*◌}
+use Rattle.vectors.specs.Bits.{word_bits, first_bits}
 use Rattle.lists.proofs.StoreLoop.{stored_start, stored_turn, stored_end, stored_all}
 use Rattle.vectors.proofs.FirstBitsAreSet.{first_word_left}
-use borrow.Author.Rules.{rules}
 use Rattle.vectors.proofs.held.first_bits.Goals as goal
 use Rattle.vectors.proofs.held.first_bits.Goals.{then-from-m, else-from-m}
 

@@ -1,6 +1,5 @@
 -- `vectors::held::grown` meets its contract: each of its four words is the definition's.
 use Rattle.vectors.proofs.GrownWords.{grown_of_words}
-use borrow.Author.Rules.{rules}
 use Rattle.vectors.proofs.held.grown.Goals as goal
 
 pub returns : goal.returns

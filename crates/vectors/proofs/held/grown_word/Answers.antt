@@ -3,7 +3,6 @@
 use mathlib.Core.Path.{sym}
 use native.Mathlib.Omega.{arith}
 use Rattle.vectors.proofs.GrownWords.{grown_word_below, grown_word_past}
-use borrow.Author.Rules.{rules}
 use Rattle.vectors.proofs.held.grown_word.Goals as goal
 
 pub returns-then-w-words : goal.returns-then-w-words

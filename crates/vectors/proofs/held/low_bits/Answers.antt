@@ -1,7 +1,6 @@
 -- `vectors::held::low_bits` meets its contract: for a count below 64 it is `(1 << count) - 1`, and the shift loses nothing; else every bit is set.
 use lib.Pow.{pow_pos}
 use Rattle.vectors.proofs.FirstBitsAreSet.{shl_one, low_bits_some, low_bits_full}
-use borrow.Author.Rules.{rules}
 use Rattle.vectors.proofs.held.low_bits.Goals as goal
 
 pub overflow_sub-result : goal.overflow_sub-result

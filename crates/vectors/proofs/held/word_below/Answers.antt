@@ -2,7 +2,6 @@
 use mathlib.Core.Path.{refl}
 use native.Mathlib.Omega.{arith}
 use borrow.Author.Tests.{lt-ltb, le-ltb}
-use borrow.Author.Rules.{rules}
 use Rattle.vectors.proofs.held.word_below.Goals as goal
 
 pub returns-then-w-words : goal.returns-then-w-words

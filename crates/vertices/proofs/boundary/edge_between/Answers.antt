@@ -2,7 +2,7 @@
 use Rattle.std.proofs.Common.{◌≡◌, ap₂, ◌∙◌, arith}
 use lib.IntN.{◌-ℤ◌}
 use Rattle.vertices.specs.Steps.{step_code}
-use Rattle.vertices.specs.Boundary.{Vertex, vertex_at}
+use Rattle.vertices.specs.Boundary.{vertex_at}
 use Rattle.vertices.proofs.MachineNumbers.{read64, read_step}
 use Rattle.vertices.proofs.EqualPairs.{step_between}
 use Rattle.vertices.proofs.boundary.edge_between.Goals as goal

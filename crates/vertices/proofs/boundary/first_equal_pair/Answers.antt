@@ -1,11 +1,10 @@
 -- `vertices::boundary::first_equal_pair` meets its contract: before turn i no vertex before i equals the one that follows it (`NoneBefore`), so the loop ends at the first that does,
 -- or past the last vertex. The measure is the number of vertices left.
-use Prim.Native.Nat.{◌+◌, ◌-◌}
+use Prim.Native.Nat.{◌+◌}
 use mathlib.Core.Path.{sym, ◌∙◌}
 use native.Mathlib.Nat.{mod-lt}
 use native.Mathlib.Omega.{arith}
-use borrow.Author.Rules.{rules}
-use Rattle.meaning.proofs.First.{NoneBefore, none_start, none_turn, first_by}
+use Rattle.meaning.proofs.First.{none_start, none_turn, first_by}
 use Rattle.vertices.specs.Boundary.{is_equal_pair, first_equal_pair}
 use Rattle.vertices.proofs.boundary.first_equal_pair.Goals as goal
 

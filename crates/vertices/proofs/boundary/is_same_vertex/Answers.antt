@@ -1,6 +1,5 @@
 -- `vertices::boundary::is_same_vertex` meets its contract: the machine compares the bits of two numbers, and equal bits are equal numbers.
 use mathlib.Core.Path.{sym, ◌∙◌}
-use borrow.Author.Rules.{rules}
 use Rattle.vertices.specs.Boundary.{Vertex, vertex_at}
 use Rattle.vertices.proofs.MachineNumbers.{bits_tested, bits_differ, bits_same}
 use Rattle.vertices.proofs.boundary.is_same_vertex.Goals as goal

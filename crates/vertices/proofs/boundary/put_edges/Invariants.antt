@@ -1,13 +1,8 @@
 -- `vertices::boundary::put_edges` meets its contract: before turn i the first i bytes are edges of the boundary and the others as they were (`StoredFirst`). At the end all edges are
 -- written. The measure is the number of vertices left.
-use Prim.Native.Nat.{◌+◌, ◌-◌, ◌≤◌}
-use native.Mathlib.Nat.{mod-lt}
-use native.Mathlib.Omega.{arith}
-use borrow.Author.Rules.{rules}
+use Prim.Native.Nat.{◌-◌, ◌≤◌}
 use Rattle.lists.specs.ByPlace.{StoredFirst}
-use Rattle.lists.proofs.StoreLoop.{stored_start, stored_turn, stored_end}
-use Rattle.lists.proofs.Areas.{stored_written}
-use Rattle.vertices.specs.Boundary.{boundary_edge, boundary_edges}
+use Rattle.vertices.specs.Boundary.{boundary_edge}
 use Rattle.vertices.proofs.boundary.put_edges.Given as goal
 
 abbrev pub invariant-loop-i : goal.invariant-loop-i

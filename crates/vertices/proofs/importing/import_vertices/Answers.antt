@@ -2,7 +2,6 @@
 use mathlib.Core.Logic.{inl, inr}
 use native.Mathlib.Omega.{arith}
 use lib.ListN.{length}
-use borrow.Author.Rules.{rules}
 use Rattle.vertices.specs.ImportRows.{IsRightCount}
 use Rattle.vertices.proofs.ImportCases.{refused_count, refused_pair, refused_room, can_put_lem, imported}
 use Rattle.vertices.proofs.importing.import_vertices.Goals as goal

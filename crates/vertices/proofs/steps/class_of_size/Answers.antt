@@ -1,6 +1,5 @@
 -- `vertices::steps::class_of_size` meets its contract: the bit length less one is 63 less the number of leading zeros (`top_of_64`), and above 30 it is taken as 30.
 use native.Mathlib.Omega.{arith}
-use borrow.Author.Rules.{rules}
 use Rattle.vertices.proofs.BitLengths.{top_of_64}
 use Rattle.vertices.proofs.steps.class_of_size.Goals as goal
 

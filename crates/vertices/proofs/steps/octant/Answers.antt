@@ -3,7 +3,6 @@ use mathlib.Core.Path.{ap, ◌∙◌}
 use lib.IntN.{nat_abs}
 use mir.Syntax.{w64}
 use mir.ValLaws.{to_z-of_z}
-use borrow.Author.Rules.{rules}
 use Rattle.vertices.specs.Sizes.{is_negative}
 use Rattle.vertices.proofs.OctantBySizes.{octant_known}
 use Rattle.vertices.proofs.steps.octant.Goals as goal

@@ -1,6 +1,5 @@
 -- `vertices::steps::size` meets its contract, by the step's sign. A negative step has the size of −1 − step and one more, another its own.
 use native.Mathlib.Omega.{arith}
-use borrow.Author.Rules.{rules}
 use Rattle.vertices.proofs.MachineNumbers.{read_negative, read_one_less_fits, read_one_less, read_whole}
 use Rattle.vertices.proofs.steps.size.Goals as goal
 

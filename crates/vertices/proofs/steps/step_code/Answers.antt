@@ -5,7 +5,6 @@ use native.Mathlib.Omega.{arith}
 use lib.IntN.{nat_abs}
 use mir.Syntax.{w64}
 use mir.ValLaws.{to_z-of_z}
-use borrow.Author.Rules.{rules}
 use Rattle.vertices.specs.Steps.{class_of_size, step_octant}
 use Rattle.vertices.proofs.MachineNumbers.{read64}
 use Rattle.vertices.proofs.Octants.{octant_lt}

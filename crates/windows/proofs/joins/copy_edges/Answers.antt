@@ -1,9 +1,6 @@
 -- `windows::joins::copy_edges` meets its contract: the loop keeps `Copying`. The measure is the number of edges left to copy.
-use Prim.Native.Nat.{◌-◌}
-use lib.ListN.{length}
 use native.Mathlib.Omega.{arith}
-use borrow.Author.Rules.{rules}
-use Rattle.windows.proofs.JoinFilled.{Copying, copy_start, copy_length, copy_turn, copy_end}
+use Rattle.windows.proofs.JoinFilled.{copy_start, copy_length, copy_turn, copy_end}
 use Rattle.windows.proofs.joins.copy_edges.Goals as goal
 
 pub loop-q-init : goal.loop-q-init

@@ -1,7 +1,6 @@
 -- `windows::joins::fill_join` meets its contract: at each early return the area cannot be filled; else the line's last m − 1 edges and its first m − 1 are copied, one
 -- behind the other (`JoinFilled`).
 use native.Mathlib.Omega.{arith}
-use borrow.Author.Rules.{rules}
 use Rattle.windows.proofs.JoinFilled.{not_filled, is_filled}
 use Rattle.windows.proofs.joins.fill_join.Goals as goal
 

@@ -1,6 +1,5 @@
 -- `windows::windows::part` meets its contract: the two tests decide whether m edges from i on fit, and the returns are these two cases (`WindowEdges`).
 use native.Mathlib.Omega.{arith}
-use borrow.Author.Rules.{rules}
 use Rattle.windows.proofs.WindowEdges.{none_at, part_at}
 use Rattle.windows.proofs.windows.part.Goals as goal
 

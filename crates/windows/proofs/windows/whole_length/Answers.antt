@@ -3,7 +3,6 @@
 use native.Mathlib.Omega.{arith}
 use mathlib.Core.Path.{sym, ap}
 use lib.ListN.{length}
-use borrow.Author.Rules.{rules}
 use Rattle.windows.proofs.WindowEdges.{whole_no_edge, whole_short, whole_narrow, whole_full, whole_part}
 use Rattle.windows.proofs.windows.whole_length.Goals as goal
 

@@ -2,7 +2,6 @@
 -- that crosses out of the join area (`WindowEdges`).
 use native.Mathlib.Omega.{arith}
 use mathlib.Core.Path.{◌∙◌}
-use borrow.Author.Rules.{rules}
 use Rattle.windows.proofs.WindowEdges.{none_behind, none_short, window_in_line, window_in_join}
 use Rattle.windows.proofs.windows.window.Goals as goal
 
