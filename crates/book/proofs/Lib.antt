@@ -1,5 +1,5 @@
 -- The theorems about the calls on a book, and the laws that the proofs of functions cite. The theorems about the definitions are in crates/silences/proofs. A
--- function's own proof is in a folder by its file and name, as reading/read/Proof.antt. The theorems to read first (their heads name what they use):
+-- function's own proof is in a folder by its file and name, as reading/read/Answers.antt. The theorems to read first (their heads name what they use):
 --
 --   SeekHides           seeking decides which findings a book hides
 --   SeekRising          so does going on from the field held, with rising addresses, as the report does

@@ -1,5 +1,5 @@
 -- The theorems about `pack`, and the laws that the proofs of functions cite. The theorems about the definitions are in crates/silences/proofs. A function's own
--- proof is in a folder by its file and name, as packing/pack/Proof.antt. The theorems to read first (their heads name what they use):
+-- proof is in a folder by its file and name, as packing/pack/Answers.antt. The theorems to read first (their heads name what they use):
 --
 --   RowsOfPacking        when each refusal is given, and where
 --   RoundTripsOfCalls    `pack` and `unpack` undo each other

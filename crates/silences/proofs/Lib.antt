@@ -1,5 +1,5 @@
 -- The theorems about silences and books, and the laws that the proofs of functions cite. A function's own proof is in a folder by its file and name, as
--- field/field_at/Proof.antt. The theorems to read first (their heads name what they use):
+-- field/field_at/Answers.antt. The theorems to read first (their heads name what they use):
 --
 --   AcceptedIsBook              which books are accepted
 --   HidesIff, ZeroIsOrdinary    which findings silences hide
