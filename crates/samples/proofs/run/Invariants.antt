@@ -4,7 +4,7 @@ use native.Mathlib.Omega.{arith}
 use Rattle.samples.proofs.run.Given as goal
 
 abbrev pub invariant-loop-next : goal.invariant-loop-next
-invariant-loop-next l = Unit
+invariant-loop-next g l = Unit
 
 abbrev pub decreases-loop-next : goal.decreases-loop-next
-decreases-loop-next l = l.lines - l.next
+decreases-loop-next g l = l.lines - l.next
