@@ -1,7 +1,6 @@
 -- `program::read_input` stays within the lent area and ends: the room left falls with each read. No contract can say which bytes are read.
 use Prim.Native.Nat.{◌-◌, ◌≤◌}
 use mathlib.Core.Path.{◌≡◌}
-use native.Mathlib.Omega.{arith}
 use lib.ListN.{length}
 use Rattle.program.proofs.read_input.Given as goal
 

@@ -1,6 +1,5 @@
 -- `samples::run` is safe and ends: the number of lines left falls.
 use Prim.Native.Nat.{◌-◌}
-use native.Mathlib.Omega.{arith}
 use Rattle.samples.proofs.run.Given as goal
 
 abbrev pub invariant-loop-next : goal.invariant-loop-next

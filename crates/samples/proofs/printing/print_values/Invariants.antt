@@ -1,8 +1,6 @@
 -- `samples::printing::print_values` is safe and ends: the sum stays below its modulus, and the number of words left falls.
 use Prim.Native.Nat.{◌-◌, ◌<◌}
-use native.Mathlib.Omega.{arith}
 use lib.ListN.{length}
-use borrow.Author.Rules.{rules}
 use Rattle.samples.proofs.printing.print_values.Given as goal
 
 abbrev pub invariant-loop-at : goal.invariant-loop-at
