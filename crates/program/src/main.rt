@@ -7,23 +7,21 @@
 ghost use Rattle.std.specs.Prelude.{◌≤◌, length};
 
 use reply::{MOST_INPUT, MOST_TEXT};
+use std::io::Read;
 
 // One byte more than the longest input. If all of these bytes come, the input is too long.
 const MOST_READ: usize = MOST_INPUT + 1;
 
 // Reads standard input to its end, or until `input` is full, and returns the number of bytes read. If a read fails, the rest of the
-// input is unknown: this returns 0, and the empty input is refused by 11 at place 0. (`io::read_full` returns a short count at the
-// end of the input and on a failure alike, so this calls `libc::read`.)
-fn read_input(input: &mut [u8]) -> usize
+// input is unknown: this returns 0, and the empty input is refused by 11 at place 0.
+fn read_input(reader: &mut impl Read, input: &mut [u8]) -> usize
     ensures { result ≤ length input.new }
 {
     let mut got: usize = 0;
     while got < input.len() {
-        let came = libc::read(libc::STDIN_FILENO, &mut input[got..]);
-        if came < 0 {
+        let Ok(more) = reader.read(&mut input[got..]) else {
             return 0;
-        }
-        let more = io::count(came, &input[got..]);
+        };
         if more == 0 {
             return got;
         }
@@ -33,16 +31,13 @@ fn read_input(input: &mut [u8]) -> usize
 }
 
 // Reads the input, makes the text and writes it.
-fn main() {
+fn main(rt: HostRuntime) {
     let mut input = [0u8; MOST_READ];
-    let got = read_input(&mut input);
+    let got = read_input(&mut rt.stdin(), &mut input);
     let mut text = [0u8; MOST_TEXT];
     let long = reply::answer(&input[..got], &mut text);
-    if !io::write_all(libc::STDOUT_FILENO, &text[..long]) {
-        // A Rattle program always exits with status 0, so standard error is the only place to report a failed write.
-        io::write_all(
-            libc::STDERR_FILENO,
-            b"outlines: the report was not written whole\n",
-        );
+    if rt.write_all(&text[..long]).is_err() {
+        // The exit status stays 0, so standard error is the only place to report a failed write. If that fails too, nothing is left to do.
+        let _ = eprintln!(rt; "outlines: the report was not written whole");
     }
 }

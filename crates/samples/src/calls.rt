@@ -1,5 +1,6 @@
 // The calls, numbered as their names stand in `begin_row`.
 use crate::{printing, table};
+use std::io;
 
 pub const PACK: usize = 0;
 
@@ -34,10 +35,10 @@ pub const IMPORT_VERTICES: usize = 14;
 pub const SCAN_VERTICES: usize = 15;
 
 // Begins the line of a row: prints the call and the row's name.
-pub fn begin_row(call: usize, row: &[u8]) {
+pub fn begin_row(rt: &impl Print, call: usize, row: &[u8]) -> io::Result<()> {
     let names =
         b"pack |read |unpack |seek |scan |survey |report |answer |scan_closed |survey_closed |report_closed |scan_two_way |reversed_code |reversed |import_vertices |scan_vertices ";
-    printing::print_text(table::field(names, call));
-    printing::print_text(table::field(row, 0));
-    printing::print_text(b":");
+    printing::print_text(rt, table::field(names, call))?;
+    printing::print_text(rt, table::field(row, 0))?;
+    printing::print_text(rt, b":")
 }

@@ -8,100 +8,101 @@ use answers::{number_of, place_of};
 use book::BookAnswer;
 use findings::SearchCounts;
 use outlines::{Reported, Searched};
+use std::io;
 use two_way::TwoWay;
 use vertices::Imported;
 
 // Prints the number of a refusal (0 for none) and its place.
-fn print_refusal(refusal: usize, place: usize) {
-    print_number(NUMBER_LABEL, refusal);
-    print_number(PLACE_LABEL, place);
+fn print_refusal(rt: &impl Print, refusal: usize, place: usize) -> io::Result<()> {
+    print_number(rt, NUMBER_LABEL, refusal)?;
+    print_number(rt, PLACE_LABEL, place)
 }
 
 // "Packer and unpacker return the number of records".
-pub fn print_book(answer: BookAnswer) {
+pub fn print_book(rt: &impl Print, answer: BookAnswer) -> io::Result<()> {
     match answer {
         BookAnswer::Records(records) => {
-            print_refusal(0, 0);
-            print_number(RECORDS_LABEL, records);
+            print_refusal(rt, 0, 0)?;
+            print_number(rt, RECORDS_LABEL, records)
         }
         BookAnswer::Refused(refusal) => {
-            print_refusal(number_of(refusal), place_of(refusal));
-            print_number(RECORDS_LABEL, 0);
+            print_refusal(rt, number_of(refusal), place_of(refusal))?;
+            print_number(rt, RECORDS_LABEL, 0)
         }
     }
 }
 
 // "Survey and scan return found and looks."
-pub fn print_search(answer: Searched) {
+pub fn print_search(rt: &impl Print, answer: Searched) -> io::Result<()> {
     match answer {
         Searched::Counts { found, looks } => {
-            print_refusal(0, 0);
-            print_number(FOUND_LABEL, found);
-            print_number(LOOKS_LABEL, looks);
+            print_refusal(rt, 0, 0)?;
+            print_number(rt, FOUND_LABEL, found)?;
+            print_number(rt, LOOKS_LABEL, looks)
         }
         Searched::Refused(refusal) => {
-            print_refusal(number_of(refusal), place_of(refusal));
-            print_number(FOUND_LABEL, 0);
-            print_number(LOOKS_LABEL, 0);
+            print_refusal(rt, number_of(refusal), place_of(refusal))?;
+            print_number(rt, FOUND_LABEL, 0)?;
+            print_number(rt, LOOKS_LABEL, 0)
         }
     }
 }
 
 // The report "returns found (hidden ones included), hidden, looks".
-pub fn print_report(answer: Reported) {
+pub fn print_report(rt: &impl Print, answer: Reported) -> io::Result<()> {
     match answer {
         Reported::Counts {
             found,
             hidden,
             looks,
         } => {
-            print_refusal(0, 0);
-            print_number(FOUND_LABEL, found);
-            print_number(HIDDEN_LABEL, hidden);
-            print_number(LOOKS_LABEL, looks);
+            print_refusal(rt, 0, 0)?;
+            print_number(rt, FOUND_LABEL, found)?;
+            print_number(rt, HIDDEN_LABEL, hidden)?;
+            print_number(rt, LOOKS_LABEL, looks)
         }
         Reported::Refused(refusal) => {
-            print_refusal(number_of(refusal), place_of(refusal));
-            print_number(FOUND_LABEL, 0);
-            print_number(HIDDEN_LABEL, 0);
-            print_number(LOOKS_LABEL, 0);
+            print_refusal(rt, number_of(refusal), place_of(refusal))?;
+            print_number(rt, FOUND_LABEL, 0)?;
+            print_number(rt, HIDDEN_LABEL, 0)?;
+            print_number(rt, LOOKS_LABEL, 0)
         }
     }
 }
 
 // Prints found and looks of one pass.
-fn print_pass(label: usize, pass: SearchCounts) {
-    print_number(label, pass.found);
-    print_number(LOOKS_LABEL, pass.looks);
+fn print_pass(rt: &impl Print, label: usize, pass: SearchCounts) -> io::Result<()> {
+    print_number(rt, label, pass.found)?;
+    print_number(rt, LOOKS_LABEL, pass.looks)
 }
 
 // "Each pass has its own found, looks" (document 02, ticket 6).
-pub fn print_two_way(answer: TwoWay) {
+pub fn print_two_way(rt: &impl Print, answer: TwoWay) -> io::Result<()> {
     match answer {
         TwoWay::Counts { forward, backward } => {
-            print_refusal(0, 0);
-            print_pass(FORWARD_LABEL, forward);
-            print_pass(BACKWARD_LABEL, backward);
+            print_refusal(rt, 0, 0)?;
+            print_pass(rt, FORWARD_LABEL, forward)?;
+            print_pass(rt, BACKWARD_LABEL, backward)
         }
         TwoWay::Refused(refusal) => {
             let none = SearchCounts { found: 0, looks: 0 };
-            print_refusal(number_of(refusal), place_of(refusal));
-            print_pass(FORWARD_LABEL, none);
-            print_pass(BACKWARD_LABEL, none);
+            print_refusal(rt, number_of(refusal), place_of(refusal))?;
+            print_pass(rt, FORWARD_LABEL, none)?;
+            print_pass(rt, BACKWARD_LABEL, none)
         }
     }
 }
 
 // "Only edge bytes come out, one per vertex" (document 02, ticket 7): the number of edges.
-pub fn print_import(answer: Imported) {
+pub fn print_import(rt: &impl Print, answer: Imported) -> io::Result<()> {
     match answer {
         Imported::Edges(edges) => {
-            print_refusal(0, 0);
-            print_number(EDGES_LABEL, edges);
+            print_refusal(rt, 0, 0)?;
+            print_number(rt, EDGES_LABEL, edges)
         }
         Imported::Refused(refusal) => {
-            print_refusal(number_of(refusal), place_of(refusal));
-            print_number(EDGES_LABEL, 0);
+            print_refusal(rt, number_of(refusal), place_of(refusal))?;
+            print_number(rt, EDGES_LABEL, 0)
         }
     }
 }

@@ -6,6 +6,7 @@ use crate::printing::{
 };
 use crate::{area, books, printing, table};
 use silences::{Address, Sought};
+use std::io;
 
 // The address that a field gives: cell, ring number, start.
 fn address_of(field: &[u8]) -> Address {
@@ -17,29 +18,29 @@ fn address_of(field: &[u8]) -> Address {
 }
 
 // Prints the field that was found, or that there is none.
-fn print_sought(sought: Sought) {
+fn print_sought(rt: &impl Print, sought: Sought) -> io::Result<()> {
     match sought {
         Sought::Field {
             address,
             ceiling,
             next,
         } => {
-            printing::print_number(CELL_LABEL, address.cell as usize);
-            printing::print_number(RING_NUMBER_LABEL, address.ring_number as usize);
-            printing::print_number(START_LABEL, address.start as usize);
-            printing::print_number(CEILING_LABEL, ceiling as usize);
-            printing::print_number(NEXT_LABEL, next);
+            printing::print_number(rt, CELL_LABEL, address.cell as usize)?;
+            printing::print_number(rt, RING_NUMBER_LABEL, address.ring_number as usize)?;
+            printing::print_number(rt, START_LABEL, address.start as usize)?;
+            printing::print_number(rt, CEILING_LABEL, ceiling as usize)?;
+            printing::print_number(rt, NEXT_LABEL, next)
         }
-        Sought::Nothing => printing::print_text(b" nothing"),
+        Sought::Nothing => printing::print_text(rt, b" nothing"),
     }
 }
 
 // Runs one row.
-pub fn seek_row(row: &[u8]) {
+pub fn seek_row(rt: &impl Print, row: &[u8]) -> io::Result<()> {
     let mut bytes = area::zeros();
     let book = books::book(row, 1, &mut bytes);
     let from = table::number_or(row, 5, 0);
-    printing::print_number(FROM_LABEL, from);
-    print_sought(book::seek(book, from, address_of(table::field(row, 6))));
-    printing::print_text(b"\n");
+    printing::print_number(rt, FROM_LABEL, from)?;
+    print_sought(rt, book::seek(book, from, address_of(table::field(row, 6))))?;
+    printing::print_text(rt, b"\n")
 }

@@ -4,6 +4,7 @@
 // allowance: both are imported, and the line is scanned for the ring both ways.
 use crate::area::BOOK_ROOM;
 use crate::{area, paper, printing, table, two_way_rows};
+use std::io;
 use vertices::{Imported, import_vertices};
 
 // The numbers of a vertex: north and east.
@@ -85,14 +86,14 @@ fn import(field: &[u8], count: usize, edges: &mut [u8]) -> Imported {
 }
 
 // Runs one row through the import.
-pub fn import_row(row: &[u8]) {
+pub fn import_row(rt: &impl Print, row: &[u8]) -> io::Result<()> {
     let field = table::field(row, 1);
     let count = table::number_or(row, 2, number_count(field));
     let room = table::number_or(row, 3, BOOK_ROOM);
     let mut bytes = area::book_room_bytes();
     let space: &mut [u8] = &mut bytes;
-    paper::print_import(import(field, count, area::lend_bytes(space, room)));
-    printing::end_row_of_bytes(space, room);
+    paper::print_import(rt, import(field, count, area::lend_bytes(space, room)))?;
+    printing::end_row_of_bytes(rt, space, room)
 }
 
 // How many edges an import wrote.
@@ -110,12 +111,13 @@ fn edges_of<'a>(field: &[u8], area: &'a mut [u8]) -> &'a [u8] {
 }
 
 // Runs one row through two imports and the two-way scan.
-pub fn scan_row(row: &[u8]) {
+pub fn scan_row(rt: &impl Print, row: &[u8]) -> io::Result<()> {
     let mut ring = area::book_room_bytes();
     let mut line = area::book_room_bytes();
     two_way_rows::scan(
+        rt,
         row,
         edges_of(table::field(row, 1), &mut ring),
         edges_of(table::field(row, 2), &mut line),
-    );
+    )
 }

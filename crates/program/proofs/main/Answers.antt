@@ -2,7 +2,6 @@
 use mathlib.Core.Path.{sym}
 use lib.Seq.{length-take-le}
 use Rattle.reply.proofs.RequestCases.{answer_within}
-use borrow.Author.Rules.{rules}
 use Rattle.program.proofs.main.Goals as goal
 
 pub slice_bounds-answer-end : goal.slice_bounds-answer-end

@@ -1,12 +1,11 @@
 -- `program::read_input` stays within the lent area and ends: the room left falls with each read. No contract can say which bytes are read.
 use Prim.Native.Nat.{◌-◌, ◌≤◌}
 use mathlib.Core.Path.{◌≡◌}
-use native.Mathlib.Omega.{arith}
 use lib.ListN.{length}
 use Rattle.program.proofs.read_input.Given as goal
 
 abbrev pub invariant-loop-got : goal.invariant-loop-got
-invariant-loop-got l = (l.got ≤ length l.input) × (length l.input ≡ length l.initial.input)
+invariant-loop-got g l = (l.got ≤ length l.input) × (length l.input ≡ length l.initial.input)
 
 abbrev pub decreases-loop-got : goal.decreases-loop-got
-decreases-loop-got l = length l.input - l.got
+decreases-loop-got g l = length l.input - l.got

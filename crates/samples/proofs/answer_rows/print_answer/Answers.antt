@@ -2,11 +2,10 @@
 use mathlib.Core.Path.{sym}
 use lib.Seq.{length-take-le}
 use Rattle.reply.proofs.RequestCases.{answer_within}
-use borrow.Author.Rules.{rules}
 use Rattle.samples.proofs.answer_rows.print_answer.Goals as goal
 
 pub slice_bounds-text-end : goal.slice_bounds-text-end
-slice_bounds-text-end c = answer_within c.answer-length.ensures
+slice_bounds-text-end g c = answer_within c.answer-length.ensures
 
 pub slice_bounds-print_text-end : goal.slice_bounds-print_text-end
-slice_bounds-print_text-end c = sym (length-take-le _ _ (answer_within c.answer-length.ensures))
+slice_bounds-print_text-end g c = sym (length-take-le _ _ (answer_within c.answer-length.ensures))

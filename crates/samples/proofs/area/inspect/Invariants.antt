@@ -1,9 +1,6 @@
 -- `samples::area::inspect` meets its contract: `written` is at most the place inspected. The number of words left falls.
 use Prim.Native.Nat.{◌-◌, ◌≤◌}
-use mathlib.Core.Logic.{⊎_elim}
-use native.Mathlib.Omega.{arith}
 use lib.ListN.{length}
-use borrow.Author.Rules.{rules}
 use Rattle.samples.proofs.area.inspect.Given as goal
 
 abbrev pub invariant-loop-at : goal.invariant-loop-at

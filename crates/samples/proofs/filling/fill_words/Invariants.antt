@@ -1,9 +1,7 @@
 -- `samples::filling::fill_words` is safe and ends: a store keeps the number of words, and the number of words left falls.
 use Prim.Native.Nat.{◌-◌}
 use mathlib.Core.Path.{◌≡◌}
-use native.Mathlib.Omega.{arith}
 use lib.ListN.{length}
-use borrow.Author.Rules.{rules}
 use Rattle.samples.proofs.filling.fill_words.Given as goal
 
 abbrev pub invariant-loop-at : goal.invariant-loop-at

@@ -1,6 +1,5 @@
 -- `samples::table::decimal` is safe and ends: the number of bytes left falls.
 use Prim.Native.Nat.{◌-◌}
-use native.Mathlib.Omega.{arith}
 use lib.ListN.{length}
 use Rattle.samples.proofs.table.decimal.Given as goal
 

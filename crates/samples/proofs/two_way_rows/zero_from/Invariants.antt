@@ -1,6 +1,5 @@
 -- `samples::two_way_rows::zero_from` is safe and ends: the number of words left falls.
 use Prim.Native.Nat.{◌-◌}
-use native.Mathlib.Omega.{arith}
 use lib.ListN.{length}
 use Rattle.samples.proofs.two_way_rows.zero_from.Given as goal
 

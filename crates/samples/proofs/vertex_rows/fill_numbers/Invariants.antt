@@ -1,9 +1,7 @@
 -- `samples::vertex_rows::fill_numbers` is safe and ends: a store keeps the number of numbers, and the number of those left falls.
 use Prim.Native.Nat.{◌-◌}
 use mathlib.Core.Path.{◌≡◌}
-use native.Mathlib.Omega.{arith}
-use lib.ListN.{length, length-set}
-use borrow.Author.Rules.{rules}
+use lib.ListN.{length}
 use Rattle.samples.proofs.vertex_rows.fill_numbers.Given as goal
 
 abbrev pub invariant-loop-at : goal.invariant-loop-at

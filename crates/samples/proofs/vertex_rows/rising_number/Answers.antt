@@ -4,7 +4,6 @@ use native.Mathlib.Nat.{mul-le-mul}
 use native.Mathlib.Omega.{arith}
 use mir.Syntax.{w64}
 use mir.Val.{Fits}
-use borrow.Author.Rules.{rules}
 use Rattle.samples.proofs.vertex_rows.rising_number.Goals as goal
 
 square-fits : (i : ℕ) → i < 4098 → Fits w64 (i * i)
