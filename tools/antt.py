@@ -155,7 +155,7 @@ def definitions(text, path=""):
 def used(text):
     """{name in this file: (crate, specs or proofs, module, name there)} for what the `use` lines bring from the repository's crates"""
     found = {}
-    for crate, part, module, names in re.findall(r"(?m)^(?:pub |ghost )?use Rattle·(\w+)(?:·(?:specs|proofs))?\.(specs|proofs)\.([^\s{]+)\.\{([^}]*)\}", text):
+    for crate, part, module, names in re.findall(r"(?m)^(?:pub |ghost )?use Rattle\.(\w+)\.(specs|proofs)\.([^\s{]+)\.\{([^}]*)\}", text):
         for name, _, own in (word.strip().partition(" as ") for word in names.split(",")):
             found[own or name] = (crate, part, module, name)
     return found

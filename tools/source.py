@@ -39,7 +39,7 @@ def parted(tokens):
 
 
 class Function:
-    """name; place, the number of its line; public, whether `pub` stands before it; for_c, whether it is `no_mangle`; parameters [(name, type)]; result; clauses;
+    """name; place, the number of its line; public, whether `pub` stands before it; for_c, whether it is `unsafe(no_mangle)`; parameters [(name, type)]; result; clauses;
     body. Types, result, clauses and body are tokens. `lines` has the line of each token of the body, and `fellow` and `within` are the body's `pairs`."""
 
     def __init__(self, tokens, lines, at, fellow):
@@ -48,7 +48,11 @@ class Function:
         while tokens[before] in ("const", "unsafe", "extern", '"C"'):
             before -= 1
         self.public = tokens[before] == "pub"
-        self.for_c = tokens[before - self.public - 1:before - self.public + 1] == ["no_mangle", "]"]
+        before -= self.public
+        self.for_c = False
+        while tokens[before] == "]" and tokens[fellow[before] - 1] == "#":  # an attribute
+            self.for_c |= tokens[fellow[before]:before + 1] == ["[", "unsafe", "(", "no_mangle", ")", "]"]
+            before = fellow[before] - 2
         opened = tokens.index("(", at)
         words = [part[1:] if part[0] == "mut" else part for part in parted(tokens[opened + 1:fellow[opened]])]
         self.parameters = [(part[0], part[2:]) for part in words]
@@ -122,8 +126,8 @@ def handed_on(text):
 
 
 def fact(clause):
-    """the tokens between ⌜ and ⌝ of a clause"""
-    return clause[clause.index("⌜") + 1:clause.index("⌝")] if "⌜" in clause else []
+    """what a clause says: the tokens between its outer braces, which its name may stand before"""
+    return clause[clause.index("{") + 1:-1]
 
 
 def read_file(path):
