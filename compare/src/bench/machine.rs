@@ -41,14 +41,9 @@ pub fn load() -> String {
     read.split(' ').next().unwrap_or("unknown").to_string()
 }
 
-/// On x86-64 the archive is the kit's own; elsewhere tools/native has the kit's clang compile the same LLVM modules.
+/// The kit compiles the archive, for each processor.
 fn built_with() -> String {
-    let how = if cfg!(target_arch = "x86_64") {
-        "the kit's archive"
-    } else {
-        "the archive's LLVM modules, for this processor"
-    };
-    format!("{how}: the kit's clang, -O3")
+    "the kit's archive: the kit's clang, -O3".to_string()
 }
 
 /// What each contender was built with.
