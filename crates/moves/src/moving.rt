@@ -114,10 +114,9 @@ pub fn move_counts<'a>(
             past: 0,
         };
     }
-    let tally = Tally { counts: *counts };
-    let there = moved_tally(tally, ring, line, join, from, steps, below);
-    let kept = there.tally;
-    let after = kept.counts;
+    let mut tally = Tally { counts: *counts };
+    let there = move_tally(&mut tally, ring, line, join, from, steps, below);
+    let after = tally.counts;
     *counts = after;
-    there.reached
+    there
 }
