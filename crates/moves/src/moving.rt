@@ -40,7 +40,8 @@ fn move_tally<'a>(
     move_along(&mut tally.counts, ring, line, join, from, steps, below)
 }
 
-// Takes the tally by value and lends it to `move_tally`, so that callers hold no reference to it.
+// Takes the tally by value and lends it to `move_tally`. No call goes through it: `move_counts` lends its own tally, which
+// keeps one copy of 512 bytes less on the stack.
 fn moved_tally<'a>(
     tally: Tally,
     ring: &[u8],
