@@ -41,7 +41,7 @@ class X86:
         if m := re.fullmatch(r"(push|pop) (?!%rsp$).+", text):
             return 8 if m[1] == "push" else -8
         last = re.search(r"[ ,]%([re]?sp|spl)$", text) and not re.match("(cmp|test)[bwlq]? ", text)
-        if last or re.match(r"(push|pop)[bwlq]?\b|leave|enter|x(chg|add).*%[re]?spl?\b", text):
+        if last or re.match(r"push|pop(?!cnt)|leave|enter|x(chg|add).*%[re]?spl?\b", text):
             raise Fault(STRAY)
         return 0
 

@@ -12,7 +12,7 @@ pub mod RenumberLoop
 pub mod SteppedCounts
 pub mod MoveLoop
 pub mod MoveCases
--- What the hand walks of `move_tally` and `moved_tally` share.
+-- What walks by hand over these functions' seven parameters share. No proof needs it now.
 pub mod WalkArguments
 -- A start's tally, stepped and moved, is a start's tally.
 pub mod StepTallied

@@ -1,5 +1,5 @@
 -- Whether counts can be moved. The test `can_move` is a conjunction of comparisons, and the record `CanMove` states the same (`can_move_iff`). So counts that pass
--- meet the precondition of `moved_tally`, and the two returns of `move_counts` are the two cases of its contract.
+-- meet the precondition of `move_tally`, and the two returns of `move_counts` are the two cases of its contract.
 use Prim.Native.Nat.{ℕ, ◌+◌, ◌-◌, ◌≤◌}
 use mathlib.Core.Path.{◌≡◌, refl, sym}
 use mathlib.Core.Bool.{Bool, true, false}

@@ -1,5 +1,5 @@
--- What the hand walks of `move_tally` and `moved_tally` share. Their callees, `move_along` and `move_tally`, take seven parameters: a reference, the ring, the line,
--- the join area, a line place and two numbers. A walk carries the ownership of the reference, the ring, the line and the join area. What a place or a number owns is
+-- What walks by hand of `move_tally` and `moved_tally` share; both are proved without one now, and no proof needs this. Their callees, `move_along` and `move_tally`, take
+-- seven parameters: a reference, the ring, the line, the join area, a line place and two numbers. A walk carries the ownership of the reference, the ring, the line and the join area. What a place or a number owns is
 -- made anew when a call needs it.
 use Prim.Native.Nat.{ℕ, ◌<◌, ◌^◌}
 use mathlib.Core.Path.{refl}

@@ -84,7 +84,7 @@ module _ {ring doubled : List ℕ} {table : EdgeVectors} {p : Parts} {k : ℕ} {
     can_sweep_lem =
         let most_line : n ≤ most_places = omega (arith, within.most_places) in
         record {
-          can_sweep_lem = record {
+          can_sweep = record {
             can_read = record {
               some_edge = within.some_edge;
               most = within.most_ring;

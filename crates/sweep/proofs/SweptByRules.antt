@@ -40,7 +40,7 @@ module _ (ring doubled : List ℕ) (table : EdgeVectors) (p : Parts) (k : ℕ) (
 
   -- ring, line and start are within the limits
   can_read : CanReadWindows (length ring) (length line) at.start.0
-  can_read = can.can_sweep_lem.can_read
+  can_read = can.can_sweep.can_read
 
   abbrev m : ℕ
   m = length ring
@@ -142,7 +142,7 @@ module _ (ring doubled : List ℕ) (table : EdgeVectors) (p : Parts) (k : ℕ) (
   -- The test whether the sweep can go on passes.
   can_be : can_sweep m (length line) at.start.0 at.looks ≡ true
   can_be =
-      (can_sweep_iff m (length line) at.start.0 at.looks).1 can.can_sweep_lem
+      (can_sweep_iff m (length line) at.start.0 at.looks).1 can.can_sweep
 
   -- Under `CanSweepOn`, every answer that meets the contract of `sweep_on` is what rules 1 to 5 give.
   pub swept_by_rules : (new : List ℕ) (r : Swept) → IsSweptBy ring doubled table p k at old new r → IsSweptOn ring line k at r new

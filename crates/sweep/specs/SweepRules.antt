@@ -76,7 +76,7 @@ pub record IsWindowsRead (ring line : List ℕ) (k from : ℕ) (r : WindowsRead)
 -- The sweep can go on by the rules: ring, line, start and looks are within the limits, the ring holds no mark, there are 256 counts, the ring's own vectors and double
 -- are lent, and the counts are the tally of the last verified start, if there is one. The allowance may have any value.
 pub record CanSweepOn (ring doubled : List ℕ) (table : EdgeVectors) (line counts : List ℕ) (at : Sweep) : Type 0 where
-  pub can_sweep_lem : CanSweep (length ring) (length line) at.start.0 at.looks
+  pub can_sweep : CanSweep (length ring) (length line) at.start.0 at.looks
   pub no_mark : holds_mark ring ≡ false
   pub size : length counts ≡ most_counts
   pub occurs : Occurrences ring table

@@ -19,7 +19,7 @@ use Rattle.lists.specs.ByPlace.{list_of}
 abbrev pub word_bits : ℕ
 word_bits = 64
 
--- A vector is a list of machine words: each word is below 2^wordBits.
+-- A vector is a list of machine words: each word is below 2^word_bits.
 pub record Vector (ws : List ℕ) : Type 0 where
   pub word_lt : (w : ℕ) → get_or ws w 0 < 2 ^ word_bits
 

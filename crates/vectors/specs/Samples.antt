@@ -55,8 +55,8 @@ part_of_a_word = record {
 }
 
 -- A whole word: bit 0 becomes bit 63.
-abbrev whole_word_lem : VectorSample
-whole_word_lem = record {
+abbrev whole_word : VectorSample
+whole_word = record {
   m = 64;
   held = 1 ∷ [];
   occurs = 0x7fff_ffff_ffff_ffff ∷ [];
@@ -108,7 +108,7 @@ words_to_spare = record {
 
 -- The table.
 abbrev pub samples : List VectorSample
-samples = one_bit ∷ part_of_a_word ∷ whole_word_lem ∷ carry_between_words ∷ three_words ∷ words_to_spare ∷ []
+samples = one_bit ∷ part_of_a_word ∷ whole_word ∷ carry_between_words ∷ three_words ∷ words_to_spare ∷ []
 
 -- Computed from the definitions, every row is right.
 pub all_samples_right : map computed samples ≡ samples
