@@ -1,7 +1,7 @@
 -- Document 01, "What each call returns": the form of every call's answer, and its number, place and counts.
 --
---   Answer         a call's result, or a refusal
---   Paper          number, place and counts, as the document's table and sentences give them
+--   Answer          a call's result, or a refusal
+--   Paper           number, place and counts, as the document's table and sentences give them
 --   answer_paper    the paper of an answer
 --
 -- Each call has its own counts (found and looks; found, hidden and looks; records). Here they are the parameter C.

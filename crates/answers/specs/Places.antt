@@ -3,9 +3,9 @@
 -- for the window at a start: place q of the window is the line place start + q.
 --
 --   around                     a number mod m
---   last_place                  the largest place, 2^64 − 1
---   ring_place_of                ring place = (rotation + (line place − start)) mod m
---   line_place_of                line place = start + (ring place − rotation) mod m
+--   last_place                 the largest place, 2^64 − 1
+--   ring_place_of              ring place = (rotation + (line place − start)) mod m
+--   line_place_of              line place = start + (ring place − rotation) mod m
 --   IsRingPlace, IsLinePlace   the contracts of `to_ring` and `to_line`
 --
 -- In the document m is above 0, a rotation is below m, and a place is within the window or the ring. Here every input has a value. With m = 0 a

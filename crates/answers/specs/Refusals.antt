@@ -1,9 +1,9 @@
 -- Document 01, "What each call returns": the table of refusals, rows 1 to 11, and of document 02 row 12 (ticket 2), row 14 (ticket 6) and rows 15 and 16
 -- (ticket 7). This file gives the number and the place of each refusal. Each call defines when its rows are given.
 --
---   number_of             the column "No."
---   place_of              the column "Place"
---   number_of_row          the number of a row, if the rows are counted from 1
+--   number_of            the column "No."
+--   place_of             the column "Place"
+--   number_of_row        the number of a row, if the rows are counted from 1
 --   IsNumber, IsPlace    the contracts of `number_of` and `place_of`
 --
 -- A refusal whose place is always 0 holds no place. All 15 rows built so far are here, 1 to 12 and 14 to 16, and no

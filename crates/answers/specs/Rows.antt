@@ -1,10 +1,10 @@
 -- Document 01, "What each call returns": the order of refusals. Each call defines one list of rows, in the order of "Order: ..", and the first row
 -- that is given decides. What it decides is defined here, for all calls.
 --
---   row          a row of the table: its refusal if its test holds
+--   row           a row of the table: its refusal if its test holds
 --   first_given   the refusal of the first row that is given, if one is
---   NoneGiven    no row of a list is given
---   IsFirst      `first_given` as facts: this row is given, and no row before it (joined by `first_iff` of proofs/)
+--   NoneGiven     no row of a list is given
+--   IsFirst       `first_given` as facts: this row is given, and no row before it (joined by `first_iff` of proofs/)
 --   answer_by     the answer: accepted, or refused by that row
 --   area_by       a lent area at exit: written, or untouched
 --

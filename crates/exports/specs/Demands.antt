@@ -3,30 +3,30 @@
 -- proofs/ReportDemands.antt, proofs/ClosedDemands.antt (the three on a closed line), proofs/TwoWayDemands.antt, proofs/BookDemands.antt and proofs/ImportDemands.antt
 -- prove that each call meets its demands.
 --
---   Row, row_of, FirstRow, NoRow              a row of the table of refusals; the first row that is given; no row is given
---   ring_table, limit_table                    rows 1, 12, 2, with which every search begins; the same and row 3
+--   Row, row_of, FirstRow, NoRow                a row of the table of refusals; the first row that is given; no row is given
+--   ring_table, limit_table                     rows 1, 12, 2, with which every search begins; the same and row 3
 --   search_table, book_table, report_table,     the rows of each call in its order, "Given exactly when"
 --   closed_search_table, closed_report_table,
 --   two_way_table, unpack_table, pack_table,
 --   import_table
---   ByTable                                  accepted, or refused by the first row that is given
---   Demand1                                  the same, and a refusal has 0 in every count and writes nothing
---   BookHides, NeverHidden                   which findings a book hides
---   Demand2                                  which findings are written, and which are hidden
---   UnpackDemand2, PackDemand2               books: what is accepted, and what is written
---   GivesBack, ReadsBack                     unpacking gives back what was packed; packing what was unpacked reads back the same, up to 1,000 records
---   ImportDemand2                            vertices: the edges that are written
---   Demand3                                  the looks of scan and report, and of each pass of the two-way scan
---   JoinDemand, ClosedDemand2,               a closed line: the join area at exit, and demands 2 and 3
+--   ByTable                                     accepted, or refused by the first row that is given
+--   Demand1                                     the same, and a refusal has 0 in every count and writes nothing
+--   BookHides, NeverHidden                      which findings a book hides
+--   Demand2                                     which findings are written, and which are hidden
+--   UnpackDemand2, PackDemand2                  books: what is accepted, and what is written
+--   GivesBack, ReadsBack                        unpacking gives back what was packed; packing what was unpacked reads back the same, up to 1,000 records
+--   ImportDemand2                               vertices: the edges that are written
+--   Demand3                                     the looks of scan and report, and of each pass of the two-way scan
+--   JoinDemand, ClosedDemand2,                  a closed line: the join area at exit, and demands 2 and 3
 --   ClosedDemand3
---   TwoWayDemand1, PassDemand2,              the two-way scan: demand 1; demand 2 on one pass, and on both
+--   TwoWayDemand1, PassDemand2,                 the two-way scan: demand 1; demand 2 on one pass, and on both
 --   TwoWayDemand2
---   SurveyMeets, ScanMeets, ReportMeets,     the demands on each call
+--   SurveyMeets, ScanMeets, ReportMeets,        the demands on each call
 --   SurveyClosedMeets, ScanClosedMeets,
 --   ReportClosedMeets, TwoWayMeets,
 --   UnpackMeets, PackMeets, ImportMeets
---   SurveyScanSame                           survey and scan give the same findings
---   PassIsScan                               a pass of the two-way scan gives what the scan for its ring gives
+--   SurveyScanSame                              survey and scan give the same findings
+--   PassIsScan                                  a pass of the two-way scan gives what the scan for its ring gives
 --
 -- The theorems require that a book's numbers are below 256 and that words are below 2^32. A C caller's types guarantee both.
 use Rattle.std.specs.Prelude.{ℕ, ◌+◌, ◌-◌, ◌*◌, ◌/◌, ◌%◌, ◌≤◌, ◌<◌, ◌≡◌, ◌↔◌, ◌⊎◌, ℤ, ◌-ℤ◌, length, get_or, take, drop}

@@ -2,10 +2,10 @@
 -- pack, unpack, the two-way scan and the import of vertices answer is defined in crates/findings, outlines, silences, book, two_way, vertices and meaning; this file
 -- only says how the struct holds that answer.
 --
---   paper_of                              the number, place and counts that the struct of five numbers stands for
---   search_in_struct                       "found and looks"; a search counts nothing hidden
---   one_count_in_struct                     one number, as found: "the number of records", or of edges
---   paper_in_struct                        a paper with its counts as the struct holds them
+--   paper_of                             the number, place and counts that the struct of five numbers stands for
+--   search_in_struct                     "found and looks"; a search counts nothing hidden
+--   one_count_in_struct                  one number, as found: "the number of records", or of edges
+--   paper_in_struct                      a paper with its counts as the struct holds them
 --   IsExported                           the contract that the six calls with one lent area and that struct share: its paper, and the area at exit
 --   IsSearchExported                     the same for a search, for its rows and its looks
 --   IsReportExportedBy                   the same for a report, for its rows of a search
@@ -17,7 +17,7 @@
 --   IsSurveyClosedExported,              the contract of each call on a closed line
 --   IsScanClosedExported,
 --   IsReportClosedExported
---   two_way_paper_of                        the number, place and counts of both passes that the struct of the two-way scan stands for
+--   two_way_paper_of                     the number, place and counts of both passes that the struct of the two-way scan stands for
 --   IsTwoWayExported                     the contract of the two-way scan
 use Rattle.std.specs.Prelude.{ℕ, ◌≡◌, List, ℤ, length}
 use Rattle.std.proofs.Math.Option.{Option}

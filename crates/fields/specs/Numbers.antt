@@ -1,10 +1,10 @@
 -- Document 01, "Silence book": "numbers high byte first". Defined for any count of bytes; a silence has numbers of 2 and of 4 bytes.
 --
---   bytes_of           number to bytes
---   number_at          bytes to number
+--   bytes_of            number to bytes
+--   number_at           bytes to number
 --   most_number_bytes   4, the most bytes of a number that is read
---   number_within      bytes to number, for any byte offset and count
---   IsNumberRead      the contract of `number_at`
+--   number_within       bytes to number, for any byte offset and count
+--   IsNumberRead        the contract of `number_at`
 use Rattle.std.specs.Prelude.{ℕ, zero, suc, ◌+◌, ◌*◌, ◌/◌, ◌%◌, ◌^◌, ◌<◌, ◌≡◌, cond, ◌&&◌, List, [], ◌∷◌, ◌++◌, leb, length, get_or}
 
 -- A number in `count` bytes, high byte first: the last byte is the number mod 256, and those before it are the bytes of the number divided by 256.

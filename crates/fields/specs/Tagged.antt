@@ -2,11 +2,11 @@
 -- whatever their tag and value.
 --
 --   tag_bytes, length_bytes   "one-byte tag, two-byte length"
---   head_length              the bytes of a field before its value
---   field                   the bytes of a field
---   length_at                the length in a field's two length bytes
---   field_end                the byte offset just past a field
---   is_whole                 whether a field has a given length and is not cut off
+--   head_length               the bytes of a field before its value
+--   field                     the bytes of a field
+--   length_at                 the length in a field's two length bytes
+--   field_end                 the byte offset just past a field
+--   is_whole                  whether a field has a given length and is not cut off
 use Rattle.std.specs.Prelude.{ℕ, ◌+◌, Bool, ◌&&◌, List, ◌∷◌, ◌++◌, leb, eqb, length}
 use Rattle.fields.specs.Numbers.{bytes_of, number_at}
 

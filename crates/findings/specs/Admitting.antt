@@ -4,16 +4,16 @@
 -- two-way scan).
 --
 --   most_ring, most_line    the document's limits
---   room_required          the words that row 4 requires
+--   room_required           the words that row 4 requires
 --   is_row1 to is_row4,     the tests: whether each row is given
 --   is_row12
---   ring_rows              rows 1, 12, 2, with which every search begins
---   limit_rows             rows 1, 12, 2, 3
---   admit_rows             the rows of survey and scan in their order: 1, 12, 2, 3, 4
---   IsRingLength          row 1 is not given
---   Admitted              none of these rows is given
---   verdict_of             the refusal that a verdict holds, if it holds one
---   IsVerdict             the contract of `admit_ring`, `admit` and `admit_closed`, for the rows that they test
+--   ring_rows               rows 1, 12, 2, with which every search begins
+--   limit_rows              rows 1, 12, 2, 3
+--   admit_rows              the rows of survey and scan in their order: 1, 12, 2, 3, 4
+--   IsRingLength            row 1 is not given
+--   Admitted                none of these rows is given
+--   verdict_of              the refusal that a verdict holds, if it holds one
+--   IsVerdict               the contract of `admit_ring`, `admit` and `admit_closed`, for the rows that they test
 use Rattle.std.specs.Prelude.{ℕ, ◌+◌, ◌-◌, ◌*◌, ◌≤◌, ◌<◌, ◌≡◌, Bool, ◌&&◌, ◌||◌, List, [], ◌∷◌, ◌++◌, ltb, leb, eqb, length}
 use Rattle.std.proofs.Math.Option.{Option, none, some}
 use Rattle.meaning.specs.Meanings.{HoldsMark, holds_mark}

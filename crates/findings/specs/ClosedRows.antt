@@ -2,11 +2,11 @@
 -- this mode 4 uses that figure, and 10, after 4, is given when the join area is below 2·m − 2 bytes and n ≥ m". Rows 1, 12, 2 and 3 are those of every
 -- search. Row 3 tests n alone: the line followed by its first m − 1 edges may be longer than 65,536.
 --
---   closed_room               the words that row 4 requires in this mode
---   join_bytes                the bytes that row 10 requires
+--   closed_room                 the words that row 4 requires in this mode
+--   join_bytes                  the bytes that row 10 requires
 --   is_closed_row4, is_row10    the tests: whether each row is given
---   closed_rows               the rows in their order: 1, 12, 2, 3, 4, 10
---   ClosedAdmitted           none of these rows is given
+--   closed_rows                 the rows in their order: 1, 12, 2, 3, 4, 10
+--   ClosedAdmitted              none of these rows is given
 use Rattle.std.specs.Prelude.{ℕ, ◌-◌, ◌*◌, ◌≤◌, ◌<◌, Bool, ◌&&◌, List, [], ◌∷◌, ◌++◌, ltb, leb, length}
 use Rattle.std.proofs.Math.Option.{Option}
 use Rattle.meaning.specs.Meanings.{HoldsMark}

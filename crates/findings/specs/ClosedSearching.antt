@@ -2,7 +2,7 @@
 -- (specs/Searching.antt) over the line that is searched in this mode, `closed_line` of crates/meaning; the rows are `closed_rows`. The join area is written only
 -- if no row is given.
 --
---   join_at_exit          the join area at exit, for the call's rows
+--   join_at_exit        the join area at exit, for the call's rows
 --   IsClosedSearched    the contract of survey and scan on a closed line, each with its own looks
 use Rattle.std.specs.Prelude.{ℕ, ◌≡◌, List, length}
 use Rattle.std.proofs.Math.Option.{Option}

@@ -2,7 +2,7 @@
 -- windows are taken from, so it may be longer than 65,536: in closed mode it is the closed line (document 02, ticket 3).
 --
 --   most_places    2^32; a whole line that is searched has fewer places
---   CanSearch     the limits of a search
+--   CanSearch      the limits of a search
 use Rattle.std.specs.Prelude.{ℕ, ◌^◌, ◌≤◌, ◌<◌, List, length}
 use Rattle.meaning.specs.Meanings.{HoldsMark}
 use Rattle.findings.specs.Admitting.{most_ring, room_required}

@@ -1,10 +1,10 @@
 -- Document 01, "What each call returns": findings go "into the lent words"; document 02, ticket 1: "a finding becomes four words: start, rotation, distance,
 -- ties". This file states what the lent words hold after one finding is put behind those already there. It covers every finding and every number of lent words.
 --
---   finding_of       the finding that a struct of src/ stands for
---   words_put        the lent words after a finding is put
+--   finding_of      the finding that a struct of src/ stands for
+--   words_put       the lent words after a finding is put
 --   CanPut          there is room for the finding, and its four numbers are 32-bit words
---   can_put          the same as a test
+--   can_put         the same as a test
 --   IsFindingPut    the contract of `put_finding`
 use Rattle.std.specs.Prelude.{ℕ, ◌+◌, ◌*◌, ◌≤◌, ◌≡◌, Bool, cond, ◌&&◌, List, leb, length}
 use Rattle.std.proofs.lemmas.List.Edits.{sets}

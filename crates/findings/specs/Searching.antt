@@ -2,13 +2,13 @@
 -- words. The two differ only in how many looks they take, so `searched`, `LineSearched`, `search_paper` and `IsSearched` take the looks as an argument. All but
 -- `LineSearched` take the call's rows too, in the order in which the first that is given decides: survey and scan have `admit_rows` of specs/Admitting.antt.
 --
---   Counts, no_counts     found and looks; both zero
---   searched             the answer that a search must give: its counts, or a refusal
---   searched_words        the lent words at exit
---   LineSearched         the contract of the search itself, once the call is accepted
+--   Counts, no_counts      found and looks; both zero
+--   searched               the answer that a search must give: its counts, or a refusal
+--   searched_words         the lent words at exit
+--   LineSearched           the contract of the search itself, once the call is accepted
 --   answer_of, paper_of    a returned enum as an answer, and as document 01's number, place and counts
---   search_paper          number, place and counts that a search must give
---   IsSearched           the contract of survey and scan, each with its own looks
+--   search_paper           number, place and counts that a search must give
+--   IsSearched             the contract of survey and scan, each with its own looks
 use Rattle.std.specs.Prelude.{ℕ, ◌≡◌, List, length}
 use Rattle.std.proofs.Math.Option.{Option}
 use Rattle.meaning.specs.Findings.{findings, words_of}

@@ -3,8 +3,8 @@
 --
 --   found_before, below_before, findings_before   the finding at a place, those below a place, and all
 --   edge_before, left_before, window_before       an edge read; the edges left; a window
---   windows_before, candidates_before            the windows read from a place on; the starts of those that are candidates
---   quick_looks_before                           the looks of the quick scan
+--   windows_before, candidates_before             the windows read from a place on; the starts of those that are candidates
+--   quick_looks_before                            the looks of the quick scan
 use Rattle.std.specs.Prelude.{ℕ, zero, suc, ◌+◌, cond, ◌&&◌, List, [], ◌∷◌, ◌++◌, ltb, leb, eqb, length}
 use Rattle.std.proofs.Math.Option.{none}
 use Rattle.meaning.specs.Meanings.{fits_in_line, window_edge, least_distance}

@@ -2,14 +2,14 @@
 -- `IsClosedStart`, `closed_distance` and `IsClosedFinding` are the sentences to believe: they take line places mod n. `closed_line` is the list to which the
 -- meanings and rules of the open line are applied in this mode. `closed_start_iff`, `closed_distance_lem` and `closed_finding_iff` of proofs/ join the two.
 --
---   closed_line            the line followed by its first m − 1 edges
---   closed_edge            the edge at place q of the window at i, which may cross the line's end
+--   closed_line           the line followed by its first m − 1 edges
+--   closed_edge           the edge at place q of the window at i, which may cross the line's end
 --   IsClosedStart         a start of the closed line
---   closed_distance        the distance of such a start under a rotation
---   closed_reaching        how many rotations reach a distance
+--   closed_distance       the distance of such a start under a rotation
+--   closed_reaching       how many rotations reach a distance
 --   IsClosedFinding       a finding of the closed line
---   join_of                the edges on both sides of the line's end, from which the windows that cross it are read
---   joined_with            the join area after an accepted call
+--   join_of               the edges on both sides of the line's end, from which the windows that cross it are read
+--   joined_with           the join area after an accepted call
 use Rattle.std.specs.Prelude.{ℕ, ◌+◌, ◌-◌, ◌%◌, ◌≤◌, ◌<◌, ◌≡◌, cond, List, ◌++◌, leb, eqb, length, get_or, take, drop}
 use Rattle.lists.specs.Areas.{written}
 use Rattle.meaning.specs.Counting.{count}

@@ -6,7 +6,7 @@
 --   octants, length_classes   8 octants and 31 length classes
 --   edge_codes                248: the codes below it are edges
 --   edge_code                 the code of an edge with a length class and an octant
---   length_class, octant_of    the length class and the octant of a code
+--   length_class, octant_of   the length class and the octant of a code
 --   is_edge                   whether a code is that of an edge
 use Rattle.std.specs.Prelude.{ℕ, ◌+◌, ◌*◌, ◌/◌, ◌%◌, Bool, ltb}
 

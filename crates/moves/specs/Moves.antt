@@ -3,19 +3,19 @@
 -- place whose least count is at most k. Windows come from the line and its join area, the parts p; n is the length of the whole line (specs/Windows.antt of
 -- crates/windows).
 --
---   sixteen_bits               2^16, the number of values of a count
+--   sixteen_bits                2^16, the number of values of a count
 --   changed_count, changed_at   count − (leaving edge differs) + (entering edge differs), mod 2^16
---   earlier                   the rotation before a rotation
---   stepped_counts             the counts after a step
+--   earlier                     the rotation before a rotation
+--   stepped_counts              the counts after a step
 --   leaving_edge, entering_edge the first edge of a window, and the last edge of the window after it
---   CountsAt, unmoved         one point of a move: start, counts, their least, looks, the place just past the last mark; the point before the first step
+--   CountsAt, unmoved           one point of a move: start, counts, their least, looks, the place just past the last mark; the point before the first step
 --   step_on, move_on            one step; at most a given number of steps
---   can_move, CanMove          whether counts can be moved: the test, and the same as facts
---   moved_from                 the counts moved, or unchanged if they cannot be moved
---   reached_with               the returned struct and the final counts, as one point of a move
---   IsMoved                   the contract of `move_counts`
---   IsReached                 the result of moving a start's tally, as facts
---   IsStepped, IsMovedOn      the contracts of private functions
+--   can_move, CanMove           whether counts can be moved: the test, and the same as facts
+--   moved_from                  the counts moved, or unchanged if they cannot be moved
+--   reached_with                the returned struct and the final counts, as one point of a move
+--   IsMoved                     the contract of `move_counts`
+--   IsReached                   the result of moving a start's tally, as facts
+--   IsStepped, IsMovedOn        the contracts of private functions
 use Rattle.std.specs.Prelude.{ℕ, zero, suc, ◌+◌, ◌-◌, ◌*◌, ◌%◌, ◌^◌, ◌≤◌, ◌<◌, ◌≡◌, Bool, cond, ◌&&◌, List, ltb, leb, eqb, length, get_or}
 use Rattle.lists.specs.ByPlace.{stored_first}
 use Rattle.meaning.specs.Counting.{one_if}

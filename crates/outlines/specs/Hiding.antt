@@ -1,9 +1,9 @@
 -- Contracts of the private functions of src/asking.rt: the book is asked for one finding, which is then hidden or shown. Findings come by rising start and a
 -- book's records ascend, so the loop keeps the field found last ("held") and goes on from it, never back.
 --
---   finding_address     the address of a finding: cell, ring number, start
---   held_for            the first field of the book, from the field held on, that is not below this address; `faulty` if a faulty field or the book's end comes first
---   hides_finding       whether that field hides the finding: it has this very address, and a ceiling of at least the finding's distance
+--   finding_address    the address of a finding: cell, ring number, start
+--   held_for           the first field of the book, from the field held on, that is not below this address; `faulty` if a faulty field or the book's end comes first
+--   hides_finding      whether that field hides the finding: it has this very address, and a ceiling of at least the finding's distance
 --   CanAsk             the precondition of `ask`
 --   IsHiddenOrShown    the contract of `ask`
 --   IsShownPut         the contract of `put_shown`

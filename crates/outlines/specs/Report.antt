@@ -3,17 +3,17 @@
 -- definitions take the rows of a search that come before the book's (`rows`): for `report` they are `admit_rows` of crates/findings.
 --
 --   is_hidden, is_shown              a silence of the book hides the finding; none does
---   taken_by                        the findings of a list that pass a test, in their order
---   shown, hidden                  the findings of a list that are shown, and those that are hidden
---   report_rows                     the rows of a search, then the book's
---   report_refusal                  the refusal of the first of these rows that is given, if one is
+--   taken_by                         the findings of a list that pass a test, in their order
+--   shown, hidden                    the findings of a list that are shown, and those that are hidden
+--   report_rows                      the rows of a search, then the book's
+--   report_refusal                   the refusal of the first of these rows that is given, if one is
 --   ReportCounts, no_report_counts   found, hidden and looks; all zero
---   report_counts                   the counts of a report, given the silences of its book
---   report_answer                   the answer that a report must give: its counts, or a refusal
---   reported_words                  the lent words at exit
+--   report_counts                    the counts of a report, given the silences of its book
+--   report_answer                    the answer that a report must give: its counts, or a refusal
+--   reported_words                   the lent words at exit
 --   answer_of, paper_of              a returned enum as an answer, and as document 01's number, place and counts
---   IsReportedBy                   the contract of a report, for its rows of a search
---   IsReported                     the contract of `report`
+--   IsReportedBy                     the contract of a report, for its rows of a search
+--   IsReported                       the contract of `report`
 use Rattle.std.specs.Prelude.{ℕ, ◌≡◌, Bool, not, cond, List, [], ◌∷◌, ◌++◌, length}
 use Rattle.std.proofs.Math.Option.{Option}
 use Rattle.lists.specs.Areas.{written}

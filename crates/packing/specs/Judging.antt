@@ -1,7 +1,7 @@
 -- Definitions for the contract of `judge`, the packer's private function that tests all records before a byte is written. No public contract uses them.
 --
 --   Sizes, sized, sizes    the number of records and bytes of an output
---   judged_of               a `Judged` as an answer
+--   judged_of              a `Judged` as an answer
 use Rattle.std.specs.Prelude.{List, ℕ, length}
 use Rattle.answers.specs.Paper.{Answer, accepted, refused}
 use Rattle.packing.specs.declared.judging.Judged.{Judged}

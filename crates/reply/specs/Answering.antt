@@ -1,9 +1,9 @@
 -- Document 01, "The report program": the program's whole output for an input's bytes, on every input, and the contract of `answer`.
 --
---   report_lines             the lines of a report with these silences
+--   report_lines              the lines of a report with these silences
 --   lines_by, request_text    the output for a request, the report's lines or its refusal: by the first row that is given; whole
 --   text_by, answer_text      the output for an input's bytes: by what was read; whole. "Refusal 11 comes before all others"
---   IsAnswered              the contract of `answer`
+--   IsAnswered                the contract of `answer`
 --
 -- The report's refusals and counts are defined in crates/outlines, specs/Report.antt. "Book places count from the book's first byte": a request
 -- holds its book apart, so the report's places are the right ones. The definition takes exactly the room that row 4 requires; the code lends 16,384 words,

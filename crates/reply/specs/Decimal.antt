@@ -1,9 +1,9 @@
 -- Document 01, "The report program": numbers as its output has them, in decimal digits without leading zeros, as bytes of ASCII.
 --
---   digit                     the byte of a digit
+--   digit                      the byte of a digit
 --   digits_within, decimal     the bytes of a number: at most a given number of digits; all
 --   decimal_value, AllDigits   the number that digits give; each byte is a digit
---   IsDecimal                 the bytes of a number without division: digits that give the number, with no leading zero
+--   IsDecimal                  the bytes of a number without division: digits that give the number, with no leading zero
 --
 -- `decimal` recurses on a bound for the number of digits. Read instead its two equations `decimal_one` and `decimal_more` of proofs/DecimalDigits.antt, or
 -- `decimal_is` of proofs/DecimalReadBack.antt, which gives `IsDecimal`.

@@ -2,13 +2,13 @@
 -- rotation, distance); the last gives the three counts. A refusal prints a single line, such as `refused 2 place 0`." Document 02, ticket 1, adds the ties to a
 -- finding's line.
 --
---   space, lf                        a space; LF, which ends a line
---   line_of                           words with one space between, and LF at the end
---   numbers_line                      such a line of numbers
+--   space, lf                          a space; LF, which ends a line
+--   line_of                            words with one space between, and LF at the end
+--   numbers_line                       such a line of numbers
 --   first_line, finding_line,          the document's four kinds of line
 --   last_line, refusal_line
 --   refusal_line_of                    the line of a number and a place
---   finding_lines                     "one line per shown finding"
+--   finding_lines                      "one line per shown finding"
 --
 -- The words in the lines are those of the document's sample: cell, ring, edges, allow; found, hidden, looks; refused, place.
 use Rattle.std.specs.Prelude.{ℕ, List, [], ◌∷◌, ◌++◌, map}

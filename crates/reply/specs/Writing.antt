@@ -1,17 +1,17 @@
 -- The contracts of the private functions that write the text. Nothing here is part of what `answer` means.
 --
---   Text, text_in                       a text being written
---   put_byte, put_bytes                  bytes put one after the other while there is room
---   IsWritten                          the contract of a writer of bytes; it requires no room
---   IsText                             the contract of a writer of a whole text; that there is room for it is shown once
---   hole, filled                       a line's form with its numbers
---   lines_of_words                       the lines of the words of findings
---   counts_of                           the counts of a report of three numbers
+--   Text, text_in                          a text being written
+--   put_byte, put_bytes                    bytes put one after the other while there is room
+--   IsWritten                              the contract of a writer of bytes; it requires no room
+--   IsText                                 the contract of a writer of a whole text; that there is room for it is shown once
+--   hole, filled                           a line's form with its numbers
+--   lines_of_words                         the lines of the words of findings
+--   counts_of                              the counts of a report of three numbers
 --   most_first_line, most_finding_line,    the most bytes of each line and of a text
 --   most_last_line, most_text
---   most_finding_words                   words for a finding at each edge of the longest line
---   request                            the request of these numbers and bytes
---   CanAnswer                          the precondition of `answer_request`
+--   most_finding_words                     words for a finding at each edge of the longest line
+--   request                                the request of these numbers and bytes
+--   CanAnswer                              the precondition of `answer_request`
 use Rattle.std.specs.Prelude.{ℕ, ◌+◌, ◌*◌, ◌≤◌, ◌≡◌, cond, List, [], ◌∷◌, ◌++◌, ltb, eqb, length, get_or, drop, set}
 use Rattle.meaning.specs.Findings.{words_each}
 use Rattle.lists.specs.Areas.{written}

@@ -4,10 +4,10 @@
 --   cell_field, ring_number_field,   the five kinds of field, each with its tag and the least and the most bytes of its value
 --   allowance_field, ring_field,
 --   line_field
---   input_fields                   the five in their order
---   between                       the bytes from one byte offset up to another
---   next_at, value_at               the byte offset just past a field, and the field's value
---   is_field_at                     whether a field of a kind stands at a byte offset
+--   input_fields                     the five in their order
+--   between                          the bytes from one byte offset up to another
+--   next_at, value_at                the byte offset just past a field, and the field's value
+--   is_field_at                      whether a field of a kind stands at a byte offset
 use Rattle.std.specs.Prelude.{ℕ, ◌+◌, ◌-◌, Bool, ◌&&◌, List, [], ◌∷◌, leb, eqb, length, get_or, take, drop}
 use Rattle.fields.specs.Tagged.{head_length, length_at, field_end}
 use Rattle.request.specs.declared.field.FieldKind.{FieldKind}

@@ -1,15 +1,15 @@
 -- Document 01, "The report program": the request that the program's input holds, or refusal 11. "It reads at most 32,768 bytes of standard input, fields in this
 -- order: 34 cell (4 bytes), 35 ring number (2), 33 allowance (1), 31 ring (any length), 32 line (at most 4,096), then the book to the end."
 --
---   Request                     cell, ring number, allowance, ring, line and book
---   most_input                   "at most 32,768 bytes"
---   first_fault                  where the first field that does not stand begins or should begin
---   input_fault                  the place of row 11
---   parts_from                   the values of the fields, and the book
+--   Request                        cell, ring number, allowance, ring, line and book
+--   most_input                     "at most 32,768 bytes"
+--   first_fault                    where the first field that does not stand begins or should begin
+--   input_fault                    the place of row 11
+--   parts_from                     the values of the fields, and the book
 --   number_in, request_of_parts    the number that bytes hold; the request of these parts
---   request_by, request_of        the request of an input's bytes, or refusal 11: by the place of row 11; whole
---   laid_down                    the bytes of a request, as the document lays them down
---   CanLayDown                  the requests that have such bytes
+--   request_by, request_of         the request of an input's bytes, or refusal 11: by the place of row 11; whole
+--   laid_down                      the bytes of a request, as the document lays them down
+--   CanLayDown                     the requests that have such bytes
 --
 -- `request_of` reads an input and `laid_down` writes one, and neither is defined by the other. `laid_down_iff` of proofs/ReadIsLaidDown.antt joins them: an input is
 -- read as a request exactly when it is that request laid down. The ring may have any length here, 0 and 257 too: row 1 of the report refuses those, after all

@@ -1,7 +1,7 @@
 -- The contract of `read_request`. It returns the parts of the input's request, with ring, line and book given by their byte offsets, or refusal 11.
 --
---   request_at        the request with these parts
---   requested_of      the request, or the refusal, that a returned value stands for
+--   request_at       the request with these parts
+--   requested_of     the request, or the refusal, that a returned value stands for
 --   PartsWithin      how the byte offsets lie in the input
 --   PartsWithinBy    the same of a returned value; a refusal has no offsets
 --   IsRequestRead    the contract of `read_request`

@@ -2,10 +2,10 @@
 -- `reversed_code`, `reverse` and `reversed`. (The two-way scan, which searches for a ring and for its reversed ring, is not defined here.)
 -- Every definition gives a value for all numbers and lists. `get_or` gives 0 past a list's end.
 --
---   half_turn         4 octants
---   reversed_code     the code of an edge walked the other way
---   reversed_ring     the ring of an outline walked the other way
---   most_reversed     256: the array that `reverse` fills and `reversed` returns has room for the longest ring
+--   half_turn        4 octants
+--   reversed_code    the code of an edge walked the other way
+--   reversed_ring    the ring of an outline walked the other way
+--   most_reversed    256: the array that `reverse` fills and `reversed` returns has room for the longest ring
 --   rotated          rotation r of a ring, as a list
 --   IsReversedCode   the contract of `reversed_code`
 --   IsReversed       the contract of `reverse` and `reversed`

@@ -1,11 +1,11 @@
 -- The values of this crate's types as the addresses, silences and fields of the specs. With these the contract of each function on silences is one equation
 -- with a definition of Silences, Layout or Reading.
 --
---   kind_of       a `Kind` as the kind of a field, if it has one
+--   kind_of      a `Kind` as the kind of a field, if it has one
 --   CanBeField   the precondition of the private `field_of_kind`
---   address_of    an `Address` as an address
---   last_of       a `Last` as the address of the record before, if there is one
---   sought_of     a `Sought` as a field: whole or faulty
+--   address_of   an `Address` as an address
+--   last_of      a `Last` as the address of the record before, if there is one
+--   sought_of    a `Sought` as a field: whole or faulty
 use Rattle.std.specs.Prelude.{ℕ, ◌<◌, ◌≡◌, List, length, get_or}
 use Rattle.std.proofs.Math.Option.{Option, none, some}
 use Rattle.silences.specs.declared.field.Kind.{Kind as KindEnum}

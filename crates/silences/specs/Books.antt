@@ -7,7 +7,7 @@
 --   LaidDown               these bytes are fields that say these silences, one after the other, each under a tag that is allowed
 --   AnyTag, OnlyTag21, NoTag21   which tags may be allowed
 --   IsBook                 a book: an ascending list of silences in range, laid down in at most 15,000 bytes
---   with_ceilings           the same addresses with other ceilings
+--   with_ceilings          the same addresses with other ceilings
 use Rattle.std.specs.Prelude.{ℕ, ◌+◌, ◌≤◌, ◌≡◌, ◌⊎◌, List, [], ◌∷◌, ◌++◌, map, length, take, drop}
 use Rattle.std.proofs.Math.Option.{some}
 use Rattle.fields.specs.Tagged.{head_length, field}

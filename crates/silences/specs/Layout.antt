@@ -1,17 +1,17 @@
 -- Document 01, "Silence book", and document 02, ticket 4: the bytes of a book, field after field, apart from any code that reads or writes them. What a field
 -- holds follows from its tag, by one table, `kind_by_tag`. What packing writes, `layout`, has all its fields under tag 22.
 --
---   Kind                      what a field holds beside the address: a ceiling, in how many bytes
+--   Kind                        what a field holds beside the address: a ceiling, in how many bytes
 --   exact_tag, exact_kind       "tag 21 hex"; it holds an address alone
 --   ceiling_tag, ceiling_kind   "tag 22"; it holds an address and a ceiling
 --   kind_by_tag                 the table of tags
---   address_bytes              "cell (4 bytes), ring number (2), start (4)": the bytes of an address
---   value_length               "length 10", "length 12"
+--   address_bytes               "cell (4 bytes), ring number (2), start (4)": the bytes of an address
+--   value_length                "length 10", "length 12"
 --   address_value, value_of     the bytes of an address, and of a silence's value
---   CanSay                    whether a field of this kind can say this silence
+--   CanSay                      whether a field of this kind can say this silence
 --   packed_tag, packed_kind     the tag under which packing writes
---   packed_length              15, the bytes of a field that packing writes
---   field_of, layout           what packing writes: a silence's field, and a book's bytes
+--   packed_length               15, the bytes of a field that packing writes
+--   field_of, layout            what packing writes: a silence's field, and a book's bytes
 --   most_silences, most_bytes, most_records   the most silences to pack, the longest book, and the most records of a book
 --
 -- A length that follows from other lengths is computed from them, and an equation below it checks the document's number.

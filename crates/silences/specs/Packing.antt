@@ -1,16 +1,16 @@
 -- Document 01, "What each call returns", rows 7 to 10, and document 02, ticket 4: silences as words, what packing and unpacking give, and what they write into
 -- the lent area.
 --
---   silence_words, words_of_silences             silences as words, four each: cell, ring number, start, ceiling
---   record_words, silence_of_words, silences_of   words as silences
---   most_words, is_row8                         row 8
+--   silence_words, words_of_silences               silences as words, four each: cell, ring number, start, ceiling
+--   record_words, silence_of_words, silences_of    words as silences
+--   most_words, is_row8                            row 8
 --   most_ring_number, most_ceiling, is_too_large   the largest ring number and ceiling; row 9 for one record
---   record_rows, record_fault                   "each record 9 before 7"
---   room_row                                   row 10
---   pack_rows, unpack_rows                      the rows of packing and unpacking in their order
---   pack_refusal, unpack_refusal                the first of these rows that is given
---   packed, unpacked                          what packing and unpacking give
---   area_at_exit                                the lent area at exit
+--   record_rows, record_fault                      "each record 9 before 7"
+--   room_row                                       row 10
+--   pack_rows, unpack_rows                         the rows of packing and unpacking in their order
+--   pack_refusal, unpack_refusal                   the first of these rows that is given
+--   packed, unpacked                               what packing and unpacking give
+--   area_at_exit                                   the lent area at exit
 --
 -- The order of a record's words is our reading: the documents list cell, ring number, start and ceiling in this order, and give no other.
 use Rattle.std.specs.Prelude.{ℕ, suc, ◌*◌, ◌%◌, ◌^◌, ◌≡◌, refl, Bool, not, ◌||◌, List, [], ◌∷◌, ◌++◌, ltb, eqb, length, get_or}

@@ -1,13 +1,13 @@
 -- Document 01, "Silence book" and rows 5, 6 and 7, with document 02, ticket 4: what reading a book's bytes gives, whatever bytes they are.
 --
---   address_at, silence_at              the address, and the silence, whose value stands at a byte offset
---   FieldAt, field_by, field_at         what stands at a byte offset: a whole field, or a faulty one (row 6)
---   before, read_field                 a silence put in front of others; one field read
---   fields_from, read_from              the fields from a byte offset on; "the first faulty field decides, 6 before 7"
---   fault_in, silences_in               the refusal of an answer; its silences
+--   address_at, silence_at               the address, and the silence, whose value stands at a byte offset
+--   FieldAt, field_by, field_at          what stands at a byte offset: a whole field, or a faulty one (row 6)
+--   before, read_field                   a silence put in front of others; one field read
+--   fields_from, read_from               the fields from a byte offset on; "the first faulty field decides, 6 before 7"
+--   fault_in, silences_in                the refusal of an answer; its silences
 --   field_fault, is_row5, book_rows      rows 6 and 7; row 5; the three in their order
---   book_refusal                       the first of them that is given
---   read_book, silences_read            what reading a whole book gives; its silences
+--   book_refusal                         the first of them that is given
+--   read_book, silences_read             what reading a whole book gives; its silences
 --
 -- `read_from` goes from field to field, so its recursion needs a number that falls: `fields_from` counts down the bytes left. Two equations hide this count, and
 -- nothing after them uses it; read them instead: `read_from_end` and `read_from_step` of proofs/ReadFrom.antt. Places count from the book's first byte.

@@ -5,10 +5,10 @@
 --   Address, address       cell, ring number, start
 --   Silence, silence       an address and a ceiling
 --   InRange, AllInRange    the numbers fit their bytes; those of each silence of a list do
---   is_below, Below         "by cell, then ring number, then start", as a test and as a proposition
---   is_above                whether a record is above the one before it, if there is one
+--   is_below, Below        "by cell, then ring number, then start", as a test and as a proposition
+--   is_above               whether a record is above the one before it, if there is one
 --   Ascending              "Records ascend strictly"
---   is_same                 whether two addresses are equal
+--   is_same                whether two addresses are equal
 --   covers                 whether a silence hides a finding with this address and this distance
 --   hides, Hides           some silence of a list does, as a test and as a proposition
 --

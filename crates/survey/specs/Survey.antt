@@ -3,7 +3,7 @@
 -- words are those that survey and scan share (specs/Searching.antt of crates/findings). Only the looks are its own: `survey_looks` of crates/meaning.
 --
 --   IsSurveyed                   the contract of `survey`
---   edges_seen, is_found           how many edges are seen before a place is verified; whether a verified place is a finding
+--   edges_seen, is_found         how many edges are seen before a place is verified; whether a verified place is a finding
 --   CanVerifyOn, IsVerifiedOn    precondition and contract of `verify_on`, which counts place 0 afresh, or moves the tally of the place before on to the next
 --                                place whose least count is at most k, or to the last window
 --   CanSurvey, LineSurveyed      precondition and contract of `survey_starts`, which surveys the whole line of an accepted call

@@ -3,11 +3,11 @@
 -- `IsWindowsRead` of SweepRules, by `read_by_rules` and `windows_by_rules` of proofs/. Windows come from the line and its join area, the parts p; n is the length of
 -- the whole line (specs/Windows.antt of crates/windows).
 --
---   held_with                       the held vector after one more edge
+--   held_with                         the held vector after one more edge
 --   read_on, read_with, read_by       one window: from a given point; from its last edge with a given number of words; with as few words as m bits need
---   none_left                       the result if no window fits in the line any more
---   windows_on, windows_by           window after window, to the next candidate: at most a given number of them; all from a given start
---   CanReadWindows                 the precondition of `read_windows`
+--   none_left                         the result if no window fits in the line any more
+--   windows_on, windows_by            window after window, to the next candidate: at most a given number of them; all from a given start
+--   CanReadWindows                    the precondition of `read_windows`
 use Rattle.std.specs.Prelude.{ℕ, zero, suc, ◌+◌, ◌-◌, ◌≤◌, ◌<◌, true, false, cond, List, length, get_or}
 use Rattle.meaning.specs.Meanings.{fits_in_line, is_mark}
 use Rattle.meaning.specs.Rules.{stops_at}

@@ -2,16 +2,16 @@
 -- is what `sweep_on` computes on every input; `swept_by_rules` in proofs/SweptByRules.antt proves that under `CanSweepOn`, with a join area that is right, it
 -- satisfies `IsSweptOn`. `StoppedTo` and `stopped_state` are named after windows that were left, at break k + 1 (rule 3) or at a mark (document 02, ticket 2).
 --
---   swept_start                   where the next window starts
+--   swept_start                     where the next window starts
 --   state_of, found_of, has_ended   the parts of an answer: the sweep after it, the finding reported, whether the sweep has ended
---   StoppedTo                    a run of windows, each of them stopped
---   IsCandidateRead              a window is read and is a candidate
---   IsWindowsRead                windows are read, up to the next candidate
---   CanSweepOn                   the sweep can go on by the rules
---   IsCandidateSwept             a candidate is read and verified
---   HasEnded                     no window fits in the line any more
---   stopped_state                 the sweep after a run of stopped windows
---   IsSweptOn                    the sweep to the next candidate
+--   StoppedTo                       a run of windows, each of them stopped
+--   IsCandidateRead                 a window is read and is a candidate
+--   IsWindowsRead                   windows are read, up to the next candidate
+--   CanSweepOn                      the sweep can go on by the rules
+--   IsCandidateSwept                a candidate is read and verified
+--   HasEnded                        no window fits in the line any more
+--   stopped_state                   the sweep after a run of stopped windows
+--   IsSweptOn                       the sweep to the next candidate
 use Rattle.std.specs.Prelude.{ℕ, ◌+◌, ◌-◌, ◌≡◌, Bool, true, false, List, [], ◌∷◌, length}
 use Rattle.std.proofs.Math.Option.{some}
 use Rattle.meaning.specs.Meanings.{FitsInLine, IsPastLine, holds_mark}

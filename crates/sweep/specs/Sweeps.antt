@@ -7,7 +7,7 @@
 --   SweepResult, sweep_by     the result of a sweep; the sweep to the next candidate, which is verified (rule 4)
 --   most_looks                2^62, more looks than any sweep takes
 --   can_sweep, CanSweep       whether the sweep can go on: the test, and the same as facts
---   IsSweptBy                the contract of `sweep_on`
+--   IsSweptBy                 the contract of `sweep_on`
 --   IsCountedTo, IsTalliedBy, IsSweptTo   the contracts of `verify_afresh`, `verify` and `to_candidate`
 use Rattle.std.specs.Prelude.{ℕ, ◌+◌, ◌-◌, ◌*◌, ◌^◌, ◌≤◌, ◌≡◌, Bool, cond, ◌&&◌, List, ltb, leb, length}
 use Rattle.findings.specs.declared.searching.Finding.{Finding as FindingStruct}

@@ -2,7 +2,7 @@
 -- looks are `tally_looks` of crates/meaning. `tally_by_rules` in proofs/TallyByRules.antt proves that `tally_by` of Sweeps then gives the start's tally at these looks,
 -- if the join area is right (`Joined` of crates/windows).
 --
---   last_start        the last verified start, if there is one
+--   last_start       the last verified start, if there is one
 --   TalliedBefore    the counts are its tally, and it is before a given start
 --   CanVerify        a start can be verified by rule 5
 use Rattle.std.specs.Prelude.{ℕ, ◌<◌, List, length}

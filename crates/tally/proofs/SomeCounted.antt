@@ -34,6 +34,11 @@ place_under_is place start under m q along h converted =
 pub comparison_le : {a b d : ℕ} → IsComparison a b d → d ≤ 1
 comparison_le {a} {b} one = omega (arith, one.is, one_if_le (unequal a b))
 
+-- Four comparisons are at most 4 together.
+pub four_comparisons_le : {a₁ b₁ d₁ a₂ b₂ d₂ a₃ b₃ d₃ a₄ b₄ d₄ : ℕ} → IsComparison a₁ b₁ d₁ → IsComparison a₂ b₂ d₂ → IsComparison a₃ b₃ d₃ → IsComparison a₄ b₄ d₄
+    → d₁ + d₂ + d₃ + d₄ ≤ 4
+four_comparisons_le first second third fourth = omega (arith, comparison_le first, comparison_le second, comparison_le third, comparison_le fourth)
+
 -- `count` over four neighbouring numbers is the sum of their four tests.
 count_of_four : (p : ℕ → Bool) (a : ℕ) → count p a 4 ≡ one_if (p a) + one_if (p (a + 1)) + one_if (p (a + 2)) + one_if (p (a + 3))
 unfolding count
@@ -45,6 +50,15 @@ pub past_on : (window : List ℕ) {past past' : ℕ} (p next : ℕ) → next ≡
 past_on window p next follows known asked =
     asked.is ∙ ap (λ (x : ℕ). past_after (get_or window p 0) x next) known
     ∙ rw follows (past_next window 0 p p (sym (zero-add p)) ∙ ap (past_mark window 0) (sym (add-one p)))
+
+module _ {doubled window old : List ℕ} {last q end past : ℕ} (can : CanCountOn doubled window old last q end past) where
+  -- `to_ring` gives ring place q for the window's place q and rotation 0.
+  pub placed_at : {under : RingPlace} → IsRingPlace (record { 0 = q }) (record { 0 = 0 }) (record { 0 = 0 }) (length window) under → under.0 ≡ q
+  placed_at converted = place_under_is _ _ _ _ _ (sym (zero-add _)) (omega (arith, can.has_edge, can.end_le)) converted
+
+  -- The place just past the last mark, after the edge at q.
+  pub past_first : {past' : ℕ} → IsPastMark (get_or window q 0) past (q + 1) past' → past' ≡ past_mark window 0 (q + 1)
+  past_first asked = past_on _ _ _ (omega arith) can.past_is asked
 
 module _ (doubled window old new : List ℕ) {last q end past : ℕ} (can : CanCountOn doubled window old last q end past) where
   abbrev m : ℕ

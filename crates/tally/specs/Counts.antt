@@ -3,16 +3,16 @@
 --
 --   most_counts, last_count      256: one count for each rotation of the longest ring; 65,535: the largest number that a count can hold
 --   last_part_count              255: the largest number that a count over a part of a window can hold
---   least_of                    the least of the first m counts
+--   least_of                     the least of the first m counts
 --   lowest_from, lowest_with     the lowest rotation that has a given count
 --   count_is, ties_with          whether a rotation has a given count; how many rotations have it
 --   doubled_edge, doubled_ring   the ring twice, end to end: rotation r is its m edges from place r on
 --   differs_there, afresh_count  the number of places where a window and a rotation differ
---   afresh_counts               the counts after a fresh count: one for each rotation, the others kept
---   can_count, CanCount         whether a window can be counted: the test, and the same as facts
---   TallyResult, counted_to     the result of a fresh count: the counts, their least, the looks
---   counted_past                the place just past the last mark of a counted window
---   finding_with                the finding at a start with a given least count
+--   afresh_counts                the counts after a fresh count: one for each rotation, the others kept
+--   can_count, CanCount          whether a window can be counted: the test, and the same as facts
+--   TallyResult, counted_to      the result of a fresh count: the counts, their least, the looks
+--   counted_past                 the place just past the last mark of a counted window
+--   finding_with                 the finding at a start with a given least count
 --   IsComparison, IsDoubled, IsCounted, IsFindingAt   the contracts of `differing`, `double`, `count_afresh` and `finding_at`
 --   differs_over, edge_counted, four_counted   what one window edge adds to the count of a rotation; the count after one edge more, after four
 --   IsLowestWith, IsTies, HasCounts, IsLeast, CanCountOn, IsCountedOn, IsPartEnd, CanAddPart, IsCountedAfresh   preconditions and contracts of private functions

@@ -1,8 +1,8 @@
 -- The place just past the last boundary mark of a part of the line (document 02, ticket 2). For the part from place 0 to a window's end, the window holds no mark
 -- exactly when this place is at most the window's own: `start_iff_past` of proofs/PastMark.antt.
 --
---   past_after     the place after one edge more
---   past_mark      the place just past the last mark of a part of the line; 0 if it has none
+--   past_after    the place after one edge more
+--   past_mark     the place just past the last mark of a part of the line; 0 if it has none
 --   IsPastMark    the contract of `past_mark`
 use Rattle.std.specs.Prelude.{ℕ, zero, suc, ◌+◌, ◌≡◌, cond, List, get_or}
 use Rattle.meaning.specs.Meanings.{is_mark}

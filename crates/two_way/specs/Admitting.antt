@@ -2,15 +2,15 @@
 -- for both passes, 8·(n − m + 1) words." Rows 1, 12, 2 and 3 are those of every search. (255 is above 247 too, but row 12 comes first, so row 14 shows for 248 to
 -- 254.) The line's codes are not tested: there 248 to 254 are no fault, and 255 is a mark.
 --
---   passes, two_way_room    two passes; the words that row 4 requires
---   is_no_edge              whether a ring place has no edge code
---   first_no_edge           the first ring place that has none; the ring's length if there is none
+--   passes, two_way_room     two passes; the words that row 4 requires
+--   is_no_edge               whether a ring place has no edge code
+--   first_no_edge            the first ring place that has none; the ring's length if there is none
 --   row14, is_two_way_row4   row 14; the test whether row 4 is given
---   two_way_rows            the rows in their order: 1, 12, 2, 14, 3, 4
---   IsFirstNoEdge         this place is the first that has no edge code: "place the first such ring place"
---   AllEdges              row 14 is not given
---   TwoWayAdmitted        none of these rows is given
---   SaysFirstNoEdge       the contract of the private `first_no_edge`
+--   two_way_rows             the rows in their order: 1, 12, 2, 14, 3, 4
+--   IsFirstNoEdge            this place is the first that has no edge code: "place the first such ring place"
+--   AllEdges                 row 14 is not given
+--   TwoWayAdmitted           none of these rows is given
+--   SaysFirstNoEdge          the contract of the private `first_no_edge`
 use Rattle.std.specs.Prelude.{ℕ, ◌+◌, ◌-◌, ◌*◌, ◌≤◌, ◌<◌, ◌≡◌, Bool, not, ◌&&◌, List, [], ◌∷◌, ◌++◌, ltb, leb, length, get_or}
 use Rattle.std.proofs.Math.Option.{Option}
 use Rattle.meaning.specs.Counting.{first_below}

@@ -4,11 +4,11 @@
 --
 --   TwoWayCounts, no_two_way_counts   found and looks of each pass; all of them zero
 --   pass_counts, two_way_counts       found and looks of one pass, and of both
---   two_way_findings                 the forward findings, then the backward ones
---   two_way_answer                   the answer that the scan must give: its counts, or a refusal
---   two_way_words                    the lent words at exit
---   answer_of, paper_of              the returned enum as an answer, and as document 01's number, place and counts
---   IsScannedTwoWay                the contract of `scan_two_way`
+--   two_way_findings                  the forward findings, then the backward ones
+--   two_way_answer                    the answer that the scan must give: its counts, or a refusal
+--   two_way_words                     the lent words at exit
+--   answer_of, paper_of               the returned enum as an answer, and as document 01's number, place and counts
+--   IsScannedTwoWay                   the contract of `scan_two_way`
 use Rattle.std.specs.Prelude.{ℕ, ◌≡◌, List, ◌++◌, length}
 use Rattle.lists.specs.Areas.{written}
 use Rattle.meaning.specs.Findings.{Finding, findings, words_of}

@@ -1,6 +1,6 @@
 -- The returns of `import_vertices`: if a row is the first that is given, refusing by it and writing nothing meets the contract; if none is given, so does writing the edges and
 -- returning how many there are.
-use Prim.Native.Nat.{ℕ, ◌≤◌, ◌<◌}
+use Prim.Native.Nat.{ℕ, ◌%◌, ◌/◌, ◌≤◌, ◌<◌}
 use mathlib.Core.Path.{◌≡◌, sym, ap, ◌∙◌}
 use mathlib.Core.List.{List}
 use mathlib.Core.Option.{Option, none, some}
@@ -19,6 +19,10 @@ use Rattle.vertices.specs.ImportRows.{HasWrongCount, IsRightCount}
 use Rattle.vertices.specs.Putting.{CanPutEdges}
 use Rattle.vertices.proofs.EqualPairs.{first_pair_is, no_pair_by}
 use Rattle.vertices.proofs.ImportAdmitRows.{import_15_iff, import_16_iff, import_10_iff, import_none_iff}
+
+-- A count of numbers that passes the three tests is right: row 15 is not given.
+pub right_count : {given : ℕ} → (given % 2 ≡ 1 → ⊥) → 3 ≤ given / 2 → given / 2 ≤ 4096 → IsRightCount given
+right_count not_odd fewest most = record { even = omega arith; fewest = fewest; most = most }
 
 module _ (numbers : List ℤ) (area : List ℕ) where
   -- Refusing by the first row that is given, and writing nothing.

@@ -1,7 +1,7 @@
 -- Document 02, ticket 7: "Import a boundary from pairs of signed 32-bit whole numbers, north before east. .. The last vertex joins the first. Only edge bytes come
 -- out, one per vertex". A boundary is a list of numbers, two for each vertex. `get_or` gives 0 past a list's end.
 --
---   Vertex                a vertex: how far north, how far east
+--   Vertex                 a vertex: how far north, how far east
 --   numbers_each           2 numbers a vertex
 --   vertex_count           the number of vertices
 --   vertex_at, following   vertex i; the vertex that follows a vertex
@@ -9,10 +9,10 @@
 --   boundary_edge          the code of edge i
 --   boundary_edges         the codes of all edges, one per vertex
 --   is_equal, is_same_vertex whether two numbers, two vertices are equal
---   is_equal_pair           whether a vertex and the one that follows are "two equal neighbours"
---   first_equal_pair        the first vertex of the earliest such pair; the number of vertices if there is none
+--   is_equal_pair          whether a vertex and the one that follows are "two equal neighbours"
+--   first_equal_pair       the first vertex of the earliest such pair; the number of vertices if there is none
 --   IsEqualPair, IsFirstEqualPair, NoEqualPair   the same as facts (joined by the laws of EqualPairs in proofs/)
---   HasVertices           a boundary whose vertices are those of another, in another order
+--   HasVertices            a boundary whose vertices are those of another, in another order
 --   IsBegunAt, IsOpposite, IsMoved    the same boundary from another vertex on, in opposite order, and moved as a whole
 use Rattle.std.specs.Prelude.{ℕ, ◌+◌, ◌-◌, ◌*◌, ◌/◌, ◌%◌, ◌<◌, ◌≡◌, Bool, false, ◌&&◌, List, eqb, ℤ, pos, negsuc, ◌+ℤ◌, ◌-ℤ◌, length, get_or}
 use Rattle.lists.specs.ByPlace.{list_of}

@@ -2,12 +2,12 @@
 -- 0; 16, two equal neighbours, place the first of the earliest pair, from 0 (the last vertex for the closing pair); 10 for room; in that order."
 --
 --   fewest_vertices, most_vertices   3 and 4,096
---   is_row15, row16                 the test whether row 15 is given; row 16
---   import_rows                     the rows in their order: 15, 16, 10
---   import_answer                   the answer that the call must give: the number of edges, or a refusal
---   imported_area                   the lent bytes at exit
+--   is_row15, row16                  the test whether row 15 is given; row 16
+--   import_rows                      the rows in their order: 15, 16, 10
+--   import_answer                    the answer that the call must give: the number of edges, or a refusal
+--   imported_area                    the lent bytes at exit
 --   answer_of, paper_of              the returned enum as an answer, and as document 01's number, place and count
---   IsImported                     the contract of `import_vertices`
+--   IsImported                       the contract of `import_vertices`
 use Rattle.std.specs.Prelude.{ℕ, ◌/◌, ◌%◌, ◌≡◌, Bool, ◌||◌, List, [], ◌∷◌, ltb, eqb, ℤ, length}
 use Rattle.std.proofs.Math.Option.{Option}
 use Rattle.lists.specs.Areas.{written}

@@ -1,7 +1,7 @@
 -- Signs and sizes of steps, for the contracts of private functions of src/steps.rt. The code works out signs and sizes once, and compares sizes only. No public
 -- contract uses these definitions.
 --
---   is_negative      whether a step is below 0
+--   is_negative       whether a step is below 0
 --   octant_by_sizes   the octant by signs and sizes (equal to `step_octant` by `octant_by_sizes_lem` of proofs/)
 use Rattle.std.specs.Prelude.{ℕ, Bool, true, false, cond, ltb, eqb, ℤ, pos, negsuc}
 

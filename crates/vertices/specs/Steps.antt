@@ -2,15 +2,15 @@
 -- each octant holding its first ray and not its last. Length class: the bit length of the larger of |dn| and |de|, less one, with 31 taken as 30."
 -- Steps are whole numbers of any size here, so a step never overflows. A pair of steps (0, 0) is no edge: its octant and class mean nothing.
 --
---   IsStep                 the steps are not both 0
---   InOctant               the octant of two steps as a fact, in the document's words
+--   IsStep                   the steps are not both 0
+--   InOctant                 the octant of two steps as a fact, in the document's words
 --   in_quarter, octant_in    whether two steps lie in a quarter turn; the octant within it
---   step_octant             the octant of two steps, computed (joined with `InOctant` by `octant_iff` of proofs/)
---   halvings, bit_length    how often a number can be halved; its bit length
---   last_class              30, the last length class
+--   step_octant              the octant of two steps, computed (joined with `InOctant` by `octant_iff` of proofs/)
+--   halvings, bit_length     how often a number can be halved; its bit length
+--   last_class               30, the last length class
 --   larger, class_of_size    the larger of |dn| and |de|; the length class of that size
 --   step_class, step_code    the length class and the code of an edge with these steps
---   IsCodeOf               `step_code` as facts, in the document's words (joined by `code_iff` of proofs/)
+--   IsCodeOf                 `step_code` as facts, in the document's words (joined by `code_iff` of proofs/)
 use Rattle.std.specs.Prelude.{ℕ, zero, suc, ◌+◌, ◌-◌, ◌/◌, ◌^◌, ◌≤◌, ◌<◌, min, max, Bool, cond, ◌&&◌, eqb, ℤ, pos, neg_ℤ, nat_abs, ◌<ℤ◌, ◌≤ℤ◌}
 use Rattle.std.specs.Int.Signed.{lt_z, le_z}
 use Rattle.meaning.specs.EdgeCodes.{edge_codes, edge_code, length_class, octant_of}

@@ -1,7 +1,7 @@
 -- Filling the join area (document 02, ticket 3). What it must hold is `joined_with` of crates/meaning.
 --
---   can_join        whether the area can be filled: the ring has an edge, a window fits in the line, and the area has at least 2·m − 2 bytes
---   join_used       how many bytes of the area windows may come from
+--   can_join       whether the area can be filled: the ring has an edge, a window fits in the line, and the area has at least 2·m − 2 bytes
+--   join_used      how many bytes of the area windows may come from
 --   IsJoinFilled   the contract of `fill_join`
 --   IsCopied       the contract of `copy_edges`
 use Rattle.std.specs.Prelude.{ℕ, ◌≡◌, Bool, cond, ◌&&◌, List, ltb, leb, length}

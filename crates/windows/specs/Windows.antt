@@ -2,11 +2,11 @@
 -- from the line itself, and the caller gets the part that applies" (document 02, ticket 3). Everything above `window` goes by one list, the whole line, so it is
 -- proved once for lines that are searched open and for lines that are searched closed.
 --
---   window_at      the window at a place of the line or of the join area
+--   window_at     the window at a place of the line or of the join area
 --   Parts, parts  the two parts that windows come from: the line and the join area
 --   crosses       whether a window crosses the line's end
---   window_of      the window at a place, out of the part that applies
---   whole_line,    the line, followed by the m − 1 edges that the join area adds to it; its length
+--   window_of     the window at a place, out of the part that applies
+--   whole_line,   the line, followed by the m − 1 edges that the join area adds to it; its length
 --   whole_length
 --   Joined        the join area begins with the line's last m − 1 edges
 --   IsWindow, IsWholeLength   the contracts of `window` and `whole_length`

@@ -1,10 +1,8 @@
 -- `tally::afresh::count_edges` meets its contract: the counts are cleared, the loop keeps `CountingAfresh`, and then the least is taken. The measure is m - q.
-use Prim.Native.Nat.{◌+◌}
 use mathlib.Core.Path.{sym}
 use native.Mathlib.Omega.{arith}
-use lib.ListN.{length}
 use Rattle.tally.proofs.PastMark.{past_none}
-use Rattle.tally.proofs.AfreshLoop.{NoneCounted, CountingAfresh, edges_begin, counting_afresh_start, counting_afresh_can, counting_afresh_on, counting_afresh_turn, counting_afresh_end}
+use Rattle.tally.proofs.AfreshLoop.{edges_begin, counting_afresh_start, counting_afresh_can, counting_afresh_on, counting_afresh_turn, counting_afresh_end}
 use Rattle.tally.proofs.afresh.count_edges.Goals as goal
 
 pub clear-requires : goal.clear-requires
@@ -12,29 +10,21 @@ clear-requires c = c.requires.has_counts
 
 pub loop-q-init : goal.loop-q-init
 loop-q-init c =
-    let begin : NoneCounted c.args.doubled.now c.args.window.now c.clear.new.counts 0 (length c.args.window.now) = edges_begin c.requires c.clear.ensures in
-    counting_afresh_start (begin) (sym (past_none _ 0))
+    counting_afresh_start (edges_begin c.requires c.clear.ensures) (sym (past_none _ 0))
 
 pub count_part-counted-requires : goal.count_part-counted-requires
 count_part-counted-requires c =
-    let begin : NoneCounted c.args.doubled.now c.args.window.now c.clear.new.counts 0 (length c.args.window.now) = edges_begin c.requires c.clear.ensures in
-    counting_afresh_on (begin) c.loop-q.invariant (omega (arith, (begin).can.has_counts.most)) c.loop-q-test.true
+    counting_afresh_on (edges_begin c.requires c.clear.ensures) c.loop-q.invariant (omega (arith, c.requires.has_counts.most)) c.loop-q-test.true
 
 pub overflow_add-looks : goal.overflow_add-looks
 overflow_add-looks c =
-    let begin : NoneCounted c.args.doubled.now c.args.window.now c.clear.new.counts 0 (length c.args.window.now) = edges_begin c.requires c.clear.ensures in
-    let after_turn : let before = c.loop-q in
-    CountingAfresh c.args.doubled.now c.args.window.now c.clear.new.counts 0 (length c.args.window.now)
-    c.count_part-counted.new.counts (before.looks + c.count_part-counted.result.looks) c.count_part-counted.result.past (before.q + c.count_part-counted.result.edges) = counting_afresh_turn (begin) c.loop-q.invariant c.count_part-counted.ensures in
-    omega (arith, (after_turn).looks_le, (after_turn).turn_le, c.requires.has_counts.most)
+    let turn = counting_afresh_turn (edges_begin c.requires c.clear.ensures) c.loop-q.invariant c.count_part-counted.ensures in
+    omega (arith, turn.looks_le, turn.turn_le, c.requires.has_counts.most)
 
 pub overflow_add-q : goal.overflow_add-q
 overflow_add-q c =
-    let begin : NoneCounted c.args.doubled.now c.args.window.now c.clear.new.counts 0 (length c.args.window.now) = edges_begin c.requires c.clear.ensures in
-    let after_turn : let before = c.loop-q in
-    CountingAfresh c.args.doubled.now c.args.window.now c.clear.new.counts 0 (length c.args.window.now)
-    c.count_part-counted.new.counts (before.looks + c.count_part-counted.result.looks) c.count_part-counted.result.past (before.q + c.count_part-counted.result.edges) = counting_afresh_turn (begin) c.loop-q.invariant c.count_part-counted.ensures in
-    omega (arith, (after_turn).turn_le)
+    let turn = counting_afresh_turn (edges_begin c.requires c.clear.ensures) c.loop-q.invariant c.count_part-counted.ensures in
+    omega (arith, turn.turn_le)
 
 pub loop-q-smaller : goal.loop-q-smaller
 loop-q-smaller c =
@@ -42,16 +32,11 @@ loop-q-smaller c =
 
 pub loop-q-preserved : goal.loop-q-preserved
 loop-q-preserved c =
-    let begin : NoneCounted c.args.doubled.now c.args.window.now c.clear.new.counts 0 (length c.args.window.now) = edges_begin c.requires c.clear.ensures in
-    let after_turn : let before = c.loop-q in
-    CountingAfresh c.args.doubled.now c.args.window.now c.clear.new.counts 0 (length c.args.window.now)
-    c.count_part-counted.new.counts (before.looks + c.count_part-counted.result.looks) c.count_part-counted.result.past (before.q + c.count_part-counted.result.edges) = counting_afresh_turn (begin) c.loop-q.invariant c.count_part-counted.ensures in
-    after_turn
+    counting_afresh_turn (edges_begin c.requires c.clear.ensures) c.loop-q.invariant c.count_part-counted.ensures
 
 pub least_of-requires : goal.least_of-requires
 least_of-requires c =
-    let begin : NoneCounted c.args.doubled.now c.args.window.now c.clear.new.counts 0 (length c.args.window.now) = edges_begin c.requires c.clear.ensures in
-    (counting_afresh_can (begin) c.loop-q.invariant).has_counts
+    (counting_afresh_can (edges_begin c.requires c.clear.ensures) c.loop-q.invariant).has_counts
 
 pub returns : goal.returns
 returns c =

@@ -1,9 +1,8 @@
 -- `tally::afresh::count_four` meets its contract: a turn stores rotation r's count with four comparisons added (`StoreLoop` of crates/lists). Each is at most 1, and
 -- eight bits hold a count with 4 added, by the precondition. The measure is m - r.
-use Prim.Native.Nat.{◌+◌, ◌≤◌}
 use native.Mathlib.Omega.{arith}
 use Rattle.lists.proofs.StoreLoop.{stored_start, stored_turn, stored_end}
-use Rattle.tally.proofs.SomeCounted.{comparison_le}
+use Rattle.tally.proofs.SomeCounted.{four_comparisons_le}
 use Rattle.tally.proofs.afresh.count_four.Goals as goal
 
 pub loop-r-init : goal.loop-r-init
@@ -11,48 +10,20 @@ loop-r-init c = (omega arith, omega arith, stored_start)
 
 pub overflow_add-part : goal.overflow_add-part
 overflow_add-part c =
-    let four-le : c.differing-at_a.result + c.differing-at_b.result + c.differing-at_c.result + c.differing-at_d.result ≤ 4 = omega (
-      arith,
-      comparison_le c.differing-at_a.ensures,
-      comparison_le c.differing-at_b.ensures,
-      comparison_le c.differing-at_c.ensures,
-      comparison_le c.differing-at_d.ensures,
-    ) in
-    omega (arith, four-le)
+    omega (arith, four_comparisons_le c.differing-at_a.ensures c.differing-at_b.ensures c.differing-at_c.ensures c.differing-at_d.ensures)
 
 pub overflow_add-part-in-loop-r : goal.overflow_add-part-in-loop-r
 overflow_add-part-in-loop-r c =
-    let four-le : c.differing-at_a.result + c.differing-at_b.result + c.differing-at_c.result + c.differing-at_d.result ≤ 4 = omega (
-      arith,
-      comparison_le c.differing-at_a.ensures,
-      comparison_le c.differing-at_b.ensures,
-      comparison_le c.differing-at_c.ensures,
-      comparison_le c.differing-at_d.ensures,
-    ) in
-    omega (arith, four-le)
+    omega (arith, four_comparisons_le c.differing-at_a.ensures c.differing-at_b.ensures c.differing-at_c.ensures c.differing-at_d.ensures)
 
 pub overflow_add-part-in-loop-r-2 : goal.overflow_add-part-in-loop-r-2
 overflow_add-part-in-loop-r-2 c =
-    let four-le : c.differing-at_a.result + c.differing-at_b.result + c.differing-at_c.result + c.differing-at_d.result ≤ 4 = omega (
-      arith,
-      comparison_le c.differing-at_a.ensures,
-      comparison_le c.differing-at_b.ensures,
-      comparison_le c.differing-at_c.ensures,
-      comparison_le c.differing-at_d.ensures,
-    ) in
-    omega (arith, four-le)
+    omega (arith, four_comparisons_le c.differing-at_a.ensures c.differing-at_b.ensures c.differing-at_c.ensures c.differing-at_d.ensures)
 
 pub overflow_add-part-in-loop-r-3 : goal.overflow_add-part-in-loop-r-3
 overflow_add-part-in-loop-r-3 c =
-    let four-le : c.differing-at_a.result + c.differing-at_b.result + c.differing-at_c.result + c.differing-at_d.result ≤ 4 = omega (
-      arith,
-      comparison_le c.differing-at_a.ensures,
-      comparison_le c.differing-at_b.ensures,
-      comparison_le c.differing-at_c.ensures,
-      comparison_le c.differing-at_d.ensures,
-    ) in
     let pre = c.requires in
-    omega (arith, c.loop-r.invariant.2.rest c.loop-r.r (omega arith), pre.2 _ c.loop-r-test.true, four-le)
+    omega (arith, c.loop-r.invariant.2.rest c.loop-r.r (omega arith), pre.2 _ c.loop-r-test.true, four_comparisons_le c.differing-at_a.ensures c.differing-at_b.ensures c.differing-at_c.ensures c.differing-at_d.ensures)
 
 pub loop-r-preserved : goal.loop-r-preserved
 loop-r-preserved c =
