@@ -7,4 +7,4 @@ mod places;
 mod refusals;
 
 pub use places::{LinePlace, RingPlace, to_line, to_ring};
-pub use refusals::{Refusal, number_of, place_of};
+pub use refusals::Refusal;

@@ -46,57 +46,59 @@ pub enum Refusal {
     EqualNeighbours(usize),
 }
 
-// The row of a refusal, counted from 1 in the order of the enum. Up to row 12 it is the refusal's number.
-fn row_of(refusal: Refusal) -> usize
-    ensures { number_of refusal ≡ number_of_row result }
-{
-    match refusal {
-        Refusal::Ring => 1,
-        Refusal::Allowance => 2,
-        Refusal::Line => 3,
-        Refusal::FindingsRoom => 4,
-        Refusal::BookLength => 5,
-        Refusal::Field(_) => 6,
-        Refusal::NotAbove(_) => 7,
-        Refusal::WordCount => 8,
-        Refusal::NumberInRecord(_) => 9,
-        Refusal::OutputRoom => 10,
-        Refusal::Input(_) => 11,
-        Refusal::RingMark => 12,
-        Refusal::RingCode(_) => 13,
-        Refusal::VertexCount => 14,
-        Refusal::EqualNeighbours(_) => 15,
+impl Refusal {
+    // The row of a refusal, counted from 1 in the order of the enum. Up to row 12 it is the refusal's number.
+    fn row(self) -> usize
+        ensures { number_of self ≡ number_of_row result }
+    {
+        match self {
+            Refusal::Ring => 1,
+            Refusal::Allowance => 2,
+            Refusal::Line => 3,
+            Refusal::FindingsRoom => 4,
+            Refusal::BookLength => 5,
+            Refusal::Field(_) => 6,
+            Refusal::NotAbove(_) => 7,
+            Refusal::WordCount => 8,
+            Refusal::NumberInRecord(_) => 9,
+            Refusal::OutputRoom => 10,
+            Refusal::Input(_) => 11,
+            Refusal::RingMark => 12,
+            Refusal::RingCode(_) => 13,
+            Refusal::VertexCount => 14,
+            Refusal::EqualNeighbours(_) => 15,
+        }
     }
-}
 
-// The number of a refusal: the table's column "No.". The compiler makes one addition of `row_of`; of a match whose numbers
-// leave one out it makes a table of jumps, which tools/stack does not follow.
-pub fn number_of(refusal: Refusal) -> usize
-    ensures { IsNumber refusal result }
-{
-    let row = row_of(refusal);
-    if row < GAP { row } else { row + 1 }
-}
+    // The number of a refusal: the table's column "No.". The compiler makes one addition of `row_of`; of a match whose numbers
+    // leave one out it makes a table of jumps, which tools/stack does not follow.
+    pub fn number(self) -> usize
+        ensures { IsNumber self result }
+    {
+        let row = self.row();
+        if row < GAP { row } else { row + 1 }
+    }
 
-// The place of a refusal: the table's column "Place".
-pub fn place_of(refusal: Refusal) -> usize
-    ensures { IsPlace refusal result }
-{
-    match refusal {
-        Refusal::Field(place) => place,
-        Refusal::NotAbove(place) => place,
-        Refusal::NumberInRecord(place) => place,
-        Refusal::Input(place) => place,
-        Refusal::RingCode(place) => place,
-        Refusal::EqualNeighbours(place) => place,
-        Refusal::Ring => 0,
-        Refusal::Allowance => 0,
-        Refusal::Line => 0,
-        Refusal::FindingsRoom => 0,
-        Refusal::BookLength => 0,
-        Refusal::WordCount => 0,
-        Refusal::OutputRoom => 0,
-        Refusal::RingMark => 0,
-        Refusal::VertexCount => 0,
+    // The place of a refusal: the table's column "Place".
+    pub fn place(self) -> usize
+        ensures { IsPlace self result }
+    {
+        match self {
+            Refusal::Field(place) => place,
+            Refusal::NotAbove(place) => place,
+            Refusal::NumberInRecord(place) => place,
+            Refusal::Input(place) => place,
+            Refusal::RingCode(place) => place,
+            Refusal::EqualNeighbours(place) => place,
+            Refusal::Ring => 0,
+            Refusal::Allowance => 0,
+            Refusal::Line => 0,
+            Refusal::FindingsRoom => 0,
+            Refusal::BookLength => 0,
+            Refusal::WordCount => 0,
+            Refusal::OutputRoom => 0,
+            Refusal::RingMark => 0,
+            Refusal::VertexCount => 0,
+        }
     }
 }

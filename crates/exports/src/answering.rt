@@ -8,7 +8,7 @@ ghost use Rattle.outlines.specs.Report.{no_report_counts, paper_of as report_pap
 ghost use Rattle.vertices.specs.Importing.{paper_of as import_paper_of};
 ghost use Rattle.exports.specs.Exported.{paper_of, search_in_struct, one_count_in_struct, paper_in_struct};
 
-use answers::{Refusal, number_of, place_of};
+use answers::Refusal;
 use book::BookAnswer;
 use outlines::{Reported, Searched};
 use vertices::Imported;
@@ -30,8 +30,8 @@ pub fn refused_answer(refusal: Refusal) -> Answer
     requires { place_of refusal < 2 ^ 32 }
     ensures { paper_of result ≡ answer_paper no_report_counts (refused refusal) }
 {
-    let number = number_of(refusal);
-    let place = place_of(refusal);
+    let number = refusal.number();
+    let place = refusal.place();
     Answer {
         refusal: number as u32,
         place: place as u32,

@@ -4,13 +4,13 @@ ghost use Rattle.reply.specs.Lines.{refusal_line};
 ghost use Rattle.reply.specs.Writing.{most_text, IsText};
 
 use crate::lines::put_line;
-use answers::{Refusal, number_of, place_of};
+use answers::Refusal;
 
 // "A refusal prints a single line, such as `refused 2 place 0`."
 pub fn put_refusal(text: &mut [u8], refusal: Refusal) -> usize
     requires { most_text ≤ length text.old }
     ensures { IsText (refusal_line refusal) text.old result text.new }
 {
-    let numbers = [number_of(refusal), place_of(refusal)];
+    let numbers = [refusal.number(), refusal.place()];
     put_line(text, 0, b"refused # place #\n", &numbers)
 }

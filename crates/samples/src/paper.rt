@@ -4,7 +4,6 @@ use crate::printing::{
     BACKWARD_LABEL, EDGES_LABEL, FORWARD_LABEL, FOUND_LABEL, HIDDEN_LABEL, LOOKS_LABEL,
     NUMBER_LABEL, PLACE_LABEL, RECORDS_LABEL, print_number,
 };
-use answers::{number_of, place_of};
 use book::BookAnswer;
 use findings::SearchCounts;
 use outlines::{Reported, Searched};
@@ -26,7 +25,7 @@ pub fn print_book(rt: &impl Print, answer: BookAnswer) -> io::Result<()> {
             print_number(rt, RECORDS_LABEL, records)
         }
         BookAnswer::Refused(refusal) => {
-            print_refusal(rt, number_of(refusal), place_of(refusal))?;
+            print_refusal(rt, refusal.number(), refusal.place())?;
             print_number(rt, RECORDS_LABEL, 0)
         }
     }
@@ -41,7 +40,7 @@ pub fn print_search(rt: &impl Print, answer: Searched) -> io::Result<()> {
             print_number(rt, LOOKS_LABEL, looks)
         }
         Searched::Refused(refusal) => {
-            print_refusal(rt, number_of(refusal), place_of(refusal))?;
+            print_refusal(rt, refusal.number(), refusal.place())?;
             print_number(rt, FOUND_LABEL, 0)?;
             print_number(rt, LOOKS_LABEL, 0)
         }
@@ -62,7 +61,7 @@ pub fn print_report(rt: &impl Print, answer: Reported) -> io::Result<()> {
             print_number(rt, LOOKS_LABEL, looks)
         }
         Reported::Refused(refusal) => {
-            print_refusal(rt, number_of(refusal), place_of(refusal))?;
+            print_refusal(rt, refusal.number(), refusal.place())?;
             print_number(rt, FOUND_LABEL, 0)?;
             print_number(rt, HIDDEN_LABEL, 0)?;
             print_number(rt, LOOKS_LABEL, 0)
@@ -86,7 +85,7 @@ pub fn print_two_way(rt: &impl Print, answer: TwoWay) -> io::Result<()> {
         }
         TwoWay::Refused(refusal) => {
             let none = SearchCounts { found: 0, looks: 0 };
-            print_refusal(rt, number_of(refusal), place_of(refusal))?;
+            print_refusal(rt, refusal.number(), refusal.place())?;
             print_pass(rt, FORWARD_LABEL, none)?;
             print_pass(rt, BACKWARD_LABEL, none)
         }
@@ -101,7 +100,7 @@ pub fn print_import(rt: &impl Print, answer: Imported) -> io::Result<()> {
             print_number(rt, EDGES_LABEL, edges)
         }
         Imported::Refused(refusal) => {
-            print_refusal(rt, number_of(refusal), place_of(refusal))?;
+            print_refusal(rt, refusal.number(), refusal.place())?;
             print_number(rt, EDGES_LABEL, 0)
         }
     }
