@@ -10,38 +10,38 @@
 --
 -- Rows 6 and 7 within a book are one element of the list, the first fault if there is one; so are rows 9 and 7 among the records to pack.
 use Rattle.std.specs.Prelude.{ℕ, ◌≡◌, Bool, cond, List, [], ◌∷◌, ◌++◌}
-use Rattle.std.proofs.Math.Option.{Option, none, some}
+use Rattle.std.specs.Prelude.{Option, None, Some}
 use Rattle.answers.specs.declared.refusals.Refusal.{Refusal}
 use Rattle.answers.specs.Paper.{Answer, accepted, refused}
 
 -- "Given exactly when": a row gives its refusal if its test is true.
 abbrev pub row : Bool → Refusal → Option Refusal
-row test refusal = cond test (some refusal) none
+row test refusal = cond test (Some refusal) None
 
 -- "Order: ..": the refusal of the first row that is given, or none if no row is.
 unfoldable pub first_given : List (Option Refusal) → Option Refusal
-first_given [] = none
-first_given (none ∷ rows) = first_given rows
-first_given (some refusal ∷ rows) = some refusal
+first_given [] = None
+first_given (None ∷ rows) = first_given rows
+first_given (Some refusal ∷ rows) = Some refusal
 
 -- No row of the list is given.
 abbrev pub NoneGiven : List (Option Refusal) → Type 0
 NoneGiven [] = Unit {0}
-NoneGiven (first ∷ rows) = (first ≡ none) × NoneGiven rows
+NoneGiven (first ∷ rows) = (first ≡ None) × NoneGiven rows
 
 -- A row of the list gives this refusal, and no row before it is given.
 pub record IsFirst (rows : List (Option Refusal)) (refusal : Refusal) : Type 0 where
   pub earlier : List (Option Refusal)
   pub later : List (Option Refusal)
-  pub rows_are : rows ≡ earlier ++ some refusal ∷ later
+  pub rows_are : rows ≡ earlier ++ Some refusal ∷ later
   pub none_before : NoneGiven earlier
 
 -- The call's answer: if no row is given, it is accepted with the result `a`; else it is refused by the first row given.
 abbrev pub answer_by : {A : Type 0} → Option Refusal → A → Answer A
-answer_by none a = accepted a
-answer_by (some refusal) a = refused refusal
+answer_by None a = accepted a
+answer_by (Some refusal) a = refused refusal
 
 -- A lent area at exit: `new` if the call is accepted. A refusal "writes nothing to any lent area", so the area is then `old`, as before.
 abbrev pub area_by : Option Refusal → List ℕ → List ℕ → List ℕ
-area_by none new old = new
-area_by (some refusal) new old = old
+area_by None new old = new
+area_by (Some refusal) new old = old

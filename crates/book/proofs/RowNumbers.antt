@@ -4,7 +4,7 @@ use Prim.Native.Nat.{ℕ}
 use mathlib.Core.Logic.{◌↔◌}
 use mathlib.Core.Path.{◌≡◌, refl, sym, ap, ◌∙◌}
 use mathlib.Core.List.{List}
-use mathlib.Core.Option.{Option, none, some}
+use Rattle.std.specs.Prelude.{Option, None, Some}
 use lib.ListN.{length}
 use Rattle.lists.specs.Areas.{written}
 use Rattle.answers.specs.declared.refusals.Refusal.{Refusal}
@@ -22,17 +22,17 @@ use Rattle.book.proofs.OneAnswer.{paper_unique}
 -- The area at exit: with the output written if no row is given, else as it was.
 pub area_by_lem : (output : List Silence → List ℕ) (area : List ℕ) (o : Option Refusal) (ss : List Silence)
     → area_at_exit output (answer_by o ss) area ≡ area_by o (written (output ss) area) area
-area_by_lem output area none ss = refl
-area_by_lem output area (some q) ss = refl
+area_by_lem output area None ss = refl
+area_by_lem output area (Some q) ss = refl
 
 -- The paper: if no row is given, the number of records is the number of silences.
 pub paper_by : (o : Option Refusal) (ss : List Silence) {p : Paper ℕ} → p ≡ records_paper (answer_by o ss) → p ≡ answer_paper 0 (answer_by o (length ss))
-paper_by none ss e = e
-paper_by (some q) ss e = e
+paper_by None ss e = e
+paper_by (Some q) ss e = e
 
 -- A call returns n records exactly when no row is given and there are n silences.
 pub records_iff : (o : Option Refusal) (ss : List Silence) (r : BookAnswer) → paper_of r ≡ records_paper (answer_by o ss) → (n : ℕ)
-    → (r ≡ Records n) ↔ ((o ≡ none) × (length ss ≡ n))
+    → (r ≡ Records n) ↔ ((o ≡ None) × (length ss ≡ n))
 records_iff o ss r paper n =
     let is = answer_unique 0 (answer_of r) (answer_by o (length ss)) (paper_by o ss paper) in (
       λ e. (answer_gives_iff (length ss) n o).0 (sym is ∙ ap answer_of e),

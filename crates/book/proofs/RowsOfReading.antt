@@ -6,7 +6,7 @@ use mathlib.Core.Logic.Iff
 use mathlib.Core.Logic.{◌⊎◌, inl, inr, ◌↔◌}
 use mathlib.Core.Path.{◌≡◌, refl, ap, ◌∙◌}
 use mathlib.Core.List.{List}
-use mathlib.Core.Option.{Option, some}
+use Rattle.std.specs.Prelude.{Option, Some}
 use native.Mathlib.Omega.{arith}
 use lib.ListN.{length}
 use Rattle.lists.specs.Bounds.{IsBytes}
@@ -31,7 +31,7 @@ use Rattle.book.proofs.RowNumbers.{paper_by, records_iff}
 
 -- For any call whose first row given is `o`, if its refusals other than number 10 are exactly the book's. `p` is its paper.
 module _ (book : List ℕ) {p : Paper ℕ} (o : Option Refusal) (counts : ℕ) (paper : p ≡ answer_paper 0 (answer_by o counts))
-    (same : (q : Refusal) → (10 ≡ number_of q → ⊥) → (o ≡ some q) ↔ (book_refusal book ≡ some q)) where
+    (same : (q : Refusal) → (10 ≡ number_of q → ⊥) → (o ≡ Some q) ↔ (book_refusal book ≡ Some q)) where
   -- Row 5 is given exactly for a book longer than 15,000 bytes.
   pub row_5 : (p.number ≡ 5) ↔ (most_bytes < length book)
   row_5 = Iff.trans (row_number_iff 0 counts o paper BookLength (omega arith)) (Iff.trans (same BookLength (λ e. omega arith)) (refusal_5_iff book))

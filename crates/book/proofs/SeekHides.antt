@@ -5,7 +5,7 @@ use mathlib.Core.Logic.{◌↔◌}
 use mathlib.Core.Path.{◌≡◌, refl, sym, ap, ◌∙◌}
 use mathlib.Core.Bool.{Bool, true, false, cond, ◌||◌, or-false}
 use mathlib.Core.List.{List, [], ◌∷◌}
-use mathlib.Core.Option.{Option, some}
+use Rattle.std.specs.Prelude.{Option, Some}
 use native.Mathlib.Omega.{arith}
 use lib.ListN.{length}
 use Rattle.answers.specs.Paper.{accepted}
@@ -33,7 +33,7 @@ module _ (a : Address) (distance : ℕ) where
   hides_passed s ss h = ap (λ (t : Bool). t || hides ss a distance) (covers_other s a distance (below_not_same s.address a h).0)
 
   -- those after one that is not below the address do not hide it
-  hides_after : (s : Silence) (ss : List Silence) → AscendingAfter (some s.address) ss → (Below s.address a → ⊥) → hides ss a distance ≡ false
+  hides_after : (s : Silence) (ss : List Silence) → AscendingAfter (Some s.address) ss → (Below s.address a → ⊥) → hides ss a distance ≡ false
   unfolding hides
   hides_after s [] ascends not_below = refl
   hides_after s (t ∷ ss) ascends not_below =
@@ -42,7 +42,7 @@ module _ (a : Address) (distance : ℕ) where
       ∙ hides_after t ss ascends.1 ((not_below_iff t.address a).0 (above_is_below t.address a above))
 
   -- the first that is not below the address decides
-  hides_first : (s : Silence) (ss : List Silence) → AscendingAfter (some s.address) ss → is_below s.address a ≡ false
+  hides_first : (s : Silence) (ss : List Silence) → AscendingAfter (Some s.address) ss → is_below s.address a ≡ false
       → covers s a distance ≡ hides (s ∷ ss) a distance
   unfolding hides
   hides_first s ss ascends h =

@@ -3,7 +3,7 @@
 use Prim.Native.Nat.{ℕ, ◌*◌, ◌≤◌, ◌<◌}
 use mathlib.Core.Path.{◌≡◌, sym, ap, ◌∙◌}
 use mathlib.Core.List.{List}
-use mathlib.Core.Option.{some}
+use Rattle.std.specs.Prelude.{Some}
 use native.Mathlib.Omega.{arith}
 use lib.ListN.{length}
 use Rattle.answers.specs.declared.refusals.Refusal.{Refusal}
@@ -23,7 +23,7 @@ use Rattle.book.proofs.AcceptedBook.{HasRecords, has_records, has_refusal}
 
 module _ (book area : List ℕ) where
   -- if q is the first row that is given, refusing with q and writing nothing meets the contract
-  is_refused : {q : Refusal} → unpack_refusal book (length area) ≡ some q → IsUnpacked book area (Refused q) area
+  is_refused : {q : Refusal} → unpack_refusal book (length area) ≡ Some q → IsUnpacked book area (Refused q) area
   unfolding unpacked
   is_refused {q} e =
       let is : unpacked book (length area) ≡ refused q = (answer_refused_iff (silences_read book) (unpack_refusal book (length area)) q).1 e in
@@ -32,7 +32,7 @@ module _ (book area : List ℕ) where
   -- If reading refuses with q, refusing with q and writing nothing meets the contract.
   pub unpack_refused : (q : Refusal) → record_count (read_book book) ≡ refused q → IsUnpacked book area (Refused q) area
   unpack_refused q e =
-      let given : book_refusal book ≡ some q = (book_refused_iff book q).0 (has_refusal (read_book book) q e) in
+      let given : book_refusal book ≡ Some q = (book_refused_iff book q).0 (has_refusal (read_book book) q e) in
       is_refused ((unpack_row_iff book (length area) q
       (refusal_has book (λ (r : Refusal). number_of OutputRoom ≡ number_of r → ⊥) (λ h. omega arith) (λ at h. omega arith) (λ at h. omega arith) q given)).1 given)
 

@@ -4,7 +4,7 @@
 use Prim.Native.Nat.{ℕ, ◌+◌, ◌*◌, ◌≤◌, ◌<◌}
 use mathlib.Core.Path.{◌≡◌, refl, sym, ap, ap₂, ◌∙◌}
 use mathlib.Core.List.{List, [], ◌∷◌, ◌++◌, append-nil, append_assoc}
-use mathlib.Core.Option.{Option, none, some}
+use Rattle.std.specs.Prelude.{Option, None, Some}
 use native.Mathlib.Omega.{arith}
 use lib.ListN.{length, length-append}
 use lib.Seq.{sets}
@@ -30,7 +30,7 @@ record FirstField (book : List ℕ) (at : ℕ) (ss : List Silence) : Type 0 wher
   pub others : List Silence
   pub stop : ℕ
   pub field_is : field_at book at ≡ whole first next
-  pub fields : FieldsRead book (some first.address) next others stop
+  pub fields : FieldsRead book (Some first.address) next others stop
   pub all_is : ss ≡ first ∷ others
 
 -- if at least one field is read, there is a first one
@@ -65,7 +65,7 @@ module _ {book area : List ℕ} {records : ℕ} where
       let all : HasRecords (read_book book) records = has_records (read_book book) records e in
       let read : IsReadWhole all.silences book = (accepted_whole_iff book all.silences).0 all.is in
       record {
-        last = none;
+        last = None;
         put = [];
         others = all.silences;
         stop = read.stop;
@@ -116,7 +116,7 @@ module _ {book area : List ℕ} {records : ℕ} where
           let to_is : record_words * done ≡ length (words_of_silences inv.put) = omega (arith, words_length inv.put, inv.done_is) in
           let others_are : inv.others ≡ s ∷ f.others = f.all_is ∙ ap (λ (t : Silence). t ∷ f.others) first_is in
           record {
-            last = some s.address;
+            last = Some s.address;
             put = inv.put ++ s ∷ [];
             others = f.others;
             stop = f.stop;

@@ -1,6 +1,6 @@
 // Reading a book: how many records it has, or the refusal of its first fault.
 ghost use Rattle.std.specs.Prelude.{◌≡◌};
-ghost use Rattle.std.proofs.Math.Option.{none};
+ghost use Rattle.std.specs.Prelude.{None};
 ghost use Rattle.silences.specs.Reading.{read_from};
 ghost use Rattle.book.specs.Calls.{answer_of, record_count, IsRead};
 
@@ -13,7 +13,7 @@ const MOST_BOOK_LENGTH: usize = PACKED_LENGTH * MOST_SILENCES;
 
 // Reads the fields of a book one after the other. "Within a book the first faulty field decides, 6 before 7."
 fn read_fields(book: &[u8]) -> BookAnswer
-    ensures { answer_of result ≡ record_count (read_from book.now none 0) }
+    ensures { answer_of result ≡ record_count (read_from book.now None 0) }
 {
     let mut at: usize = 0;
     let mut records: usize = 0;

@@ -6,7 +6,7 @@ use mathlib.Core.Path.{◌≡◌, refl, sym, ap, subst, ◌∙◌}
 use mathlib.Core.Logic.Iff
 use mathlib.Core.Logic.{◌↔◌, ◌⊎◌, inl, inr}
 use mathlib.Core.List.{List}
-use mathlib.Core.Option.{Option, none, some}
+use Rattle.std.specs.Prelude.{Option, None, Some}
 use native.Mathlib.Omega.{arith}
 use lib.ListN.{length, take}
 use Rattle.lists.specs.Areas.{written}
@@ -159,14 +159,14 @@ unpack_pack book area {out} {r} bytes e zero_is few area' {out'} {r'} room e' =
 -- the paper of pack and unpack in the struct, by the first row that is given
 records_by : (o : Option Refusal) (ss : List Silence)
     → paper_in_struct one_count_in_struct (records_paper (answer_by o ss)) ≡ answer_paper no_report_counts (answer_by o (one_count_in_struct (length ss)))
-records_by none ss = refl
-records_by (some q) ss = refl
+records_by None ss = refl
+records_by (Some q) ss = refl
 
 -- the area at exit of pack and unpack, by the first row that is given
 area_by_lem : (output : List Silence → List ℕ) (o : Option Refusal) (ss : List Silence) (area : List ℕ)
     → area_at_exit output (answer_by o ss) area ≡ area_by o (written (output ss) area) area
-area_by_lem output none ss area = refl
-area_by_lem output (some q) ss area = refl
+area_by_lem output None ss area = refl
+area_by_lem output (Some q) ss area = refl
 
 -- For a book of bytes, its rows agree with those of the page of demands: 5, then the first faulty field.
 pub book_agrees : (book : List ℕ) → IsBytes book → AllAgree (book_rows book) (book_table book)
@@ -182,7 +182,7 @@ book_agrees book bytes = (
 
 module _ (book area : List ℕ) {out : List ℕ} {r : AnswerStruct} (bytes : IsBytes book) (e : IsUnpackExported book area r out) where
   -- row 10 agrees where no row of the book is given: the bytes are a book then, and its words lack room
-  room_agrees : first_given (book_rows book) ≡ none
+  room_agrees : first_given (book_rows book) ≡ None
       → Agrees (room_row (words_of_silences (silences_read book)) (length area)) (row_of 10 ((ss : List Silence) × IsBook ss book × (length area < length (words_of_silences ss))))
   room_agrees none_given number place =
       let read : read_book book ≡ accepted (silences_read book) = (book_accepted_iff book (silences_read book)).1 (none_given, refl) in

@@ -4,7 +4,7 @@ use Prim.Native.Nat.{ℕ, ◌≤◌, ◌<◌}
 use mathlib.Core.Logic.{⊎_elim}
 use mathlib.Core.Path.{◌≡◌, refl, sym, ap}
 use mathlib.Core.List.{List, ◌∷◌}
-use mathlib.Core.Option.{Option, none, some}
+use Rattle.std.specs.Prelude.{Option, None, Some}
 use native.Mathlib.Omega.{arith}
 use lib.ListN.{length, length-append}
 use Rattle.lists.proofs.Cases.{le_or_lt}
@@ -28,7 +28,7 @@ use Rattle.silences.proofs.PackRows.{pack_has, pack_9_iff, pack_7_iff}
 
 module _ (book : List ℕ) where
   -- the place where reading stops is at most the book's length
-  reads_place : {a : Answer (List Silence)} → ReadsAs book none 0 a → (records_paper a).place ≤ length book
+  reads_place : {a : Answer (List Silence)} → ReadsAs book None 0 a → (records_paper a).place ≤ length book
   reads_place (read_all f h) = omega arith
   reads_place (stopped_faulty f h n) = omega (arith, h)
   reads_place (stopped_order {stop = stop} {s = s} {next = next} f n o) = omega (arith, field_ends book stop s next n)
@@ -37,14 +37,14 @@ module _ (book : List ℕ) where
   pub read_place_le : (records_paper (read_book book)).place ≤ most_bytes
   read_place_le =
       ⊎_elim
-      (λ (h : length book ≤ most_bytes). omega (arith, reads_place (reads_as book none 0 (read_book book) (sym (read_book_fields book h)))))
+      (λ (h : length book ≤ most_bytes). omega (arith, reads_place (reads_as book None 0 (read_book book) (sym (read_book_fields book h)))))
       (λ (h : most_bytes < length book). rw (read_book_long book h) (omega arith))
       (le_or_lt (length book) most_bytes)
 
 -- a place is at most `most` if that of each refusal given is
-place_le : (most : ℕ) (o : Option Refusal) (ss : List Silence) → ((q : Refusal) → o ≡ some q → place_of q ≤ most) → (records_paper (answer_by o ss)).place ≤ most
-place_le most none ss each = omega arith
-place_le most (some q) ss each = each q refl
+place_le : (most : ℕ) (o : Option Refusal) (ss : List Silence) → ((q : Refusal) → o ≡ Some q → place_of q ≤ most) → (records_paper (answer_by o ss)).place ≤ most
+place_le most None ss each = omega arith
+place_le most (Some q) ss each = each q refl
 
 -- A place of unpacking is at most 15,000.
 pub unpacked_place_le : (book : List ℕ) (room : ℕ) → (records_paper (unpacked book room)).place ≤ most_bytes
@@ -61,7 +61,7 @@ pub packed_place_le : (words : List ℕ) (room : ℕ) → (records_paper (packed
 unfolding packed
 packed_place_le words room =
     place_le most_silences (pack_refusal words room) (silences_of words) (λ q e.
-    pack_has words room (λ (r : Refusal). pack_refusal words room ≡ some r → place_of r ≤ most_silences) (λ e. omega arith)
+    pack_has words room (λ (r : Refusal). pack_refusal words room ≡ Some r → place_of r ≤ most_silences) (λ e. omega arith)
     (λ j e. let f = (pack_9_iff words room j).0 e in number_le f.0 f.1.is_record)
     (λ j e. let f = (pack_7_iff words room j).0 e in number_le f.0 f.1.is_record) (λ e. omega arith) q e e)
   where

@@ -7,7 +7,7 @@ use mathlib.Core.Path.{◌≡◌, refl, sym, ◌∙◌}
 use mathlib.Core.Logic.Iff
 use mathlib.Core.Logic.{◌↔◌}
 use mathlib.Core.List.{List}
-use mathlib.Core.Option.{Option, none}
+use Rattle.std.specs.Prelude.{Option, None}
 use native.Mathlib.Omega.{arith}
 use lib.ListN.{length}
 use Rattle.lists.specs.Areas.{written}
@@ -110,7 +110,7 @@ module _ (ring line : List ℕ) (k : ℕ) (join words : List ℕ) where
   whole = closed_line (length ring) line
 
   -- an accepted call has a ring that is not empty
-  some_edge : first_given own_rows ≡ none → 0 < length ring
+  some_edge : first_given own_rows ≡ None → 0 < length ring
   some_edge = closed_accepted_edge ring k n (length words) (length join)
 
   module _ (looks : ℕ) {r : AnswerStruct} {joined out : List ℕ} (e : IsSearchClosedExported ring line k looks join words r joined out) where

@@ -5,7 +5,7 @@
 use Prim.Native.Nat.{ℕ, ◌≤◌}
 use mathlib.Core.Path.{◌≡◌, refl, sym, ap, subst, ◌∙◌}
 use mathlib.Core.List.{List}
-use mathlib.Core.Option.{Option, none, some}
+use Rattle.std.specs.Prelude.{Option, None, Some}
 use native.Mathlib.Omega.{arith}
 use lib.IntN.{ℤ}
 use lib.ListN.{length, take}
@@ -49,8 +49,8 @@ import_agrees numbers room = (
 
 -- the paper in the struct, by the first row that is given
 import_by : (o : Option Refusal) (count : ℕ) → paper_in_struct one_count_in_struct (answer_paper 0 (answer_by o count)) ≡ answer_paper no_report_counts (answer_by o (one_count_in_struct count))
-import_by none count = refl
-import_by (some q) count = refl
+import_by None count = refl
+import_by (Some q) count = refl
 
 -- a two-way scan for a ring without a mark, all of edge codes, is refused neither by 12 nor by 14
 ring_admitted : (ring line : List ℕ) (k : ℕ) (words : List ℕ) {s : TwoWayAnswer} {out : List ℕ} → (HoldsMark ring → ⊥) → AllEdges ring
@@ -147,6 +147,6 @@ module _ (numbers other : List ℤ) (area area' : List ℕ) {r r' : AnswerStruct
   -- After an accepted import, the same boundary in opposite order is accepted too, if there is room; its bytes are rotation 1 of the reversed ring of the first bytes.
   pub import_opposite : IsOpposite numbers other → (r'.refusal ≡ 0) × (take r'.found out' ≡ rotated 1 (reversed_ring (take r.found out)))
   import_opposite is =
-      let none = no_pair numbers area e zero_is in
-      let also = also_accepted is.length_is (opposite_no_pair none is) in
-      (also, front_is other area' e' also ∙ opposite_edges none is ∙ ap (λ (ring : List ℕ). rotated 1 (reversed_ring ring)) (sym (front_is numbers area e zero_is)))
+      let None = no_pair numbers area e zero_is in
+      let also = also_accepted is.length_is (opposite_no_pair None is) in
+      (also, front_is other area' e' also ∙ opposite_edges None is ∙ ap (λ (ring : List ℕ). rotated 1 (reversed_ring ring)) (sym (front_is numbers area e zero_is)))

@@ -3,7 +3,7 @@
 use Prim.Native.Nat.{ℕ, suc, ◌<◌, ◌^◌}
 use mathlib.Core.Path.{◌≡◌, refl, ap, ◌∙◌}
 use mathlib.Core.List.{List}
-use mathlib.Core.Option.{Option, none, some}
+use Rattle.std.specs.Prelude.{Option, None, Some}
 use native.Mathlib.Omega.{arith}
 use lib.IntN.{ℤ}
 use lib.ListN.{length}
@@ -45,10 +45,10 @@ place_is : {C : Type 0} {p q : Paper C} → p ≡ q → p.place ≡ q.place
 place_is e = ap (λ p. p.place) e
 
 -- if every row that can be given has a place below a bound above 0, so has the paper of the answer
-place_lt : {C : Type 0} (zeros counts : C) (o : Option Refusal) {bound : ℕ} → ((q : Refusal) → o ≡ some q → place_of q < suc bound)
+place_lt : {C : Type 0} (zeros counts : C) (o : Option Refusal) {bound : ℕ} → ((q : Refusal) → o ≡ Some q → place_of q < suc bound)
     → (answer_paper zeros (answer_by o counts)).place < suc bound
-place_lt zeros counts none each = omega arith
-place_lt zeros counts (some q) each = each q refl
+place_lt zeros counts None each = omega arith
+place_lt zeros counts (Some q) each = each q refl
 
 -- A place of `survey` or `scan` fits 32 bits: it is 0.
 pub search_place : {ring line : List ℕ} {k looks : ℕ} {words out : List ℕ} {r : Searched}

@@ -6,7 +6,7 @@ use mathlib.Core.Path.{◌≡◌, refl, ap, subst}
 use mathlib.Core.Logic.Iff
 use mathlib.Core.Logic.{◌↔◌}
 use mathlib.Core.List.{List, ◌++◌}
-use mathlib.Core.Option.{Option, none}
+use Rattle.std.specs.Prelude.{Option, None}
 use native.Mathlib.Omega.{arith}
 use lib.ListN.{length}
 use Rattle.lists.specs.Areas.{written}
@@ -81,14 +81,14 @@ module _ (rows : List (Option Refusal)) (cell ring_number : ℕ) (ring line : Li
   unfolding report_answer reported_words
   reported_by_rows = record { paper = e.paper; written = e.written }
 
-  module _ (some_edge : first_given rows ≡ none → 0 < length ring) (zero_is : r.refusal ≡ 0) where
+  module _ (some_edge : first_given rows ≡ None → 0 < length ring) (zero_is : r.refusal ≡ 0) where
     -- what an accepted report gives: no row is given, and its counts and words are those of the silences read
     taken : Accepts (report_rows rows book) (report_counts ring line k cell ring_number (silences_read book))
         (written (words_of (shown (silences_read book) cell ring_number (findings ring line k))) words) r out
     taken = accepts reported_by_rows zero_is
 
     -- no row is given, neither of the search nor of the book
-    none_of_either : (first_given rows ≡ none) × (first_given (book_rows book) ≡ none)
+    none_of_either : (first_given rows ≡ None) × (first_given (book_rows book) ≡ None)
     unfolding report_rows
     none_of_either = (none_append_iff rows (book_rows book)).0 taken.none_given
 

@@ -6,7 +6,7 @@ use mathlib.Core.Path.{◌≡◌, refl, sym, ap, subst, ◌∙◌}
 use mathlib.Core.Logic.{◌⊎◌, inl, ⊎_elim, ◌↔◌}
 use mathlib.Core.List.Memᴰ
 use mathlib.Core.List.{List, [], Memᴰ}
-use mathlib.Core.Option.{Option, none, some}
+use Rattle.std.specs.Prelude.{Option, None, Some}
 use native.Mathlib.Omega.{arith}
 use lib.ListN.{length}
 use Rattle.lists.specs.Areas.{written}
@@ -67,8 +67,8 @@ counts_in_struct ring line k looks = record { found = length (findings ring line
 -- the paper of a search in the struct, by the first row that is given
 in_struct_by : (o : Option Refusal) (c : Counts)
     → paper_in_struct search_in_struct (answer_paper no_counts (answer_by o c)) ≡ answer_paper no_report_counts (answer_by o (search_in_struct c))
-in_struct_by none c = refl
-in_struct_by (some q) c = refl
+in_struct_by None c = refl
+in_struct_by (Some q) c = refl
 
 -- A search with any rows. Of these only that they accept no empty ring is used.
 module _ (rows : List (Option Refusal)) (ring line : List ℕ) (k looks : ℕ) (words : List ℕ) {r : AnswerStruct} {out : List ℕ}
@@ -81,7 +81,7 @@ module _ (rows : List (Option Refusal)) (ring line : List ℕ) (k looks : ℕ) (
     written = exported.written;
   }
 
-  module _ (some_edge : first_given rows ≡ none → 0 < length ring) (zero_is : r.refusal ≡ 0) where
+  module _ (some_edge : first_given rows ≡ None → 0 < length ring) (zero_is : r.refusal ≡ 0) where
     -- what an accepted search gives: no row is given, and it counts and writes all findings
     taken : Accepts rows (counts_in_struct ring line k looks) (written (words_of (findings ring line k)) words) r out
     taken = accepts searched_by_rows zero_is
@@ -127,7 +127,7 @@ module _ (ring line : List ℕ) (k : ℕ) (words : List ℕ) where
   own_rows = admit_rows ring k (length line) (length words)
 
   -- an accepted call has a ring that is not empty
-  some_edge : first_given own_rows ≡ none → 0 < length ring
+  some_edge : first_given own_rows ≡ None → 0 < length ring
   some_edge = accepted_edge ring k (length line) (length words)
 
   -- `outlines_survey` meets the demands.
@@ -158,13 +158,13 @@ pub same_but_looks : (o : Option Refusal) (found looks looks' : ℕ) {r r' : Ans
     → paper_of r ≡ answer_paper no_report_counts (answer_by o (record { found = found; hidden = 0; looks = looks }))
     → paper_of r' ≡ answer_paper no_report_counts (answer_by o (record { found = found; hidden = 0; looks = looks' }))
     → out' ≡ out → SurveyScanSame r r' out out'
-same_but_looks none found looks looks' p p' same = record {
+same_but_looks None found looks looks' p p' same = record {
   refusal_is = ap (λ (x : Paper ReportCounts). x.number) p' ∙ sym (ap (λ (x : Paper ReportCounts). x.number) p);
   place_is = ap (λ (x : Paper ReportCounts). x.place) p' ∙ sym (ap (λ (x : Paper ReportCounts). x.place) p);
   found_is = ap (λ (x : Paper ReportCounts). x.counts.found) p' ∙ sym (ap (λ (x : Paper ReportCounts). x.counts.found) p);
   words_are = same;
 }
-same_but_looks (some q) found looks looks' p p' same = record {
+same_but_looks (Some q) found looks looks' p p' same = record {
   refusal_is = ap (λ (x : Paper ReportCounts). x.number) p' ∙ sym (ap (λ (x : Paper ReportCounts). x.number) p);
   place_is = ap (λ (x : Paper ReportCounts). x.place) p' ∙ sym (ap (λ (x : Paper ReportCounts). x.place) p);
   found_is = ap (λ (x : Paper ReportCounts). x.counts.found) p' ∙ sym (ap (λ (x : Paper ReportCounts). x.counts.found) p);

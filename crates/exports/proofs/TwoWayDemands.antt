@@ -7,7 +7,7 @@ use mathlib.Core.Path.{◌≡◌, refl, sym, ap, ◌∙◌}
 use mathlib.Core.Logic.Iff
 use mathlib.Core.Logic.{◌↔◌}
 use mathlib.Core.List.{List, ◌++◌, append_assoc}
-use mathlib.Core.Option.{Option, none}
+use Rattle.std.specs.Prelude.{Option, None}
 use native.Mathlib.Omega.{arith}
 use lib.ListN.{length, get_or, take, drop}
 use lib.Seq.{take_at, drop_at}
@@ -140,7 +140,7 @@ module _ (ring line : List ℕ) (k : ℕ) (words : List ℕ) {r : TwoWayAnswer} 
 
   module _ (zero_is : r.refusal ≡ 0) where
     -- no row is given
-    none_given : first_given rows ≡ none
+    none_given : first_given rows ≡ None
     none_given = (accepted_number_iff no_two_way_counts (two_way_counts ring line k) (first_given rows) by_rows).0 zero_is
 
     -- the counts are those of both passes

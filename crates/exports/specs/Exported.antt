@@ -20,7 +20,7 @@
 --   two_way_paper_of                     the number, place and counts of both passes that the struct of the two-way scan stands for
 --   IsTwoWayExported                     the contract of the two-way scan
 use Rattle.std.specs.Prelude.{ℕ, ◌≡◌, List, ℤ, length}
-use Rattle.std.proofs.Math.Option.{Option}
+use Rattle.std.specs.Prelude.{Option}
 use Rattle.meaning.specs.Looks.{quick_looks, survey_looks}
 use Rattle.meaning.specs.Closed.{closed_line}
 use Rattle.answers.specs.declared.refusals.Refusal.{Refusal}

@@ -5,7 +5,7 @@ use mathlib.Core.Path.{◌≡◌, refl}
 use mathlib.Core.Logic.Iff
 use mathlib.Core.Logic.{◌↔◌, ◌⊎◌, inl, inr}
 use mathlib.Core.List.{List, [], ◌∷◌}
-use mathlib.Core.Option.{Option, none, some}
+use Rattle.std.specs.Prelude.{Option, None, Some}
 use native.Mathlib.Omega.{arith}
 use lib.ListN.{length}
 use Rattle.meaning.specs.Meanings.{HoldsMark}
@@ -48,46 +48,46 @@ module _ (ring : List ℕ) (k n room joins : ℕ) where
   }
 
   -- Row 1 is the first exactly when "m = 0 or m > 256".
-  pub closed_row_1_iff : (first_given (closed_rows ring k n room joins) ≡ some Ring) ↔ ((m ≡ 0) ⊎ (most_ring < m))
+  pub closed_row_1_iff : (first_given (closed_rows ring k n room joins) ≡ Some Ring) ↔ ((m ≡ 0) ⊎ (most_ring < m))
   unfolding closed_rows limit_rows ring_rows
   closed_row_1_iff = Iff.trans (ring_row_iff ring k own_rows Ring (λ is. is.not_1 refl)) (ring_1_iff ring k)
 
   -- Row 12 is the first exactly when the ring holds a mark and row 1 is not given.
-  pub closed_row_12_iff : (first_given (closed_rows ring k n room joins) ≡ some RingMark) ↔ (IsRingLength m × HoldsMark ring)
+  pub closed_row_12_iff : (first_given (closed_rows ring k n room joins) ≡ Some RingMark) ↔ (IsRingLength m × HoldsMark ring)
   unfolding closed_rows limit_rows ring_rows
   closed_row_12_iff = Iff.trans (ring_row_iff ring k own_rows RingMark (λ is. is.not_12 refl)) (ring_12_iff ring k)
 
   -- Row 2 is the first exactly when "k ≥ m" and rows 1 and 12 are not given.
-  pub closed_row_2_iff : (first_given (closed_rows ring k n room joins) ≡ some Allowance) ↔ (IsRingLength m × ((HoldsMark ring → ⊥) × (m ≤ k)))
+  pub closed_row_2_iff : (first_given (closed_rows ring k n room joins) ≡ Some Allowance) ↔ (IsRingLength m × ((HoldsMark ring → ⊥) × (m ≤ k)))
   unfolding closed_rows limit_rows ring_rows
   closed_row_2_iff = Iff.trans (ring_row_iff ring k own_rows Allowance (λ is. is.not_2 refl)) (ring_2_iff ring k)
 
   -- Row 3 is the first exactly when "n > 65,536" and rows 1, 12 and 2 are not given.
-  pub closed_row_3_iff : (first_given (closed_rows ring k n room joins) ≡ some Line) ↔ (IsRingLength m × ((HoldsMark ring → ⊥) × ((k < m) × (most_line < n))))
+  pub closed_row_3_iff : (first_given (closed_rows ring k n room joins) ≡ Some Line) ↔ (IsRingLength m × ((HoldsMark ring → ⊥) × ((k < m) × (most_line < n))))
   unfolding closed_rows limit_rows ring_rows
   closed_row_3_iff = own_row_iff ring k (omega arith) (at_row (is_row_3 n) (row_has is_closed_row_4 (omega arith) (row_has is_row_10 (omega arith) end)))
 
   -- Row 4 is the first exactly when n ≥ m and fewer than 4·n words are lent, and rows 1, 12, 2 and 3 are not given.
-  pub closed_row_4_iff : (first_given (closed_rows ring k n room joins) ≡ some FindingsRoom)
+  pub closed_row_4_iff : (first_given (closed_rows ring k n room joins) ≡ Some FindingsRoom)
       ↔ (IsRingLength m × ((HoldsMark ring → ⊥) × ((k < m) × ((n ≤ most_line) × ((m ≤ n) × (room < closed_room n))))))
   unfolding closed_rows limit_rows ring_rows
   closed_row_4_iff = own_row_iff ring k (omega arith) (past_row (is_row_3 n) (omega arith) (at_row is_closed_row_4 (row_has is_row_10 (omega arith) end)))
 
   -- Row 10 is the first exactly when "the join area is below 2·m − 2 bytes and n ≥ m", and rows 1, 12, 2, 3 and 4 are not given.
-  pub closed_row_10_iff : (first_given (closed_rows ring k n room joins) ≡ some OutputRoom)
+  pub closed_row_10_iff : (first_given (closed_rows ring k n room joins) ≡ Some OutputRoom)
       ↔ (IsRingLength m × ((HoldsMark ring → ⊥) × ((k < m) × ((n ≤ most_line) × ((m ≤ n) × ((closed_room n ≤ room) × (joins < join_bytes m)))))))
   unfolding closed_rows limit_rows ring_rows
   closed_row_10_iff = own_row_iff ring k (omega arith) own_10
 
   -- None of these rows is given exactly when m is 1 to 256, the ring holds no mark, k < m, n ≤ 65,536, and n ≥ m implies enough words and enough bytes.
-  pub closed_none_iff : (first_given (closed_rows ring k n room joins) ≡ none)
+  pub closed_none_iff : (first_given (closed_rows ring k n room joins) ≡ None)
       ↔ (IsRingLength m
       × ((HoldsMark ring → ⊥) × ((k < m) × ((n ≤ most_line) × ((m ≤ n → closed_room n ≤ room) × (m ≤ n → join_bytes m ≤ joins))))))
   unfolding closed_rows limit_rows ring_rows
   closed_none_iff = no_own_row_iff ring k (no_row (is_row_3 n) (no_row is_closed_row_4 (no_last_row is_row_10)))
 
   -- None of these rows is given exactly when `ClosedAdmitted` holds.
-  pub closed_no_row_iff : (first_given (closed_rows ring k n room joins) ≡ none) ↔ ClosedAdmitted ring k n room joins
+  pub closed_no_row_iff : (first_given (closed_rows ring k n room joins) ≡ None) ↔ ClosedAdmitted ring k n room joins
   closed_no_row_iff =
       Iff.trans closed_none_iff (
         λ h. record {
@@ -103,23 +103,23 @@ module _ (ring : List ℕ) (k n room joins : ℕ) where
       )
 
   -- If none of these rows is given, the ring has at least one edge.
-  pub closed_accepted_edge : first_given (closed_rows ring k n room joins) ≡ none → 0 < m
+  pub closed_accepted_edge : first_given (closed_rows ring k n room joins) ≡ None → 0 < m
   closed_accepted_edge e = (closed_no_row_iff.0 e).some_edge
 
   -- If P holds for each row's refusal, then P holds for the refusal of the first row that is given.
   pub closed_row_has : (P : Refusal → Type 0) → P Ring → P RingMark → P Allowance → P Line → P FindingsRoom → P OutputRoom
-      → (q : Refusal) → first_given (closed_rows ring k n room joins) ≡ some q → P q
+      → (q : Refusal) → first_given (closed_rows ring k n room joins) ≡ Some q → P q
   unfolding closed_rows limit_rows ring_rows
   closed_row_has P one twelve two three four ten =
       by_ring ring k own_rows P (λ _. one) (λ _. twelve) (λ _. two)
       (row_has (is_row_3 n) (λ _. three) (row_has is_closed_row_4 (λ _. four) (row_has is_row_10 (λ _. ten) end)))
 
   -- The first row that is given has number 1 to 4, 10 or 12.
-  pub closed_row_numbers : (q : Refusal) → first_given (closed_rows ring k n room joins) ≡ some q → (number_of q ≤ 4) ⊎ ((number_of q ≡ 10) ⊎ (number_of q ≡ 12))
+  pub closed_row_numbers : (q : Refusal) → first_given (closed_rows ring k n room joins) ≡ Some q → (number_of q ≤ 4) ⊎ ((number_of q ≡ 10) ⊎ (number_of q ≡ 12))
   closed_row_numbers =
       closed_row_has (λ q. (number_of q ≤ 4) ⊎ ((number_of q ≡ 10) ⊎ (number_of q ≡ 12))) (inl (omega arith)) (inr (inr refl)) (inl (omega arith)) (inl (omega arith))
       (inl (omega arith)) (inr (inl refl))
 
   -- The first row that is given has place 0.
-  pub closed_row_places : (q : Refusal) → first_given (closed_rows ring k n room joins) ≡ some q → place_of q ≡ 0
+  pub closed_row_places : (q : Refusal) → first_given (closed_rows ring k n room joins) ≡ Some q → place_of q ≡ 0
   closed_row_places = closed_row_has (λ q. place_of q ≡ 0) refl refl refl refl refl refl

@@ -4,7 +4,7 @@
 use Prim.Native.Nat.{ℕ}
 use mathlib.Core.Path.{◌≡◌, sym, ◌∙◌}
 use mathlib.Core.List.{List}
-use mathlib.Core.Option.{none, some}
+use Rattle.std.specs.Prelude.{None, Some}
 use lib.ListN.{length}
 use Rattle.meaning.specs.Closed.{closed_line, joined_with}
 use Rattle.answers.specs.declared.refusals.Refusal.{Refusal}
@@ -25,7 +25,7 @@ closed_is_search meets = record { paper = meets.paper; written = meets.written }
 
 module _ {ring line : List ℕ} {k expected : ℕ} {join words : List ℕ} where
   -- If a row is given, returning its refusal and leaving both areas as they were meets the contract of a search on a closed line.
-  pub refused_closed_search : {refusal : Refusal} → some refusal ≡ first_given (closed_rows ring k (length line) (length words) (length join))
+  pub refused_closed_search : {refusal : Refusal} → Some refusal ≡ first_given (closed_rows ring k (length line) (length words) (length join))
       → IsClosedSearched ring line k expected join words (Refused refusal) join words
   refused_closed_search e =
       let search = refused_search e in
@@ -33,7 +33,7 @@ module _ {ring line : List ℕ} {k expected : ℕ} {join words : List ℕ} where
 
   -- If no row is given, the closed line is searched and the join area is `joined_with`, returning found and looks meets the contract of a search on a closed
   -- line.
-  pub accepted_closed_search : {found looks : ℕ} {joined out : List ℕ} → none ≡ first_given (closed_rows ring k (length line) (length words) (length join))
+  pub accepted_closed_search : {found looks : ℕ} {joined out : List ℕ} → None ≡ first_given (closed_rows ring k (length line) (length words) (length join))
       → LineSearched ring (closed_line (length ring) line) k expected words found looks out → joined ≡ joined_with (length ring) line join
       → IsClosedSearched ring line k expected join words (CountsCase found looks) joined out
   accepted_closed_search e done is =

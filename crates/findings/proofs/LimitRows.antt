@@ -7,7 +7,7 @@ use mathlib.Core.Path.{◌≡◌, refl, sym, ap, ◌∙◌}
 use mathlib.Core.Bool.{Bool, false, ◌&&◌, false≢true}
 use mathlib.Core.Logic.{◌↔◌, ◌⊎◌, inl, inr, ⊎_elim}
 use mathlib.Core.List.{List, ◌++◌}
-use mathlib.Core.Option.{Option, none, some}
+use Rattle.std.specs.Prelude.{Option, None, Some}
 use native.Mathlib.Omega.{arith}
 use lib.Dec.{leb, ltb}
 use lib.ListN.{length}
@@ -35,7 +35,7 @@ pub record IsOwnRow (q : Refusal) : Type 0 where
   pub not_2 : number_of q ≡ 2 → ⊥
 
 -- A verdict that refuses by the first of some rows is the verdict of these rows and any behind them.
-pub refused_early : {first : List (Option Refusal)} (own : List (Option Refusal)) {r : Verdict} {refusal : Refusal} → IsVerdict first r → verdict_of r ≡ some refusal
+pub refused_early : {first : List (Option Refusal)} (own : List (Option Refusal)) {r : Verdict} {refusal : Refusal} → IsVerdict first r → verdict_of r ≡ Some refusal
     → IsVerdict (first ++ own) r
 refused_early {first} own is refuses = record { is = refuses ∙ sym (first_append_some first own (sym is.is ∙ refuses)) }
 
@@ -68,29 +68,29 @@ module _ (ring : List ℕ) (k : ℕ) where
 
   -- Row 12 is given exactly when the ring holds a mark, and not given exactly when it holds none.
   pub is_row_12 : IsRow (row (is_row12 ring) RingMark) RingMark (HoldsMark ring) (HoldsMark ring → ⊥)
-  is_row_12 = is_row (holds_iff ring) (λ none holds. none holds) (λ none. none)
+  is_row_12 = is_row (holds_iff ring) (λ None holds. None holds) (λ None. None)
 
   -- Row 2 is given exactly when "k ≥ m", and not given exactly when k < m.
   pub is_row_2 : IsRow (row (is_row2 m k) Allowance) Allowance (m ≤ k) (k < m)
   is_row_2 = is_row (le_iff m k) (λ allowed h. omega arith) (λ not. omega arith)
 
   -- Row 1 is the first of the three exactly when "m = 0 or m > 256".
-  pub ring_1_iff : (first_given (ring_rows ring k) ≡ some Ring) ↔ ((m ≡ 0) ⊎ (most_ring < m))
+  pub ring_1_iff : (first_given (ring_rows ring k) ≡ Some Ring) ↔ ((m ≡ 0) ⊎ (most_ring < m))
   unfolding ring_rows
   ring_1_iff = (at_row is_row_1 (row_has is_row_12 (omega arith) (row_has is_row_2 (omega arith) end))).exactly
 
   -- Row 12 is the first of the three exactly when the ring holds a mark and row 1 is not given.
-  pub ring_12_iff : (first_given (ring_rows ring k) ≡ some RingMark) ↔ (IsRingLength m × HoldsMark ring)
+  pub ring_12_iff : (first_given (ring_rows ring k) ≡ Some RingMark) ↔ (IsRingLength m × HoldsMark ring)
   unfolding ring_rows
   ring_12_iff = (past_row is_row_1 (omega arith) (at_row is_row_12 (row_has is_row_2 (omega arith) end))).exactly
 
   -- Row 2 is the first of the three exactly when "k ≥ m" and rows 1 and 12 are not given.
-  pub ring_2_iff : (first_given (ring_rows ring k) ≡ some Allowance) ↔ (IsRingLength m × ((HoldsMark ring → ⊥) × (m ≤ k)))
+  pub ring_2_iff : (first_given (ring_rows ring k) ≡ Some Allowance) ↔ (IsRingLength m × ((HoldsMark ring → ⊥) × (m ≤ k)))
   unfolding ring_rows
   ring_2_iff = (past_row is_row_1 (omega arith) (past_row is_row_12 (omega arith) (at_row is_row_2 end))).exactly
 
   -- None of the three is given exactly when m is 1 to 256, the ring holds no mark, and k < m.
-  pub no_ring_iff : (first_given (ring_rows ring k) ≡ none) ↔ (IsRingLength m × ((HoldsMark ring → ⊥) × (k < m)))
+  pub no_ring_iff : (first_given (ring_rows ring k) ≡ None) ↔ (IsRingLength m × ((HoldsMark ring → ⊥) × (k < m)))
   unfolding ring_rows
   no_ring_iff = (no_row is_row_1 (no_row is_row_12 (no_last_row is_row_2))).exactly
 
@@ -100,43 +100,43 @@ module _ (ring : List ℕ) (k : ℕ) where
 
   -- One of the call's own rows is the first exactly when none of the three is given and it is the first of the call's own.
   pub own_row_iff : {own : List (Option Refusal)} {q : Refusal} {P : Type 0} → IsOwnRow q → FirstExactly own q P
-      → (first_given (ring_rows ring k ++ own) ≡ some q) ↔ (IsRingLength m × ((HoldsMark ring → ⊥) × ((k < m) × P)))
+      → (first_given (ring_rows ring k ++ own) ≡ Some q) ↔ (IsRingLength m × ((HoldsMark ring → ⊥) × ((k < m) × P)))
   unfolding ring_rows
   own_row_iff is rest =
       (past_row is_row_1 (λ e. is.not_1 (sym e)) (past_row is_row_12 (λ e. is.not_12 (sym e)) (past_row is_row_2 (λ e. is.not_2 (sym e)) rest))).exactly
 
   -- No row is given exactly when none of the three is and none of the call's own.
   pub no_own_row_iff : {own : List (Option Refusal)} {P : Type 0} → NoneExactly own P
-      → (first_given (ring_rows ring k ++ own) ≡ none) ↔ (IsRingLength m × ((HoldsMark ring → ⊥) × ((k < m) × P)))
+      → (first_given (ring_rows ring k ++ own) ≡ None) ↔ (IsRingLength m × ((HoldsMark ring → ⊥) × ((k < m) × P)))
   unfolding ring_rows
   no_own_row_iff rest = (no_row is_row_1 (no_row is_row_12 (no_row is_row_2 rest))).exactly
 
   module _ {own : List (Option Refusal)} (owns : EachRow IsOwnRow own) where
     -- A refusal of one of the three rows is the first exactly when it is the first of the three.
-    pub ring_row_iff : (q : Refusal) → (IsOwnRow q → ⊥) → (first_given (ring_rows ring k ++ own) ≡ some q) ↔ (first_given (ring_rows ring k) ≡ some q)
+    pub ring_row_iff : (q : Refusal) → (IsOwnRow q → ⊥) → (first_given (ring_rows ring k ++ own) ≡ Some q) ↔ (first_given (ring_rows ring k) ≡ Some q)
     ring_row_iff q not_own = early_iff (ring_rows ring k) own q (λ e. not_own (first_has owns q e))
 
     -- If P holds for the refusal of each of the three under the condition that makes this row the first, and for each of the call's own rows, then P holds for
     -- the refusal of the first row that is given.
     pub by_ring : (P : Refusal → Type 0) → ((m ≡ 0) ⊎ (most_ring < m) → P Ring) → (IsRingLength m × HoldsMark ring → P RingMark)
         → (IsRingLength m × ((HoldsMark ring → ⊥) × (m ≤ k)) → P Allowance)
-        → EachRow (λ (q : Refusal). first_given (ring_rows ring k ++ own) ≡ some q → P q) own
-        → (q : Refusal) → first_given (ring_rows ring k ++ own) ≡ some q → P q
+        → EachRow (λ (q : Refusal). first_given (ring_rows ring k ++ own) ≡ Some q → P q) own
+        → (q : Refusal) → first_given (ring_rows ring k ++ own) ≡ Some q → P q
     unfolding ring_rows
     by_ring P one twelve two own_has q e =
-        first_has {P = λ (r : Refusal). first_given (ring_rows ring k ++ own) ≡ some r → P r}
+        first_has {P = λ (r : Refusal). first_given (ring_rows ring k ++ own) ≡ Some r → P r}
         (row_has is_row_1 (λ f. one (ring_1_iff.0 ((ring_row_iff Ring (λ is. is.not_1 refl)).0 f)))
         (row_has is_row_12 (λ f. twelve (ring_12_iff.0 ((ring_row_iff RingMark (λ is. is.not_12 refl)).0 f)))
         (row_has is_row_2 (λ f. two (ring_2_iff.0 ((ring_row_iff Allowance (λ is. is.not_2 refl)).0 f))) own_has))) q e e
 
   module _ (n : ℕ) where
     -- Behind the three, row 3 alone: it is the first exactly when "n > 65,536" and rows 1, 12 and 2 are not given.
-    pub limit_3_iff : (first_given (limit_rows ring k n) ≡ some Line) ↔ (IsRingLength m × ((HoldsMark ring → ⊥) × ((k < m) × (most_line < n))))
+    pub limit_3_iff : (first_given (limit_rows ring k n) ≡ Some Line) ↔ (IsRingLength m × ((HoldsMark ring → ⊥) × ((k < m) × (most_line < n))))
     unfolding limit_rows
     limit_3_iff = own_row_iff (omega arith) (at_row (is_row_3 n) end)
 
     -- None of the four is given exactly when m is 1 to 256, the ring holds no mark, k < m, and n ≤ 65,536.
-    pub no_limit_iff : (first_given (limit_rows ring k n) ≡ none) ↔ (IsRingLength m × ((HoldsMark ring → ⊥) × ((k < m) × (n ≤ most_line))))
+    pub no_limit_iff : (first_given (limit_rows ring k n) ≡ None) ↔ (IsRingLength m × ((HoldsMark ring → ⊥) × ((k < m) × (n ≤ most_line))))
     unfolding limit_rows
     no_limit_iff = no_own_row_iff (no_last_row (is_row_3 n))
 

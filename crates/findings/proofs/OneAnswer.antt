@@ -4,7 +4,7 @@ use Prim.Native.Nat.{ℕ}
 use mathlib.Core.Path.{◌≡◌, refl, sym, ap, ◌∙◌}
 use mathlib.Core.Bool.{Bool}
 use mathlib.Core.List.{List}
-use mathlib.Core.Option.{Option, none, some}
+use Rattle.std.specs.Prelude.{Option, None, Some}
 use Rattle.meaning.specs.Findings.{Finding}
 use Rattle.answers.specs.declared.refusals.Refusal.{Refusal}
 use Rattle.answers.specs.Paper.{Answer, accepted, refused}
@@ -25,8 +25,8 @@ one_mark edge r r' a b = a.is ∙ sym b.is
 
 -- the verdict that holds this refusal; the accepting one for none
 abbrev verdict_back : Option Refusal → Verdict
-verdict_back none = Accepted
-verdict_back (some refusal) = RefusedBy refusal
+verdict_back None = Accepted
+verdict_back (Some refusal) = RefusedBy refusal
 
 -- from what it holds a verdict is computed back
 verdict_back_lem : (r : Verdict) → verdict_back (verdict_of r) ≡ r

@@ -4,7 +4,7 @@ use Prim.Native.Nat.{ℕ}
 use mathlib.Core.Path.{◌≡◌, refl, ap₂}
 use mathlib.Core.Bool.{false}
 use mathlib.Core.List.{List, ◌∷◌}
-use mathlib.Core.Option.{Option, none, some}
+use Rattle.std.specs.Prelude.{Option, None, Some}
 use lib.ListN.{length}
 use Rattle.lists.specs.Areas.{written}
 use Rattle.meaning.specs.Meanings.{holds_mark}
@@ -21,14 +21,14 @@ use Rattle.findings.proofs.LimitRows.{unmarked}
 use Rattle.findings.proofs.AdmitRows.{row_12_iff}
 
 -- A second row that is not given can be left out.
-pub second_left_out : (first : Option Refusal) (rows : List (Option Refusal)) → first_given (first ∷ none ∷ rows) ≡ first_given (first ∷ rows)
+pub second_left_out : (first : Option Refusal) (rows : List (Option Refusal)) → first_given (first ∷ None ∷ rows) ≡ first_given (first ∷ rows)
 unfolding first_given
-second_left_out none rows = refl
-second_left_out (some refusal) rows = refl
+second_left_out None rows = refl
+second_left_out (Some refusal) rows = refl
 
 module _ (ring : List ℕ) (k n room : ℕ) (no_mark : holds_mark ring ≡ false) where
   -- A ring without marks is never refused by 12.
-  pub row_12_never : first_given (admit_rows ring k n room) ≡ some RingMark → ⊥
+  pub row_12_never : first_given (admit_rows ring k n room) ≡ Some RingMark → ⊥
   row_12_never e = unmarked refl no_mark ((row_12_iff ring k n room).0 e).1
 
   -- For a ring without marks the first row that is given is the first of the four that were there before.

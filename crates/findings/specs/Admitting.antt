@@ -15,7 +15,7 @@
 --   verdict_of              the refusal that a verdict holds, if it holds one
 --   IsVerdict               the contract of `admit_ring`, `admit` and `admit_closed`, for the rows that they test
 use Rattle.std.specs.Prelude.{ℕ, ◌+◌, ◌-◌, ◌*◌, ◌≤◌, ◌<◌, ◌≡◌, Bool, ◌&&◌, ◌||◌, List, [], ◌∷◌, ◌++◌, ltb, leb, eqb, length}
-use Rattle.std.proofs.Math.Option.{Option, none, some}
+use Rattle.std.specs.Prelude.{Option, None, Some}
 use Rattle.meaning.specs.Meanings.{HoldsMark, holds_mark}
 use Rattle.meaning.specs.Findings.{words_each}
 use Rattle.answers.specs.declared.refusals.Refusal.{Refusal}
@@ -84,8 +84,8 @@ pub record Admitted (ring : List ℕ) (k n room : ℕ) : Type 0 where
 
 -- The refusal that a verdict holds; none if the call is accepted.
 abbrev pub verdict_of : Verdict → Option Refusal
-verdict_of Accepted = none
-verdict_of (Refused refusal) = some refusal
+verdict_of Accepted = None
+verdict_of (Refused refusal) = Some refusal
 
 -- The contract of `admit_ring`, of `admit`, of `admit_closed` and of the private `within_limits`, each for the rows that it tests: the verdict r holds the
 -- refusal of the first row that is given, and accepts if no row is. `admit` tests `admit_rows`, where n is the line's length and `room` the number of words lent

@@ -1,7 +1,7 @@
 -- The rows of a search as they read before document 02, ticket 2. No contract uses them: RowsUnmarked of proofs/ shows that for a ring without marks they decide as
 -- the rows of today do.
 use Rattle.std.specs.Prelude.{ℕ, List, [], ◌∷◌}
-use Rattle.std.proofs.Math.Option.{Option}
+use Rattle.std.specs.Prelude.{Option}
 use Rattle.answers.specs.declared.refusals.Refusal.{Refusal}
 use Rattle.answers.specs.declared.refusals.Refusal.TheVariants.{Ring, Allowance, Line, FindingsRoom}
 use Rattle.answers.specs.Rows.{row}

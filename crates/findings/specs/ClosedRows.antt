@@ -8,7 +8,7 @@
 --   closed_rows                 the rows in their order: 1, 12, 2, 3, 4, 10
 --   ClosedAdmitted              none of these rows is given
 use Rattle.std.specs.Prelude.{ℕ, ◌-◌, ◌*◌, ◌≤◌, ◌<◌, Bool, ◌&&◌, List, [], ◌∷◌, ◌++◌, ltb, leb, length}
-use Rattle.std.proofs.Math.Option.{Option}
+use Rattle.std.specs.Prelude.{Option}
 use Rattle.meaning.specs.Meanings.{HoldsMark}
 use Rattle.meaning.specs.Findings.{words_each}
 use Rattle.answers.specs.declared.refusals.Refusal.{Refusal}

@@ -5,7 +5,7 @@
 --   join_at_exit        the join area at exit, for the call's rows
 --   IsClosedSearched    the contract of survey and scan on a closed line, each with its own looks
 use Rattle.std.specs.Prelude.{ℕ, ◌≡◌, List, length}
-use Rattle.std.proofs.Math.Option.{Option}
+use Rattle.std.specs.Prelude.{Option}
 use Rattle.meaning.specs.Closed.{closed_line, joined_with}
 use Rattle.answers.specs.declared.refusals.Refusal.{Refusal}
 use Rattle.answers.specs.Rows.{first_given, area_by}

@@ -10,7 +10,7 @@
 --   search_paper           number, place and counts that a search must give
 --   IsSearched             the contract of survey and scan, each with its own looks
 use Rattle.std.specs.Prelude.{ℕ, ◌≡◌, List, length}
-use Rattle.std.proofs.Math.Option.{Option}
+use Rattle.std.specs.Prelude.{Option}
 use Rattle.meaning.specs.Findings.{findings, words_of}
 use Rattle.lists.specs.Areas.{written}
 use Rattle.answers.specs.declared.refusals.Refusal.{Refusal}

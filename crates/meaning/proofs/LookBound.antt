@@ -5,7 +5,7 @@ use Prim.Native.Nat.{ℕ, suc, ◌+◌, ◌-◌, ◌*◌, ◌≤◌, ◌<◌}
 use mathlib.Core.Path.{◌≡◌, sym, ap, subst}
 use mathlib.Core.Logic.{⊎_elim}
 use mathlib.Core.List.{List, ◌∷◌}
-use mathlib.Core.Option.{none, some}
+use Rattle.std.specs.Prelude.{None, Some}
 use native.Mathlib.Nat.{mul-le-mul_left, mul-le-mul_right}
 use native.Mathlib.Omega.{arith}
 use lib.Dec.{ltb}
@@ -18,7 +18,7 @@ use Rattle.meaning.proofs.WindowRead.{window_read}
 use Rattle.meaning.proofs.WindowSteps.{next_after, next_above, windows_at, windows_start, windows_end, windows_induct}
 
 -- Verifying a start s beyond the last verified one never costs more than s steps.
-pub tally_looks_le : (m last s : ℕ) → tally_looks m (some last) (last + s) ≤ s * step_looks m
+pub tally_looks_le : (m last s : ℕ) → tally_looks m (Some last) (last + s) ≤ s * step_looks m
 unfolding tally_looks
 tally_looks_le m last s =
     let e : last + s - last ≡ s = omega arith in
@@ -50,16 +50,16 @@ module _ (ring line : List ℕ) (k : ℕ) where
 
   -- Verifying the candidates among these windows, after the verified start `last`, costs at most g steps, if no window in the line begins more than g places beyond `last`.
   abbrev StepsAtMost : ℕ → List Reading → Type 0
-  StepsAtMost i ws = (last g : ℕ) → last < i → length line ≤ last + g + m → verify_looks m (some last) (candidates_of ring k ws) ≤ g * step_looks m
+  StepsAtMost i ws = (last g : ℕ) → last < i → length line ≤ last + g + m → verify_looks m (Some last) (candidates_of ring k ws) ≤ g * step_looks m
 
   -- Verifying i costs at most s steps, s = i − last; with a rest of at most g − s steps this is at most g steps.
   steps_add : (last i g rest : ℕ) → last < i → i ≤ last + g → rest ≤ (g - (i - last)) * step_looks m
-      → tally_looks m (some last) i + rest ≤ g * step_looks m
+      → tally_looks m (Some last) i + rest ≤ g * step_looks m
   steps_add last i g rest l h r =
       let s : ℕ = i - last in
       let at : last + s ≡ i = omega arith in
       let all : s + (g - s) ≡ g = omega arith in
-      omega (arith, tally_looks_le m last s, ap (tally_looks m (some last)) at, ap (λ (x : ℕ). x * step_looks m) all)
+      omega (arith, tally_looks_le m last s, ap (tally_looks m (Some last)) at, ap (λ (x : ℕ). x * step_looks m) all)
 
   -- The candidates after the window at i.
   abbrev later : ℕ → List ℕ
@@ -76,14 +76,14 @@ module _ (ring line : List ℕ) (k : ℕ) where
       windows_induct ring line k StepsAtMost
       (λ i _ last g _ _. omega arith)
       (λ i in_line rest last g l h.
-      by_test (λ (starts : List ℕ). verify_looks m (some last) starts ≤ g * step_looks m) (is_candidate ring k (read_window ring line k i))
-      (λ _. start_at i (λ j. verify_looks m (some last) (j ∷ later i) ≤ g * step_looks m)
+      by_test (λ (starts : List ℕ). verify_looks m (Some last) starts ≤ g * step_looks m) (is_candidate ring k (read_window ring line k i))
+      (λ _. start_at i (λ j. verify_looks m (Some last) (j ∷ later i) ≤ g * step_looks m)
       (steps_add last i g _ l (omega arith) (rest i (g - (i - last)) (next_above ring line k i) (omega arith))))
       (λ _. rest last g (omega (arith, next_above ring line k i)) h))
 
   -- Verifying with no start verified before costs at most one fresh count, and g steps, if no window in the line begins more than g places beyond i.
   abbrev FirstAtMost : ℕ → List Reading → Type 0
-  FirstAtMost i ws = (g : ℕ) → length line ≤ i + g + m → verify_looks m none (candidates_of ring k ws) ≤ m * m + g * step_looks m
+  FirstAtMost i ws = (g : ℕ) → length line ≤ i + g + m → verify_looks m None (candidates_of ring k ws) ≤ m * m + g * step_looks m
 
   -- The first candidate is counted afresh, the others as after a verified start.
   first_le : (i : ℕ) → FirstAtMost i (windows_at ring line k i)
@@ -92,8 +92,8 @@ module _ (ring line : List ℕ) (k : ℕ) where
       windows_induct ring line k FirstAtMost
       (λ i _ g _. omega arith)
       (λ i in_line rest g h.
-      by_test (λ (starts : List ℕ). verify_looks m none starts ≤ m * m + g * step_looks m) (is_candidate ring k (read_window ring line k i))
-      (λ _. start_at i (λ j. verify_looks m none (j ∷ later i) ≤ m * m + g * step_looks m)
+      by_test (λ (starts : List ℕ). verify_looks m None starts ≤ m * m + g * step_looks m) (is_candidate ring k (read_window ring line k i))
+      (λ _. start_at i (λ j. verify_looks m None (j ∷ later i) ≤ m * m + g * step_looks m)
       (omega (arith, steps_le (next_after ring line k i) i g (next_above ring line k i) h)))
       (λ _. rest g (omega (arith, next_above ring line k i))))
 

@@ -5,7 +5,7 @@ use mathlib.Core.Path.{◌≡◌, sym, ap, ◌∙◌}
 use mathlib.Core.Bool.{true, false, true≢false}
 use mathlib.Core.Logic.{⊎_elim}
 use mathlib.Core.List.{List, [], ◌++◌, append-nil, append_assoc}
-use mathlib.Core.Option.{Option, none, some}
+use Rattle.std.specs.Prelude.{Option, None, Some}
 use native.Mathlib.Omega.{arith}
 use lib.ListN.{length, length-append}
 use Rattle.meaning.specs.Meanings.{FitsInLine, IsPastLine}
@@ -27,7 +27,7 @@ module _ (ring line : List ℕ) (k : ℕ) where
         ≡ quick_looks ring line k
 
   -- The invariant holds before the first window, with nothing found and no looks.
-  pub scan_start : 0 < m → ScanLoop 0 none [] 0
+  pub scan_start : 0 < m → ScanLoop 0 None [] 0
   scan_start pos = record { found_are = rw windows_start at (quick_finds_all ring line k pos); looks_are = rw windows_start (omega arith) }
 
   module _ (i : ℕ) (last : Option ℕ) (found : List Finding) (looks : ℕ) (h : ScanLoop i last found looks) where
@@ -57,7 +57,7 @@ module _ (ring line : List ℕ) (k : ℕ) where
       next_place = i + (m - w.read + 1)
 
       -- A candidate is verified: its finding, if it is one, is added at the end, and its start is now the last verified one.
-      pub scan_verified : is_stopped k w ≡ false → ScanLoop next_place (some i) (found ++ found_at ring line k i) (looks + w.read + tally_looks m last i)
+      pub scan_verified : is_stopped k w ≡ false → ScanLoop next_place (Some i) (found ++ found_at ring line k i) (looks + w.read + tally_looks m last i)
       unfolding candidates_of reported read_looks verify_looks
       scan_verified goes_on =
           let was = window_read ring line k i in

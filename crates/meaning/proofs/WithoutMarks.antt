@@ -5,7 +5,7 @@ use mathlib.Core.Path.{◌≡◌, refl, ap, ap₂, ◌∙◌}
 use mathlib.Core.Bool.{Bool, false, not, cond, ◌&&◌, or-false}
 use mathlib.Core.Logic.{⊎_elim}
 use mathlib.Core.List.{List, [], ◌∷◌, ◌++◌}
-use mathlib.Core.Option.{none}
+use Rattle.std.specs.Prelude.{None}
 use native.Mathlib.Omega.{arith}
 use lib.Dec.{leb, ltb, eqb}
 use lib.ListN.{length, get_or, get_or-eq_default}
@@ -110,5 +110,5 @@ module _ (ring line : List ℕ) (k : ℕ) (unmarked : holds_mark line ≡ false)
   pub quick_looks_before_lem : quick_looks ring line k ≡ quick_looks_before ring line k
   quick_looks_before_lem =
       let ws : List Reading = windows_before ring line k (length line + 1) 0 in
-      ap (λ (read : List Reading). read_looks read + verify_looks (length ring) none (candidates_of ring k read)) (windows_before_lem (length line + 1) 0)
-      ∙ ap (λ (starts : List ℕ). read_looks ws + verify_looks (length ring) none starts) (candidates_before_lem (length line + 1) 0)
+      ap (λ (read : List Reading). read_looks read + verify_looks (length ring) None (candidates_of ring k read)) (windows_before_lem (length line + 1) 0)
+      ∙ ap (λ (starts : List ℕ). read_looks ws + verify_looks (length ring) None starts) (candidates_before_lem (length line + 1) 0)

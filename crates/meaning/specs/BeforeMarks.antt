@@ -6,7 +6,7 @@
 --   windows_before, candidates_before             the windows read from a place on; the starts of those that are candidates
 --   quick_looks_before                            the looks of the quick scan
 use Rattle.std.specs.Prelude.{ℕ, zero, suc, ◌+◌, cond, ◌&&◌, List, [], ◌∷◌, ◌++◌, ltb, leb, eqb, length}
-use Rattle.std.proofs.Math.Option.{none}
+use Rattle.std.specs.Prelude.{None}
 use Rattle.meaning.specs.Meanings.{fits_in_line, window_edge, least_distance}
 use Rattle.meaning.specs.Findings.{Finding, finding_at}
 use Rattle.meaning.specs.Stretch.{fits}
@@ -61,4 +61,4 @@ candidates_before ring k (w ∷ ws) =
 abbrev pub quick_looks_before : List ℕ → List ℕ → ℕ → ℕ
 quick_looks_before ring line k =
     let ws : List Reading = windows_before ring line k (length line + 1) 0 in
-    read_looks ws + verify_looks (length ring) none (candidates_before ring k ws)
+    read_looks ws + verify_looks (length ring) None (candidates_before ring k ws)

@@ -4,7 +4,7 @@
 -- row are left out here. Every finding has its ties: document 02 gives those of P6, the others follow from the meaning.
 use Rattle.std.specs.Prelude.{ℕ, ◌≡◌, refl, cond, List, [], ◌∷◌, map, eqb, length}
 use Prim.Native.String.{String}
-use Rattle.std.proofs.Math.Option.{Option, none, some}
+use Rattle.std.specs.Prelude.{Option, None, Some}
 use Rattle.lists.specs.Areas.{written}
 use Rattle.lists.specs.Texts.{ascii}
 use Rattle.meaning.specs.Counting.{count, lowest, some_below}
@@ -49,8 +49,8 @@ sample_row name ring line k found looks cands survey =
 
 -- The number n if the row gives a number there, else none.
 abbrev given : Option ℕ → ℕ → Option ℕ
-given none n = none
-given (some _) n = some n
+given None n = None
+given (Some _) n = Some n
 
 -- The row with its answers computed from the meanings and rules. A number that the row leaves out is left out again.
 abbrev pub answered : Sample → Sample
@@ -70,18 +70,18 @@ answered s =
 -- The document's table, each finding with its ties. For P11 it gives "none, one candidate".
 unfoldable pub samples : List Sample
 samples =
-    sample_row "P1" (ascii "GGGTCTA") (ascii "GATACGATACCTAGGGTGATAGAATAG") 0 (finding 10 4 0 1 ∷ []) none none none
-    ∷ sample_row "P2" (ascii "GGGTCTA") (ascii "GATACGATACCTAGGGTGATAGAATAG") 1 (finding 9 3 1 1 ∷ finding 10 4 0 1 ∷ finding 11 5 1 1 ∷ []) none none none
-    ∷ sample_row "P3" (ascii "ABCDEFGH") (ascii "BCzEzGzA") 3 (finding 0 1 3 1 ∷ []) none none none
-    ∷ sample_row "P4" (ascii "ABCDEFGH") (ascii "BCzEzGzA") 2 [] none none none
-    ∷ sample_row "P5" (ascii "a") (ascii "ba") 0 (finding 1 0 0 1 ∷ []) (some 3) none none
-    ∷ sample_row "P6" (ascii "aa") (ascii "aaa") 0 (finding 0 0 0 2 ∷ finding 1 0 0 2 ∷ []) (some 12) none none
-    ∷ sample_row "P7" (ascii "abcd") (ascii "zzzzzzzzzz") 1 [] (some 6) none none
-    ∷ sample_row "P8" (ascii "abc") (ascii "ab") 0 [] (some 0) none none
-    ∷ sample_row "P9" (ascii "abc") (ascii "cab") 0 (finding 0 2 0 1 ∷ []) (some 12) none none
-    ∷ sample_row "P10" (ascii "ab") (ascii "zbz") 1 (finding 0 0 1 1 ∷ finding 1 1 1 1 ∷ []) none none none
-    ∷ sample_row "P11" (ascii "abcdef") (ascii "bcdfab") 1 [] (some 42) (some 1) none
-    ∷ sample_row "P12" (ascii "abcdef") (ascii "bcdfab") 3 (finding 0 1 3 2 ∷ []) (some 42) none none
+    sample_row "P1" (ascii "GGGTCTA") (ascii "GATACGATACCTAGGGTGATAGAATAG") 0 (finding 10 4 0 1 ∷ []) None None None
+    ∷ sample_row "P2" (ascii "GGGTCTA") (ascii "GATACGATACCTAGGGTGATAGAATAG") 1 (finding 9 3 1 1 ∷ finding 10 4 0 1 ∷ finding 11 5 1 1 ∷ []) None None None
+    ∷ sample_row "P3" (ascii "ABCDEFGH") (ascii "BCzEzGzA") 3 (finding 0 1 3 1 ∷ []) None None None
+    ∷ sample_row "P4" (ascii "ABCDEFGH") (ascii "BCzEzGzA") 2 [] None None None
+    ∷ sample_row "P5" (ascii "a") (ascii "ba") 0 (finding 1 0 0 1 ∷ []) (Some 3) None None
+    ∷ sample_row "P6" (ascii "aa") (ascii "aaa") 0 (finding 0 0 0 2 ∷ finding 1 0 0 2 ∷ []) (Some 12) None None
+    ∷ sample_row "P7" (ascii "abcd") (ascii "zzzzzzzzzz") 1 [] (Some 6) None None
+    ∷ sample_row "P8" (ascii "abc") (ascii "ab") 0 [] (Some 0) None None
+    ∷ sample_row "P9" (ascii "abc") (ascii "cab") 0 (finding 0 2 0 1 ∷ []) (Some 12) None None
+    ∷ sample_row "P10" (ascii "ab") (ascii "zbz") 1 (finding 0 0 1 1 ∷ finding 1 1 1 1 ∷ []) None None None
+    ∷ sample_row "P11" (ascii "abcdef") (ascii "bcdfab") 1 [] (Some 42) (Some 1) None
+    ∷ sample_row "P12" (ascii "abcdef") (ascii "bcdfab") 3 (finding 0 1 3 2 ∷ []) (Some 42) None None
     ∷ []
 
 -- Computed from the meanings and rules, every row has the answers of the document's table, and these ties.
@@ -95,17 +95,17 @@ samples_right = refl
 -- and 254; and ties: of a square, of a ring of period 2, and of a start where three rotations are within k but only one reaches the least distance.
 unfoldable pub own_samples : List Sample
 own_samples =
-    sample_row "afresh where 2·s > m" (ascii "aab") (ascii "baaab") 0 (finding 0 2 0 1 ∷ finding 2 0 0 1 ∷ []) (some 27) (some 2) (some 21)
-    ∷ sample_row "one step" (ascii "aaa") (ascii "aaaa") 0 (finding 0 0 0 3 ∷ finding 1 0 0 3 ∷ []) (some 21) (some 2) (some 15)
-    ∷ sample_row "two steps over a start that is no candidate" (ascii "aaaab") (ascii "baaaaab") 0 (finding 0 4 0 1 ∷ finding 2 0 0 1 ∷ []) (some 60) (some 2) (some 45)
-    ∷ sample_row "one edge" (ascii "a") (ascii "aaa") 0 (finding 0 0 0 1 ∷ finding 1 0 0 1 ∷ finding 2 0 0 1 ∷ []) (some 6) (some 3) (some 5)
-    ∷ sample_row "the break edge is in no stretch" (ascii "abc") (ascii "aac") 1 (finding 0 0 1 1 ∷ []) (some 12) (some 1) (some 9)
-    ∷ sample_row "a candidate is the last verified one, finding or not" (ascii "abc") (ascii "aaaa") 1 [] (some 21) (some 2) (some 15)
-    ∷ sample_row "the tally is kept over a jump" (ascii "aaaaaab") (ascii "aabaaaabaa") 0 (finding 0 4 0 1 ∷ finding 3 2 0 1 ∷ []) (some 111) (some 2) (some 91)
-    ∷ sample_row "codes 0 and 254" (0 ∷ 254 ∷ []) (254 ∷ 0 ∷ 254 ∷ 254 ∷ []) 0 (finding 0 1 0 1 ∷ finding 1 0 0 1 ∷ []) (some 14) (some 2) (some 12)
-    ∷ sample_row "a square of equal edges" (ascii "aaaa") (ascii "aaaa") 0 (finding 0 0 0 4 ∷ []) (some 20) (some 1) (some 16)
-    ∷ sample_row "two ties, also at distance 1" (ascii "abab") (ascii "ababz") 1 (finding 0 0 0 2 ∷ finding 1 1 1 2 ∷ []) (some 32) (some 2) (some 24)
-    ∷ sample_row "three rotations within k, one at the least" (ascii "aab") (ascii "aab") 2 (finding 0 0 0 1 ∷ []) (some 12) (some 1) (some 9)
+    sample_row "afresh where 2·s > m" (ascii "aab") (ascii "baaab") 0 (finding 0 2 0 1 ∷ finding 2 0 0 1 ∷ []) (Some 27) (Some 2) (Some 21)
+    ∷ sample_row "one step" (ascii "aaa") (ascii "aaaa") 0 (finding 0 0 0 3 ∷ finding 1 0 0 3 ∷ []) (Some 21) (Some 2) (Some 15)
+    ∷ sample_row "two steps over a start that is no candidate" (ascii "aaaab") (ascii "baaaaab") 0 (finding 0 4 0 1 ∷ finding 2 0 0 1 ∷ []) (Some 60) (Some 2) (Some 45)
+    ∷ sample_row "one edge" (ascii "a") (ascii "aaa") 0 (finding 0 0 0 1 ∷ finding 1 0 0 1 ∷ finding 2 0 0 1 ∷ []) (Some 6) (Some 3) (Some 5)
+    ∷ sample_row "the break edge is in no stretch" (ascii "abc") (ascii "aac") 1 (finding 0 0 1 1 ∷ []) (Some 12) (Some 1) (Some 9)
+    ∷ sample_row "a candidate is the last verified one, finding or not" (ascii "abc") (ascii "aaaa") 1 [] (Some 21) (Some 2) (Some 15)
+    ∷ sample_row "the tally is kept over a jump" (ascii "aaaaaab") (ascii "aabaaaabaa") 0 (finding 0 4 0 1 ∷ finding 3 2 0 1 ∷ []) (Some 111) (Some 2) (Some 91)
+    ∷ sample_row "codes 0 and 254" (0 ∷ 254 ∷ []) (254 ∷ 0 ∷ 254 ∷ 254 ∷ []) 0 (finding 0 1 0 1 ∷ finding 1 0 0 1 ∷ []) (Some 14) (Some 2) (Some 12)
+    ∷ sample_row "a square of equal edges" (ascii "aaaa") (ascii "aaaa") 0 (finding 0 0 0 4 ∷ []) (Some 20) (Some 1) (Some 16)
+    ∷ sample_row "two ties, also at distance 1" (ascii "abab") (ascii "ababz") 1 (finding 0 0 0 2 ∷ finding 1 1 1 2 ∷ []) (Some 32) (Some 2) (Some 24)
+    ∷ sample_row "three rotations within k, one at the least" (ascii "aab") (ascii "aab") 2 (finding 0 0 0 1 ∷ []) (Some 12) (Some 1) (Some 9)
     ∷ []
 
 -- Computed from the meanings and rules, our own rows are right too.
@@ -122,24 +122,24 @@ marked text = map (λ x. cond (eqb x 124) mark x) (ascii text)
 -- edge read; and a line of marks, where each window takes one look. The survey's looks are those of a line without marks.
 unfoldable pub mark_samples : List Sample
 mark_samples =
-    sample_row "a copy without marks, k = 1" (ascii "abc") (ascii "zzzzabczzzz") 1 (finding 3 2 1 1 ∷ finding 4 0 0 1 ∷ finding 5 1 1 1 ∷ []) (some 39) (some 3) (some 57)
-    ∷ sample_row "a copy without marks, k = 2" (ascii "abc") (ascii "zzzzabczzzz") 2 (finding 2 1 2 1 ∷ finding 3 2 1 1 ∷ finding 4 0 0 1 ∷ finding 5 1 1 1 ∷ finding 6 2 2 1 ∷ []) (some 60) (some 5) (some 57)
-    ∷ sample_row "a copy between marks, k = 0" (ascii "abc") (marked "zzz|abc|zzz") 0 (finding 4 0 0 1 ∷ []) (some 18) (some 1) (some 57)
-    ∷ sample_row "a copy between marks, k = 1" (ascii "abc") (marked "zzz|abc|zzz") 1 (finding 4 0 0 1 ∷ []) (some 19) (some 1) (some 57)
-    ∷ sample_row "a copy between marks, k = 2" (ascii "abc") (marked "zzz|abc|zzz") 2 (finding 4 0 0 1 ∷ []) (some 20) (some 1) (some 57)
-    ∷ sample_row "two outlines, one mark" (ascii "ab") (marked "ab|ab") 0 (finding 0 0 0 1 ∷ finding 3 0 0 1 ∷ []) (some 13) (some 2) (some 16)
-    ∷ sample_row "two outlines, one mark, k = 1" (ascii "ab") (marked "ab|ab") 1 (finding 0 0 0 1 ∷ finding 3 0 0 1 ∷ []) (some 13) (some 2) (some 16)
-    ∷ sample_row "a mark first" (ascii "ab") (marked "|ab") 0 (finding 1 0 0 1 ∷ []) (some 8) (some 1) (some 8)
-    ∷ sample_row "a mark last" (ascii "ab") (marked "ab|") 0 (finding 0 0 0 1 ∷ []) (some 7) (some 1) (some 8)
-    ∷ sample_row "a mark twice in a row" (ascii "ab") (marked "ab||ab") 0 (finding 0 0 0 1 ∷ finding 4 0 0 1 ∷ []) (some 15) (some 2) (some 20)
-    ∷ sample_row "a mark m before the end" (ascii "ab") (marked "ab|b") 1 (finding 0 0 0 1 ∷ []) (some 7) (some 1) (some 12)
-    ∷ sample_row "n = m, a mark at place 0" (ascii "abc") (marked "|bc") 2 [] (some 3) (some 0) (some 9)
-    ∷ sample_row "n = m, a mark at place 1" (ascii "abc") (marked "a|c") 2 [] (some 2) (some 0) (some 9)
-    ∷ sample_row "n = m, a mark at place 2" (ascii "abc") (marked "ab|") 2 [] (some 1) (some 0) (some 9)
-    ∷ sample_row "one edge and a mark" (ascii "a") (marked "a|a") 0 (finding 0 0 0 1 ∷ finding 2 0 0 1 ∷ []) (some 5) (some 2) (some 5)
-    ∷ sample_row "a mark after k breaks" (ascii "abc") (marked "a|zabc") 1 (finding 2 2 1 1 ∷ finding 3 0 0 1 ∷ []) (some 23) (some 2) (some 27)
-    ∷ sample_row "a mark as the last edge read" (ascii "abc") (marked "|bcabc") 1 (finding 1 1 0 1 ∷ finding 2 2 0 1 ∷ finding 3 0 0 1 ∷ []) (some 33) (some 3) (some 27)
-    ∷ sample_row "marks only" (ascii "ab") (marked "|||||||") 1 [] (some 3) (some 0) (some 24)
+    sample_row "a copy without marks, k = 1" (ascii "abc") (ascii "zzzzabczzzz") 1 (finding 3 2 1 1 ∷ finding 4 0 0 1 ∷ finding 5 1 1 1 ∷ []) (Some 39) (Some 3) (Some 57)
+    ∷ sample_row "a copy without marks, k = 2" (ascii "abc") (ascii "zzzzabczzzz") 2 (finding 2 1 2 1 ∷ finding 3 2 1 1 ∷ finding 4 0 0 1 ∷ finding 5 1 1 1 ∷ finding 6 2 2 1 ∷ []) (Some 60) (Some 5) (Some 57)
+    ∷ sample_row "a copy between marks, k = 0" (ascii "abc") (marked "zzz|abc|zzz") 0 (finding 4 0 0 1 ∷ []) (Some 18) (Some 1) (Some 57)
+    ∷ sample_row "a copy between marks, k = 1" (ascii "abc") (marked "zzz|abc|zzz") 1 (finding 4 0 0 1 ∷ []) (Some 19) (Some 1) (Some 57)
+    ∷ sample_row "a copy between marks, k = 2" (ascii "abc") (marked "zzz|abc|zzz") 2 (finding 4 0 0 1 ∷ []) (Some 20) (Some 1) (Some 57)
+    ∷ sample_row "two outlines, one mark" (ascii "ab") (marked "ab|ab") 0 (finding 0 0 0 1 ∷ finding 3 0 0 1 ∷ []) (Some 13) (Some 2) (Some 16)
+    ∷ sample_row "two outlines, one mark, k = 1" (ascii "ab") (marked "ab|ab") 1 (finding 0 0 0 1 ∷ finding 3 0 0 1 ∷ []) (Some 13) (Some 2) (Some 16)
+    ∷ sample_row "a mark first" (ascii "ab") (marked "|ab") 0 (finding 1 0 0 1 ∷ []) (Some 8) (Some 1) (Some 8)
+    ∷ sample_row "a mark last" (ascii "ab") (marked "ab|") 0 (finding 0 0 0 1 ∷ []) (Some 7) (Some 1) (Some 8)
+    ∷ sample_row "a mark twice in a row" (ascii "ab") (marked "ab||ab") 0 (finding 0 0 0 1 ∷ finding 4 0 0 1 ∷ []) (Some 15) (Some 2) (Some 20)
+    ∷ sample_row "a mark m before the end" (ascii "ab") (marked "ab|b") 1 (finding 0 0 0 1 ∷ []) (Some 7) (Some 1) (Some 12)
+    ∷ sample_row "n = m, a mark at place 0" (ascii "abc") (marked "|bc") 2 [] (Some 3) (Some 0) (Some 9)
+    ∷ sample_row "n = m, a mark at place 1" (ascii "abc") (marked "a|c") 2 [] (Some 2) (Some 0) (Some 9)
+    ∷ sample_row "n = m, a mark at place 2" (ascii "abc") (marked "ab|") 2 [] (Some 1) (Some 0) (Some 9)
+    ∷ sample_row "one edge and a mark" (ascii "a") (marked "a|a") 0 (finding 0 0 0 1 ∷ finding 2 0 0 1 ∷ []) (Some 5) (Some 2) (Some 5)
+    ∷ sample_row "a mark after k breaks" (ascii "abc") (marked "a|zabc") 1 (finding 2 2 1 1 ∷ finding 3 0 0 1 ∷ []) (Some 23) (Some 2) (Some 27)
+    ∷ sample_row "a mark as the last edge read" (ascii "abc") (marked "|bcabc") 1 (finding 1 1 0 1 ∷ finding 2 2 0 1 ∷ finding 3 0 0 1 ∷ []) (Some 33) (Some 3) (Some 27)
+    ∷ sample_row "marks only" (ascii "ab") (marked "|||||||") 1 [] (Some 3) (Some 0) (Some 24)
     ∷ []
 
 -- Computed from the meanings and rules, the rows with marks are right too.
@@ -157,15 +157,15 @@ closed_row name ring line = sample_row name ring (closed_line (length ring) line
 -- bound, 3·m·(n + m − 1) − 2·m·m + m = 30.
 unfoldable pub closed_samples : List Sample
 closed_samples =
-    sample_row "another vertex first, open" (ascii "abc") (ascii "bca") 0 (finding 0 1 0 1 ∷ []) (some 12) (some 1) (some 9)
-    ∷ closed_row "another vertex first, closed" (ascii "abc") (ascii "bca") 0 (finding 0 1 0 1 ∷ finding 1 2 0 1 ∷ finding 2 0 0 1 ∷ []) (some 30) (some 3) (some 21)
-    ∷ sample_row "a copy across the end, open" (ascii "abcd") (ascii "dzzzabc") 1 (finding 3 3 1 1 ∷ []) (some 22) (some 1) (some 40)
-    ∷ closed_row "a copy across the end, closed" (ascii "abcd") (ascii "dzzzabc") 1 (finding 3 3 1 1 ∷ finding 4 0 0 1 ∷ finding 5 1 1 1 ∷ []) (some 48) (some 3) (some 64)
-    ∷ closed_row "a mark beside a copy across the end" (ascii "abc") (marked "c|ab") 0 (finding 2 0 0 1 ∷ []) (some 15) (some 1) (some 27)
-    ∷ closed_row "a mark last, closed" (ascii "abc") (marked "bca|") 1 (finding 0 1 0 1 ∷ []) (some 13) (some 1) (some 27)
-    ∷ closed_row "n = m, closed" (ascii "aaa") (ascii "aaa") 0 (finding 0 0 0 3 ∷ finding 1 0 0 3 ∷ finding 2 0 0 3 ∷ []) (some 30) (some 3) (some 21)
-    ∷ closed_row "one edge, closed" (ascii "a") (ascii "aba") 0 (finding 0 0 0 1 ∷ finding 2 0 0 1 ∷ []) (some 5) (some 2) (some 5)
-    ∷ closed_row "a line shorter than the ring, closed" (ascii "abc") (ascii "ab") 0 [] (some 0) (some 0) (some 0)
+    sample_row "another vertex first, open" (ascii "abc") (ascii "bca") 0 (finding 0 1 0 1 ∷ []) (Some 12) (Some 1) (Some 9)
+    ∷ closed_row "another vertex first, closed" (ascii "abc") (ascii "bca") 0 (finding 0 1 0 1 ∷ finding 1 2 0 1 ∷ finding 2 0 0 1 ∷ []) (Some 30) (Some 3) (Some 21)
+    ∷ sample_row "a copy across the end, open" (ascii "abcd") (ascii "dzzzabc") 1 (finding 3 3 1 1 ∷ []) (Some 22) (Some 1) (Some 40)
+    ∷ closed_row "a copy across the end, closed" (ascii "abcd") (ascii "dzzzabc") 1 (finding 3 3 1 1 ∷ finding 4 0 0 1 ∷ finding 5 1 1 1 ∷ []) (Some 48) (Some 3) (Some 64)
+    ∷ closed_row "a mark beside a copy across the end" (ascii "abc") (marked "c|ab") 0 (finding 2 0 0 1 ∷ []) (Some 15) (Some 1) (Some 27)
+    ∷ closed_row "a mark last, closed" (ascii "abc") (marked "bca|") 1 (finding 0 1 0 1 ∷ []) (Some 13) (Some 1) (Some 27)
+    ∷ closed_row "n = m, closed" (ascii "aaa") (ascii "aaa") 0 (finding 0 0 0 3 ∷ finding 1 0 0 3 ∷ finding 2 0 0 3 ∷ []) (Some 30) (Some 3) (Some 21)
+    ∷ closed_row "one edge, closed" (ascii "a") (ascii "aba") 0 (finding 0 0 0 1 ∷ finding 2 0 0 1 ∷ []) (Some 5) (Some 2) (Some 5)
+    ∷ closed_row "a line shorter than the ring, closed" (ascii "abc") (ascii "ab") 0 [] (Some 0) (Some 0) (Some 0)
     ∷ []
 
 -- Computed from the meanings and rules, the rows of closed lines are right too.

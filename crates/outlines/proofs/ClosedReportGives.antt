@@ -5,7 +5,7 @@
 use Prim.Native.Nat.{ℕ, ◌+◌, ◌-◌, ◌*◌, ◌≤◌, ◌<◌}
 use mathlib.Core.Path.{◌≡◌, sym, ap, ◌∙◌}
 use mathlib.Core.List.{List, [], ◌∷◌, ◌++◌}
-use mathlib.Core.Option.{Option, none}
+use Rattle.std.specs.Prelude.{Option, None}
 use native.Mathlib.Omega.{arith}
 use lib.ListN.{length}
 use Rattle.meaning.specs.Findings.{Finding, IsFinding, findings}
@@ -75,7 +75,7 @@ module _ {cell ring_number : ℕ} {ring line : List ℕ} {k : ℕ} {book join wo
   closed_report_no_looks short = report_looks_are (closed_is_report meets) ∙ closed_quick_looks_short ring line short k
 
 -- if the book is accepted, the join area at exit is that of the search
-join_by_search : (rows : List (Option Refusal)) (book : List ℕ) (m : ℕ) (line join : List ℕ) → book_refusal book ≡ none
+join_by_search : (rows : List (Option Refusal)) (book : List ℕ) (m : ℕ) (line join : List ℕ) → book_refusal book ≡ None
     → join_at_exit (report_rows rows book) m line join ≡ join_at_exit rows m line join
 unfolding join_at_exit
 join_by_search rows book m line join read = ap (λ (o : Option Refusal). area_by o (joined_with m line join) join) (accepted_book_row rows book read)

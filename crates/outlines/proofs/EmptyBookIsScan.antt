@@ -3,7 +3,7 @@
 use Prim.Native.Nat.{ℕ}
 use mathlib.Core.Path.{◌≡◌, refl, sym, ap, subst, ◌∙◌}
 use mathlib.Core.List.{List, [], ◌∷◌}
-use mathlib.Core.Option.{Option, none, some}
+use Rattle.std.specs.Prelude.{Option, None, Some}
 use lib.ListN.{length}
 use Rattle.lists.specs.Areas.{written}
 use Rattle.meaning.specs.Findings.{Finding, findings, words_of}
@@ -28,7 +28,7 @@ use Rattle.outlines.proofs.FirstOfReport.{accepted_book_row}
 use Rattle.outlines.proofs.ReportGives.{report_none_given, report_gives}
 
 -- An empty book is accepted.
-pub empty_book_read : book_refusal [] ≡ none
+pub empty_book_read : book_refusal [] ≡ None
 empty_book_read = ((book_accepted_iff [] []).0 empty_book).0
 
 -- An empty book has no silence.
@@ -71,7 +71,7 @@ module _ (cell ring_number : ℕ) where
     refused_scan {rows} {refusal} {out} meets =
         let row : Option Refusal = report_refusal rows [] in
         let counts : ReportCounts = report_counts ring line k cell ring_number (silences_read []) in
-        let is : row ≡ some refusal = (row_place_iff no_report_counts counts row meets.paper refusal).0 (refl, refl) in
+        let is : row ≡ Some refusal = (row_place_iff no_report_counts counts row meets.paper refusal).0 (refl, refl) in
         let untouched : out ≡ words =
         refused_area no_report_counts counts row meets.paper (written (words_of (shown (silences_read []) cell ring_number (findings ring line k))) words) words meets.written (number_in refusal).0 in
         subst (IsSearched rows ring line k (quick_looks ring line k) words (ScanRefused refusal)) (sym untouched)

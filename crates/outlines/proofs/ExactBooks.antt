@@ -4,7 +4,7 @@
 use Prim.Native.Nat.{ℕ, ◌≤◌, ◌<◌}
 use mathlib.Core.Path.{◌≡◌, refl}
 use mathlib.Core.List.{List}
-use mathlib.Core.Option.{Option, none}
+use Rattle.std.specs.Prelude.{Option, None}
 use lib.ListN.{length}
 use Rattle.answers.specs.declared.refusals.Refusal.{Refusal}
 use Rattle.answers.specs.Rows.{first_given}
@@ -18,7 +18,7 @@ use Rattle.outlines.specs.Report.{IsReportedBy}
 use Rattle.outlines.proofs.SilencesAlike.{reports_same}
 
 -- A report by a book of tag 21 alone, of at most 1,000 records, is the report by the same addresses with ceiling 0 under tag 22.
-pub exact_report_same : (cell ring_number : ℕ) (rows : List (Option Refusal)) (ring line : List ℕ) → (first_given rows ≡ none → 0 < length ring)
+pub exact_report_same : (cell ring_number : ℕ) (rows : List (Option Refusal)) (ring line : List ℕ) → (first_given rows ≡ None → 0 < length ring)
     → (k : ℕ) (book words : List ℕ) (ss : List Silence) → IsBook ss book → LaidDown OnlyTag21 ss book → length ss ≤ most_silences
     → (r r' : Reported) (out out' : List ℕ) → IsReportedBy rows cell ring_number ring line k book words r out
     → IsReportedBy rows cell ring_number ring line k (layout (with_ceilings 0 ss)) words r' out' → (r ≡ r') × (out ≡ out')

@@ -4,7 +4,7 @@
 use Prim.Native.Nat.{ℕ, ◌≤◌}
 use mathlib.Core.Path.{◌≡◌, refl, sym, ap, ◌∙◌}
 use mathlib.Core.List.{List}
-use mathlib.Core.Option.{none}
+use Rattle.std.specs.Prelude.{None}
 use native.Mathlib.Omega.{arith}
 use Rattle.meaning.specs.Findings.{Finding}
 use Rattle.silences.specs.declared.addresses.Sought.{Sought}
@@ -55,7 +55,7 @@ module _ {cell ring_number : ℕ} {book : List ℕ} where
       }
 
       -- If the book is accepted, the field for the finding hides it exactly when the book does.
-      pub held_hides : book_refusal book ≡ none → hides_finding cell ring_number book f (sought_of held) ≡ is_hidden (silences_read book) cell ring_number f
+      pub held_hides : book_refusal book ≡ None → hides_finding cell ring_number book f (sought_of held) ≡ is_hidden (silences_read book) cell ring_number f
       held_hides read =
           seeking_hides book (silences_read book) (finding_address cell ring_number f) f.distance (held_for cell ring_number book f (sought_of held))
           ((book_accepted_iff book (silences_read book)).1 (read, refl)) held_next

@@ -3,7 +3,7 @@
 use Prim.Native.Nat.{ℕ}
 use mathlib.Core.Path.{◌≡◌, subst}
 use mathlib.Core.List.{List}
-use mathlib.Core.Option.{none}
+use Rattle.std.specs.Prelude.{None}
 use lib.ListN.{length}
 use Rattle.silences.specs.Reading.{book_refusal}
 use Rattle.windows.specs.Windows.{Parts, whole_line}
@@ -12,7 +12,7 @@ use Rattle.outlines.specs.LineScan.{CanScanLine, LineScanned}
 
 module _ {ring : List ℕ} {p : Parts} {k room : ℕ} {searched : List ℕ} (lent : Lent ring p k room searched) where
   -- If the book is accepted, the precondition of `scan_line` holds.
-  pub can_scan_line : {book words : List ℕ} → book_refusal book ≡ none → length words ≡ room → CanScanLine ring p k book words
+  pub can_scan_line : {book words : List ℕ} → book_refusal book ≡ None → length words ≡ room → CanScanLine ring p k book words
   can_scan_line book_read size = record { can_search = rw size lent.can_search; joined = lent.joined; book_read = book_read }
 
   -- The whole line that was scanned is the list that the call searches.

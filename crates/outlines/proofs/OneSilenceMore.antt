@@ -7,7 +7,7 @@ use mathlib.Core.Logic.Iff
 use mathlib.Core.Logic.{◌⊎◌, ◌↔◌}
 use mathlib.Core.Bool.{Bool, true, false, cond, ◌||◌, not-eq-not}
 use mathlib.Core.List.{List, [], ◌∷◌, ◌++◌}
-use mathlib.Core.Option.{Option, none}
+use Rattle.std.specs.Prelude.{Option, None}
 use native.Mathlib.Omega.{arith}
 use lib.ListN.{length}
 use Rattle.lists.proofs.SizesTested.{or_iff}
@@ -100,7 +100,7 @@ module _ (cell ring_number : ℕ) (s : Silence) (xs ys : List Silence) where
     pub silence_hides_one_le : length (hidden (xs ++ s ∷ ys) cell ring_number (findings ring line k)) ≤ length (hidden (xs ++ ys) cell ring_number (findings ring line k)) + 1
     silence_hides_one_le = one_more 0 (length line) (findings ring line k) (findings_rising ring line k)
 
-    module _ (rows : List (Option Refusal)) (some_edge : first_given rows ≡ none → 0 < length ring) (book book' words : List ℕ)
+    module _ (rows : List (Option Refusal)) (some_edge : first_given rows ≡ None → 0 < length ring) (book book' words : List ℕ)
         (is : read_book book ≡ accepted (xs ++ s ∷ ys)) (is' : read_book book' ≡ accepted (xs ++ ys))
         (r r' : Reported) (out out' : List ℕ) (p : IsReportedBy rows cell ring_number ring line k book words r out)
         (p' : IsReportedBy rows cell ring_number ring line k book' words r' out') where

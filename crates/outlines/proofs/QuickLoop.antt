@@ -5,7 +5,7 @@ use mathlib.Core.Path.{◌≡◌, refl, sym, ap, ◌∙◌}
 use mathlib.Core.Bool.{Bool, true, false, not}
 use mathlib.Core.Logic.{⊎_elim}
 use mathlib.Core.List.{List, [], ◌∷◌, ◌++◌, append-nil}
-use mathlib.Core.Option.{none}
+use Rattle.std.specs.Prelude.{None}
 use native.Mathlib.Omega.{arith}
 use lib.ListN.{length, length-append}
 use Rattle.lists.proofs.Cases.{le_or_lt}
@@ -56,7 +56,7 @@ room_for_all ring line k within =
 module _ {cell ring_number : ℕ} {ring doubled : List ℕ} {table : EdgeVectors} {p : Parts} {k : ℕ} {book counts₀ area : List ℕ} where
   -- The invariant holds before the first window, with nothing found and the book's first field.
   pub quick_start : (can : CanScan ring doubled table p k book counts₀ area) {at : Sweep} {asked : BookAsked}
-      → at.start.0 ≡ 0 → last_start at.last ≡ none → at.looks ≡ 0
+      → at.start.0 ≡ 0 → last_start at.last ≡ None → at.looks ≡ 0
       → asked.shown ≡ 0 → asked.hidden ≡ 0 → sought_of asked.held ≡ field_at book 0
       → QuickLoop cell ring_number ring doubled table p k book counts₀ area at asked counts₀ area
   unfolding taken_by

@@ -3,7 +3,7 @@
 use Prim.Native.Nat.{ℕ}
 use mathlib.Core.Path.{◌≡◌, sym, ap, ◌∙◌}
 use mathlib.Core.List.{List}
-use mathlib.Core.Option.{Option, none, some}
+use Rattle.std.specs.Prelude.{Option, None, Some}
 use Rattle.lists.specs.Areas.{written}
 use Rattle.meaning.specs.Findings.{findings, words_of}
 use Rattle.answers.specs.declared.refusals.Refusal.{Refusal}
@@ -21,19 +21,19 @@ use Rattle.outlines.specs.LineScan.{LineScanned}
 use Rattle.outlines.proofs.FirstOfReport.{early_given, late_given, none_row_iff}
 
 -- If `read` accepts the book, the book has no refusal.
-pub read_accepted : {book : List ℕ} {r : BookAnswer} {records : ℕ} → IsRead book r → r ≡ Records records → book_refusal book ≡ none
+pub read_accepted : {book : List ℕ} {r : BookAnswer} {records : ℕ} → IsRead book r → r ≡ Records records → book_refusal book ≡ None
 read_accepted {book} {r} {records} meets e =
     let has = has_records (read_book book) records (read_answer_is book r (Records records) meets e) in
     ((book_accepted_iff book has.silences).0 has.is).0
 
 -- If `read` refuses the book, the book has this refusal.
-pub read_refused : {book : List ℕ} {r : BookAnswer} {refusal : Refusal} → IsRead book r → r ≡ BookRefused refusal → book_refusal book ≡ some refusal
+pub read_refused : {book : List ℕ} {r : BookAnswer} {refusal : Refusal} → IsRead book r → r ≡ BookRefused refusal → book_refusal book ≡ Some refusal
 read_refused {book} {r} {refusal} meets e =
     (book_refused_iff book refusal).0 (has_refusal (read_book book) refusal (read_answer_is book r (BookRefused refusal) meets e))
 
 module _ {rows : List (Option Refusal)} {cell ring_number : ℕ} {ring line : List ℕ} {k : ℕ} {book words : List ℕ} where
   -- If a row is given, returning the first one's refusal and leaving the words meets the contract of a report.
-  pub report_refused : {refusal : Refusal} → report_refusal rows book ≡ some refusal → IsReportedBy rows cell ring_number ring line k book words (Refused refusal) words
+  pub report_refused : {refusal : Refusal} → report_refusal rows book ≡ Some refusal → IsReportedBy rows cell ring_number ring line k book words (Refused refusal) words
   unfolding report_answer reported_words
   report_refused e = record {
     paper = sym (ap (λ (o : Option Refusal). answer_paper no_report_counts (answer_by o (report_counts ring line k cell ring_number (silences_read book)))) e);
@@ -41,16 +41,16 @@ module _ {rows : List (Option Refusal)} {cell ring_number : ℕ} {ring line : Li
   }
 
   -- If one of the search's rows is given, returning the first one's refusal and leaving the words meets the contract of a report.
-  pub report_refused_row : {refusal : Refusal} → some refusal ≡ first_given rows → IsReportedBy rows cell ring_number ring line k book words (Refused refusal) words
+  pub report_refused_row : {refusal : Refusal} → Some refusal ≡ first_given rows → IsReportedBy rows cell ring_number ring line k book words (Refused refusal) words
   report_refused_row e = report_refused (early_given rows book (sym e))
 
   -- If none of the search's rows is given and the book has a refusal, returning this and leaving the words meets the contract of a report.
-  pub report_refused_book : {refusal : Refusal} → none ≡ first_given rows → book_refusal book ≡ some refusal
+  pub report_refused_book : {refusal : Refusal} → None ≡ first_given rows → book_refusal book ≡ Some refusal
       → IsReportedBy rows cell ring_number ring line k book words (Refused refusal) words
   report_refused_book no_row e = report_refused (late_given rows book (sym no_row) e)
 
   -- If no row is given and the line is scanned with the book, returning found, hidden and looks meets the contract of a report.
-  pub report_accepted : {found hid looks : ℕ} {out : List ℕ} → none ≡ first_given rows → book_refusal book ≡ none
+  pub report_accepted : {found hid looks : ℕ} {out : List ℕ} → None ≡ first_given rows → book_refusal book ≡ None
       → LineScanned cell ring_number ring line k book words found hid looks out → IsReportedBy rows cell ring_number ring line k book words (CountsCase found hid looks) out
   unfolding report_answer reported_words
   report_accepted none_given read done =

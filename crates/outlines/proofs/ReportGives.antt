@@ -4,7 +4,7 @@
 use Prim.Native.Nat.{ℕ, ◌+◌, ◌-◌, ◌*◌, ◌≤◌, ◌<◌}
 use mathlib.Core.Path.{◌≡◌, refl, ap, ◌∙◌}
 use mathlib.Core.List.{List}
-use mathlib.Core.Option.{Option, none}
+use Rattle.std.specs.Prelude.{Option, None}
 use lib.ListN.{length}
 use Rattle.lists.specs.Areas.{written}
 use Rattle.meaning.specs.Findings.{findings, words_of}
@@ -22,7 +22,7 @@ use Rattle.outlines.proofs.FirstOfReport.{none_row_iff}
 module _ {rows : List (Option Refusal)} {cell ring_number : ℕ} {ring line : List ℕ} {k : ℕ} {book words : List ℕ} {found hid looks : ℕ} {out : List ℕ}
     (meets : IsReportedBy rows cell ring_number ring line k book words (CountsCase found hid looks) out) where
   -- In an accepted report none of the search's rows is given, nor one of the book's.
-  pub report_none_given : (first_given rows ≡ none) × (book_refusal book ≡ none)
+  pub report_none_given : (first_given rows ≡ None) × (book_refusal book ≡ None)
   unfolding report_answer
   report_none_given =
       (none_row_iff rows book).0 ((accepted_number_iff no_report_counts (report_counts ring line k cell ring_number (silences_read book)) (report_refusal rows book) meets.paper).0 refl)
@@ -33,7 +33,7 @@ module _ {rows : List (Option Refusal)} {cell ring_number : ℕ} {ring line : Li
   report_gives =
       let row : Option Refusal = report_refusal rows book in
       let counts : ReportCounts = report_counts ring line k cell ring_number (silences_read book) in
-      let no_row : row ≡ none = (none_row_iff rows book).1 report_none_given in
+      let no_row : row ≡ None = (none_row_iff rows book).1 report_none_given in
       let same = accepted_counts no_report_counts counts row meets.paper no_row in
       record {
         found_is = ap (λ (c : ReportCounts). c.found) same;
@@ -53,7 +53,7 @@ module _ {rows : List (Option Refusal)} {cell ring_number : ℕ} {ring line : Li
   report_looks_le h = rw report_looks_are (quick_looks_le ring line k h)
 
   -- The looks of an accepted report are at most 3·m·n, if the search's rows accept no empty ring.
-  pub report_looks_most : (first_given rows ≡ none → 0 < length ring) → looks ≤ 3 * length ring * length line
+  pub report_looks_most : (first_given rows ≡ None → 0 < length ring) → looks ≤ 3 * length ring * length line
   report_looks_most some_edge = rw report_looks_are (quick_looks_most ring line k (some_edge report_none_given.0))
 
   -- An accepted report on a line shorter than the ring takes "no look".

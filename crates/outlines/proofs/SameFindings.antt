@@ -3,7 +3,7 @@
 use Prim.Native.Nat.{ℕ}
 use mathlib.Core.Path.{◌≡◌, refl, sym, ◌∙◌}
 use mathlib.Core.List.{List}
-use mathlib.Core.Option.{Option, none, some}
+use Rattle.std.specs.Prelude.{Option, None, Some}
 use lib.ListN.{length}
 use Rattle.meaning.specs.Findings.{findings}
 use Rattle.answers.specs.declared.refusals.Refusal.{Refusal}
@@ -26,8 +26,8 @@ pub record SameButLooks (a b : Paper Counts) : Type 0 where
 -- the papers by the same first row, with the same found, are equal but for their looks
 row_same : (o : Option Refusal) (found looks looks' : ℕ)
     → SameButLooks (answer_paper no_counts (answer_by o (record { found = found; looks = looks }))) (answer_paper no_counts (answer_by o (record { found = found; looks = looks' })))
-row_same none found looks looks' = record { number_is = refl; place_is = refl; found_is = refl }
-row_same (some refusal) found looks looks' = record { number_is = refl; place_is = refl; found_is = refl }
+row_same None found looks looks' = record { number_is = refl; place_is = refl; found_is = refl }
+row_same (Some refusal) found looks looks' = record { number_is = refl; place_is = refl; found_is = refl }
 
 -- Two searches that differ only in their looks give the same number, place and found, and the same words.
 pub search_same : {rows : List (Option Refusal)} {ring line : List ℕ} {k looks looks' : ℕ} {words : List ℕ} {r r' : Searched} {out out' : List ℕ}

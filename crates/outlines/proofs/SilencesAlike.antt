@@ -4,7 +4,7 @@ use Prim.Native.Nat.{ℕ, ◌<◌}
 use mathlib.Core.Path.{◌≡◌, refl, sym, ap, ◌∙◌}
 use mathlib.Core.Bool.{not}
 use mathlib.Core.List.{List, Memᴰ}
-use mathlib.Core.Option.{Option, none, some}
+use Rattle.std.specs.Prelude.{Option, None, Some}
 use lib.ListN.{length}
 use Rattle.lists.specs.Areas.{written}
 use Rattle.meaning.specs.Findings.{Finding, IsFinding, findings, words_of}
@@ -34,15 +34,15 @@ module _ (ss ts : List Silence) (cell ring_number : ℕ) where
   pub hidden_same : (fs : List Finding) → HidesAlike fs → hidden ss cell ring_number fs ≡ hidden ts cell ring_number fs
   hidden_same fs h = taken_same (is_hidden ss cell ring_number) (is_hidden ts cell ring_number) fs h
 
-  module _ (rows : List (Option Refusal)) (ring line : List ℕ) (some_edge : first_given rows ≡ none → 0 < length ring) (k : ℕ) (book book' words : List ℕ)
+  module _ (rows : List (Option Refusal)) (ring line : List ℕ) (some_edge : first_given rows ≡ None → 0 < length ring) (k : ℕ) (book book' words : List ℕ)
       (is : read_book book ≡ accepted ss) (is' : read_book book' ≡ accepted ts)
       (alike : (f : Finding) → IsFinding ring line k f → is_hidden ss cell ring_number f ≡ is_hidden ts cell ring_number f) where
     -- Both books are accepted, so the refusal of the search's rows decides what a report returns and writes. If there is none, the silences decide. So any
     -- value `by` that is the same for each refusal, and for equal shown and hidden findings, is the same for the two reports.
     given : {A : Type 0} (by : Option Refusal → List Silence → A)
-        → ((q : Refusal) → by (some q) ss ≡ by (some q) ts)
+        → ((q : Refusal) → by (Some q) ss ≡ by (Some q) ts)
         → (shown ss cell ring_number (findings ring line k) ≡ shown ts cell ring_number (findings ring line k)
-        → hidden ss cell ring_number (findings ring line k) ≡ hidden ts cell ring_number (findings ring line k) → by none ss ≡ by none ts)
+        → hidden ss cell ring_number (findings ring line k) ≡ hidden ts cell ring_number (findings ring line k) → by None ss ≡ by None ts)
         → by (report_refusal rows book) (silences_read book) ≡ by (report_refusal rows book') (silences_read book')
     given by refused_same accepted_same =
         let read = (book_accepted_iff book ss).0 is in
@@ -50,8 +50,8 @@ module _ (ss ts : List Silence) (cell ring_number : ℕ) where
         rw (accepted_book_row rows book read.0, read.1, accepted_book_row rows book' read'.0, read'.1) (go (first_given rows) refl)
       where
         go : (o : Option Refusal) → first_given rows ≡ o → by o ss ≡ by o ts
-        go (some refusal) e = refused_same refusal
-        go none e =
+        go (Some refusal) e = refused_same refusal
+        go None e =
             let alike_in_list : HidesAlike (findings ring line k) = λ f m. alike f ((findings_iff ring line k (some_edge e) f).0 m) in
             accepted_same (shown_same (findings ring line k) alike_in_list) (hidden_same (findings ring line k) alike_in_list)
 

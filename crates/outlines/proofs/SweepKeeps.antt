@@ -5,7 +5,7 @@ use Prim.Native.Nat.{ℕ, ◌+◌, ◌-◌, ◌≤◌, ◌<◌}
 use mathlib.Core.Path.{◌≡◌, refl, sym, ap, ◌∙◌}
 use mathlib.Core.Bool.{false}
 use mathlib.Core.List.{List, [], ◌∷◌, ◌++◌, append-nil}
-use mathlib.Core.Option.{none}
+use Rattle.std.specs.Prelude.{None}
 use native.Mathlib.Nat.{mul-le-mul}
 use native.Mathlib.Omega.{arith}
 use lib.ListN.{length}
@@ -70,7 +70,7 @@ module _ {ring doubled : List ℕ} {table : EdgeVectors} {p : Parts} {k : ℕ} {
   n = length line
 
   -- The invariant holds before the first window, with nothing found.
-  pub sweep_start : {at : Sweep} → at.start.0 ≡ 0 → last_start at.last ≡ none → at.looks ≡ 0 → SweepKeeps ring line k [] at counts₀
+  pub sweep_start : {at : Sweep} → at.start.0 ≡ 0 → last_start at.last ≡ None → at.looks ≡ 0 → SweepKeeps ring line k [] at counts₀
   sweep_start s l o = record {
     scanning = rw (s, l, o) (scan_start ring line k within.some_edge);
     before = rw l tt;

@@ -4,7 +4,7 @@
 --   CanScan        the precondition of `scan_windows`
 --   LineScanned    the contract of both
 use Rattle.std.specs.Prelude.{ℕ, ◌≡◌, List, length}
-use Rattle.std.proofs.Math.Option.{none}
+use Rattle.std.specs.Prelude.{None}
 use Rattle.lists.specs.Areas.{written}
 use Rattle.meaning.specs.Findings.{findings, words_of}
 use Rattle.meaning.specs.Looks.{quick_looks}
@@ -20,7 +20,7 @@ use Rattle.outlines.specs.Report.{shown, hidden}
 pub record CanScanLine (ring : List ℕ) (p : Parts) (k : ℕ) (book words : List ℕ) : Type 0 where
   pub can_search : CanSearch ring k (length (whole_line (length ring) p)) (length words)
   pub joined : Joined (length ring) p
-  pub book_read : book_refusal book ≡ none
+  pub book_read : book_refusal book ≡ None
 
 -- The precondition of `scan_windows`: that of `scan_line`, and the ring's vectors, its double and 256 counts are lent. The counts may hold anything.
 pub record CanScan (ring doubled : List ℕ) (table : EdgeVectors) (p : Parts) (k : ℕ) (book counts words : List ℕ) : Type 0 where

@@ -15,7 +15,7 @@
 --   IsReportedBy                     the contract of a report, for its rows of a search
 --   IsReported                       the contract of `report`
 use Rattle.std.specs.Prelude.{ℕ, ◌≡◌, Bool, not, cond, List, [], ◌∷◌, ◌++◌, length}
-use Rattle.std.proofs.Math.Option.{Option}
+use Rattle.std.specs.Prelude.{Option}
 use Rattle.lists.specs.Areas.{written}
 use Rattle.meaning.specs.Findings.{Finding, findings, words_of}
 use Rattle.meaning.specs.Looks.{quick_looks}

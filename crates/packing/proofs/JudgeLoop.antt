@@ -7,7 +7,7 @@ use Prim.Native.Nat.{ℕ, ◌+◌, ◌*◌, ◌≤◌, ◌<◌}
 use mathlib.Core.Path.{◌≡◌, refl, sym, ap, subst, ◌∙◌}
 use mathlib.Core.Bool.{true, false}
 use mathlib.Core.List.{List, [], ◌∷◌, ◌++◌, append-nil}
-use mathlib.Core.Option.{Option, none, some}
+use Rattle.std.specs.Prelude.{Option, None, Some}
 use native.Mathlib.Omega.{arith}
 use lib.ListN.{length, drop, length-append}
 use lib.Seq.{append_snoc}
@@ -35,8 +35,8 @@ pub record JudgedTo (words : List ℕ) (last : Option Address) (records bytes at
   pub passed : List Silence
   pub all_are : silences_of words ≡ passed ++ silences_of (drop at words)
   pub all_fit : AllFit passed
-  pub ascends : AscendingAfter none passed
-  pub last_is : last ≡ last_after none passed
+  pub ascends : AscendingAfter None passed
+  pub last_is : last ≡ last_after None passed
   pub records_is : records ≡ length passed
   pub bytes_is : bytes ≡ length (layout passed)
 
@@ -50,7 +50,7 @@ judged_by words e = ap (λ (o : Option Refusal). answer_by o (sizes (silences_of
 
 module _ {words : List ℕ} where
   -- The invariant holds at the start: no record is passed.
-  pub judge_start : JudgedTo words none 0 0 0
+  pub judge_start : JudgedTo words None 0 0 0
   unfolding numbers_of_each
   judge_start =
       record {
@@ -73,7 +73,7 @@ module _ {words : List ℕ} where
       all_from = now.all_are ∙ ap (λ (l : List Silence). now.passed ++ l) (silences_of_step words at h)
 
       -- its number is `records`, and those before it are passed
-      stands_here : RecordStands none 0 (silences_of words) now.passed records (silence_from words at)
+      stands_here : RecordStands None 0 (silences_of words) now.passed records (silence_from words at)
       stands_here =
           record {
             later = silences_of (drop (at + record_words) words);
@@ -95,7 +95,7 @@ module _ {words : List ℕ} where
 
         -- If this record is above the last, the invariant holds again with it passed and counted.
         pub judge_turn : {field : ℕ} → is_above last (silence_from words at).address ≡ true → length (field_of (silence_from words at)) ≡ field
-            → JudgedTo words (some (silence_from words at).address) (records + 1) (bytes + field) (at + record_words)
+            → JudgedTo words (Some (silence_from words at).address) (records + 1) (bytes + field) (at + record_words)
         unfolding numbers_of_each
         judge_turn {field} e long =
             let here : Silence = silence_from words at in
@@ -107,8 +107,8 @@ module _ {words : List ℕ} where
               passed = now.passed ++ here ∷ [];
               all_are = all_from ∙ sym (append_snoc now.passed here others);
               all_fit = all_fit_more now.passed here now.all_fit fit;
-              ascends = ascends_more none now.passed here now.ascends (subst (λ (l : Option Address). is_above l here.address ≡ true) now.last_is e);
-              last_is = sym (last_after_end none now.passed here);
+              ascends = ascends_more None now.passed here now.ascends (subst (λ (l : Option Address). is_above l here.address ≡ true) now.last_is e);
+              last_is = sym (last_after_end None now.passed here);
               records_is = omega (arith, now.records_is, length-append now.passed (here ∷ []));
               bytes_is =
                   omega (
@@ -126,4 +126,4 @@ module _ {words : List ℕ} where
         now.all_are ∙ ap (λ (l : List Silence). now.passed ++ l) (silences_of_end words at h) ∙ append-nil now.passed in
         (λ i. accepted (sized (now.records_is i) (now.bytes_is i)))
         ∙ ap (λ (ss : List Silence). accepted (sizes ss)) (sym all)
-        ∙ sym (judged_by words (ap (λ (ss : List Silence). first_given (record_rows none 0 ss)) all ∙ packs_as_is (packed_all now.all_fit now.ascends)))
+        ∙ sym (judged_by words (ap (λ (ss : List Silence). first_given (record_rows None 0 ss)) all ∙ packs_as_is (packed_all now.all_fit now.ascends)))

@@ -3,7 +3,7 @@
 use Prim.Native.Nat.{ℕ, ◌≤◌, ◌<◌}
 use mathlib.Core.Path.{◌≡◌, refl, sym, ap, ◌∙◌}
 use mathlib.Core.List.{List}
-use mathlib.Core.Option.{some}
+use Rattle.std.specs.Prelude.{Some}
 use native.Mathlib.Omega.{arith}
 use lib.ListN.{length}
 use Rattle.lists.specs.Areas.{written}
@@ -42,7 +42,7 @@ module _ {words : List ℕ} {r : Judged} (judged : WordsJudged words r) {records
 
 module _ (words area : List ℕ) where
   -- if q is the first row that is given, refusing with q and writing nothing meets the contract
-  is_refused : {q : Refusal} → pack_refusal words (length area) ≡ some q → IsPacked words area (Refused q) area
+  is_refused : {q : Refusal} → pack_refusal words (length area) ≡ Some q → IsPacked words area (Refused q) area
   unfolding packed
   is_refused {q} e =
       let is : packed words (length area) ≡ refused q = (answer_refused_iff (silences_of words) (pack_refusal words (length area)) q).1 e in

@@ -6,7 +6,7 @@
 use Prim.Native.Nat.{ℕ, ◌*◌, ◌≤◌, ◌<◌}
 use mathlib.Core.Path.{◌≡◌, refl, sym, ap, ◌∙◌}
 use mathlib.Core.List.{List}
-use mathlib.Core.Option.{Option, some}
+use Rattle.std.specs.Prelude.{Option, Some}
 use native.Mathlib.Omega.{arith}
 use lib.ListN.{length, take}
 use Rattle.lists.specs.Bounds.{IsBytes, IsWords}
@@ -96,6 +96,6 @@ unpack_pack_many book area n out unpack many area' r out' pack =
     let ss : List Silence = silences_read book in
     let words : List ℕ = take (record_words * n) out in
     let was = gave words_of_silences record_words words_length (unpack_refusal book (length area)) ss area n out unpack.written unpack.paper in
-    let refuses : pack_refusal words (length area') ≡ some WordCount =
+    let refuses : pack_refusal words (length area') ≡ Some WordCount =
     ap (λ (l : List ℕ). pack_refusal l (length area')) was.2 ∙ many_refused ss (omega (arith, was.1)) (length area') in
     paper_unique r (Refused WordCount) (pack.paper ∙ ap (λ (o : Option Refusal). records_paper (answer_by o (silences_of words))) refuses)

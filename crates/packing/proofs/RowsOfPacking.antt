@@ -6,7 +6,7 @@ use mathlib.Core.Logic.Iff
 use mathlib.Core.Logic.{◌⊎◌, inl, inr, ◌↔◌}
 use mathlib.Core.Path.{◌≡◌, refl, ◌∙◌}
 use mathlib.Core.List.{List}
-use mathlib.Core.Option.{Option, none}
+use Rattle.std.specs.Prelude.{Option, None}
 use native.Mathlib.Omega.{arith}
 use lib.ListN.{length}
 use Rattle.lists.specs.Areas.{written}
@@ -88,7 +88,7 @@ module _ (words area : List ℕ) (r : BookAnswer) (out : List ℕ) (meets : IsPa
       refused_area 0 records o paper (written (layout (silences_of words)) area) area (meets.written ∙ area_by_lem layout area o (silences_of words))
 
   -- no row is given exactly for words that can be packed, with room for 15 bytes each
-  none_iff : (o ≡ none) ↔ (IsPackable words × (packed_length * records ≤ length area))
+  none_iff : (o ≡ None) ↔ (IsPackable words × (packed_length * records ≤ length area))
   none_iff =
       Iff.trans (pack_none_iff words (length area))
       (Iff.and Iff.rfl (λ h. omega (arith, layout_length (silences_of words)), λ h. omega (arith, layout_length (silences_of words))))

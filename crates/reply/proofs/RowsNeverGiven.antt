@@ -2,7 +2,7 @@
 -- program's refusals are 11, and after it 1, 12, 2, 5, 6 and 7.
 use Prim.Native.Nat.{ℕ, ◌≤◌}
 use mathlib.Core.Path.{◌≡◌}
-use mathlib.Core.Option.{some}
+use Rattle.std.specs.Prelude.{Some}
 use native.Mathlib.Omega.{arith}
 use lib.ListN.{length}
 use Rattle.answers.specs.declared.refusals.Refusal.{Refusal}
@@ -28,13 +28,13 @@ module _ (q : Request) (line_le : length q.line ≤ line_field.most) where
   NotThreeNorFour refusal = (number_of refusal ≡ 3 → ⊥) × (number_of refusal ≡ 4 → ⊥)
 
   -- of a search's rows, 3 and 4 are never given
-  search_rows : (refusal : Refusal) → first_given (admit_rows q.ring q.allowance n (room_required m n)) ≡ some refusal → NotThreeNorFour refusal
+  search_rows : (refusal : Refusal) → first_given (admit_rows q.ring q.allowance n (room_required m n)) ≡ Some refusal → NotThreeNorFour refusal
   search_rows =
       by_row q.ring q.allowance n (room_required m n) NotThreeNorFour (λ _. (λ e. omega arith, λ e. omega arith)) (λ _. (λ e. omega arith, λ e. omega arith))
       (λ _. (λ e. omega arith, λ e. omega arith)) (λ long. absurd (omega arith)) (λ short. absurd (omega arith))
 
   -- A request whose line has at most 4,096 edges is refused neither by 3 nor by 4.
-  pub rows_3_4_never : (refusal : Refusal) → report_refusal (admit_rows q.ring q.allowance n (room_required m n)) q.book ≡ some refusal
+  pub rows_3_4_never : (refusal : Refusal) → report_refusal (admit_rows q.ring q.allowance n (room_required m n)) q.book ≡ Some refusal
       → (number_of refusal ≡ 3 → ⊥) × (number_of refusal ≡ 4 → ⊥)
   rows_3_4_never =
       report_row_has (admit_rows q.ring q.allowance n (room_required m n)) q.book NotThreeNorFour search_rows

@@ -10,7 +10,7 @@
 -- which gives the same first row (`refusal_same` of proofs/RoomEnough.antt). So row 4 is never given; nor is row 3, because a line has at most 4,096 edges
 -- (`rows_3_4_never` of proofs/RowsNeverGiven.antt).
 use Rattle.std.specs.Prelude.{ℕ, ◌≡◌, List, ◌++◌, length}
-use Rattle.std.proofs.Math.Option.{Option, none, some}
+use Rattle.std.specs.Prelude.{Option, None, Some}
 use Rattle.meaning.specs.Findings.{findings}
 use Rattle.lists.specs.Areas.{written}
 use Rattle.answers.specs.declared.refusals.Refusal.{Refusal}
@@ -31,8 +31,8 @@ report_lines q silences =
 
 -- The output by the first of the report's rows that is given: that refusal's line; or, if none is given, the report's lines with the book's silences.
 abbrev pub lines_by : Request → Option Refusal → List ℕ
-lines_by q none = report_lines q (silences_read q.book)
-lines_by q (some refusal) = refusal_line refusal
+lines_by q None = report_lines q (silences_read q.book)
+lines_by q (Some refusal) = refusal_line refusal
 
 -- The output for a request, with exactly the room that row 4 requires.
 unfoldable pub request_text : Request → List ℕ

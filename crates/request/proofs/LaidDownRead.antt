@@ -3,7 +3,7 @@
 use Prim.Native.Nat.{ℕ, ◌+◌, ◌-◌, ◌^◌, ◌≤◌, ◌<◌}
 use mathlib.Core.Path.{◌≡◌, refl, sym, ap, ap₂, ◌∙◌}
 use mathlib.Core.List.{List, [], ◌∷◌, ◌++◌, append-nil}
-use mathlib.Core.Option.{none}
+use Rattle.std.specs.Prelude.{None}
 use native.Mathlib.Omega.{arith}
 use lib.ListN.{length, get_or, take, drop}
 use lib.Seq.{take-append_seam}
@@ -33,7 +33,7 @@ data Fit : List FieldKind → List (List ℕ) → Type 0 where
 
 -- Where such fields stand from byte offset `at` on, none is faulty, and the parts read are those that were laid down.
 parts_laid : {kinds : List FieldKind} {parts : List (List ℕ)} (whole : List ℕ) (at : ℕ) → Fit kinds parts → drop at whole ≡ laid kinds parts
-    → (first_fault kinds whole at ≡ none) × (parts_from kinds whole at ≡ parts)
+    → (first_fault kinds whole at ≡ None) × (parts_from kinds whole at ≡ parts)
 unfolding first_fault parts_from
 parts_laid whole at book_left e = (refl, ap (λ (l : List ℕ). l ∷ []) e)
 parts_laid whole at (field_fits {kind} {kinds} {value} {parts} least_le most_le short fit) e =

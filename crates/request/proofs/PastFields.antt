@@ -4,7 +4,7 @@ use Prim.Native.Nat.{ℕ}
 use mathlib.Core.Path.{◌≡◌, refl, sym, ap, ◌∙◌}
 use mathlib.Core.Bool.{Bool, true, false, cond, false≢true}
 use mathlib.Core.List.{List, ◌∷◌}
-use mathlib.Core.Option.{Option, some}
+use Rattle.std.specs.Prelude.{Option, Some}
 use Rattle.request.specs.declared.field.FieldKind.{FieldKind}
 use Rattle.request.specs.declared.field.ReadTo.{ReadTo}
 use Rattle.request.specs.Fields.{next_at, is_field_at}
@@ -15,7 +15,7 @@ use Rattle.request.proofs.FieldStands.{field_iff, no_field_iff}
 
 -- The fault that a reading leads to: the one found already, or else the first among fields of these kinds from `before.next` on.
 abbrev pub fault_by : List FieldKind → List ℕ → ReadTo → Option ℕ
-fault_by kinds input before = cond before.faulty (some before.next) (first_fault kinds input before.next)
+fault_by kinds input before = cond before.faulty (Some before.next) (first_fault kinds input before.next)
 
 -- A field was read: no fault was found before it, it stands, and the next one begins at its end.
 pub record FieldRead (kind : FieldKind) (input : List ℕ) (before r : ReadTo) : Type 0 where

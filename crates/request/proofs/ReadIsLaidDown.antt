@@ -5,7 +5,7 @@ use mathlib.Core.Path.{◌≡◌, refl, sym, ap, ap₂, subst, ◌∙◌}
 use mathlib.Core.Bool.{Bool, true, false, cond}
 use mathlib.Core.Logic.{◌↔◌}
 use mathlib.Core.List.{List, [], ◌∷◌, ◌++◌}
-use mathlib.Core.Option.{Option, none, some}
+use Rattle.std.specs.Prelude.{Option, None, Some}
 use native.Mathlib.Omega.{arith}
 use lib.Dec.{ltb}
 use lib.ListN.{length, take, drop, length-take}
@@ -27,18 +27,18 @@ use Rattle.request.proofs.LaidDownRead.{laid, laid_down_read}
 
 module _ (input : List ℕ) (is_bytes : IsBytes input) where
   -- where no field is faulty, the first stands, and none after it is faulty
-  first_stands : (kind : FieldKind) (kinds : List FieldKind) (at : ℕ) → first_fault (kind ∷ kinds) input at ≡ none
-      → IsFieldAt kind input at × (first_fault kinds input (next_at input at) ≡ none)
+  first_stands : (kind : FieldKind) (kinds : List FieldKind) (at : ℕ) → first_fault (kind ∷ kinds) input at ≡ None
+      → IsFieldAt kind input at × (first_fault kinds input (next_at input at) ≡ None)
   unfolding first_fault
   first_stands kind kinds at e = go (is_field_at kind input at) refl e
     where
-      go : (t : Bool) → is_field_at kind input at ≡ t → cond t (first_fault kinds input (next_at input at)) (some at) ≡ none
-          → IsFieldAt kind input at × (first_fault kinds input (next_at input at) ≡ none)
+      go : (t : Bool) → is_field_at kind input at ≡ t → cond t (first_fault kinds input (next_at input at)) (Some at) ≡ None
+          → IsFieldAt kind input at × (first_fault kinds input (next_at input at) ≡ None)
       go true stands e = ((field_iff kind input at).0 stands, e)
       go false missing e = absurd (let z : ◌≡◌ {A = ℕ} 0 1 = cc in omega arith)
 
   -- the bytes from `at` on are the fields read, laid down, and the book after them
-  read_laid : (kinds : List FieldKind) (at : ℕ) → first_fault kinds input at ≡ none → drop at input ≡ laid kinds (parts_from kinds input at)
+  read_laid : (kinds : List FieldKind) (at : ℕ) → first_fault kinds input at ≡ None → drop at input ≡ laid kinds (parts_from kinds input at)
   unfolding parts_from
   read_laid [] at e = refl
   read_laid (kind ∷ kinds) at e =
@@ -67,7 +67,7 @@ module _ (input : List ℕ) (is_bytes : IsBytes input) where
   value_le {kind} {at} f = omega (arith, f.most_le, length-take (next_at input at - (at + head_length)) (drop (at + head_length) input))
 
   -- where no field is faulty, the input is its request laid down, and that request can be laid down
-  parts_laid_down : length input ≤ most_input → first_fault input_fields input 0 ≡ none
+  parts_laid_down : length input ≤ most_input → first_fault input_fields input 0 ≡ None
       → (input ≡ laid_down (request_of_parts (parts_from input_fields input 0))) × CanLayDown (request_of_parts (parts_from input_fields input 0))
   unfolding laid_down parts_from
   parts_laid_down short e =
@@ -98,11 +98,11 @@ module _ (input : List ℕ) (is_bytes : IsBytes input) where
     unfolding request_of input_fault
     read_is_laid_down h = go (ltb most_input (length input)) refl (first_fault input_fields input 0) refl h
       where
-        go : (t : Bool) → ltb most_input (length input) ≡ t → (o : Option ℕ) → first_fault input_fields input 0 ≡ o → request_by input (cond t (some 0) o) ≡ accepted q
+        go : (t : Bool) → ltb most_input (length input) ≡ t → (o : Option ℕ) → first_fault input_fields input 0 ≡ o → request_by input (cond t (Some 0) o) ≡ accepted q
             → (input ≡ laid_down q) × CanLayDown q
         go true long o e h = absurd (accepted_not_refused h refl)
-        go false short (some place) e h = absurd (accepted_not_refused h refl)
-        go false short none e h =
+        go false short (Some place) e h = absurd (accepted_not_refused h refl)
+        go false short None e h =
             subst (λ (p : Request). (input ≡ laid_down p) × CanLayDown p) (accepted_unique refl h) (parts_laid_down (ltb-false most_input (length input) short) e)
 
     -- An input is read as the request `q` exactly when it is `q` laid down and `q` can be laid down.

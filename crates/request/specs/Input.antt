@@ -15,7 +15,7 @@
 -- read as a request exactly when it is that request laid down. The ring may have any length here, 0 and 257 too: row 1 of the report refuses those, after all
 -- five fields are read.
 use Rattle.std.specs.Prelude.{ℕ, ◌≤◌, ◌<◌, ◌^◌, cond, List, [], ◌∷◌, ◌++◌, ltb, length, get_or, drop}
-use Rattle.std.proofs.Math.Option.{Option, none, some}
+use Rattle.std.specs.Prelude.{Option, None, Some}
 use Rattle.answers.specs.declared.refusals.Refusal.TheVariants.{Input}
 use Rattle.answers.specs.Paper.{Answer, accepted, refused}
 use Rattle.fields.specs.Numbers.{number_at, bytes_of}
@@ -39,16 +39,16 @@ most_input = 32768
 -- The place of the first field that is missing, cut, wrongly tagged or wrongly long: "the offset where the first such field begins or should begin". The fields
 -- are of these kinds; the first begins at `at`, and each next one where the one before it ends. `none` if every field stands.
 unfoldable pub first_fault : List FieldKind → List ℕ → ℕ → Option ℕ
-first_fault [] input at = none
+first_fault [] input at = None
 first_fault (kind ∷ kinds) input at =
     let among_later : Option ℕ = first_fault kinds input (next_at input at) in
-    cond (is_field_at kind input at) among_later (some at)
+    cond (is_field_at kind input at) among_later (Some at)
 
 -- The place of row 11, or `none` if the input is as laid down: "a longer input is refusal 11, place 0, and is tested first".
 unfoldable pub input_fault : List ℕ → Option ℕ
 input_fault input =
     let of_fields : Option ℕ = first_fault input_fields input 0 in
-    cond (ltb most_input (length input)) (some 0) of_fields
+    cond (ltb most_input (length input)) (Some 0) of_fields
 
 -- The values of fields of these kinds, the first of which begins at `at`, and as the last part all bytes after them: "then the book to the end".
 unfoldable pub parts_from : List FieldKind → List ℕ → ℕ → List (List ℕ)
@@ -72,8 +72,8 @@ request_of_parts parts = record {
 
 -- Refusal 11 at this place; or, where there is no place, the request of the input's five fields and its book.
 abbrev pub request_by : List ℕ → Option ℕ → Answer Request
-request_by input (some place) = refused (Input place)
-request_by input none = accepted (request_of_parts (parts_from input_fields input 0))
+request_by input (Some place) = refused (Input place)
+request_by input None = accepted (request_of_parts (parts_from input_fields input 0))
 
 -- The request of an input's bytes, or refusal 11.
 unfoldable pub request_of : List ℕ → Answer Request

@@ -5,7 +5,7 @@ use mathlib.Core.Logic.Iff
 use mathlib.Core.Logic.{⊎_elim, ◌↔◌}
 use mathlib.Core.Path.{◌≡◌, refl, sym, subst, ◌∙◌}
 use mathlib.Core.List.{List}
-use mathlib.Core.Option.{none}
+use Rattle.std.specs.Prelude.{None}
 use native.Mathlib.Omega.{arith}
 use lib.ListN.{length, take}
 use lib.Seq.{take_all}
@@ -27,18 +27,18 @@ use Rattle.silences.proofs.LayoutRead.{laid_length_le, read_fine, fine_read}
 pub record IsReadWhole (ss : List Silence) (book : List ℕ) : Type 0 where
   pub book_le : length book ≤ most_bytes
   pub stop : ℕ
-  pub fields : FieldsRead book none 0 ss stop
+  pub fields : FieldsRead book None 0 ss stop
   pub stop_ge : length book ≤ stop
 
 -- a walk that accepts has read the fields to the end
-whole_of_walk : (book : List ℕ) (ss : List Silence) → length book ≤ most_bytes → ReadsAs book none 0 (accepted ss) → IsReadWhole ss book
+whole_of_walk : (book : List ℕ) (ss : List Silence) → length book ≤ most_bytes → ReadsAs book None 0 (accepted ss) → IsReadWhole ss book
 whole_of_walk book ss h (read_all {stop = stop} f l) = record { book_le = h; stop = stop; fields = f; stop_ge = l }
 
 -- A book is accepted with `ss` exactly when it has at most 15,000 bytes and reading its fields to its end gives `ss`.
 pub accepted_whole_iff : (book : List ℕ) (ss : List Silence) → (read_book book ≡ accepted ss) ↔ IsReadWhole ss book
 accepted_whole_iff book ss = (
   λ e. ⊎_elim
-      (λ short. whole_of_walk book ss short (reads_as book none 0 (accepted ss) (sym (read_book_fields book short) ∙ e)))
+      (λ short. whole_of_walk book ss short (reads_as book None 0 (accepted ss) (sym (read_book_fields book short) ∙ e)))
       (λ long. absurd (accepted_not_refused e (read_book_long book long)))
       (le_or_lt (length book) most_bytes),
   λ w. read_book_fields book w.book_le ∙ reads_as_is book (read_all w.fields w.stop_ge),
@@ -83,16 +83,16 @@ book_silences_unique ss ts book b c = accepted_unique (book_accepted book ss b) 
 
 module _ (book : List ℕ) (bytes : IsBytes book) where
   -- none of a book's rows is given, and these silences are read, exactly when it is a book of them
-  silences_read_iff : (ss : List Silence) → ((book_refusal book ≡ none) × (silences_read book ≡ ss)) ↔ IsBook ss book
+  silences_read_iff : (ss : List Silence) → ((book_refusal book ≡ None) × (silences_read book ≡ ss)) ↔ IsBook ss book
   silences_read_iff ss = Iff.trans (Iff.symm (book_accepted_iff book ss)) (accepted_iff book ss bytes)
 
   -- None of the book's rows is given and the silences read satisfy P, exactly when it is a book of some silences that satisfy P.
-  pub read_book_iff : (P : List Silence → Type 0) → ((book_refusal book ≡ none) × P (silences_read book)) ↔ ((ss : List Silence) × IsBook ss book × P ss)
+  pub read_book_iff : (P : List Silence → Type 0) → ((book_refusal book ≡ None) × P (silences_read book)) ↔ ((ss : List Silence) × IsBook ss book × P ss)
   read_book_iff P = (
     λ h. (silences_read book, (silences_read_iff (silences_read book)).0 (h.0, refl), h.1),
     λ h. let read = (silences_read_iff h.0).1 h.1 in (read.0, subst P (sym read.1) h.2),
   )
 
   -- None of the book's rows is given exactly when it is a book of some silences.
-  pub no_refusal_iff : (book_refusal book ≡ none) ↔ ((ss : List Silence) × IsBook ss book)
+  pub no_refusal_iff : (book_refusal book ≡ None) ↔ ((ss : List Silence) × IsBook ss book)
   no_refusal_iff = (λ e. (silences_read book, (silences_read_iff (silences_read book)).0 (e, refl)), λ h. ((silences_read_iff h.0).1 h.1).0)

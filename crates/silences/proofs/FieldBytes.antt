@@ -4,7 +4,7 @@
 use Prim.Native.Nat.{ℕ, ◌+◌, ◌≤◌}
 use mathlib.Core.Path.{◌≡◌, refl, sym, ap, ap₂, subst, ◌∙◌}
 use mathlib.Core.List.{List, ◌∷◌, ◌++◌, append_assoc}
-use mathlib.Core.Option.{some}
+use Rattle.std.specs.Prelude.{Some}
 use native.Mathlib.Omega.{arith}
 use lib.ListN.{length, get_or, take, drop, length-append}
 use lib.Seq.{take_at}
@@ -114,7 +114,7 @@ module _ (book : List ℕ) (bytes : IsBytes book) (at : ℕ) where
   value_can_say kind = number_at_lt book bytes kind.ceiling_bytes (at + address_bytes)
 
   -- a silence that is read is in range
-  value_in_range : (tag : ℕ) (kind : Kind) → kind_by_tag tag ≡ some kind → InRange (silence_at kind book at)
+  value_in_range : (tag : ℕ) (kind : Kind) → kind_by_tag tag ≡ Some kind → InRange (silence_at kind book at)
   unfolding silence_at address_at
   value_in_range tag kind is =
       record {

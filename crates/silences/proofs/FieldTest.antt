@@ -6,7 +6,7 @@ use mathlib.Core.Logic.{◌⊎◌, inl, inr, ⊎_elim, ◌↔◌}
 use mathlib.Core.Path.{◌≡◌, refl, sym, ap, ap₂, subst, ◌∙◌}
 use mathlib.Core.Bool.{Bool, true, cond}
 use mathlib.Core.List.{List, [], ◌∷◌}
-use mathlib.Core.Option.{Option, none, some}
+use Rattle.std.specs.Prelude.{Option, None, Some}
 use native.Mathlib.Nat.{add-zero}
 use native.Mathlib.Omega.{arith}
 use lib.Dec.{eqb}
@@ -36,50 +36,50 @@ pub whole_next_unique : {s t : Silence} {i j : ℕ} → whole s i ≡ whole t j 
 whole_next_unique e = cc
 
 -- The two tags of the table: a tag with a kind is 21 hex, with the kind of an exact silence, or 22 hex, with the kind that has a ceiling.
-pub kind_cases : (tag : ℕ) (kind : Kind) → kind_by_tag tag ≡ some kind → ((tag ≡ exact_tag) × (kind ≡ exact_kind)) ⊎ ((tag ≡ ceiling_tag) × (kind ≡ ceiling_kind))
+pub kind_cases : (tag : ℕ) (kind : Kind) → kind_by_tag tag ≡ Some kind → ((tag ≡ exact_tag) × (kind ≡ exact_kind)) ⊎ ((tag ≡ ceiling_tag) × (kind ≡ ceiling_kind))
 unfolding kind_by_tag
 kind_cases tag kind =
-    by_test (λ (o : Option Kind). o ≡ some kind → ((tag ≡ exact_tag) × (kind ≡ exact_kind)) ⊎ ((tag ≡ ceiling_tag) × (kind ≡ ceiling_kind))) (eqb tag exact_tag)
+    by_test (λ (o : Option Kind). o ≡ Some kind → ((tag ≡ exact_tag) × (kind ≡ exact_kind)) ⊎ ((tag ≡ ceiling_tag) × (kind ≡ ceiling_kind))) (eqb tag exact_tag)
     (λ t e. inl ((eq_iff tag exact_tag).0 t, cc))
     (λ _.
-    by_test (λ (o : Option Kind). o ≡ some kind → ((tag ≡ exact_tag) × (kind ≡ exact_kind)) ⊎ ((tag ≡ ceiling_tag) × (kind ≡ ceiling_kind))) (eqb tag ceiling_tag)
+    by_test (λ (o : Option Kind). o ≡ Some kind → ((tag ≡ exact_tag) × (kind ≡ exact_kind)) ⊎ ((tag ≡ ceiling_tag) × (kind ≡ ceiling_kind))) (eqb tag ceiling_tag)
     (λ t e. inr ((eq_iff tag ceiling_tag).0 t, cc))
     (λ t e. absurd (let z : ◌≡◌ {A = ℕ} 0 1 = cc in omega arith)))
 
 -- A tag has one kind.
-pub kind_unique : {o : Option Kind} {kind kind' : Kind} → o ≡ some kind → o ≡ some kind' → kind ≡ kind'
+pub kind_unique : {o : Option Kind} {kind kind' : Kind} → o ≡ Some kind → o ≡ Some kind' → kind ≡ kind'
 kind_unique e e' = cc
 
 -- If a tag has no kind, it does not have this one.
-pub kind_none : {o : Option Kind} {kind : Kind} → o ≡ none → o ≡ some kind → ⊥
+pub kind_none : {o : Option Kind} {kind : Kind} → o ≡ None → o ≡ Some kind → ⊥
 kind_none e e' = let z : ◌≡◌ {A = ℕ} 0 1 = cc in omega arith
 
 -- What holds for both kinds of the table holds for the kind of any tag.
-pub by_kind : (P : Kind → Type 0) → P exact_kind → P ceiling_kind → (tag : ℕ) (kind : Kind) → kind_by_tag tag ≡ some kind → P kind
+pub by_kind : (P : Kind → Type 0) → P exact_kind → P ceiling_kind → (tag : ℕ) (kind : Kind) → kind_by_tag tag ≡ Some kind → P kind
 by_kind P exact with_ceiling tag kind e =
     ⊎_elim (λ h. subst P (sym h.1) exact) (λ h. subst P (sym h.1) with_ceiling) (kind_cases tag kind e)
 
 -- The two entries of the table.
-pub kind_exact : kind_by_tag exact_tag ≡ some exact_kind
+pub kind_exact : kind_by_tag exact_tag ≡ Some exact_kind
 unfolding kind_by_tag
 kind_exact = refl
 
-pub kind_ceiling : kind_by_tag ceiling_tag ≡ some ceiling_kind
+pub kind_ceiling : kind_by_tag ceiling_tag ≡ Some ceiling_kind
 unfolding kind_by_tag
 kind_ceiling = refl
 
 -- A value of any kind has 10 to 12 bytes.
-pub kind_length_le : (tag : ℕ) (kind : Kind) → kind_by_tag tag ≡ some kind → (value_length exact_kind ≤ value_length kind) × (value_length kind ≤ value_length ceiling_kind)
+pub kind_length_le : (tag : ℕ) (kind : Kind) → kind_by_tag tag ≡ Some kind → (value_length exact_kind ≤ value_length kind) × (value_length kind ≤ value_length ceiling_kind)
 kind_length_le =
     by_kind (λ (kind : Kind). (value_length exact_kind ≤ value_length kind) × (value_length kind ≤ value_length ceiling_kind)) (omega arith, omega arith) (omega arith, omega arith)
 
 -- A number that fits the ceiling of any kind fits the ceiling of a silence in range.
-pub kind_ceiling_lt : (tag : ℕ) (kind : Kind) → kind_by_tag tag ≡ some kind → (n : ℕ) → n < 256 ^ kind.ceiling_bytes → n < 256 ^ ceiling_bytes
+pub kind_ceiling_lt : (tag : ℕ) (kind : Kind) → kind_by_tag tag ≡ Some kind → (n : ℕ) → n < 256 ^ kind.ceiling_bytes → n < 256 ^ ceiling_bytes
 kind_ceiling_lt = by_kind (λ (kind : Kind). (n : ℕ) → n < 256 ^ kind.ceiling_bytes → n < 256 ^ ceiling_bytes) (λ n lt. omega arith) (λ n lt. lt)
 
 -- The field at `at` passes the three tests for this kind: it is the kind of its tag, its length bytes say the kind's length, and it ends within the book.
 pub record IsTested (book : List ℕ) (at : ℕ) (kind : Kind) : Type 0 where
-  pub kind_is : kind_by_tag (get_or book at 0) ≡ some kind
+  pub kind_is : kind_by_tag (get_or book at 0) ≡ Some kind
   pub long_is : length_at book at ≡ value_length kind
   pub within : field_end at (value_length kind) ≤ length book
 
@@ -107,8 +107,8 @@ module _ (book : List ℕ) (at : ℕ) where
   field_whole_is s next = go (kind_by_tag (get_or book at 0)) refl
     where
       go : (o : Option Kind) → kind_by_tag (get_or book at 0) ≡ o → field_by o book at ≡ whole s next → IsWholeField book at s next
-      go none k e = absurd (faulty_not_whole e)
-      go (some kind) k e =
+      go None k e = absurd (faulty_not_whole e)
+      go (Some kind) k e =
           by_test (λ (f : FieldAt). f ≡ whole s next → IsWholeField book at s next) (is_whole book at (value_length kind))
           (λ t is.
           let facts = (whole_iff kind).0 t in
@@ -172,7 +172,7 @@ module _ (book : List ℕ) (at : ℕ) where
   )
 
   -- the field of one tag of the table
-  begins_tested : (tag : ℕ) (kind : Kind) → kind_by_tag tag ≡ some kind → BeginsField (tag ∷ 0x00 ∷ value_length kind ∷ []) (head_length + value_length kind) book at
+  begins_tested : (tag : ℕ) (kind : Kind) → kind_by_tag tag ≡ Some kind → BeginsField (tag ∷ 0x00 ∷ value_length kind ∷ []) (head_length + value_length kind) book at
       → IsTested book at kind
   begins_tested tag kind is f =
       let t = (begins_iff tag (value_length kind) (omega (arith, kind_length_le tag kind is))).1 f in

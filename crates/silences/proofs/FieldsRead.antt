@@ -5,7 +5,7 @@ use mathlib.Core.Logic.{⊎_elim}
 use mathlib.Core.Path.{◌≡◌, refl, ap, subst, ◌∙◌}
 use mathlib.Core.Bool.{Bool, true, false}
 use mathlib.Core.List.{List, [], ◌∷◌, ◌++◌}
-use mathlib.Core.Option.{Option, some}
+use Rattle.std.specs.Prelude.{Option, Some}
 use native.Mathlib.Omega.{arith}
 use lib.ListN.{length}
 use Rattle.lists.proofs.Cases.{le_or_lt}
@@ -23,7 +23,7 @@ use Rattle.silences.proofs.AscendingAfter.{last_after}
 pub data FieldsRead (book : List ℕ) : Option Address → ℕ → List Silence → ℕ → Type 0 where
   none_read : {last : Option Address} {at : ℕ} → FieldsRead book last at [] at
   one_read : {last : Option Address} {at : ℕ} {s : Silence} {next : ℕ} {ss : List Silence} {stop : ℕ} → field_at book at ≡ whole s next → is_above last s.address ≡ true
-      → FieldsRead book (some s.address) next ss stop → FieldsRead book last at (s ∷ ss) stop
+      → FieldsRead book (Some s.address) next ss stop → FieldsRead book last at (s ∷ ss) stop
 
 -- What reading from `at` gives, by where it stops: at the book's end, at a faulty field, or at a record that isn't above the last.
 pub data ReadsAs (book : List ℕ) (last : Option Address) (at : ℕ) : Answer (List Silence) → Type 0 where
@@ -64,7 +64,7 @@ read_length_le {book} (one_read {at = at} {s = s} {next = next} e above more) h 
 
 -- one field more before a walk
 reads_before : {book : List ℕ} {last : Option Address} {at : ℕ} {s : Silence} {next : ℕ} {a : Answer (List Silence)} → field_at book at ≡ whole s next
-    → is_above last s.address ≡ true → ReadsAs book (some s.address) next a → ReadsAs book last at (before s a)
+    → is_above last s.address ≡ true → ReadsAs book (Some s.address) next a → ReadsAs book last at (before s a)
 reads_before e above (read_all f h) = read_all (one_read e above f) h
 reads_before e above (stopped_faulty f h n) = stopped_faulty (one_read e above f) h n
 reads_before e above (stopped_order f n o) = stopped_order (one_read e above f) n o
@@ -88,7 +88,7 @@ module _ (book : List ℕ) where
 
   -- before it one field, and then the walk from just past it
   walk_field : (last : Option Address) (at : ℕ)
-      → ((s : Silence) (next : ℕ) → field_at book at ≡ whole s next → ReadsAs book (some s.address) next (read_from book (some s.address) next))
+      → ((s : Silence) (next : ℕ) → field_at book at ≡ whole s next → ReadsAs book (Some s.address) next (read_from book (Some s.address) next))
       → at < length book → ReadsAs book last at (read_from book last at)
   walk_field last at more l = by_field (field_at book at) refl
     where
@@ -104,7 +104,7 @@ module _ (book : List ℕ) where
   walk : (at : ℕ) (last : Option Address) → ReadsAs book last at (read_from book last at)
   walk =
       field_induction book (λ (at : ℕ). (last : Option Address) → ReadsAs book last at (read_from book last at))
-      (λ at more last. ⊎_elim (walk_end last at) (walk_field last at (λ s next e. more s next e (some s.address))) (le_or_lt (length book) at))
+      (λ at more last. ⊎_elim (walk_end last at) (walk_field last at (λ s next e. more s next e (Some s.address))) (le_or_lt (length book) at))
 
   -- If `read_from` gives `a`, then the walk gives `a`.
   pub reads_as : (last : Option Address) (at : ℕ) (a : Answer (List Silence)) → read_from book last at ≡ a → ReadsAs book last at a

@@ -4,7 +4,7 @@
 use Prim.Native.Nat.{ℕ, ◌+◌, ◌*◌, ◌≤◌}
 use mathlib.Core.Path.{◌≡◌, refl, sym, ap, subst, ◌∙◌}
 use mathlib.Core.List.{List, [], ◌∷◌, ◌++◌, append_assoc}
-use mathlib.Core.Option.{Option, none, some}
+use Rattle.std.specs.Prelude.{Option, None, Some}
 use native.Mathlib.Omega.{arith}
 use lib.ListN.{length, take, drop, length-append, take-append-drop}
 use lib.Seq.{take_at, drop-drop, drop-append_seam, length-take-le}
@@ -79,7 +79,7 @@ module _ (book : List ℕ) (bytes : IsBytes book) where
       }
 
   -- If fields are read from the first byte up to `stop`, everything before `stop` is fine.
-  pub read_fine : {ss : List Silence} {stop : ℕ} → FieldsRead book none 0 ss stop → IsFineBefore book stop ss
+  pub read_fine : {ss : List Silence} {stop : ℕ} → FieldsRead book None 0 ss stop → IsFineBefore book stop ss
   read_fine {ss} {stop} f =
       let all : LaidFrom book 0 ss stop = read_laid f in
       let front : take stop book ≡ all.bytes = ap (take stop) all.bytes_are ∙ take_at all.bytes (drop stop book) stop (omega (arith, all.stop_is)) in
@@ -101,10 +101,10 @@ laid_read last book rest at stop (one_field {s = s} {here = here} {rest = others
     let laid_next : drop (at + length here) book ≡ others ++ rest =
     sym (drop-drop (length here) at book) ∙ ap (drop (length here)) laid_here ∙ drop-append_seam here (others ++ rest) in
     one_read (field_of_silence f in_range.0 book at (others ++ rest) laid_here) ascends.0
-    (laid_read (some s.address) book rest (at + length here) stop more in_range.1 ascends.1 laid_next (omega (arith, length-append here others)))
+    (laid_read (Some s.address) book rest (at + length here) stop more in_range.1 ascends.1 laid_next (omega (arith, length-append here others)))
 
 -- If everything before `at` is fine, reading from the first byte reads those silences up to `at`.
-pub fine_read : (book : List ℕ) (ss : List Silence) (at : ℕ) → IsFineBefore book at ss → FieldsRead book none 0 ss at
+pub fine_read : (book : List ℕ) (ss : List Silence) (at : ℕ) → IsFineBefore book at ss → FieldsRead book None 0 ss at
 fine_read book ss at f =
-    laid_read none book (drop at book) 0 at f.laid_down f.in_range ((ascending_after_iff ss).0 f.ascending)
+    laid_read None book (drop at book) 0 at f.laid_down f.in_range ((ascending_after_iff ss).0 f.ascending)
     (sym (take-append-drop at book)) (omega (arith, length-take-le at book f.at_le))

@@ -5,7 +5,7 @@ use mathlib.Core.Logic.Iff
 use mathlib.Core.Logic.{◌⊎◌, inl, inr, ⊎_elim, ◌↔◌}
 use mathlib.Core.Path.{◌≡◌, refl, sym}
 use mathlib.Core.List.{List}
-use mathlib.Core.Option.{none, some}
+use Rattle.std.specs.Prelude.{None, Some}
 use native.Mathlib.Omega.{arith}
 use lib.ListN.{length}
 use Rattle.lists.proofs.Cases.{le_or_lt}
@@ -49,48 +49,48 @@ module _ (words : List ℕ) (room : ℕ) where
 
   -- What holds of rows 8, 9, 7 and 10 holds of the first row that is given: packing gives no other.
   pub pack_has : (P : Refusal → Type 0) → P WordCount → ((j : ℕ) → P (NumberInRecord j)) → ((j : ℕ) → P (NotAbove j)) → P OutputRoom
-      → (q : Refusal) → pack_refusal words room ≡ some q → P q
+      → (q : Refusal) → pack_refusal words room ≡ Some q → P q
   unfolding pack_rows
   pack_has P eight nine seven ten = first_has (row_has is_row_8 eight (each (records_have words P nine seven) (row_has is_row_10 ten end)))
 
   -- Row 8 is the first row given exactly when the words "aren't a multiple of" 4, "or exceed" 4,000.
-  pub pack_8_iff : (pack_refusal words room ≡ some WordCount) ↔ HasWrongCount words
+  pub pack_8_iff : (pack_refusal words room ≡ Some WordCount) ↔ HasWrongCount words
   unfolding pack_rows
   pack_8_iff = (at_row is_row_8 (each (records_have words (OtherNumber WordCount) (λ j e. omega arith) (λ j e. omega arith)) (row_has is_row_10 (λ e. omega arith) end))).exactly
 
   -- Row 9 is given at record number j exactly when row 8 is not given, all records before j are fine, and a number of record j is too large.
-  pub pack_9_iff : (j : ℕ) → (pack_refusal words room ≡ some (NumberInRecord j)) ↔ (HasWordCount words × IsNumberFault words j)
+  pub pack_9_iff : (j : ℕ) → (pack_refusal words room ≡ Some (NumberInRecord j)) ↔ (HasWordCount words × IsNumberFault words j)
   unfolding pack_rows
   pack_9_iff j = (past_row is_row_8 (λ e. omega arith) (at_fault (records_9_iff words j) (row_has is_row_10 (λ e. omega arith) end))).exactly
 
   -- Row 7 is given at record number j exactly when row 8 is not given, all records before j are fine, and row 7's fault is at record j (`IsRecordFault`).
-  pub pack_7_iff : (j : ℕ) → (pack_refusal words room ≡ some (NotAbove j)) ↔ (HasWordCount words × IsRecordFault words j)
+  pub pack_7_iff : (j : ℕ) → (pack_refusal words room ≡ Some (NotAbove j)) ↔ (HasWordCount words × IsRecordFault words j)
   unfolding pack_rows
   pack_7_iff j = (past_row is_row_8 (λ e. omega arith) (at_fault (records_7_iff words j) (row_has is_row_10 (λ e. omega arith) end))).exactly
 
   -- If row 8 is not given and the first faulty record has refusal q, then q is given.
-  pub pack_fault : HasWordCount words → (q : Refusal) → record_fault words ≡ some q → pack_refusal words room ≡ some q
+  pub pack_fault : HasWordCount words → (q : Refusal) → record_fault words ≡ Some q → pack_refusal words room ≡ Some q
   unfolding pack_rows first_given
   pack_fault right q e = rw (is_row_8.no.1 right, e)
 
   -- Row 8 is not given and no record is faulty exactly when the words can be packed. P is carried along on both sides.
-  pub packable_iff : {P : Type 0} → (HasWordCount words × ((record_fault words ≡ none) × P)) ↔ (IsPackable words × P)
+  pub packable_iff : {P : Type 0} → (HasWordCount words × ((record_fault words ≡ None) × P)) ↔ (IsPackable words × P)
   packable_iff = (
     λ h. let fine = (records_none_iff words).0 h.1.0 in (record { word_count = h.0; all_fit = fine.0; ascending = fine.1 }, h.1.1),
     λ h. (h.0.word_count, ((records_none_iff words).1 (h.0.all_fit, h.0.ascending), h.1)),
   )
 
   -- Row 10 is given exactly when the words can be packed and there is less room than their book has bytes.
-  pub pack_10_iff : (pack_refusal words room ≡ some OutputRoom) ↔ (IsPackable words × (room < length (layout (silences_of words))))
+  pub pack_10_iff : (pack_refusal words room ≡ Some OutputRoom) ↔ (IsPackable words × (room < length (layout (silences_of words))))
   unfolding pack_rows
   pack_10_iff =
       Iff.trans (past_row is_row_8 (λ e. omega arith) (past_fault Iff.rfl not_records (at_row is_row_10 end))).exactly packable_iff
     where
-      not_records : record_fault words ≡ some OutputRoom → ⊥
+      not_records : record_fault words ≡ Some OutputRoom → ⊥
       not_records e = records_have words (OtherNumber OutputRoom) (λ j e. omega arith) (λ j e. omega arith) OutputRoom e refl
 
   -- No row is given exactly when the words can be packed and there is room for their book.
-  pub pack_none_iff : (pack_refusal words room ≡ none) ↔ (IsPackable words × (length (layout (silences_of words)) ≤ room))
+  pub pack_none_iff : (pack_refusal words room ≡ None) ↔ (IsPackable words × (length (layout (silences_of words)) ≤ room))
   unfolding pack_rows
   pack_none_iff = Iff.trans (no_row is_row_8 (no_fault Iff.rfl (no_last_row is_row_10))).exactly packable_iff
 

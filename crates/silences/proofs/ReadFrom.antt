@@ -5,7 +5,7 @@ use Prim.Native.Nat.{ℕ, zero, suc, ◌-◌, ◌≤◌, ◌<◌}
 use mathlib.Core.Path.{◌≡◌, refl, ◌∙◌}
 use mathlib.Core.Bool.{Bool, true, false, cond}
 use mathlib.Core.List.{List, [], ◌∷◌}
-use mathlib.Core.Option.{Option, none, some}
+use Rattle.std.specs.Prelude.{Option, None, Some}
 use native.Mathlib.Omega.{arith}
 use lib.Dec.{leb}
 use lib.ListN.{length}
@@ -29,7 +29,7 @@ module _ (book : List ℕ) where
   -- reading goes on only past a whole field
   read_goes_on : GoesOnPast read_step
   read_goes_on last at faulty rest rest' h = refl
-  read_goes_on last at (whole s next) rest rest' h = rw (h (some s.address) s next refl)
+  read_goes_on last at (whole s next) rest rest' h = rw (h (Some s.address) s next refl)
 
   -- at the end nothing is read, whatever the count
   fields_end : (left : ℕ) (last : Option Address) (at : ℕ) → length book ≤ at → fields_from left book last at ≡ accepted []
@@ -56,7 +56,7 @@ module _ (book : List ℕ) where
 
     module _ {s : Silence} {next : ℕ} (e : field_at book at ≡ whole s next) where
       -- a whole field, by whether its record is above the last
-      read_whole : (t : Bool) → is_above last s.address ≡ t → read_from book last at ≡ cond t (before s (read_from book (some s.address) next)) (refused (NotAbove at))
+      read_whole : (t : Bool) → is_above last s.address ≡ t → read_from book last at ≡ cond t (before s (read_from book (Some s.address) next)) (refused (NotAbove at))
       read_whole t above =
           let ends : (at < next) × (next ≤ length book) = field_ends book at s next e in
           read_from_step (omega arith) ∙ rw (e, above)
@@ -66,7 +66,7 @@ module _ (book : List ℕ) where
       read_from_not_above above = read_whole false above
 
       -- A whole field whose record is above the last gives its silence, and then the rest is read.
-      pub read_from_above : is_above last s.address ≡ true → read_from book last at ≡ before s (read_from book (some s.address) next)
+      pub read_from_above : is_above last s.address ≡ true → read_from book last at ≡ before s (read_from book (Some s.address) next)
       read_from_above above = read_whole true above
 
   -- A book longer than 15,000 bytes is refused by row 5.
@@ -75,9 +75,9 @@ module _ (book : List ℕ) where
   read_book_long long = rw (lt-ltb most_bytes (length book) long)
 
   -- A book of at most 15,000 bytes is read field by field from its first byte.
-  pub read_book_fields : length book ≤ most_bytes → read_book book ≡ read_from book none 0
+  pub read_book_fields : length book ≤ most_bytes → read_book book ≡ read_from book None 0
   unfolding read_book book_rows first_given
-  read_book_fields short = rw (le-ltb most_bytes (length book) short) (same (read_from book none 0))
+  read_book_fields short = rw (le-ltb most_bytes (length book) short) (same (read_from book None 0))
     where
       same : (a : Answer (List Silence)) → answer_by (first_given (fault_in a ∷ [])) (silences_in a) ≡ a
       same (accepted ss) = refl

@@ -6,7 +6,7 @@ use mathlib.Core.Path.{◌≡◌, refl, sym, ap, subst, ◌∙◌}
 use mathlib.Core.Bool.{Bool, true, false, false≢true, not-eq-not}
 use mathlib.Core.List.{List, [], ◌∷◌, ◌++◌, append-nil}
 use mathlib.Core.Logic.{inl, inr, ⊎_elim, ◌↔◌}
-use mathlib.Core.Option.{Option, none, some}
+use Rattle.std.specs.Prelude.{Option, None, Some}
 use native.Mathlib.Omega.{arith}
 use lib.ListN.{length}
 use Rattle.lists.proofs.SizesTested.{lt_iff, or_iff}
@@ -28,11 +28,11 @@ pub record RecordStands (last : Option Address) (i : ℕ) (ss fine : List Silenc
 
 -- The first row that the records `ss` give: none if all are fine, else row 9 or row 7 at the first that is not. They are numbered from `i` on, after `last`.
 pub data PacksAs (last : Option Address) (i : ℕ) (ss : List Silence) : Option Refusal → Type 0 where
-  packed_all : AllFit ss → AscendingAfter last ss → PacksAs last i ss none
-  stopped_number : {fine : List Silence} {j : ℕ} {s : Silence} → RecordStands last i ss fine j s → TooLarge s → PacksAs last i ss (some (NumberInRecord j))
+  packed_all : AllFit ss → AscendingAfter last ss → PacksAs last i ss None
+  stopped_number : {fine : List Silence} {j : ℕ} {s : Silence} → RecordStands last i ss fine j s → TooLarge s → PacksAs last i ss (Some (NumberInRecord j))
   stopped_record : {fine : List Silence} {j : ℕ} {s : Silence} → RecordStands last i ss fine j s → NumbersFit s
       → is_above (last_after last fine) s.address ≡ false
-      → PacksAs last i ss (some (NotAbove j))
+      → PacksAs last i ss (Some (NotAbove j))
 
 -- The test of row 9 passes exactly when a number of the record is too large.
 pub too_large_iff : (s : Silence) → (is_too_large s ≡ true) ↔ TooLarge s
@@ -60,23 +60,23 @@ module _ (last : Option Address) (i : ℕ) where
 
   module _ (s : Silence) (ss : List Silence) where
     -- row 9: a number that is too large
-    first_number : TooLarge s → first (s ∷ ss) ≡ some (NumberInRecord i)
+    first_number : TooLarge s → first (s ∷ ss) ≡ Some (NumberInRecord i)
     unfolding record_rows first_given
     first_number h = rw ((too_large_iff s).1 h)
 
     module _ (fit : NumbersFit s) where
       -- row 7: a record that is not above the one before it
-      first_order : is_above last s.address ≡ false → first (s ∷ ss) ≡ some (NotAbove i)
+      first_order : is_above last s.address ≡ false → first (s ∷ ss) ≡ Some (NotAbove i)
       unfolding record_rows first_given
       first_order above = rw ((fits_iff s).1 fit, above)
 
       -- one that is fine gives no row, and the records after it decide
-      first_step : is_above last s.address ≡ true → first (s ∷ ss) ≡ first_given (record_rows (some s.address) (suc i) ss)
+      first_step : is_above last s.address ≡ true → first (s ∷ ss) ≡ first_given (record_rows (Some s.address) (suc i) ss)
       unfolding record_rows first_given
       first_step above = rw ((fits_iff s).1 fit, above)
 
       -- a record further on, seen from a fine record before it
-      stands_before : {fine : List Silence} {j : ℕ} {t : Silence} → is_above last s.address ≡ true → RecordStands (some s.address) (suc i) ss fine j t
+      stands_before : {fine : List Silence} {j : ℕ} {t : Silence} → is_above last s.address ≡ true → RecordStands (Some s.address) (suc i) ss fine j t
           → RecordStands last i (s ∷ ss) (s ∷ fine) j t
       stands_before above r =
           record {
@@ -88,7 +88,7 @@ module _ (last : Option Address) (i : ℕ) where
           }
 
       -- what the walk gives, seen from a fine record before it
-      packs_before : {o : Option Refusal} → is_above last s.address ≡ true → PacksAs (some s.address) (suc i) ss o → PacksAs last i (s ∷ ss) o
+      packs_before : {o : Option Refusal} → is_above last s.address ≡ true → PacksAs (Some s.address) (suc i) ss o → PacksAs last i (s ∷ ss) o
       packs_before above (packed_all all_fit ascends) = packed_all (fit, all_fit) (above, ascends)
       packs_before above (stopped_number r g) = stopped_number (stands_before above r) g
       packs_before above (stopped_record r g o) = stopped_record (stands_before above r) g o
@@ -98,7 +98,7 @@ module _ (last : Option Address) (i : ℕ) where
     stands_first = record { later = ss; records_are = refl; number_is = omega arith; all_fit = tt; ascends = tt }
 
     -- one record, and then the walk on
-    walk_record : PacksAs (some s.address) (suc i) ss (first_given (record_rows (some s.address) (suc i) ss)) → PacksAs last i (s ∷ ss) (first (s ∷ ss))
+    walk_record : PacksAs (Some s.address) (suc i) ss (first_given (record_rows (Some s.address) (suc i) ss)) → PacksAs last i (s ∷ ss) (first (s ∷ ss))
     walk_record more = by_size (is_too_large s) refl
       where
         by_order : NumbersFit s → (t : Bool) → is_above last s.address ≡ t → PacksAs last i (s ∷ ss) (first (s ∷ ss))
@@ -113,7 +113,7 @@ module _ (last : Option Address) (i : ℕ) where
 walk : (last : Option Address) (i : ℕ) (ss : List Silence) → PacksAs last i ss (first_given (record_rows last i ss))
 unfolding record_rows first_given
 walk last i [] = packed_all tt tt
-walk last i (s ∷ ss) = walk_record last i s ss (walk (some s.address) (suc i) ss)
+walk last i (s ∷ ss) = walk_record last i s ss (walk (Some s.address) (suc i) ss)
 
 -- If the first row that the records give is o, then the walk gives o.
 pub packs_as : (last : Option Address) (i : ℕ) (ss : List Silence) (o : Option Refusal) → first_given (record_rows last i ss) ≡ o → PacksAs last i ss o
@@ -124,7 +124,7 @@ pack_on : (fine rest : List Silence) (last : Option Address) (i j : ℕ) → All
     → first_given (record_rows last i (fine ++ rest)) ≡ first_given (record_rows (last_after last fine) j rest)
 pack_on [] rest last i j fit ascends e = let same : i ≡ j = omega arith in ap (λ (n : ℕ). first_given (record_rows last n rest)) same
 pack_on (s ∷ fine) rest last i j fit ascends e =
-    first_step last i s (fine ++ rest) fit.0 ascends.0 ∙ pack_on fine rest (some s.address) (suc i) j fit.1 ascends.1 (omega arith)
+    first_step last i s (fine ++ rest) fit.0 ascends.0 ∙ pack_on fine rest (Some s.address) (suc i) j fit.1 ascends.1 (omega arith)
 
 -- past the fine records before a record, that record decides
 stands_on : {last : Option Address} {i : ℕ} {ss fine : List Silence} {j : ℕ} {s : Silence} (r : RecordStands last i ss fine j s)

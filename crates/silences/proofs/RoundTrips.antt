@@ -5,7 +5,7 @@ use Prim.Native.Nat.{ℕ, ◌*◌, ◌≤◌, ◌<◌}
 use mathlib.Core.Logic.{◌⊎◌, inl, inr}
 use mathlib.Core.Path.{◌≡◌, refl, sym, ap, ap₂, subst, ◌∙◌}
 use mathlib.Core.List.{List, ◌++◌}
-use mathlib.Core.Option.{some}
+use Rattle.std.specs.Prelude.{Some}
 use native.Mathlib.Omega.{arith}
 use lib.ListN.{length}
 use Rattle.answers.specs.declared.refusals.Refusal.TheVariants.{WordCount}
@@ -82,7 +82,7 @@ laid_layout (one_field {tag = tag} {s = s} {here = here} not_exact f more) =
     own (inr is) = λ i. field (is.0 i) (value_of (is.1 i) s)
 
 -- Packing refuses the words of more than 1,000 silences by row 8, whatever the room is.
-pub many_refused : (ss : List Silence) → most_silences < length ss → (room : ℕ) → pack_refusal (words_of_silences ss) room ≡ some WordCount
+pub many_refused : (ss : List Silence) → most_silences < length ss → (room : ℕ) → pack_refusal (words_of_silences ss) room ≡ Some WordCount
 many_refused ss many room = (pack_8_iff (words_of_silences ss) room).1 (inr (omega (arith, words_length ss)))
 
 module _ (book : List ℕ) (bytes : IsBytes book) (room : ℕ) (ss : List Silence) (e : unpacked book room ≡ accepted ss) where

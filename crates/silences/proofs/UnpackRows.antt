@@ -5,7 +5,7 @@ use mathlib.Core.Logic.Iff
 use mathlib.Core.Logic.{◌⊎◌, inl, inr, ⊎_elim, ◌↔◌}
 use mathlib.Core.Path.{◌≡◌, refl, sym, ap, subst, ◌∙◌}
 use mathlib.Core.List.{List, [], ◌∷◌}
-use mathlib.Core.Option.{Option, none, some}
+use Rattle.std.specs.Prelude.{Option, None, Some}
 use native.Mathlib.Omega.{arith}
 use lib.ListN.{length}
 use Rattle.answers.specs.declared.refusals.Refusal.{Refusal}
@@ -32,35 +32,35 @@ module _ (book : List ℕ) (room : ℕ) where
   is_row_10 = rw (sym (words_length (silences_read book))) (is_room_row words room)
 
   -- The first row that is given is a row of the book, or row 10.
-  pub unpack_either : (q : Refusal) → unpack_refusal book room ≡ some q → (book_refusal book ≡ some q) ⊎ (q ≡ OutputRoom)
+  pub unpack_either : (q : Refusal) → unpack_refusal book room ≡ Some q → (book_refusal book ≡ Some q) ⊎ (q ≡ OutputRoom)
   unfolding unpack_rows
   unpack_either q e = go (book_refusal book) refl
     where
-      go : (o : Option Refusal) → book_refusal book ≡ o → (book_refusal book ≡ some q) ⊎ (q ≡ OutputRoom)
-      go none h = inr (first_has {P = λ (r : Refusal). r ≡ OutputRoom} (row_has is_row_10 refl end) q (sym (first_append_none (book_rows book) (room_row words room ∷ []) h) ∙ e))
-      go (some r) h = inl (h ∙ sym (first_append_some (book_rows book) (room_row words room ∷ []) h) ∙ e)
+      go : (o : Option Refusal) → book_refusal book ≡ o → (book_refusal book ≡ Some q) ⊎ (q ≡ OutputRoom)
+      go None h = inr (first_has {P = λ (r : Refusal). r ≡ OutputRoom} (row_has is_row_10 refl end) q (sym (first_append_none (book_rows book) (room_row words room ∷ []) h) ∙ e))
+      go (Some r) h = inl (h ∙ sym (first_append_some (book_rows book) (room_row words room ∷ []) h) ∙ e)
 
   -- What holds of rows 5, 6, 7 and 10 holds of the first row that is given: unpacking gives no other.
   pub unpack_has : (P : Refusal → Type 0) → P BookLength → ((at : ℕ) → P (Field at)) → ((at : ℕ) → P (NotAbove at)) → P OutputRoom
-      → (q : Refusal) → unpack_refusal book room ≡ some q → P q
+      → (q : Refusal) → unpack_refusal book room ≡ Some q → P q
   unpack_has P five six seven ten q e = ⊎_elim (refusal_has book P five six seven q) (λ is. subst P (sym is) ten) (unpack_either q e)
 
   -- A refusal whose number is not 10 is given in unpacking exactly when it is given in reading.
-  pub unpack_row_iff : (q : Refusal) → (number_of OutputRoom ≡ number_of q → ⊥) → (unpack_refusal book room ≡ some q) ↔ (book_refusal book ≡ some q)
+  pub unpack_row_iff : (q : Refusal) → (number_of OutputRoom ≡ number_of q → ⊥) → (unpack_refusal book room ≡ Some q) ↔ (book_refusal book ≡ Some q)
   unfolding unpack_rows
   unpack_row_iff q other = early_iff (book_rows book) (room_row words room ∷ []) q (λ e. first_has {P = OtherNumber q} (row_has is_row_10 other end) q e refl)
 
   -- Row 10 is the first row given exactly when none of the book's rows is given and there is less room than four words for each silence read.
-  pub unpack_10_iff : (unpack_refusal book room ≡ some OutputRoom) ↔ ((book_refusal book ≡ none) × (room < record_words * length (silences_read book)))
+  pub unpack_10_iff : (unpack_refusal book room ≡ Some OutputRoom) ↔ ((book_refusal book ≡ None) × (room < record_words * length (silences_read book)))
   unfolding unpack_rows
   unpack_10_iff =
       Iff.trans (late_iff (book_rows book) (room_row words room ∷ []) OutputRoom not_book) (Iff.and Iff.rfl (at_row is_row_10 end).exactly)
     where
-      not_book : book_refusal book ≡ some OutputRoom → ⊥
+      not_book : book_refusal book ≡ Some OutputRoom → ⊥
       not_book e = refusal_has book (OtherNumber OutputRoom) (λ h. omega arith) (λ at h. omega arith) (λ at h. omega arith) OutputRoom e refl
 
   -- No row is given exactly when none of the book's rows is given and there is room for four words for each silence read.
-  pub unpack_none_iff : (unpack_refusal book room ≡ none) ↔ ((book_refusal book ≡ none) × (record_words * length (silences_read book) ≤ room))
+  pub unpack_none_iff : (unpack_refusal book room ≡ None) ↔ ((book_refusal book ≡ None) × (record_words * length (silences_read book) ≤ room))
   unfolding unpack_rows
   unpack_none_iff = Iff.trans (none_append_iff (book_rows book) (room_row words room ∷ [])) (Iff.and Iff.rfl (no_last_row is_row_10).exactly)
 

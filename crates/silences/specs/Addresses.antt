@@ -7,7 +7,7 @@
 --   last_of      a `Last` as the address of the record before, if there is one
 --   sought_of    a `Sought` as a field: whole or faulty
 use Rattle.std.specs.Prelude.{ℕ, ◌<◌, ◌≡◌, List, length, get_or}
-use Rattle.std.proofs.Math.Option.{Option, none, some}
+use Rattle.std.specs.Prelude.{Option, None, Some}
 use Rattle.silences.specs.declared.field.Kind.{Kind as KindEnum}
 use Rattle.silences.specs.declared.field.Kind.TheVariants.{Silence as SilenceKind, Unknown}
 use Rattle.silences.specs.declared.addresses.Address.{Address as AddressStruct}
@@ -21,13 +21,13 @@ use Rattle.silences.specs.Reading.{FieldAt, whole, faulty}
 
 -- The kind of a field, with this number of bytes for its ceiling. `Unknown` is none.
 abbrev pub kind_of : KindEnum → Option Kind
-kind_of (SilenceKind bytes) = some (record { ceiling_bytes = bytes })
-kind_of Unknown = none
+kind_of (SilenceKind bytes) = Some (record { ceiling_bytes = bytes })
+kind_of Unknown = None
 
 -- The precondition of `field_of_kind`: the offset lies within the book, and the tag there has the kind with this number of bytes for its ceiling.
 pub record CanBeField (book : List ℕ) (at bytes : ℕ) : Type 0 where
   pub within : at < length book
-  pub kind_is : kind_by_tag (get_or book at 0) ≡ some (record { ceiling_bytes = bytes })
+  pub kind_is : kind_by_tag (get_or book at 0) ≡ Some (record { ceiling_bytes = bytes })
 
 -- The address with an `Address`'s cell, ring number and start.
 abbrev pub address_of : AddressStruct → Address
@@ -35,8 +35,8 @@ address_of a = address a.cell a.ring_number a.start
 
 -- The address of the record before another one. The first record has none before it: `NoRecord`.
 abbrev pub last_of : Last → Option Address
-last_of NoRecord = none
-last_of (Record a) = some (address_of a)
+last_of NoRecord = None
+last_of (Record a) = Some (address_of a)
 
 -- The field of a `Sought`: `Field` is a whole field, `Nothing` a faulty one.
 abbrev pub sought_of : Sought → FieldAt

@@ -9,7 +9,7 @@
 --   IsBook                 a book: an ascending list of silences in range, laid down in at most 15,000 bytes
 --   with_ceilings          the same addresses with other ceilings
 use Rattle.std.specs.Prelude.{ℕ, ◌+◌, ◌≤◌, ◌≡◌, ◌⊎◌, List, [], ◌∷◌, ◌++◌, map, length, take, drop}
-use Rattle.std.proofs.Math.Option.{some}
+use Rattle.std.specs.Prelude.{Some}
 use Rattle.fields.specs.Tagged.{head_length, field}
 use Rattle.silences.specs.Silences.{Silence, silence, AllInRange, Ascending}
 use Rattle.silences.specs.Layout.{Kind, exact_tag, kind_by_tag, value_of, CanSay, most_bytes}
@@ -28,7 +28,7 @@ IsField book at = BeginsField (0x21 ∷ 0x00 ∷ 0x0a ∷ []) 13 book at ⊎ Beg
 -- value".
 pub record IsFieldOf (tag : ℕ) (s : Silence) (bytes : List ℕ) : Type 0 where
   pub kind : Kind
-  pub kind_is : kind_by_tag tag ≡ some kind
+  pub kind_is : kind_by_tag tag ≡ Some kind
   pub can_say : CanSay kind s
   pub bytes_are : bytes ≡ field tag (value_of kind s)
 

@@ -16,7 +16,7 @@
 --
 -- A length that follows from other lengths is computed from them, and an equation below it checks the document's number.
 use Rattle.std.specs.Prelude.{ℕ, ◌+◌, ◌*◌, ◌/◌, ◌<◌, ◌^◌, ◌≡◌, refl, cond, List, ◌++◌, eqb}
-use Rattle.std.proofs.Math.Option.{Option, none, some}
+use Rattle.std.specs.Prelude.{Option, None, Some}
 use Rattle.lists.specs.Records.{numbers_of_each}
 use Rattle.fields.specs.Numbers.{bytes_of}
 use Rattle.fields.specs.Tagged.{head_length, field}
@@ -44,7 +44,7 @@ ceiling_kind = record { ceiling_bytes = ceiling_bytes }
 
 -- The table of tags: the kind of a field, by its tag. Every other tag has none.
 unfoldable pub kind_by_tag : ℕ → Option Kind
-kind_by_tag tag = cond (eqb tag exact_tag) (some exact_kind) (cond (eqb tag ceiling_tag) (some ceiling_kind) none)
+kind_by_tag tag = cond (eqb tag exact_tag) (Some exact_kind) (cond (eqb tag ceiling_tag) (Some ceiling_kind) None)
 
 -- "cell (4 bytes), ring number (2), start (4)": the number of bytes of an address.
 abbrev pub address_bytes : ℕ

@@ -14,7 +14,7 @@
 --
 -- The order of a record's words is our reading: the documents list cell, ring number, start and ceiling in this order, and give no other.
 use Rattle.std.specs.Prelude.{ℕ, suc, ◌*◌, ◌%◌, ◌^◌, ◌≡◌, refl, Bool, not, ◌||◌, List, [], ◌∷◌, ◌++◌, ltb, eqb, length, get_or}
-use Rattle.std.proofs.Math.Option.{Option, none, some}
+use Rattle.std.specs.Prelude.{Option, None, Some}
 use Rattle.lists.specs.Areas.{written}
 use Rattle.lists.specs.Records.{numbers_of_each, records_of}
 use Rattle.answers.specs.declared.refusals.Refusal.{Refusal}
@@ -83,11 +83,11 @@ record_rows last i [] = []
 record_rows last i (s ∷ ss) =
     row (is_too_large s) (NumberInRecord i)
     ∷ row (not (is_above last s.address)) (NotAbove i)
-    ∷ record_rows (some s.address) (suc i) ss
+    ∷ record_rows (Some s.address) (suc i) ss
 
 -- Rows 9 and 7, as one row: the refusal of the first faulty record, if there is one.
 abbrev pub record_fault : List ℕ → Option Refusal
-record_fault words = first_given (record_rows none 0 (silences_of words))
+record_fault words = first_given (record_rows None 0 (silences_of words))
 
 -- Row 10: "packing or unpacking lacks room for its whole output". `room` is the length of the lent area.
 abbrev pub room_row : List ℕ → ℕ → Option Refusal

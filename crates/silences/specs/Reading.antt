@@ -13,7 +13,7 @@
 -- nothing after them uses it; read them instead: `read_from_end` and `read_from_step` of proofs/ReadFrom.antt. Places count from the book's first byte.
 -- Nothing here is stricter than the documents. Past the book's end `read_from` reads nothing and accepts.
 use Rattle.std.specs.Prelude.{ℕ, zero, suc, ◌+◌, ◌-◌, Bool, cond, List, [], ◌∷◌, ltb, leb, length, get_or}
-use Rattle.std.proofs.Math.Option.{Option, none, some}
+use Rattle.std.specs.Prelude.{Option, None, Some}
 use Rattle.answers.specs.declared.refusals.Refusal.{Refusal}
 use Rattle.answers.specs.declared.refusals.Refusal.TheVariants.{BookLength, Field, NotAbove}
 use Rattle.answers.specs.Paper.{Answer, accepted, refused}
@@ -43,8 +43,8 @@ pub data FieldAt : Type 0 where
 
 -- The field at `at`, given the kind for its tag: whole if its two length bytes say the length of that kind and it is not cut off. Without a kind it is faulty.
 unfoldable pub field_by : Option Kind → List ℕ → ℕ → FieldAt
-field_by none book at = faulty
-field_by (some kind) book at =
+field_by None book at = faulty
+field_by (Some kind) book at =
     let here : FieldAt = whole (silence_at kind book (at + head_length)) (field_end at (value_length kind)) in
     cond (is_whole book at (value_length kind)) here faulty
 
@@ -63,7 +63,7 @@ before s (refused r) = refused r
 abbrev pub read_field : Option Address → ℕ → FieldAt → (Option Address → ℕ → Answer (List Silence)) → Answer (List Silence)
 read_field last at faulty rest = refused (Field at)
 read_field last at (whole s next) rest =
-    let more : Answer (List Silence) = before s (rest (some s.address) next) in
+    let more : Answer (List Silence) = before s (rest (Some s.address) next) in
     cond (is_above last s.address) more (refused (NotAbove at))
 
 -- Reads the fields from `at` to the book's end, at most as many as the first argument says; `last` is the address of the record before `at`.
@@ -79,8 +79,8 @@ read_from book last at = fields_from (length book - at) book last at
 
 -- The refusal of an answer, if it is one.
 abbrev pub fault_in : Answer (List Silence) → Option Refusal
-fault_in (accepted ss) = none
-fault_in (refused refusal) = some refusal
+fault_in (accepted ss) = None
+fault_in (refused refusal) = Some refusal
 
 -- The silences of an answer; the empty list if it is a refusal.
 abbrev pub silences_in : Answer (List Silence) → List Silence
@@ -89,7 +89,7 @@ silences_in (refused refusal) = []
 
 -- Rows 6 and 7, as one row: the refusal of the first faulty field, if there is one. "Within a book the first faulty field decides, 6 before 7."
 abbrev pub field_fault : List ℕ → Option Refusal
-field_fault book = fault_in (read_from book none 0)
+field_fault book = fault_in (read_from book None 0)
 
 -- Row 5: "book longer than" 15,000 "bytes" (document 01 has 13,000; document 02, ticket 4, makes it 15,000).
 abbrev pub is_row5 : List ℕ → Bool
@@ -105,7 +105,7 @@ book_refusal book = first_given (book_rows book)
 
 -- What reading a book gives: the silences of its fields, or the refusal of the first row that is given. "An empty book is valid."
 unfoldable pub read_book : List ℕ → Answer (List Silence)
-read_book book = answer_by (book_refusal book) (silences_in (read_from book none 0))
+read_book book = answer_by (book_refusal book) (silences_in (read_from book None 0))
 
 -- The silences of a book; the empty list if the book is refused.
 abbrev pub silences_read : List ℕ → List Silence

@@ -16,7 +16,7 @@
 -- ceiling of 0: it hides exact copies.
 use Rattle.std.specs.Prelude.{ℕ, ◌≤◌, ◌<◌, ◌^◌, ◌≡◌, Bool, true, false, ◌&&◌, ◌||◌, ltb, leb, eqb}
 use mathlib.Core.List.{List, [], ◌∷◌, Memᴰ}
-use Rattle.std.proofs.Math.Option.{Option, none, some}
+use Rattle.std.specs.Prelude.{Option, None, Some}
 
 -- "cell (4 bytes)"
 abbrev pub cell_bytes : ℕ
@@ -81,8 +81,8 @@ pub data Below (a b : Address) : Type 0 where
 -- The test of row 7, "a record isn't above the one before it": whether the address `a` is above that of the record before it. The first record has none before
 -- it, and passes.
 abbrev pub is_above : Option Address → Address → Bool
-is_above none a = true
-is_above (some last) a = is_below last a
+is_above None a = true
+is_above (Some last) a = is_below last a
 
 -- "Records ascend strictly by cell, then ring number, then start": each address is below the next. So "No two records share an address" (document 02,
 -- ticket 4), whatever their ceilings are.

@@ -5,7 +5,7 @@ use Prim.Native.Nat.{ℕ, ◌+◌, ◌-◌, ◌*◌, ◌≤◌, ◌<◌}
 use mathlib.Core.Path.{◌≡◌, refl}
 use mathlib.Core.List.{List}
 use mathlib.Core.Logic.{⊎_elim}
-use mathlib.Core.Option.{Option, none, some}
+use Rattle.std.specs.Prelude.{Option, None, Some}
 use native.Mathlib.Omega.{arith}
 use lib.ListN.{length}
 use borrow.Author.Tests.{lt-ltb, le-ltb, lt-leb}
@@ -26,8 +26,8 @@ use Rattle.sweep.specs.Sweeps.{moved_to, tally_by}
 
 -- If the counts are the tally of the last verified start, before i, then they are so before every later i'.
 pub before_later : (ring line counts : List ℕ) (i i' : ℕ) (last : Option ℕ) → i ≤ i' → TalliedBefore ring line i counts last → TalliedBefore ring line i' counts last
-before_later ring line counts i i' none l h = tt
-before_later ring line counts i i' (some last) l h = (omega arith, h.1)
+before_later ring line counts i i' None l h = tt
+before_later ring line counts i i' (Some last) l h = (omega arith, h.1)
 
 module _ (ring doubled : List ℕ) (p : Parts) (i : ℕ) (old : List ℕ) (joined : Joined (length ring) p) where
   abbrev m : ℕ
@@ -51,7 +51,7 @@ module _ (ring doubled : List ℕ) (p : Parts) (i : ℕ) (old : List ℕ) (joine
       (record { written = refl; least_is = refl; looks_are = refl; past_is = refl })
 
   -- The tally moved from the last verified start verifies start i, at 2·m looks for each step.
-  moved_by_rules : (from : ℕ) → CanVerify ring doubled line i old (some from) → VerifiedAt ((i - from) * step_looks m) (moved_to ring p from (i - from) old)
+  moved_by_rules : (from : ℕ) → CanVerify ring doubled line i old (Some from) → VerifiedAt ((i - from) * step_looks m) (moved_to ring p from (i - from) old)
   unfolding moved_to
   moved_by_rules from can =
       let before : from < i = can.before.0 in
@@ -68,10 +68,10 @@ module _ (ring doubled : List ℕ) (p : Parts) (i : ℕ) (old : List ℕ) (joine
   pub tally_by_rules : (last : LastVerified) → CanVerify ring doubled line i old (last_start last)
       → VerifiedAt (tally_looks m (last_start last) i) (tally_by ring doubled p i last old)
   unfolding tally_by tally_looks
-  tally_by_rules Nothing can = afresh_by_rules none can
+  tally_by_rules Nothing can = afresh_by_rules None can
   tally_by_rules (At from) can =
       rw (lt-leb i from.0 can.before.0)
       (⊎_elim
       (λ near. rw (le-ltb m (2 * (i - from.0)) near) (moved_by_rules from.0 can))
-      (λ far. rw (lt-ltb m (2 * (i - from.0)) far) (afresh_by_rules (some from.0) can))
+      (λ far. rw (lt-ltb m (2 * (i - from.0)) far) (afresh_by_rules (Some from.0) can))
       (le_or_lt (2 * (i - from.0)) m))

@@ -2,7 +2,7 @@
 -- the first of them up to the next window is a finding, so the invariant of the loop over windows (`ScanLoop` of crates/meaning) holds after them too.
 use Prim.Native.Nat.{ℕ, ◌+◌, ◌≤◌}
 use mathlib.Core.List.{List}
-use mathlib.Core.Option.{Option}
+use Rattle.std.specs.Prelude.{Option}
 use native.Mathlib.Nat.{add-zero, add_assoc}
 use native.Mathlib.Omega.{arith}
 use lib.ListN.{length}

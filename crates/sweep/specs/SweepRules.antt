@@ -13,7 +13,7 @@
 --   stopped_state                   the sweep after a run of stopped windows
 --   IsSweptOn                       the sweep to the next candidate
 use Rattle.std.specs.Prelude.{ℕ, ◌+◌, ◌-◌, ◌≡◌, Bool, true, false, List, [], ◌∷◌, length}
-use Rattle.std.proofs.Math.Option.{some}
+use Rattle.std.specs.Prelude.{Some}
 use Rattle.meaning.specs.Meanings.{FitsInLine, IsPastLine, holds_mark}
 use Rattle.meaning.specs.Findings.{Finding, found_at}
 use Rattle.meaning.specs.Rules.{is_stopped, read_window}
@@ -90,7 +90,7 @@ pub record IsCandidateSwept (ring line : List ℕ) (k : ℕ) (at : Sweep) (r : S
   pub in_line : FitsInLine ring line at.start.0
   pub not_stopped : is_stopped k (read_window ring line k at.start.0) ≡ false
   pub start_is : (state_of r).start.0 ≡ swept_start ring line k at.start.0
-  pub last_is : last_start (state_of r).last ≡ some at.start.0
+  pub last_is : last_start (state_of r).last ≡ Some at.start.0
   pub looks_are : (state_of r).looks ≡ at.looks + (read_window ring line k at.start.0).read + tally_looks (length ring) (last_start at.last) at.start.0
   pub found_are : found_of r ≡ found_at ring line k at.start.0
   pub before : TalliedBefore ring line (state_of r).start.0 counts (last_start (state_of r).last)

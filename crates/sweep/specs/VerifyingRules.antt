@@ -6,7 +6,7 @@
 --   TalliedBefore    the counts are its tally, and it is before a given start
 --   CanVerify        a start can be verified by rule 5
 use Rattle.std.specs.Prelude.{ℕ, ◌<◌, List, length}
-use Rattle.std.proofs.Math.Option.{Option, none, some}
+use Rattle.std.specs.Prelude.{Option, None, Some}
 use Rattle.meaning.specs.Meanings.{FitsInLine}
 use Rattle.tally.specs.Counts.{IsDoubled}
 use Rattle.tally.specs.Tallied.{Tallied, CanTally}
@@ -16,13 +16,13 @@ use Rattle.sweep.specs.declared.verifying.LastVerified.TheVariants.{Nothing, At}
 
 -- The last verified start as a number, if there is one.
 abbrev pub last_start : LastVerified → Option ℕ
-last_start Nothing = none
-last_start (At start) = some start.0
+last_start Nothing = None
+last_start (At start) = Some start.0
 
 -- If there is a last verified start, it is before i and the counts are its tally. If there is none, the counts may hold anything.
 abbrev pub TalliedBefore : List ℕ → List ℕ → ℕ → List ℕ → Option ℕ → Type 0
-TalliedBefore ring line i counts none = Unit {0}
-TalliedBefore ring line i counts (some last) = (last < i) × Tallied ring line last counts
+TalliedBefore ring line i counts None = Unit {0}
+TalliedBefore ring line i counts (Some last) = (last < i) × Tallied ring line last counts
 
 -- Start i can be verified by rule 5: ring and line are within the limits, the ring's double is lent, the window at i fits in the line, and the counts are the tally
 -- of the last verified start, if there is one.

@@ -4,7 +4,7 @@
 use Prim.Native.Nat.{ℕ, ◌-◌, ◌*◌, ◌≤◌}
 use mathlib.Core.Path.{◌≡◌, refl, sym, ap, subst, ◌∙◌}
 use mathlib.Core.List.{List, [], ◌++◌, append-nil}
-use mathlib.Core.Option.{none}
+use Rattle.std.specs.Prelude.{None}
 use native.Mathlib.Omega.{arith}
 use lib.ListN.{length, take, drop, length-drop}
 use lib.Seq.{take_all, drop-length}
@@ -57,7 +57,7 @@ module _ (ring line : List ℕ) (k : ℕ) (words : List ℕ) (forward : SearchCo
         (subst (λ (r : List ℕ). IsScanned r line k (take (length words - behind) (drop behind words)) s part) (reversed_first ring back can.admitted.most_ring reversed) scanned)
 
     -- of which no row is given
-    none_given : first_given (admit_rows (reversed_ring ring) k (length line) (length (drop behind words))) ≡ none
+    none_given : first_given (admit_rows (reversed_ring ring) k (length line) (length (drop behind words))) ≡ None
     none_given =
         let size : length (drop behind words) ≡ length words - words_each * length (findings ring line k) = omega (arith, length-drop behind words, can.found_is) in
         ap (λ (room : ℕ). first_given (admit_rows (reversed_ring ring) k (length line) room)) size ∙ backward_accepted ring line k (length words) can.admitted

@@ -4,7 +4,7 @@ use Prim.Native.Nat.{ℕ, ◌+◌, ◌-◌, ◌*◌, ◌≤◌}
 use mathlib.Core.Path.{◌≡◌, refl, ap, ap₂, ◌∙◌}
 use mathlib.Core.Logic.{⊎_elim}
 use mathlib.Core.List.{List}
-use mathlib.Core.Option.{Option, none}
+use Rattle.std.specs.Prelude.{Option, None}
 use native.Mathlib.Omega.{arith}
 use lib.ListN.{length}
 use Rattle.lists.proofs.Areas.{written_length}
@@ -29,7 +29,7 @@ use Rattle.two_way.specs.TwoWay.{pass_counts}
 use Rattle.two_way.specs.Passes.{CanScanBackward}
 
 -- A search does not refuse if none of its rows is given.
-pub never_refused : {rows : List (Option Refusal)} {ring line : List ℕ} {k expected : ℕ} {words : List ℕ} {refusal : Refusal} {out : List ℕ} → first_given rows ≡ none
+pub never_refused : {rows : List (Option Refusal)} {ring line : List ℕ} {k expected : ℕ} {words : List ℕ} {refusal : Refusal} {out : List ℕ} → first_given rows ≡ None
     → IsSearched rows ring line k expected words (Refused refusal) out → ⊥
 never_refused {refusal = refusal} none_given meets = omega (arith, (search_accepted_iff meets).1 none_given, (number_in refusal).0)
 
@@ -41,7 +41,7 @@ module _ (ring line : List ℕ) (k room : ℕ) (admitted : TwoWayAdmitted ring k
   n = length line
 
   -- None of the rows of the forward scan is given.
-  pub forward_accepted : first_given (admit_rows ring k n room) ≡ none
+  pub forward_accepted : first_given (admit_rows ring k n room) ≡ None
   forward_accepted = (no_row_iff ring k n room).1 (record {
     some_edge = admitted.some_edge;
     most_ring = admitted.most_ring;
@@ -67,7 +67,7 @@ module _ (ring line : List ℕ) (k room : ℕ) (admitted : TwoWayAdmitted ring k
       ⊎_elim (λ long. omega (arith, behind_room long)) (λ short. omega (arith, ap length (findings_short ring line k short))) (le_or_lt m n)
 
   -- None of the rows of the backward scan is given, which is lent the words behind those of the forward findings.
-  pub backward_accepted : first_given (admit_rows (reversed_ring ring) k n (room - words_each * length (findings ring line k))) ≡ none
+  pub backward_accepted : first_given (admit_rows (reversed_ring ring) k n (room - words_each * length (findings ring line k))) ≡ None
   backward_accepted =
       let same = reversed_length ring in
       (no_row_iff (reversed_ring ring) k n _).1 (record {

@@ -5,7 +5,7 @@ use mathlib.Core.Path.{◌≡◌, ap}
 use mathlib.Core.Logic.Iff
 use mathlib.Core.Logic.{◌↔◌, ◌⊎◌, inl}
 use mathlib.Core.List.{List}
-use mathlib.Core.Option.{some}
+use Rattle.std.specs.Prelude.{Some}
 use native.Mathlib.Omega.{arith}
 use lib.ListN.{length}
 use Rattle.lists.specs.Areas.{written}
@@ -31,7 +31,7 @@ rows_of_two_way {ring} {line} {k} {words} {r} meets =
     let room = length words in
     let counts = two_way_counts ring line k in
     let first = first_given (two_way_rows ring k n room) in
-    let number_iff : (q : Refusal) → HasNoPlace (number_of q) → ((paper_of r).number ≡ number_of q) ↔ (first ≡ some q) =
+    let number_iff : (q : Refusal) → HasNoPlace (number_of q) → ((paper_of r).number ≡ number_of q) ↔ (first ≡ Some q) =
     row_number_iff no_two_way_counts counts first meets.paper in
     let zeros : 0 < (paper_of r).number → (paper_of r).counts ≡ no_two_way_counts = refused_counts no_two_way_counts counts first meets.paper in
     record {

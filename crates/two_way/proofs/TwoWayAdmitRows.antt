@@ -5,7 +5,7 @@ use mathlib.Core.Path.{◌≡◌, refl, sym, subst}
 use mathlib.Core.Logic.Iff
 use mathlib.Core.Logic.{◌↔◌, ◌⊎◌, inl, inr}
 use mathlib.Core.List.{List, [], ◌∷◌}
-use mathlib.Core.Option.{Option, none, some}
+use Rattle.std.specs.Prelude.{Option, None, Some}
 use native.Mathlib.Omega.{arith}
 use lib.ListN.{length}
 use Rattle.lists.proofs.SizesTested.{lt_iff}
@@ -47,7 +47,7 @@ is_row_14 ring =
     (λ not. record { each = λ q l. first_edges ring q (omega (arith, not)) })
 
 -- Row 14 is given with this place exactly when it is "the first such ring place".
-pub row_14_at_iff : (ring : List ℕ) (place : ℕ) → (row14 ring ≡ some (RingCode place)) ↔ IsFirstNoEdge ring place
+pub row_14_at_iff : (ring : List ℕ) (place : ℕ) → (row14 ring ≡ Some (RingCode place)) ↔ IsFirstNoEdge ring place
 row_14_at_iff ring = first_place_iff RingCode (λ p. refl) (first_given_lem (record { is = refl })) (λ p first. (first_no_edge_by ring first, first.in_ring))
 
 module _ (ring : List ℕ) (k n room : ℕ) where
@@ -67,47 +67,47 @@ module _ (ring : List ℕ) (k n room : ℕ) where
   own_rows = row_has (is_row_14 ring) (omega arith) (row_has (is_row_3 n) (omega arith) (row_has is_two_way_row_4 (omega arith) end))
 
   -- Row 1 is the first exactly when "m = 0 or m > 256".
-  pub two_way_1_iff : (first_given (two_way_rows ring k n room) ≡ some Ring) ↔ ((m ≡ 0) ⊎ (most_ring < m))
+  pub two_way_1_iff : (first_given (two_way_rows ring k n room) ≡ Some Ring) ↔ ((m ≡ 0) ⊎ (most_ring < m))
   unfolding two_way_rows
   two_way_1_iff = Iff.trans (ring_row_iff ring k own_rows Ring (λ is. is.not_1 refl)) (ring_1_iff ring k)
 
   -- Row 12 is the first exactly when the ring holds a mark and row 1 is not given.
-  pub two_way_12_iff : (first_given (two_way_rows ring k n room) ≡ some RingMark) ↔ (IsRingLength m × HoldsMark ring)
+  pub two_way_12_iff : (first_given (two_way_rows ring k n room) ≡ Some RingMark) ↔ (IsRingLength m × HoldsMark ring)
   unfolding two_way_rows
   two_way_12_iff = Iff.trans (ring_row_iff ring k own_rows RingMark (λ is. is.not_12 refl)) (ring_12_iff ring k)
 
   -- Row 2 is the first exactly when "k ≥ m" and rows 1 and 12 are not given.
-  pub two_way_2_iff : (first_given (two_way_rows ring k n room) ≡ some Allowance) ↔ (IsRingLength m × ((HoldsMark ring → ⊥) × (m ≤ k)))
+  pub two_way_2_iff : (first_given (two_way_rows ring k n room) ≡ Some Allowance) ↔ (IsRingLength m × ((HoldsMark ring → ⊥) × (m ≤ k)))
   unfolding two_way_rows
   two_way_2_iff = Iff.trans (ring_row_iff ring k own_rows Allowance (λ is. is.not_2 refl)) (ring_2_iff ring k)
 
   -- Row 14 is the first with this place exactly when it is the first ring place with a code above 247, and rows 1, 12 and 2 are not given.
-  pub two_way_14_iff : (place : ℕ) → (first_given (two_way_rows ring k n room) ≡ some (RingCode place))
+  pub two_way_14_iff : (place : ℕ) → (first_given (two_way_rows ring k n room) ≡ Some (RingCode place))
       ↔ (IsRingLength m × ((HoldsMark ring → ⊥) × ((k < m) × IsFirstNoEdge ring place)))
   unfolding two_way_rows
   two_way_14_iff place =
       own_row_iff ring k (omega arith) (at_fault (row_14_at_iff ring place) (row_has (is_row_3 n) (omega arith) (row_has is_two_way_row_4 (omega arith) end)))
 
   -- Row 3 is the first exactly when "n > 65,536" and rows 1, 12, 2 and 14 are not given.
-  pub two_way_3_iff : (first_given (two_way_rows ring k n room) ≡ some Line)
+  pub two_way_3_iff : (first_given (two_way_rows ring k n room) ≡ Some Line)
       ↔ (IsRingLength m × ((HoldsMark ring → ⊥) × ((k < m) × (AllEdges ring × (most_line < n)))))
   unfolding two_way_rows
   two_way_3_iff = own_row_iff ring k (omega arith) (past_row (is_row_14 ring) (omega arith) (at_row (is_row_3 n) (row_has is_two_way_row_4 (omega arith) end)))
 
   -- Row 4 is the first exactly when n ≥ m and fewer than 8·(n − m + 1) words are lent, and rows 1, 12, 2, 14 and 3 are not given.
-  pub two_way_4_iff : (first_given (two_way_rows ring k n room) ≡ some FindingsRoom)
+  pub two_way_4_iff : (first_given (two_way_rows ring k n room) ≡ Some FindingsRoom)
       ↔ (IsRingLength m × ((HoldsMark ring → ⊥) × ((k < m) × (AllEdges ring × ((n ≤ most_line) × ((m ≤ n) × (room < two_way_room m n)))))))
   unfolding two_way_rows
   two_way_4_iff = own_row_iff ring k (omega arith) (past_row (is_row_14 ring) (omega arith) (past_row (is_row_3 n) (omega arith) (at_row is_two_way_row_4 end)))
 
   -- None of these rows is given exactly when m is 1 to 256, the ring holds no mark, k < m, all codes are edges, n ≤ 65,536, and n ≥ m implies enough words.
-  pub two_way_none_iff : (first_given (two_way_rows ring k n room) ≡ none)
+  pub two_way_none_iff : (first_given (two_way_rows ring k n room) ≡ None)
       ↔ (IsRingLength m × ((HoldsMark ring → ⊥) × ((k < m) × (AllEdges ring × ((n ≤ most_line) × (m ≤ n → two_way_room m n ≤ room))))))
   unfolding two_way_rows
   two_way_none_iff = no_own_row_iff ring k (no_row (is_row_14 ring) (no_row (is_row_3 n) (no_last_row is_two_way_row_4)))
 
   -- None of these rows is given exactly when `TwoWayAdmitted` holds.
-  pub two_way_no_row_iff : (first_given (two_way_rows ring k n room) ≡ none) ↔ TwoWayAdmitted ring k n room
+  pub two_way_no_row_iff : (first_given (two_way_rows ring k n room) ≡ None) ↔ TwoWayAdmitted ring k n room
   two_way_no_row_iff =
       Iff.trans two_way_none_iff (
         λ h. record {
@@ -124,7 +124,7 @@ module _ (ring : List ℕ) (k n room : ℕ) where
 
   -- If P holds for each row's refusal, for row 14 with a place of a ring of at most 256 codes, then P holds for the refusal of the first row that is given.
   pub two_way_row_has : (P : Refusal → Type 0) → P Ring → P RingMark → P Allowance → ((place : ℕ) → place < most_ring → P (RingCode place)) → P Line → P FindingsRoom
-      → (q : Refusal) → first_given (two_way_rows ring k n room) ≡ some q → P q
+      → (q : Refusal) → first_given (two_way_rows ring k n room) ≡ Some q → P q
   unfolding two_way_rows
   two_way_row_has P one twelve two fourteen three four =
       by_ring ring k own_rows P (λ _. one) (λ _. twelve) (λ _. two)
@@ -132,13 +132,13 @@ module _ (ring : List ℕ) (k n room : ℕ) where
       (row_has (is_row_3 n) (λ _. three) (row_has is_two_way_row_4 (λ _. four) end)))
 
   -- The first row that is given has number 1 to 4, 12 or 14.
-  pub two_way_row_numbers : (q : Refusal) → first_given (two_way_rows ring k n room) ≡ some q → (number_of q ≤ 4) ⊎ ((number_of q ≡ 12) ⊎ (number_of q ≡ 14))
+  pub two_way_row_numbers : (q : Refusal) → first_given (two_way_rows ring k n room) ≡ Some q → (number_of q ≤ 4) ⊎ ((number_of q ≡ 12) ⊎ (number_of q ≡ 14))
   two_way_row_numbers =
       two_way_row_has (λ q. (number_of q ≤ 4) ⊎ ((number_of q ≡ 12) ⊎ (number_of q ≡ 14))) (inl (omega arith)) (inr (inl refl)) (inl (omega arith)) (λ _ _. inr (inr refl))
       (inl (omega arith)) (inl (omega arith))
 
   -- The first row that is given has a place below 256, and place 0 if its number is not 14.
-  pub two_way_row_places : (q : Refusal) → first_given (two_way_rows ring k n room) ≡ some q → (place_of q < most_ring) × ((number_of q ≡ 14 → ⊥) → place_of q ≡ 0)
+  pub two_way_row_places : (q : Refusal) → first_given (two_way_rows ring k n room) ≡ Some q → (place_of q < most_ring) × ((number_of q ≡ 14 → ⊥) → place_of q ≡ 0)
   two_way_row_places =
       two_way_row_has (λ q. (place_of q < most_ring) × ((number_of q ≡ 14 → ⊥) → place_of q ≡ 0)) (omega arith, λ _. refl) (omega arith, λ _. refl) (omega arith, λ _. refl)
       (λ place below. (below, λ other. absurd (other refl))) (omega arith, λ _. refl) (omega arith, λ _. refl)

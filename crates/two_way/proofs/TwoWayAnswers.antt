@@ -3,7 +3,7 @@
 use Prim.Native.Nat.{ℕ, ◌+◌, ◌*◌}
 use mathlib.Core.Path.{◌≡◌, refl, sym, ap, ap₂, ◌∙◌}
 use mathlib.Core.List.{List, ◌++◌}
-use mathlib.Core.Option.{Option, none, some}
+use Rattle.std.specs.Prelude.{Option, None, Some}
 use native.Mathlib.Omega.{arith}
 use lib.ListN.{length}
 use Rattle.lists.specs.Areas.{written, written_at}
@@ -32,7 +32,7 @@ module _ (ring line : List ℕ) (k : ℕ) (words : List ℕ) where
   rows = two_way_rows ring k (length line) (length words)
 
   -- If a row is given, returning its refusal and leaving the words as they were meets the contract.
-  pub refused_two_way : {refusal : Refusal} → some refusal ≡ first_given rows → IsScannedTwoWay ring line k words (Refused refusal) words
+  pub refused_two_way : {refusal : Refusal} → Some refusal ≡ first_given rows → IsScannedTwoWay ring line k words (Refused refusal) words
   unfolding two_way_answer two_way_words
   refused_two_way e = record {
     paper = ap (λ (o : Option Refusal). answer_paper no_two_way_counts (answer_by o (two_way_counts ring line k))) e;
@@ -40,7 +40,7 @@ module _ (ring line : List ℕ) (k : ℕ) (words : List ℕ) where
   }
 
   -- If no row is given, returning the counts of both passes with the words of both written meets the contract.
-  accepted_two_way : {r : TwoWay} {out : List ℕ} → first_given rows ≡ none → answer_of r ≡ accepted (two_way_counts ring line k)
+  accepted_two_way : {r : TwoWay} {out : List ℕ} → first_given rows ≡ None → answer_of r ≡ accepted (two_way_counts ring line k)
       → out ≡ written (words_of (two_way_findings ring line k)) words → IsScannedTwoWay ring line k words r out
   unfolding two_way_answer two_way_words
   accepted_two_way none_given answer area = record {

@@ -5,7 +5,7 @@ use Prim.Native.Nat.{ℕ, ◌+◌, ◌-◌, ◌*◌, ◌≤◌, ◌<◌}
 use mathlib.Core.Path.{◌≡◌, refl, sym, ap, subst, ◌∙◌}
 use mathlib.Core.Logic.{⊎_elim}
 use mathlib.Core.List.{List, ◌++◌}
-use mathlib.Core.Option.{Option, none}
+use Rattle.std.specs.Prelude.{Option, None}
 use native.Mathlib.Omega.{arith}
 use lib.ListN.{length}
 use Rattle.lists.specs.Areas.{written}
@@ -34,7 +34,7 @@ module _ (ring line : List ℕ) (k : ℕ) (words : List ℕ) (r : TwoWay) (out :
   rows = two_way_rows ring k (length line) (length words)
 
   -- an answer with number 0 is given where no row is
-  none_given : (paper_of r).number ≡ 0 → first_given rows ≡ none
+  none_given : (paper_of r).number ≡ 0 → first_given rows ≡ None
   unfolding two_way_answer
   none_given zero_is = (accepted_number_iff no_two_way_counts (two_way_counts ring line k) (first_given rows) meets.paper).0 zero_is
 
@@ -62,7 +62,7 @@ module _ (ring line : List ℕ) (k : ℕ) (words : List ℕ) (r : TwoWay) (out :
       ∙ ap (λ (numbers : List ℕ). written numbers words) (words_append (findings ring line k) (findings (reversed_ring ring) line k))
 
   -- If P holds for 0, and for the looks of each pass if no row is given, then P holds for the looks of each pass, accepted or refused.
-  looks_by : (P : ℕ → Type 0) → P 0 → (first_given rows ≡ none → P (quick_looks ring line k) × P (quick_looks (reversed_ring ring) line k))
+  looks_by : (P : ℕ → Type 0) → P 0 → (first_given rows ≡ None → P (quick_looks ring line k) × P (quick_looks (reversed_ring ring) line k))
       → P (paper_of r).counts.forward.looks × P (paper_of r).counts.backward.looks
   unfolding two_way_answer
   looks_by P zero_has each =

@@ -12,7 +12,7 @@
 --   TwoWayAdmitted           none of these rows is given
 --   SaysFirstNoEdge          the contract of the private `first_no_edge`
 use Rattle.std.specs.Prelude.{ℕ, ◌+◌, ◌-◌, ◌*◌, ◌≤◌, ◌<◌, ◌≡◌, Bool, not, ◌&&◌, List, [], ◌∷◌, ◌++◌, ltb, leb, length, get_or}
-use Rattle.std.proofs.Math.Option.{Option}
+use Rattle.std.specs.Prelude.{Option}
 use Rattle.meaning.specs.Counting.{first_below}
 use Rattle.meaning.specs.Meanings.{HoldsMark}
 use Rattle.meaning.specs.Findings.{words_each}

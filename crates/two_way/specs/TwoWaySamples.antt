@@ -1,6 +1,6 @@
 -- Samples of the two-way scan, worked out by hand and computed by the checker.
 use Rattle.std.specs.Prelude.{◌≡◌, refl, [], ◌∷◌}
-use Rattle.std.proofs.Math.Option.{none, some}
+use Rattle.std.specs.Prelude.{None, Some}
 use Rattle.lists.specs.ByPlace.{list_of}
 use Rattle.meaning.specs.Counting.{count, lowest, some_below, first_from}
 use Rattle.meaning.specs.Meanings.{window, holds_mark, differs, distance, lowest_rotation, rotations_reaching}
@@ -18,14 +18,14 @@ use Rattle.two_way.specs.TwoWay.{two_way_counts, two_way_findings}
 
 -- The first row that is given, for ring, k, n and room: 12 before 14; the place of the first code above 247; 2 before 14; 14 before 3; 3; 7 words where 8 are
 -- required; 8; and for n < m none are required.
-pub row_samples_right : (first_given (two_way_rows (255 ∷ []) 0 0 0) ≡ some RingMark)
-    × (first_given (two_way_rows (248 ∷ 0 ∷ 254 ∷ []) 0 0 0) ≡ some (RingCode 0))
-    × (first_given (two_way_rows (0 ∷ 248 ∷ []) 2 3 16) ≡ some Allowance)
-    × (first_given (two_way_rows (0 ∷ 248 ∷ []) 0 65537 0) ≡ some (RingCode 1))
-    × (first_given (two_way_rows (0 ∷ 247 ∷ []) 0 65537 0) ≡ some Line)
-    × (first_given (two_way_rows (247 ∷ []) 0 1 7) ≡ some FindingsRoom)
-    × (first_given (two_way_rows (247 ∷ []) 0 1 8) ≡ none)
-    × (first_given (two_way_rows (247 ∷ []) 0 0 0) ≡ none)
+pub row_samples_right : (first_given (two_way_rows (255 ∷ []) 0 0 0) ≡ Some RingMark)
+    × (first_given (two_way_rows (248 ∷ 0 ∷ 254 ∷ []) 0 0 0) ≡ Some (RingCode 0))
+    × (first_given (two_way_rows (0 ∷ 248 ∷ []) 2 3 16) ≡ Some Allowance)
+    × (first_given (two_way_rows (0 ∷ 248 ∷ []) 0 65537 0) ≡ Some (RingCode 1))
+    × (first_given (two_way_rows (0 ∷ 247 ∷ []) 0 65537 0) ≡ Some Line)
+    × (first_given (two_way_rows (247 ∷ []) 0 1 7) ≡ Some FindingsRoom)
+    × (first_given (two_way_rows (247 ∷ []) 0 1 8) ≡ None)
+    × (first_given (two_way_rows (247 ∷ []) 0 0 0) ≡ None)
 unfolding two_way_rows ring_rows first_no_edge first_from holds_mark some_below first_given
 row_samples_right = (refl, refl, refl, refl, refl, refl, refl, refl)
 

@@ -4,7 +4,7 @@ use Prim.Native.Nat.{ℕ, ◌/◌, ◌%◌, ◌≤◌, ◌<◌}
 use mathlib.Core.Path.{◌≡◌, refl}
 use mathlib.Core.Logic.{◌↔◌, inl, inr, ⊎_elim}
 use mathlib.Core.List.{List}
-use mathlib.Core.Option.{none, some}
+use Rattle.std.specs.Prelude.{None, Some}
 use native.Mathlib.Omega.{arith}
 use lib.Dec.{ltb}
 use lib.IntN.{ℤ}
@@ -38,7 +38,7 @@ module _ (numbers : List ℤ) where
       (λ not. no_pair_by numbers (omega (arith, not)))
 
   -- Row 16 is given with this place exactly when it is "the first of the earliest pair".
-  pub row_16_at_iff : (place : ℕ) → (row16 numbers ≡ some (EqualNeighbours place)) ↔ IsFirstEqualPair numbers place
+  pub row_16_at_iff : (place : ℕ) → (row16 numbers ≡ Some (EqualNeighbours place)) ↔ IsFirstEqualPair numbers place
   row_16_at_iff = first_place_iff EqualNeighbours (λ p. refl) (first_pair_is numbers) (λ p first. (first_pair_by numbers first, first.in_boundary))
 
   module _ (room : ℕ) where
@@ -47,31 +47,31 @@ module _ (numbers : List ℤ) where
     is_row_10 = is_row (lt_iff room (vertex_count numbers)) (λ enough few. omega arith) (λ not. omega arith)
 
     -- Row 15 is the first exactly when the count is wrong.
-    pub import_15_iff : (first_given (import_rows numbers room) ≡ some VertexCount) ↔ HasWrongCount (length numbers)
+    pub import_15_iff : (first_given (import_rows numbers room) ≡ Some VertexCount) ↔ HasWrongCount (length numbers)
     unfolding import_rows
     import_15_iff = (at_row (is_row_15 (length numbers)) (row_has is_row_16 (omega arith) (row_has is_row_10 (omega arith) end))).exactly
 
     -- Row 16 is the first with this place exactly when it is the first of the earliest pair, and row 15 is not given.
-    pub import_16_iff : (place : ℕ) → (first_given (import_rows numbers room) ≡ some (EqualNeighbours place)) ↔ (IsRightCount (length numbers) × IsFirstEqualPair numbers place)
+    pub import_16_iff : (place : ℕ) → (first_given (import_rows numbers room) ≡ Some (EqualNeighbours place)) ↔ (IsRightCount (length numbers) × IsFirstEqualPair numbers place)
     unfolding import_rows
     import_16_iff place = (past_row (is_row_15 (length numbers)) (omega arith) (at_fault (row_16_at_iff place) (row_has is_row_10 (omega arith) end))).exactly
 
     -- Row 10 is the first exactly when fewer bytes are lent than there are vertices, and rows 15 and 16 are not given.
-    pub import_10_iff : (first_given (import_rows numbers room) ≡ some OutputRoom) ↔ (IsRightCount (length numbers) × (NoEqualPair numbers × (room < vertex_count numbers)))
+    pub import_10_iff : (first_given (import_rows numbers room) ≡ Some OutputRoom) ↔ (IsRightCount (length numbers) × (NoEqualPair numbers × (room < vertex_count numbers)))
     unfolding import_rows
     import_10_iff = (past_row (is_row_15 (length numbers)) (omega arith) (past_row is_row_16 (omega arith) (at_row is_row_10 end))).exactly
 
     -- None of these rows is given exactly when the count is right, no two neighbours are equal, and there is a byte for each vertex.
-    pub import_none_iff : (first_given (import_rows numbers room) ≡ none) ↔ (IsRightCount (length numbers) × (NoEqualPair numbers × (vertex_count numbers ≤ room)))
+    pub import_none_iff : (first_given (import_rows numbers room) ≡ None) ↔ (IsRightCount (length numbers) × (NoEqualPair numbers × (vertex_count numbers ≤ room)))
     unfolding import_rows
     import_none_iff = (no_row (is_row_15 (length numbers)) (no_row is_row_16 (no_last_row is_row_10))).exactly
 
     -- If P holds for each row's refusal, for row 16 with a place of a boundary of at most 4,096 vertices, then P holds for the refusal of the first row that is given.
     pub import_row_has : (P : Refusal → Type 0) → P VertexCount → ((place : ℕ) → place < most_vertices → P (EqualNeighbours place)) → P OutputRoom → (q : Refusal)
-        → first_given (import_rows numbers room) ≡ some q → P q
+        → first_given (import_rows numbers room) ≡ Some q → P q
     unfolding import_rows
     import_row_has P fifteen sixteen ten q e =
-        first_has {P = λ (r : Refusal). first_given (import_rows numbers room) ≡ some r → P r}
+        first_has {P = λ (r : Refusal). first_given (import_rows numbers room) ≡ Some r → P r}
         (row_has (is_row_15 (length numbers)) (λ _. fifteen)
         (row_has is_row_16 (λ f. let h = (import_16_iff (first_equal_pair numbers)).0 f in sixteen (first_equal_pair numbers) (omega (arith, h.0.most, h.1.in_boundary)))
         (row_has is_row_10 (λ _. ten) end))) q e e

@@ -3,7 +3,7 @@
 use Prim.Native.Nat.{ℕ, ◌%◌, ◌/◌, ◌≤◌, ◌<◌}
 use mathlib.Core.Path.{◌≡◌, sym, ap, ◌∙◌}
 use mathlib.Core.List.{List}
-use mathlib.Core.Option.{Option, none, some}
+use Rattle.std.specs.Prelude.{Option, None, Some}
 use native.Mathlib.Omega.{arith}
 use lib.IntN.{ℤ}
 use lib.ListN.{length}
@@ -26,7 +26,7 @@ right_count not_odd fewest most = record { even = omega arith; fewest = fewest; 
 
 module _ (numbers : List ℤ) (area : List ℕ) where
   -- Refusing by the first row that is given, and writing nothing.
-  refused_by : {q : Refusal} → first_given (import_rows numbers (length area)) ≡ some q → IsImported numbers area (Refused q) area
+  refused_by : {q : Refusal} → first_given (import_rows numbers (length area)) ≡ Some q → IsImported numbers area (Refused q) area
   unfolding import_answer imported_area
   refused_by e = record {
     paper = ap (λ (o : Option Refusal). answer_paper 0 (answer_by o (vertex_count numbers))) (sym e);
@@ -41,7 +41,7 @@ module _ (numbers : List ℤ) (area : List ℕ) where
     -- Row 16: what `first_equal_pair` returned is below the number of vertices.
     pub refused_pair : place < vertex_count numbers → IsImported numbers area (Refused (EqualNeighbours place)) area
     refused_pair below =
-        refused_by ((import_16_iff numbers (length area) (first_equal_pair numbers)).1 (fits, first_pair_is numbers (omega arith)) ∙ ap (λ (p : ℕ). some (EqualNeighbours p)) (sym first))
+        refused_by ((import_16_iff numbers (length area) (first_equal_pair numbers)).1 (fits, first_pair_is numbers (omega arith)) ∙ ap (λ (p : ℕ). Some (EqualNeighbours p)) (sym first))
 
     module _ (past : vertex_count numbers ≤ place) where
       -- It is not below: no two neighbours are equal.
@@ -61,7 +61,7 @@ module _ (numbers : List ℤ) (area : List ℕ) where
         pub imported : {out : List ℕ} → out ≡ written (boundary_edges numbers) area → IsImported numbers area (Edges (vertex_count numbers)) out
         unfolding import_answer imported_area
         imported is =
-            let none_given : first_given (import_rows numbers (length area)) ≡ none = (import_none_iff numbers (length area)).1 (fits, (no_pair, room)) in
+            let none_given : first_given (import_rows numbers (length area)) ≡ None = (import_none_iff numbers (length area)).1 (fits, (no_pair, room)) in
             record {
               paper = ap (λ (o : Option Refusal). answer_paper 0 (answer_by o (vertex_count numbers))) (sym none_given);
               written = is ∙ ap (λ (o : Option Refusal). area_by o (written (boundary_edges numbers) area) area) (sym none_given);

@@ -6,7 +6,7 @@ use mathlib.Core.Path.{◌≡◌, refl}
 use mathlib.Core.Logic.Iff
 use mathlib.Core.Logic.{◌⊎◌, inl, inr}
 use mathlib.Core.List.{List}
-use mathlib.Core.Option.{Option, none, some}
+use Rattle.std.specs.Prelude.{Option, None, Some}
 use native.Mathlib.Omega.{arith}
 use lib.IntN.{ℤ}
 use lib.ListN.{length}
@@ -25,12 +25,12 @@ use Rattle.vertices.proofs.ImportAdmitRows.{import_15_iff, import_16_iff, import
 
 module _ (numbers : List ℤ) (room : ℕ) where
   -- The first row that is given has number 10, 15 or 16.
-  import_row_numbers : (q : Refusal) → first_given (import_rows numbers room) ≡ some q → (number_of q ≡ 10) ⊎ ((number_of q ≡ 15) ⊎ (number_of q ≡ 16))
+  import_row_numbers : (q : Refusal) → first_given (import_rows numbers room) ≡ Some q → (number_of q ≡ 10) ⊎ ((number_of q ≡ 15) ⊎ (number_of q ≡ 16))
   import_row_numbers =
       import_row_has numbers room (λ q. (number_of q ≡ 10) ⊎ ((number_of q ≡ 15) ⊎ (number_of q ≡ 16))) (inr (inl refl)) (λ _ _. inr (inr refl)) (inl refl)
 
   -- It has a place below 4,096, and place 0 if its number is not 16.
-  pub import_row_places : (q : Refusal) → first_given (import_rows numbers room) ≡ some q → (place_of q < most_vertices) × ((number_of q ≡ 16 → ⊥) → place_of q ≡ 0)
+  pub import_row_places : (q : Refusal) → first_given (import_rows numbers room) ≡ Some q → (place_of q < most_vertices) × ((number_of q ≡ 16 → ⊥) → place_of q ≡ 0)
   import_row_places =
       import_row_has numbers room (λ q. (place_of q < most_vertices) × ((number_of q ≡ 16 → ⊥) → place_of q ≡ 0)) (omega arith, λ _. refl)
       (λ place below. (below, λ other. absurd (other refl))) (omega arith, λ _. refl)
@@ -64,7 +64,7 @@ module _ {numbers : List ℤ} {area : List ℕ} {r : Imported} {out : List ℕ} 
   }
 
   module _ (zero_is : (paper_of r).number ≡ 0) where
-    none_given : first ≡ none
+    none_given : first ≡ None
     none_given = (accepted_number_iff 0 (vertex_count numbers) first by_rows).0 zero_is
 
     -- An accepted answer counts an edge for each vertex.

@@ -1,6 +1,6 @@
 -- Samples of codes, edges and rows, worked out by hand and computed by the checker.
 use Rattle.std.specs.Prelude.{ℕ, zero, suc, ◌≡◌, refl, List, [], ◌∷◌, ℤ, pos, negsuc}
-use Rattle.std.proofs.Math.Option.{none, some}
+use Rattle.std.specs.Prelude.{None, Some}
 use Rattle.lists.specs.ByPlace.{list_of}
 use Rattle.meaning.specs.Counting.{first_from}
 use Rattle.answers.specs.declared.refusals.Refusal.TheVariants.{OutputRoom, VertexCount, EqualNeighbours}
@@ -64,14 +64,14 @@ edge_samples_right = (refl, refl)
 -- The first row that is given, for numbers and room: no vertex; 2 vertices; an odd count of numbers, before the equal neighbours; the first of two equal neighbours, before
 -- the room; the last vertex for the closing pair; the earliest pair; 3 vertices in 2 bytes; in 3 bytes; and the square, whose vertices have equal numbers, but no two
 -- neighbours are equal.
-pub row_samples_right : (first_given (import_rows [] 9) ≡ some VertexCount)
-    × (first_given (import_rows (pos 0 ∷ pos 0 ∷ pos 5 ∷ pos 0 ∷ []) 9) ≡ some VertexCount)
-    × (first_given (import_rows (pos 1 ∷ middle_pair) 9) ≡ some VertexCount)
-    × (first_given (import_rows middle_pair 0) ≡ some (EqualNeighbours 1))
-    × (first_given (import_rows closing_pair 9) ≡ some (EqualNeighbours 3))
-    × (first_given (import_rows both_pairs 9) ≡ some (EqualNeighbours 1))
-    × (first_given (import_rows triangle 2) ≡ some OutputRoom)
-    × (first_given (import_rows triangle 3) ≡ none)
-    × (first_given (import_rows square 9) ≡ none)
+pub row_samples_right : (first_given (import_rows [] 9) ≡ Some VertexCount)
+    × (first_given (import_rows (pos 0 ∷ pos 0 ∷ pos 5 ∷ pos 0 ∷ []) 9) ≡ Some VertexCount)
+    × (first_given (import_rows (pos 1 ∷ middle_pair) 9) ≡ Some VertexCount)
+    × (first_given (import_rows middle_pair 0) ≡ Some (EqualNeighbours 1))
+    × (first_given (import_rows closing_pair 9) ≡ Some (EqualNeighbours 3))
+    × (first_given (import_rows both_pairs 9) ≡ Some (EqualNeighbours 1))
+    × (first_given (import_rows triangle 2) ≡ Some OutputRoom)
+    × (first_given (import_rows triangle 3) ≡ None)
+    × (first_given (import_rows square 9) ≡ None)
 unfolding import_rows is_equal_pair first_equal_pair first_from first_given
 row_samples_right = (refl, refl, refl, refl, refl, refl, refl, refl, refl)
