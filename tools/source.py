@@ -94,13 +94,23 @@ class Function:
         self.body, self.lines = tokens[at:end], lines[at:end]
         self.fellow, self.within = pairs(self.body)
 
-    def called(self):
-        """the names that stand before a call's bracket; a method's name is none"""
-        return {self.body[i - 1] for i, token in enumerate(self.body) if token == "(" and self.body[i - 2] != "."}
+    def called(self, methods=False):
+        """the names that stand before a call's bracket; those of methods, which stand behind a point, only if they are asked for"""
+        names = [self.named(i) for i, token in enumerate(self.body) if token == "("]
+        return {self.body[i] for i in names if methods or self.body[i - 1] != "."}
+
+    def named(self, opened):
+        """where the name stands before a call's bracket; `::<..>` may stand between"""
+        at = opened - 1
+        if self.body[at] == ">":
+            while self.body[at] != "<":
+                at -= 1
+            at -= 2
+        return at
 
     def call_start(self, opened):
         """where the way to the name begins that stands before a call's bracket"""
-        start = opened - 1
+        start = self.named(opened)
         while self.body[start - 1] == "::":
             start -= 2
         return start
