@@ -12,8 +12,6 @@ pub mod RenumberLoop
 pub mod SteppedCounts
 pub mod MoveLoop
 pub mod MoveCases
--- What walks by hand over these functions' seven parameters share. No proof needs it now.
-pub mod WalkArguments
 -- A start's tally, stepped and moved, is a start's tally.
 pub mod StepTallied
 pub mod MovedTallied

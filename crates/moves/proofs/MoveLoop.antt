@@ -11,6 +11,7 @@ use lib.ListN.{length, get_or}
 use borrow.Author.Tests.{lt-ltb, le-ltb}
 use Rattle.lists.proofs.Cases.{by_test}
 use Rattle.meaning.specs.Looks.{step_looks}
+use Rattle.answers.specs.declared.places.LinePlace.{LinePlace}
 use Rattle.windows.specs.Windows.{Parts, whole_line, IsWindow}
 use Rattle.tally.specs.declared.counts.Least.{Least}
 use Rattle.tally.specs.Marks.{past_after, IsPastMark}
@@ -115,11 +116,14 @@ module _ (ring : List ℕ) (p : Parts) (from steps below : ℕ) (old : List ℕ)
       }
 
     -- If no step is left, returning there meets the contract.
-    pub moving_end : from + steps ≤ i → IsMovedOn ring p from steps below old counts (record { start = record { 0 = i }; least = least; looks = looks; past = past })
-    moving_end done =
+    pub moving_end : {start : LinePlace} → start.0 ≡ i → from + steps ≤ i → IsMovedOn ring p from steps below old counts (record { start = start; least = least; looks = looks; past = past })
+    moving_end start_is done =
         let none : from + steps - i ≡ 0 = omega arith in
         record {
-          is = sym (move_none ring p below here_at) ∙ ap (λ (n : ℕ). move_on ring p below n here_at) (sym none) ∙ before.still;
+          is = (λ j. record { start = start_is j; counts = counts; least = least; looks = looks; past = past })
+              ∙ sym (move_none ring p below here_at)
+              ∙ ap (λ (n : ℕ). move_on ring p below n here_at) (sym none)
+              ∙ before.still;
         }
 
 -- A move of at most `left` steps adds at most `left` times the looks of a step.

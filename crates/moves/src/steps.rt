@@ -11,18 +11,12 @@ use answers::LinePlace;
 use tally::{Least, MOST_COUNTS, differing, past_mark};
 use windows::window;
 
-// The number of values that a count of sixteen bits has.
-const SIXTEEN_BITS: u32 = 1 << 16;
-// The largest number of sixteen bits. The least begins with it, because no count is above it.
-const LAST_COUNT: u16 = (SIXTEEN_BITS - 1) as u16;
-
-// count − lost + won, mod 2^16: `lost` is 1 if the leaving edge differs, `won` is 1 if the entering edge does. The sum
-// is computed in 32 bits, where it does not overflow. Counts that are a tally never wrap; other counts may.
+// count − lost + won, mod 2^16: `lost` is 1 if the leaving edge differs, `won` is 1 if the entering edge does. Counts
+// that are a tally never wrap; other counts may.
 fn changed(count: u16, lost: u8, won: u8) -> u16
     ensures { result ≡ changed_count count lost won }
 {
-    let sum = count as u32 + (SIXTEEN_BITS - lost as u32) + won as u32;
-    (sum % SIXTEEN_BITS) as u16
+    count.wrapping_sub(u16::from(lost)).wrapping_add(u16::from(won))
 }
 
 // Compares the leaving and the entering edge with every ring edge and changes the counts. Rotation r has the ring's
@@ -35,38 +29,29 @@ fn change(counts: &mut [u16; MOST_COUNTS], ring: &[u8], leaving: u8, entering: u
         × IsLeast (length ring.now) counts.new result.least
         × (result.looks ≡ step_looks (length ring.now)) }
 {
-    let mut least = LAST_COUNT;
+    let mut least = u16::MAX; // no count is above it
     let mut looks: usize = 0;
-    let mut r = 0;
-    while r < ring.len() {
-        let edge = ring[r];
-        let lost = differing(leaving, edge);
+    for (r, edge) in ring.iter().enumerate() {
+        let lost = differing(leaving, *edge);
         looks += 1; // one look, at the leaving edge
-        let won = differing(entering, edge);
+        let won = differing(entering, *edge);
         looks += 1; // one look, at the entering edge
         let count = changed(counts[r], lost, won);
         counts[r] = count;
-        if count < least {
-            least = count;
-        }
-        r += 1;
+        least = least.min(count);
     }
-    let low = least as usize;
-    Least { least: low, looks }
+    Least {
+        least: usize::from(least),
+        looks,
+    }
 }
 
-// Moves each count to the next rotation's number, from the last down, so that none is overwritten before it is moved.
+// Moves each count to the next rotation's number, and the last one to rotation 0.
 fn renumber(counts: &mut [u16; MOST_COUNTS], m: usize)
     requires { HasCounts m (length counts.old) }
     ensures { StoredFirst m (λ r. get_or counts.old (earlier m r) 0) counts.old counts.new }
 {
-    let last = counts[m - 1];
-    let mut r = m - 1;
-    while 0 < r {
-        counts[r] = counts[r - 1];
-        r -= 1;
-    }
-    counts[0] = last;
+    counts[..m].rotate_right(1);
 }
 
 // One step. The least is found before the renumbering, which does not change it: it only moves the counts.
@@ -105,33 +90,26 @@ pub fn move_along<'a>(
     ensures { IsMovedOn ring.now (parts line.now join.now) from.0 steps below counts.old counts.new result }
 {
     let m = ring.len();
-    let mut least: usize = 0;
-    let mut looks: usize = 0;
-    let mut past: usize = 0;
-    let end = from.0 + steps;
-    let mut i = from.0;
-    while i < end {
+    let mut reached = Reached {
+        start: from,
+        least: 0,
+        looks: 0,
+        past: 0,
+    };
+    for i in from.0..from.0 + steps {
         let here = window(line, join, LinePlace(i), m);
         let next = window(line, join, LinePlace(i + 1), m);
         let entering = next[m - 1];
         let stepped = step(counts, ring, here[0], entering);
-        least = stepped.least;
-        looks += stepped.looks;
-        i += 1;
-        past = past_mark(entering, past, i + m);
-        if least < below {
-            return Reached {
-                start: LinePlace(i),
-                least,
-                looks,
-                past,
-            };
+        reached = Reached {
+            start: LinePlace(i + 1),
+            least: stepped.least,
+            looks: reached.looks + stepped.looks,
+            past: past_mark(entering, reached.past, i + 1 + m),
+        };
+        if reached.least < below {
+            return reached;
         }
     }
-    Reached {
-        start: LinePlace(i),
-        least,
-        looks,
-        past,
-    }
+    reached
 }

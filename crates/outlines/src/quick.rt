@@ -11,8 +11,8 @@ use answers::LinePlace;
 use findings::{Searched, Verdict, admit};
 use occurrences::{KEPT_WORDS, SLOTS, occurrences};
 use silences::field_at;
-use sweep::{LastVerified, Sweep, Swept, sweep_on};
-use tally::{DOUBLED, MOST_COUNTS, double};
+use sweep::{Sweep, Swept, sweep_on};
+use tally::{DOUBLED, MOST_COUNTS, Tally, double};
 use windows::whole_length;
 
 // "found (hidden ones included), hidden, looks" for one line.
@@ -37,17 +37,17 @@ fn scan_windows<'a>(
     join: &'a [u8],
     k: usize,
     book: &[u8],
-    counts: &mut [u16; MOST_COUNTS],
+    tally: &mut Tally,
     words: &mut [u32],
 ) -> LineCounts
-    requires { CanScan ring.now doubled.now (edge_vectors slots.now kept.now) (parts line.now join.now) k book.now counts.old words.old }
+    requires { CanScan ring.now doubled.now (edge_vectors slots.now kept.now) (parts line.now join.now) k book.now tally.old.counts words.old }
     ensures { LineScanned cell ring_number ring.now (whole_line (length ring.now) (parts line.now join.now)) k book.now words.old result.found result.hidden result.looks words.new }
 {
     let m = ring.len();
     let n = whole_length(line, join, m);
     let mut at = Sweep {
         start: LinePlace(0),
-        last: LastVerified::Nothing,
+        last: None,
         looks: 0,
     };
     let held = field_at(book, 0);
@@ -57,7 +57,7 @@ fn scan_windows<'a>(
         held,
     };
     while at.start.0 + m <= n {
-        match sweep_on(at, ring, doubled, slots, kept, line, join, k, counts) {
+        match sweep_on(at, ring, doubled, slots, kept, line, join, k, tally) {
             Swept::Ended(next) | Swept::NoFinding(next) => {
                 at = next;
             }
@@ -77,7 +77,7 @@ fn scan_windows<'a>(
     }
 }
 
-// Makes the ring's occurrence vectors, its double and the counts, once for each call, and scans the line. Making them
+// Makes the ring's occurrence vectors, its double and the tally, once for each call, and scans the line. Making them
 // reads no line edge.
 pub fn scan_line<'a>(
     cell: u32,
@@ -97,7 +97,9 @@ pub fn scan_line<'a>(
     occurrences(ring, &mut slots, &mut kept);
     let mut doubled = [0u8; DOUBLED];
     double(ring, &mut doubled);
-    let mut counts = [0u16; MOST_COUNTS];
+    let mut tally = Tally {
+        counts: [0; MOST_COUNTS],
+    };
     scan_windows(
         cell,
         ring_number,
@@ -109,7 +111,7 @@ pub fn scan_line<'a>(
         join,
         k,
         book,
-        &mut counts,
+        &mut tally,
         words,
     )
 }

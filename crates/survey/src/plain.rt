@@ -1,19 +1,19 @@
 // The plain survey: every start is verified, the first afresh and each next by one step.
-ghost use Rattle.std.specs.Prelude.{◌≡◌, max, length};
+ghost use Rattle.std.specs.Prelude.{◌≡◌, length};
 ghost use Rattle.windows.specs.Windows.{parts, whole_line};
 ghost use Rattle.survey.specs.Survey.{is_found, CanVerifyOn, IsVerifiedOn, CanSurveyLine, CanSurvey, LineSurveyed, IsSurveyed};
 
 use answers::LinePlace;
 use findings::{SearchCounts, Searched, Verdict, admit, put_finding};
-use moves::{Reached, move_counts};
-use tally::{DOUBLED, MOST_COUNTS, count_afresh, double, finding_at};
+use moves::{Reached, move_tally};
+use tally::{DOUBLED, MOST_COUNTS, Tally, double};
 use windows::{whole_length, window};
 
 // Counts place 0 afresh; for a later place it moves the tally of the place before, a step for each, to the next place
 // whose least count is at most k or to the last window. Rule 5's test 2·s > m is not made here: "each next by one step, at
-// m = 1 too". The tally is copied once for each such move, not once for each step.
+// m = 1 too".
 fn verify_on<'a>(
-    counts: &mut [u16; MOST_COUNTS],
+    tally: &mut Tally,
     ring: &[u8],
     doubled: &[u8],
     line: &'a [u8],
@@ -21,12 +21,12 @@ fn verify_on<'a>(
     k: usize,
     start: LinePlace,
 ) -> Reached
-    requires { CanVerifyOn ring.now doubled.now (parts line.now join.now) k start.0 counts.old }
-    ensures { IsVerifiedOn ring.now (whole_line (length ring.now) (parts line.now join.now)) k start.0 counts.new result }
+    requires { CanVerifyOn ring.now doubled.now (parts line.now join.now) k start.0 tally.old.counts }
+    ensures { IsVerifiedOn ring.now (whole_line (length ring.now) (parts line.now join.now)) k start.0 tally.new.counts result }
 {
     let m = ring.len();
     if start.0 == 0 {
-        let first = count_afresh(counts, doubled, window(line, join, start, m));
+        let first = tally.count_afresh(doubled, window(line, join, start, m));
         Reached {
             start,
             least: first.least,
@@ -35,8 +35,8 @@ fn verify_on<'a>(
         }
     } else {
         let from = start.0 - 1;
-        move_counts(
-            counts,
+        move_tally(
+            tally,
             ring,
             line,
             join,
@@ -45,13 +45,6 @@ fn verify_on<'a>(
             k + 1,
         )
     }
-}
-
-// The later of two places.
-fn later(a: usize, b: usize) -> usize
-    ensures { result ≡ max a b }
-{
-    if a < b { b } else { a }
 }
 
 // Whether a verified place is a finding: its least count is at most k, and the place just past the last mark seen is not
@@ -71,10 +64,10 @@ fn survey_starts<'a>(
     line: &'a [u8],
     join: &'a [u8],
     k: usize,
-    counts: &mut [u16; MOST_COUNTS],
+    tally: &mut Tally,
     words: &mut [u32],
 ) -> SearchCounts
-    requires { CanSurvey ring.now doubled.now (parts line.now join.now) k counts.old words.old }
+    requires { CanSurvey ring.now doubled.now (parts line.now join.now) k tally.old.counts words.old }
     ensures { LineSurveyed ring.now (whole_line (length ring.now) (parts line.now join.now)) k words.old result.found result.looks words.new }
 {
     let m = ring.len();
@@ -84,21 +77,21 @@ fn survey_starts<'a>(
     let mut past: usize = 0;
     let mut i = 0;
     while i + m <= n {
-        let reached = verify_on(counts, ring, doubled, line, join, k, LinePlace(i));
+        let reached = verify_on(tally, ring, doubled, line, join, k, LinePlace(i));
         looks += reached.looks;
-        past = later(past, reached.past);
+        past = past.max(reached.past);
         let start = reached.start;
         i = start.0 + 1;
         let least = reached.least;
         if is_finding(least, k, past, start) {
-            put_finding(words, found, finding_at(counts, m, start, least));
+            put_finding(words, found, tally.finding_at(m, start, least));
             found += 1;
         }
     }
     SearchCounts { found, looks }
 }
 
-// Makes the ring's double and the counts, once for each call, and surveys the line. Making them reads no line edge.
+// Makes the ring's double and the tally, once for each call, and surveys the line. Making them reads no line edge.
 pub fn survey_line<'a>(
     ring: &[u8],
     line: &'a [u8],
@@ -111,8 +104,10 @@ pub fn survey_line<'a>(
 {
     let mut doubled = [0u8; DOUBLED];
     double(ring, &mut doubled);
-    let mut counts = [0u16; MOST_COUNTS];
-    survey_starts(ring, &doubled, line, join, k, &mut counts, words)
+    let mut tally = Tally {
+        counts: [0; MOST_COUNTS],
+    };
+    survey_starts(ring, &doubled, line, join, k, &mut tally, words)
 }
 
 // The plain survey of an open line: no window crosses its end, so an empty part of it is lent as the join area. Every

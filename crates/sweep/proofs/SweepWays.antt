@@ -13,7 +13,7 @@ use Rattle.windows.specs.Windows.{Parts, whole_line}
 use Rattle.tally.specs.Counts.{most_counts, TallyResult, IsFindingAt}
 use Rattle.findings.specs.Limits.{most_places}
 use Rattle.tally.specs.declared.counts.Least.{Least}
-use Rattle.sweep.specs.declared.verifying.LastVerified.TheVariants.{At}
+use Rattle.std.specs.Prelude.{Some}
 use Rattle.sweep.specs.declared.sweeping.Sweep.{Sweep}
 use Rattle.sweep.specs.declared.sweeping.Swept.TheVariants.{Ended, NoFinding, Found}
 use Rattle.sweep.specs.declared.sweeping.WindowsRead.{WindowsRead}
@@ -62,7 +62,7 @@ module _ (ring doubled : List ℕ) (table : EdgeVectors) (p : Parts) (k : ℕ) (
           )
 
       abbrev next : Sweep
-      next = record { start = read.next; last = At read.start; looks = at.looks + read.looks + z.looks }
+      next = record { start = read.next; last = Some read.start; looks = at.looks + read.looks + z.looks }
 
       -- If the candidate's least count is above k, the answer is `NoFinding`.
       pub way_none : k < z.least → IsSweptTo ring doubled table p k at old new (NoFinding next)

@@ -18,7 +18,7 @@ use Rattle.windows.specs.Windows.{Parts, whole_line, Joined}
 use Rattle.tally.specs.Counts.{finding_with, TallyResult}
 use Rattle.tally.specs.Tallied.{Verified}
 use Rattle.tally.proofs.TallyFinding.{least_no, least_yes}
-use Rattle.sweep.specs.declared.verifying.LastVerified.TheVariants.{At}
+use Rattle.std.specs.Prelude.{Some}
 use Rattle.sweep.specs.declared.sweeping.Sweep.{Sweep}
 use Rattle.sweep.specs.declared.sweeping.Swept.{Swept}
 use Rattle.sweep.specs.declared.sweeping.Swept.TheVariants.{Ended, NoFinding, Found}
@@ -91,7 +91,7 @@ module _ (ring doubled : List ℕ) (table : EdgeVectors) (p : Parts) (k : ℕ) (
         (record { can_tally = record { size = can.size; some_edge = can_read.some_edge; most = can_read.most }; twice = can.twice; in_line = read_is.in_line; most_line = can_read.most_line; before = tallied_here })
 
     abbrev next : Sweep
-    next = record { start = read.next; last = At read.start; looks = at.looks + read.looks + tally.looks }
+    next = record { start = read.next; last = Some read.start; looks = at.looks + read.looks + tally.looks }
 
     -- What holds after the candidate is verified, finding or not.
     after : (r : Swept) → state_of r ≡ next → has_ended r ≡ false → found_of r ≡ found_at ring line k i → IsSweptOn ring line k at r tally.counts

@@ -19,8 +19,7 @@ use Rattle.tally.proofs.AfreshTallied.{counted_verified}
 use Rattle.moves.specs.declared.steps.Reached.{Reached}
 use Rattle.moves.specs.Moves.{CountsAt, moved_from, IsReached}
 use Rattle.moves.proofs.MovedTallied.{moved_tallied}
-use Rattle.sweep.specs.declared.verifying.LastVerified.{LastVerified}
-use Rattle.sweep.specs.declared.verifying.LastVerified.TheVariants.{Nothing, At}
+use Rattle.answers.specs.declared.places.LinePlace.{LinePlace}
 use Rattle.sweep.specs.VerifyingRules.{last_start, TalliedBefore, CanVerify}
 use Rattle.sweep.specs.Sweeps.{moved_to, tally_by}
 
@@ -65,11 +64,11 @@ module _ (ring doubled : List ℕ) (p : Parts) (i : ℕ) (old : List ℕ) (joine
       rw there at reached.verified
 
   -- Under `CanVerify`, `tally_by` verifies start i, at the looks of rule 5.
-  pub tally_by_rules : (last : LastVerified) → CanVerify ring doubled line i old (last_start last)
+  pub tally_by_rules : (last : Option LinePlace) → CanVerify ring doubled line i old (last_start last)
       → VerifiedAt (tally_looks m (last_start last) i) (tally_by ring doubled p i last old)
   unfolding tally_by tally_looks
-  tally_by_rules Nothing can = afresh_by_rules None can
-  tally_by_rules (At from) can =
+  tally_by_rules None can = afresh_by_rules None can
+  tally_by_rules (Some from) can =
       rw (lt-leb i from.0 can.before.0)
       (⊎_elim
       (λ near. rw (le-ltb m (2 * (i - from.0)) near) (moved_by_rules from.0 can))

@@ -3,6 +3,7 @@
 use Prim.Native.Nat.{ℕ, ◌-◌, ◌*◌, ◌≤◌, ◌<◌}
 use mathlib.Core.Path.{◌≡◌, ap, ◌∙◌}
 use mathlib.Core.List.{List}
+use Rattle.std.specs.Prelude.{Option, None, Some}
 use native.Mathlib.Nat.{mul-le-mul, mul-le-mul_right}
 use native.Mathlib.Omega.{arith}
 use lib.Dec.{ltb, leb}
@@ -18,8 +19,6 @@ use Rattle.tally.specs.declared.afresh.Fresh.{Fresh}
 use Rattle.tally.proofs.CountCases.{can_count_iff}
 use Rattle.moves.specs.declared.steps.Reached.{Reached}
 use Rattle.moves.proofs.MoveLoop.{move_looks_le}
-use Rattle.sweep.specs.declared.verifying.LastVerified.{LastVerified}
-use Rattle.sweep.specs.declared.verifying.LastVerified.TheVariants.{Nothing, At}
 use Rattle.sweep.specs.Sweeps.{moved_to, tally_by, IsCountedTo, IsTalliedBy}
 
 -- The looks of a fresh count for the longest ring.
@@ -38,22 +37,22 @@ module _ (ring : List ℕ) {doubled : List ℕ} {p : Parts} {i : ℕ} {old : Lis
   -- The window at i is counted afresh.
   module _ {new : List ℕ} {z : Least} (counted : IsCountedTo (length ring) doubled p i old new z) where
     -- If there is no earlier tally, counting the window at start i afresh meets the contract of `verify`.
-    pub tallied_first : {last : LastVerified} → last ≡ Nothing → IsTalliedBy ring doubled p i last old new z
+    pub tallied_first : {last : Option LinePlace} → last ≡ None → IsTalliedBy ring doubled p i last old new z
     unfolding tally_by
     tallied_first none = record { is = rw none counted.is }
 
     -- If start i is not beyond the last verified one, counting its window afresh meets the contract of `verify`.
-    pub tallied_behind : {last : LastVerified} {from : LinePlace} → last ≡ At from → i ≤ from.0 → IsTalliedBy ring doubled p i last old new z
+    pub tallied_behind : {last : Option LinePlace} {from : LinePlace} → last ≡ Some from → i ≤ from.0 → IsTalliedBy ring doubled p i last old new z
     unfolding tally_by
     tallied_behind {from = from} after behind = record { is = rw (after, le-leb i from.0 behind) counted.is }
 
     -- If start i is s beyond the last verified one and 2·s > m, counting its window afresh meets the contract of `verify`.
-    pub tallied_far : {last : LastVerified} {from : LinePlace} → last ≡ At from → from.0 < i → length ring < 2 * (i - from.0) → IsTalliedBy ring doubled p i last old new z
+    pub tallied_far : {last : Option LinePlace} {from : LinePlace} → last ≡ Some from → from.0 < i → length ring < 2 * (i - from.0) → IsTalliedBy ring doubled p i last old new z
     unfolding tally_by
     tallied_far {from = from} after beyond far = record { is = rw (after, lt-leb i from.0 beyond, lt-ltb (length ring) (2 * (i - from.0)) far) counted.is }
 
   -- If the start is s beyond the last verified one and 2·s ≤ m, moving the tally s steps meets the contract of `verify`.
-  pub tallied_moved : {last : LastVerified} {from : LinePlace} {new : List ℕ} {r : Reached} → last ≡ At from → from.0 < i → 2 * (i - from.0) ≤ length ring
+  pub tallied_moved : {last : Option LinePlace} {from : LinePlace} {new : List ℕ} {r : Reached} → last ≡ Some from → from.0 < i → 2 * (i - from.0) ≤ length ring
       → IsMoved ring p from.0 (i - from.0) 0 old new r → IsTalliedBy ring doubled p i last old new (record { least = r.least; looks = r.looks })
   unfolding tally_by moved_to
   tallied_moved {from = from} after beyond near moved = record {
@@ -80,10 +79,10 @@ module _ (ring doubled : List ℕ) (p : Parts) (i : ℕ) (old : List ℕ) where
       (λ _. omega arith)
 
   -- For a ring of at most 256 edges, no verification takes more than 256·256 looks.
-  pub tally_looks_lem : (last : LastVerified) → m ≤ most_counts → (tally_by ring doubled p i last old).looks ≤ most_tally
+  pub tally_looks_lem : (last : Option LinePlace) → m ≤ most_counts → (tally_by ring doubled p i last old).looks ≤ most_tally
   unfolding tally_by
-  tally_looks_lem Nothing most = afresh_looks_lem (window_of m p i)
-  tally_looks_lem (At from) most =
+  tally_looks_lem None most = afresh_looks_lem (window_of m p i)
+  tally_looks_lem (Some from) most =
       by_test (λ (t : TallyResult). t.looks ≤ most_tally) (leb i from.0)
       (λ _. afresh_looks_lem (window_of m p i))
       (λ _. by_test (λ (t : TallyResult). t.looks ≤ most_tally) (ltb m (2 * (i - from.0)))

@@ -9,7 +9,7 @@
 --   can_sweep, CanSweep       whether the sweep can go on: the test, and the same as facts
 --   IsSweptBy                 the contract of `sweep_on`
 --   IsCountedTo, IsTalliedBy, IsSweptTo   the contracts of `verify_afresh`, `verify` and `to_candidate`
-use Rattle.std.specs.Prelude.{ℕ, ◌+◌, ◌-◌, ◌*◌, ◌^◌, ◌≤◌, ◌≡◌, Bool, cond, ◌&&◌, List, ltb, leb, length}
+use Rattle.std.specs.Prelude.{ℕ, ◌+◌, ◌-◌, ◌*◌, ◌^◌, ◌≤◌, ◌≡◌, Bool, cond, ◌&&◌, List, Option, None, Some, ltb, leb, length}
 use Rattle.findings.specs.declared.searching.Finding.{Finding as FindingStruct}
 use Rattle.occurrences.specs.EdgeVectors.{EdgeVectors}
 use Rattle.windows.specs.Windows.{Parts, window_of, whole_line}
@@ -17,15 +17,14 @@ use Rattle.tally.specs.Counts.{most_counts, finding_with, TallyResult, counted_t
 use Rattle.findings.specs.Limits.{most_places}
 use Rattle.moves.specs.Moves.{CountsAt, moved_from}
 use Rattle.tally.specs.declared.counts.Least.{Least}
-use Rattle.sweep.specs.declared.verifying.LastVerified.{LastVerified}
-use Rattle.sweep.specs.declared.verifying.LastVerified.TheVariants.{Nothing, At}
+use Rattle.answers.specs.declared.places.LinePlace.{LinePlace}
 use Rattle.sweep.specs.declared.sweeping.Sweep.{Sweep}
 use Rattle.sweep.specs.declared.sweeping.Swept.{Swept}
 use Rattle.sweep.specs.declared.sweeping.Swept.TheVariants.{Ended, NoFinding, Found}
 use Rattle.sweep.specs.declared.sweeping.WindowsRead.{WindowsRead}
 use Rattle.sweep.specs.Reads.{windows_by, CanReadWindows}
 
--- The tally moved s steps from start `from` by `move_counts`. The bound is 0, and no least count is below 0, so no move ends early.
+-- The tally moved s steps from start `from` by `move_tally`. The bound is 0, and no least count is below 0, so no move ends early.
 unfoldable pub moved_to : List ℕ → Parts → ℕ → ℕ → List ℕ → TallyResult
 moved_to ring p from s old =
     let to : CountsAt = moved_from ring p from s 0 old in
@@ -33,9 +32,9 @@ moved_to ring p from s old =
 
 -- Start i verified, after the last verified start if there is one. Rule 5: "With no earlier tally, or if the new start is s beyond the last verified one and
 -- 2·s > m, it is counted afresh: m·m looks. Otherwise it moves s steps". The rules never go back; here a start that is not beyond the last one is counted afresh.
-unfoldable pub tally_by : List ℕ → List ℕ → Parts → ℕ → LastVerified → List ℕ → TallyResult
-tally_by ring doubled p i Nothing old = counted_to doubled (window_of (length ring) p i) old
-tally_by ring doubled p i (At from) old =
+unfoldable pub tally_by : List ℕ → List ℕ → Parts → ℕ → Option LinePlace → List ℕ → TallyResult
+tally_by ring doubled p i None old = counted_to doubled (window_of (length ring) p i) old
+tally_by ring doubled p i (Some from) old =
     let afresh : TallyResult = counted_to doubled (window_of (length ring) p i) old in
     let moved : TallyResult = moved_to ring p from.0 (i - from.0) old in
     let beyond : TallyResult = cond (ltb (length ring) (2 * (i - from.0))) afresh moved in
@@ -52,7 +51,7 @@ sweep_by ring doubled table p k at old =
     let read : WindowsRead = windows_by ring table p k at.start.0 in
     let looks : ℕ = at.looks + read.looks in
     let tally : TallyResult = tally_by ring doubled p read.start.0 at.last old in
-    let next : Sweep = record { start = read.next; last = At read.start; looks = looks + tally.looks } in
+    let next : Sweep = record { start = read.next; last = Some read.start; looks = looks + tally.looks } in
     let finding : FindingStruct = finding_with (length ring) tally.counts read.start tally.least in
     let ended : SweepResult = record { swept = Ended (record { start = read.start; last = at.last; looks = looks }); counts = old } in
     let none : SweepResult = record { swept = NoFinding next; counts = tally.counts } in
@@ -81,7 +80,7 @@ pub record IsCountedTo (m : ℕ) (doubled : List ℕ) (p : Parts) (i : ℕ) (old
   pub is : record { counts = new; least = z.least; looks = z.looks } ≡ counted_to doubled (window_of m p i) old
 
 -- The contract of `verify`: the counts at exit, their least and the looks are those of `tally_by`.
-pub record IsTalliedBy (ring doubled : List ℕ) (p : Parts) (i : ℕ) (last : LastVerified) (old new : List ℕ) (z : Least) : Type 0 where
+pub record IsTalliedBy (ring doubled : List ℕ) (p : Parts) (i : ℕ) (last : Option LinePlace) (old new : List ℕ) (z : Least) : Type 0 where
   pub is : record { counts = new; least = z.least; looks = z.looks } ≡ tally_by ring doubled p i last old
 
 -- What `can_sweep` tests, as facts; the precondition of `to_candidate`.

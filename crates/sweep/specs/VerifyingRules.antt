@@ -11,13 +11,12 @@ use Rattle.meaning.specs.Meanings.{FitsInLine}
 use Rattle.tally.specs.Counts.{IsDoubled}
 use Rattle.tally.specs.Tallied.{Tallied, CanTally}
 use Rattle.findings.specs.Limits.{most_places}
-use Rattle.sweep.specs.declared.verifying.LastVerified.{LastVerified}
-use Rattle.sweep.specs.declared.verifying.LastVerified.TheVariants.{Nothing, At}
+use Rattle.answers.specs.declared.places.LinePlace.{LinePlace}
 
 -- The last verified start as a number, if there is one.
-abbrev pub last_start : LastVerified → Option ℕ
-last_start Nothing = None
-last_start (At start) = Some start.0
+abbrev pub last_start : Option LinePlace → Option ℕ
+last_start None = None
+last_start (Some start) = Some start.0
 
 -- If there is a last verified start, it is before i and the counts are its tally. If there is none, the counts may hold anything.
 abbrev pub TalliedBefore : List ℕ → List ℕ → ℕ → List ℕ → Option ℕ → Type 0

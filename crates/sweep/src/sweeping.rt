@@ -1,5 +1,5 @@
-// The sweep goes from candidate to candidate. Its state is small and is passed by value; the counts and the ring's
-// vectors are lent beside it.
+// The sweep goes from candidate to candidate. Its state is small and is passed by value; the tally and the ring's vectors
+// are lent beside it.
 ghost use Rattle.std.specs.Prelude.{◌≡◌, length};
 ghost use Rattle.occurrences.specs.EdgeVectors.{edge_vectors};
 ghost use Rattle.windows.specs.Windows.{parts, whole_length};
@@ -7,23 +7,24 @@ ghost use Rattle.sweep.specs.Reads.{CanReadWindows, windows_by};
 ghost use Rattle.sweep.specs.Sweeps.{can_sweep, CanSweep, IsSweptTo, IsSweptBy};
 
 use crate::reading::read_window;
-use crate::verifying::{LastVerified, verify};
+use crate::verifying::verify;
 use answers::LinePlace;
 use findings::Finding;
 use moves::MOST_PLACES;
 use occurrences::{KEPT_WORDS, SLOTS};
-use tally::{MOST_COUNTS, finding_at};
+use tally::{MOST_COUNTS, Tally};
 use windows::{whole_length, window};
 
 // More looks than any sweep takes. As long as the looks so far are at most this, those of the next windows can be added
 // without overflow.
 const MOST_LOOKS: usize = 1 << 62;
 
-// Where a sweep stands: the start of the window to be read next, the last verified start, the looks so far.
+// Where a sweep stands: the start of the window to be read next, the last verified start if there is one, the looks so
+// far.
 #[derive(Clone, Copy)]
 pub struct Sweep {
     pub start: LinePlace,
-    pub last: LastVerified,
+    pub last: Option<LinePlace>,
     pub looks: usize,
 }
 
@@ -101,10 +102,10 @@ fn to_candidate<'a>(
     line: &'a [u8],
     join: &'a [u8],
     k: usize,
-    counts: &mut [u16; MOST_COUNTS],
+    tally: &mut Tally,
 ) -> Swept
     requires { CanSweep (length ring.now) (whole_length (length ring.now) line.now join.now) at.start.0 at.looks }
-    ensures { IsSweptTo ring.now doubled.now (edge_vectors slots.now kept.now) (parts line.now join.now) k at counts.old counts.new result }
+    ensures { IsSweptTo ring.now doubled.now (edge_vectors slots.now kept.now) (parts line.now join.now) k at tally.old.counts tally.new.counts result }
 {
     let last = at.last;
     let read = read_windows(ring, slots, kept, line, join, k, at.start);
@@ -113,38 +114,27 @@ fn to_candidate<'a>(
     if !read.candidate {
         return Swept::Ended(Sweep { start, last, looks });
     }
-    let verified = verify(counts, ring, doubled, line, join, start, last);
+    let verified = verify(tally, ring, doubled, line, join, start, last);
     let after = read.next;
     let next = Sweep {
         start: after,
-        last: LastVerified::At(start),
+        last: Some(start),
         looks: looks + verified.looks,
     };
     let least = verified.least;
     if k < least {
         return Swept::NoFinding(next);
     }
-    Swept::Found(next, finding_at(counts, ring.len(), start, least))
+    Swept::Found(next, tally.finding_at(ring.len(), start, least))
 }
 
 // Whether a sweep can go on from `start` with `taken` looks so far: m is 1 to 256, n is below 2^32, the start is at most
 // n + 1, and the looks are at most 2^62.
+#[tactic(auto, unfolding(crate::specs::Sweeps::can_sweep))]
 fn can_sweep(m: usize, n: usize, start: LinePlace, taken: usize) -> bool
     ensures { result ≡ can_sweep m n start.0 taken }
 {
-    if m == 0 {
-        return false;
-    }
-    if MOST_COUNTS < m {
-        return false;
-    }
-    if MOST_PLACES <= n {
-        return false;
-    }
-    if n + 1 < start.0 {
-        return false;
-    }
-    taken <= MOST_LOOKS
+    0 < m && m <= MOST_COUNTS && n < MOST_PLACES && start.0 <= n + 1 && taken <= MOST_LOOKS
 }
 
 // Sweeps to the next candidate, on every input. A sweep that cannot go on ends where it is, and no count changes.
@@ -157,13 +147,13 @@ pub fn sweep_on<'a>(
     line: &'a [u8],
     join: &'a [u8],
     k: usize,
-    counts: &mut [u16; MOST_COUNTS],
+    tally: &mut Tally,
 ) -> Swept
-    ensures { IsSweptBy ring.now doubled.now (edge_vectors slots.now kept.now) (parts line.now join.now) k at counts.old counts.new result }
+    ensures { IsSweptBy ring.now doubled.now (edge_vectors slots.now kept.now) (parts line.now join.now) k at tally.old.counts tally.new.counts result }
 {
     let m = ring.len();
     if !can_sweep(m, whole_length(line, join, m), at.start, at.looks) {
         return Swept::Ended(at);
     }
-    to_candidate(at, ring, doubled, slots, kept, line, join, k, counts)
+    to_candidate(at, ring, doubled, slots, kept, line, join, k, tally)
 }

@@ -5,29 +5,22 @@ ghost use Rattle.windows.specs.Windows.{parts};
 ghost use Rattle.sweep.specs.Sweeps.{IsCountedTo, IsTalliedBy};
 
 use answers::LinePlace;
-use moves::move_counts;
-use tally::{Least, MOST_COUNTS, count_afresh};
+use moves::move_tally;
+use tally::{Least, Tally};
 use windows::window;
-
-// The last verified start, if there is one.
-#[derive(Clone, Copy)]
-pub enum LastVerified {
-    Nothing,
-    At(LinePlace),
-}
 
 // Counts the window at a start afresh. Which of its edges are marks is of no use here: a candidate's window holds none.
 fn verify_afresh<'a>(
-    counts: &mut [u16; MOST_COUNTS],
+    tally: &mut Tally,
     doubled: &[u8],
     line: &'a [u8],
     join: &'a [u8],
     start: LinePlace,
     m: usize,
 ) -> Least
-    ensures { IsCountedTo m doubled.now (parts line.now join.now) start.0 counts.old counts.new result }
+    ensures { IsCountedTo m doubled.now (parts line.now join.now) start.0 tally.old.counts tally.new.counts result }
 {
-    let fresh = count_afresh(counts, doubled, window(line, join, start, m));
+    let fresh = tally.count_afresh(doubled, window(line, join, start, m));
     Least {
         least: fresh.least,
         looks: fresh.looks,
@@ -38,30 +31,30 @@ fn verify_afresh<'a>(
 // it is counted afresh: m·m looks. Otherwise it moves s steps". The rules never go back; a start that is not beyond the
 // last verified one is counted afresh here.
 pub fn verify<'a>(
-    counts: &mut [u16; MOST_COUNTS],
+    tally: &mut Tally,
     ring: &[u8],
     doubled: &[u8],
     line: &'a [u8],
     join: &'a [u8],
     start: LinePlace,
-    last: LastVerified,
+    last: Option<LinePlace>,
 ) -> Least
     requires { start.0 ≤ most_places }
-    ensures { IsTalliedBy ring.now doubled.now (parts line.now join.now) start.0 last counts.old counts.new result }
+    ensures { IsTalliedBy ring.now doubled.now (parts line.now join.now) start.0 last tally.old.counts tally.new.counts result }
 {
     let m = ring.len();
     match last {
-        LastVerified::Nothing => verify_afresh(counts, doubled, line, join, start, m),
-        LastVerified::At(from) => {
+        None => verify_afresh(tally, doubled, line, join, start, m),
+        Some(from) => {
             if start.0 <= from.0 {
-                return verify_afresh(counts, doubled, line, join, start, m);
+                return verify_afresh(tally, doubled, line, join, start, m);
             }
             let s = start.0 - from.0;
             if m < 2 * s {
-                verify_afresh(counts, doubled, line, join, start, m)
+                verify_afresh(tally, doubled, line, join, start, m)
             } else {
                 // The bound is 0, and no least count is below 0, so the tally moves all s steps.
-                let reached = move_counts(counts, ring, line, join, from, s, 0);
+                let reached = move_tally(tally, ring, line, join, from, s, 0);
                 Least {
                     least: reached.least,
                     looks: reached.looks,

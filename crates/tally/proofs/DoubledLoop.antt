@@ -2,22 +2,24 @@
 -- for s below m this is s, and for s from m on it is s − m.
 use Prim.Native.Nat.{ℕ, ◌+◌, ◌-◌, ◌*◌, ◌%◌, ◌≤◌, ◌<◌}
 use mathlib.Core.Path.{◌≡◌, refl, sym, ap, ◌∙◌}
-use mathlib.Core.List.{List}
+use mathlib.Core.List.{List, ◌++◌}
 use mathlib.Core.Logic.{dite}
 use native.Mathlib.Nat.{mod-eq_of_lt, add-mod_left}
 use native.Mathlib.Decide.{dec_lt, ℕ_discrete}
 use native.Mathlib.Omega.{arith}
 use lib.Dec.{ltb}
-use lib.ListN.{length, get_or, set, length-set, replicate, length-replicate, get_or-replicate}
+use lib.ListN.{length, drop, get_or, set, length-set, replicate, length-replicate, get_or-replicate}
 use lib.Seq.{get_or-set_same, get_or-set_other}
 use borrow.Author.Tests.{ltb-true, ltb-false, lt-ltb, le-leb, lt-leb}
+use borrow.Rule.Slice.PartMut.{put_mid, post_of}
+use Rattle.std.proofs.Common.{rules}
+use Rattle.std.proofs.lemmas.List.{places, take_at, drop_at, length-append, length-drop, get_or-drop, get_or-append_right}
 use Rattle.lists.proofs.Cases.{by_test}
 use Rattle.tally.specs.Counts.{most_counts, doubled_edge, IsDoubled}
 use Rattle.lists.proofs.ByPlace.{list_of_is, list_of_at, list_of_length}
 
 -- The invariant before turn p: in both rings the edges below p are stored, and past 2·m all is 0.
 pub record Doubling (ring doubled : List ℕ) (p : ℕ) : Type 0 where
-  pub turn_le : p ≤ length ring
   pub size : length doubled ≡ 2 * most_counts
   pub first : (s : ℕ) → s < p → get_or doubled s 0 ≡ get_or ring s 0
   pub second : (s : ℕ) → s < p → get_or doubled (length ring + s) 0 ≡ get_or ring s 0
@@ -36,36 +38,24 @@ module _ (ring : List ℕ) where
   }
 
   module _ (most : m ≤ most_counts) where
-    -- Before the first turn nothing is stored.
-    pub doubling_start : Doubling ring (replicate (2 * most_counts) 0) 0
-    doubling_start = record {
-      turn_le = omega arith;
-      size = length-replicate {A = ℕ} (2 * most_counts) 0;
-      first = λ s l. absurd (omega arith);
-      second = λ s l. absurd (omega arith);
-      past = λ s l below. get_or-replicate (2 * most_counts) s 0 0 below;
-    }
-
-    -- A turn stores the edge at p in both rings.
-    pub doubling_turn : (doubled : List ℕ) (p : ℕ) → Doubling ring doubled p → p < m
-        → Doubling ring (set (set doubled p (get_or ring p 0)) (m + p) (get_or ring p 0)) (p + 1)
-    doubling_turn doubled p known h =
-        let edge : ℕ = get_or ring p 0 in
-        let once : List ℕ = set doubled p edge in
-        let size : length once ≡ 2 * most_counts = length-set doubled p edge ∙ known.size in
-        let others : (s : ℕ) → (s ≡ p → ⊥) → (s ≡ m + p → ⊥) → get_or (set once (m + p) edge) s 0 ≡ get_or doubled s 0 =
-        λ s not_first not_second. get_or-set_other once (m + p) s edge 0 not_second ∙ get_or-set_other doubled p s edge 0 not_first in
-        record {
-          turn_le = omega arith;
-          size = length-set once (m + p) edge ∙ size;
-          first = λ s l. dite (ℕ_discrete s p)
-              (λ here. rw here (get_or-set_other once (m + p) p edge 0 (λ e. omega arith) ∙ get_or-set_same doubled p edge 0 (omega (arith, known.size))))
-              (λ other. others s other (λ e. omega arith) ∙ known.first s (omega (arith, other)));
-          second = λ s l. dite (ℕ_discrete s p)
-              (λ here. rw here (get_or-set_same once (m + p) edge 0 (omega arith)))
-              (λ other. others (m + s) (λ e. omega arith) (λ e. other (omega arith)) ∙ known.second s (omega (arith, other)));
-          past = λ s l below. others s (λ e. omega arith) (λ e. omega arith) ∙ known.past s l below;
-        }
+    -- The ring copied to the first m places and to the next m, over zeros.
+    pub doubling_copied : {first second : List ℕ} → first ≡ ring → second ≡ ring
+        → Doubling ring (put_mid m (2 * m - m) (first ++ post_of 0 m (replicate (2 * most_counts) 0)) second) m
+    doubling_copied one two =
+        let zeros = replicate {A = ℕ} (2 * most_counts) 0 in
+        let behind = post_of 0 m zeros in
+        let tail = drop (2 * m - m) behind in
+        let size : length (ring ++ (ring ++ tail)) ≡ 2 * most_counts = omega (arith, length-append ring (ring ++ tail), length-append ring tail, length-drop (2 * m - m) behind, length-drop m zeros, length-replicate {A = ℕ} (2 * most_counts) 0) in
+        rw (one, two, take_at ring behind m refl, drop_at ring behind m refl) (record {
+          size = size;
+          first = λ s l. search (rules, places);
+          second = λ s l. search (rules, places);
+          past = λ s l below.
+          get_or-append_right ring (ring ++ tail) m s 0 refl (omega arith) ∙ get_or-append_right ring tail m (s - m) 0 refl (omega arith)
+              ∙ get_or-drop (2 * m - m) behind (s - m - m) 0
+              ∙ get_or-drop m zeros (2 * m - m + (s - m - m)) 0
+              ∙ get_or-replicate (2 * most_counts) (m + (2 * m - m + (s - m - m))) 0 0 (omega arith);
+        })
 
     -- After the last turn the edge at s is the ring's at s mod m.
     edge_in : (doubled : List ℕ) (p : ℕ) → Doubling ring doubled p → m ≤ p → (s : ℕ) → s < 2 * m → get_or doubled s 0 ≡ get_or ring (s % m) 0

@@ -1,10 +1,11 @@
--- The least of the first r counts, found by a loop that passes over them. The least begins with a number `top`. A turn takes the count at r if it is less, else it
--- keeps the least. At the end the least is still `top`, or it is one of the counts; if it is `top`, the caller shows that the first count equals it. A loop may also
--- store the count at r in the same turn (the laws with `-stored-`).
-use Prim.Native.Nat.{ℕ, ◌+◌, ◌≤◌, ◌<◌}
-use mathlib.Core.Path.{◌≡◌, refl, ◌∙◌}
+-- The least of the first r counts, found by a loop that passes over them. The least begins with a number `top`. A turn takes the lower of the least and the count
+-- at r. At the end the least is still `top`, or it is one of the counts; if it is `top`, the caller shows that the first count equals it. A loop may also
+-- store the count at r in the same turn (`least_so_far_stored`).
+use Prim.Native.Nat.{ℕ, ◌+◌, ◌≤◌, ◌<◌, min}
+use mathlib.Core.Path.{◌≡◌, refl, sym, ◌∙◌}
 use mathlib.Core.List.{List}
-use mathlib.Core.Logic.{◌⊎◌, inl, inr, ⊎_elim}
+use mathlib.Core.Logic.{◌⊎◌, inl, inr, ⊎_elim, dite}
+use native.Mathlib.Decide.{dec_lt}
 use native.Mathlib.Omega.{arith}
 use lib.ListN.{length, get_or, set}
 use lib.Seq.{get_or-set_same, get_or-set_other}
@@ -30,21 +31,27 @@ pub least_so_far_first : (counts : List ℕ) → LeastSoFar (get_or counts 0 0) 
 least_so_far_first counts = record { top_le = omega arith; le = λ s l. let first : s ≡ 0 = omega arith in rw first (omega arith); reached = inl refl }
 
 module _ {top : ℕ} {counts : List ℕ} {least r : ℕ} (known : LeastSoFar top counts least r) where
-  -- If the count at r is less, the turn takes it.
-  pub least_so_far_less : get_or counts r 0 < least → LeastSoFar top counts (get_or counts r 0) (r + 1)
+  -- If the count at r is less, it is the least so far after turn r.
+  least_so_far_less : get_or counts r 0 < least → LeastSoFar top counts (get_or counts r 0) (r + 1)
   least_so_far_less less = record {
     top_le = omega (arith, known.top_le);
     le = below_more _ _ (λ s l. omega (arith, known.le s l)) (omega arith);
     reached = inr (r, omega arith, omega arith);
   }
 
-  -- If the count at r is not less, the turn keeps the least.
-  pub least_so_far_kept : least ≤ get_or counts r 0 → LeastSoFar top counts least (r + 1)
+  -- If the count at r is not less, the least is kept.
+  least_so_far_kept : least ≤ get_or counts r 0 → LeastSoFar top counts least (r + 1)
   least_so_far_kept kept = record {
     top_le = known.top_le;
     le = below_more _ _ known.le kept;
     reached = ⊎_elim inl (λ there. inr (there.0, omega (arith, there.1), there.2)) known.reached;
   }
+
+  -- A turn takes the lower of the least and the count at r.
+  pub least_so_far_turn : {count : ℕ} → count ≡ get_or counts r 0 → LeastSoFar top counts (min least count) (r + 1)
+  least_so_far_turn {count} here = dite (dec_lt count least)
+      (λ less. let is : min least count ≡ get_or counts r 0 = omega (arith, here, less) in rw is (least_so_far_less (omega (arith, here, less))))
+      (λ kept. let is : min least count ≡ least = omega (arith, kept) in rw is (least_so_far_kept (omega (arith, here, kept))))
 
   -- Storing a number at r does not change the least of the first r counts.
   stored_after : (v : ℕ) → LeastSoFar top (set counts r v) least r
@@ -62,16 +69,7 @@ module _ {top : ℕ} {counts : List ℕ} {least r : ℕ} (known : LeastSoFar top
       let there : IsAmong counts least r = ⊎_elim (λ is. (0, omega arith, first is)) (λ is. is) known.reached in
       record { le = λ s l. known.le s (omega arith); place = there.0; place_lt = omega (arith, there.1); is = there.2 }
 
--- The same turns for a loop that first stores a count v at r.
-module _ {top : ℕ} {counts : List ℕ} {least r v : ℕ} (known : LeastSoFar top counts least r) (room : r < length counts) where
-  -- If the count v stored at r is less than the least, the turn takes it.
-  pub least_so_far_stored_less : v < least → LeastSoFar top (set counts r v) v (r + 1)
-  least_so_far_stored_less less =
-      let here : get_or (set counts r v) r 0 ≡ v = get_or-set_same counts r v 0 room in
-      rw here at (least_so_far_less (stored_after known v) (omega arith))
-
-  -- If the count v stored at r is not less than the least, the turn keeps the least.
-  pub least_so_far_stored_kept : least ≤ v → LeastSoFar top (set counts r v) least (r + 1)
-  least_so_far_stored_kept kept =
-      let here : get_or (set counts r v) r 0 ≡ v = get_or-set_same counts r v 0 room in
-      least_so_far_kept (stored_after known v) (omega arith)
+-- The same turn for a loop that first stores the count at r.
+pub least_so_far_stored : {top : ℕ} {counts : List ℕ} {least r : ℕ} (count : ℕ) → LeastSoFar top counts least r → r < length counts
+    → LeastSoFar top (set counts r count) (min least count) (r + 1)
+least_so_far_stored {counts = counts} {r = r} count known room = least_so_far_turn (stored_after known count) (sym (get_or-set_same counts r count 0 room))

@@ -7,7 +7,11 @@ use mathlib.Core.Logic.{dite}
 use native.Mathlib.Nat.{zero-add}
 use native.Mathlib.Decide.{ℕ_discrete}
 use native.Mathlib.Omega.{arith}
-use lib.ListN.{get_or}
+use lib.ListN.{length, take, get_or}
+use Rattle.std.proofs.lemmas.List.{length-take, get_or-take}
+use Rattle.std.specs.Prelude.{Option, None, Some, MatchOption}
+use Rattle.std.specs.List.{AllWithin, HoldsAt}
+use Rattle.std.specs.Option.{unwrap_or}
 use borrow.Author.Tests.{eq-eqb, ne_eqb}
 use Rattle.meaning.specs.Counting.{lowest}
 use Rattle.meaning.proofs.Lowest.{lowest_is}
@@ -35,9 +39,23 @@ module _ (counts : List ℕ) (least : ℕ) where
       lowest_after n 0 d le (λ s _ l. none s (omega arith)) (λ l. rw (zero-add d) (has l)) ∙ zero-add d
 
   -- If no rotation below r has the count, and r has it or is past the last rotation, then returning r meets the contract of `lowest_rotation`.
-  pub seeking_ends : {m all r : ℕ} → all ≡ min m most_counts → r ≤ all → ((s : ℕ) → s < r → get_or counts s 0 ≡ least → ⊥) → (r < all → get_or counts r 0 ≡ least)
+  seeking_ends : {m all r : ℕ} → all ≡ min m most_counts → r ≤ all → ((s : ℕ) → s < r → get_or counts s 0 ≡ least → ⊥) → (r < all → get_or counts r 0 ≡ least)
       → IsLowestWith m counts least r
   seeking_ends {m} {all} {r} all_is le none has = record { is = sym (rw all_is at (lowest_first all r le none has)) }
+
+  -- So if `position` found r as the first place among the first m counts that has the count, or none, then r, or m if there is none, meets the contract of
+  -- `lowest_rotation`.
+  pub first_with : {m all : ℕ} (r : Option ℕ) → all ≡ min m most_counts → length counts ≡ most_counts
+      → MatchOption r (AllWithin (λ x. x ≡ least → ⊥) (take all counts) 0 (length (take all counts)))
+      (λ i. (i < length (take all counts)) × HoldsAt (λ x. x ≡ least) (take all counts) i × AllWithin (λ x. x ≡ least → ⊥) (take all counts) 0 i)
+      → IsLowestWith m counts least (unwrap_or r all)
+  first_with {all = all} None all_is size none =
+      seeking_ends all_is (omega arith)
+      (λ s l same. none s 0 (omega arith) (omega (arith, length-take all counts)) (get_or-take all counts s 0 l ∙ same)) (λ l. absurd (omega arith))
+  first_with {all = all} (Some i) all_is size found =
+      let below : i < all = omega (arith, found.0, length-take all counts) in
+      seeking_ends all_is (omega arith)
+      (λ s l same. found.2 s 0 (omega arith) l (get_or-take all counts s 0 (omega arith) ∙ same)) (λ l. sym (get_or-take all counts i 0 below) ∙ found.1 0)
 
   -- For m of at most 256 and the least of the first m counts, `lowest_with` is the lowest rotation at which the counts are least.
   pub lowest_least : {m : ℕ} → m ≤ most_counts → IsLeast m counts least → lowest_with m counts least ≡ lowest (λ r. get_or counts r 0) m

@@ -2,12 +2,15 @@
 -- are a start's tally and the given count is the least, these are the ties of that start.
 use Prim.Native.Nat.{ℕ, ◌+◌, ◌≤◌, ◌<◌, min}
 use mathlib.Core.Path.{◌≡◌, refl, ap, ◌∙◌}
+use mathlib.Core.Bool.{Bool, true, false}
 use mathlib.Core.List.{List}
 use native.Mathlib.Nat.{zero-add}
 use native.Mathlib.Numerals.{add-one}
 use native.Mathlib.Omega.{arith}
 use lib.Dec.{eqb}
-use lib.ListN.{length}
+use lib.ListN.{length, get_or, take}
+use mir.Val.{bool_byte}
+use Rattle.std.proofs.lemmas.List.{length-take, get_or-take}
 use borrow.Author.Tests.{lt-ltb, le-ltb}
 use Rattle.meaning.specs.Counting.{one_if, count}
 use Rattle.meaning.specs.Meanings.{reaches, rotations_reaching}
@@ -19,6 +22,17 @@ use Rattle.tally.specs.Tallied.{Tallied}
 pub record TiesSoFar (counts : List ℕ) (least ties r : ℕ) : Type 0 where
   pub ties_are : ties ≡ count (count_is counts least) 0 r
   pub ties_le : ties ≤ r
+
+-- The byte of a test is 1 if the test is true, else 0.
+byte_is : (b : Bool) → bool_byte b ≡ one_if b
+byte_is true = refl
+byte_is false = refl
+
+-- The comparison of the count at r, read from the first `all` counts, adds 1 if rotation r has the count.
+pub one_tie : (counts : List ℕ) (all least : ℕ) {wanted r one : ℕ} → r < length (take all counts) → wanted ≡ least
+    → one ≡ bool_byte (eqb (get_or (take all counts) r 0) wanted) → one ≡ one_if (count_is counts least r)
+one_tie counts all least {r = r} below same compared =
+    compared ∙ byte_is _ ∙ rw (get_or-take all counts r 0 (omega (arith, length-take all counts)), same) refl
 
 module _ {counts : List ℕ} {least : ℕ} where
   -- Before the first turn there are no ties.

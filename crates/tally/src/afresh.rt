@@ -3,7 +3,7 @@ ghost use Rattle.std.specs.Prelude.{◌≡◌, ℕ, ◌+◌, ◌*◌, ◌<◌, �
 ghost use Rattle.lists.specs.ByPlace.{StoredFirst};
 ghost use Rattle.tally.specs.Counts.{last_count, last_part_count, can_count, CanCount, IsDoubled, edge_counted, four_counted, CanCountOn, IsCountedOn, IsPartEnd, CanAddPart, IsCountedAfresh, IsCounted};
 
-use crate::counts::{MOST_COUNTS, clear, count_value, differing, least_of};
+use crate::counts::{MOST_COUNTS, Tally, clear, differing, least_of};
 use crate::marks::past_mark;
 use answers::{LinePlace, RingPlace, to_ring};
 
@@ -25,13 +25,8 @@ pub fn double(ring: &[u8], doubled: &mut [u8; DOUBLED])
     if MOST_COUNTS < m {
         return;
     }
-    let mut p = 0;
-    while p < m {
-        let edge = ring[p];
-        doubled[p] = edge;
-        doubled[m + p] = edge;
-        p += 1;
-    }
+    doubled[..m].copy_from_slice(ring);
+    doubled[m..2 * m].copy_from_slice(ring);
 }
 
 // Compares one window edge with every rotation's edge over it and counts the differences, in the counts of a part.
@@ -48,11 +43,9 @@ fn count_edge(
 {
     let first = place.0;
     let mut looks: usize = 0;
-    let mut r = 0;
-    while r < m {
-        part[r] = part[r] + differing(edge, doubled[first + r]);
+    for r in 0..m {
+        part[r] += differing(edge, doubled[first + r]);
         looks += 1; // one look
-        r += 1;
     }
     looks
 }
@@ -75,8 +68,7 @@ fn count_four(
 {
     let first = place.0;
     let mut looks: usize = 0;
-    let mut r = 0;
-    while r < m {
+    for r in 0..m {
         let at_a = differing(a, doubled[first + r]);
         looks += 1; // one look, at the first edge
         let at_b = differing(b, doubled[first + 1 + r]);
@@ -85,8 +77,7 @@ fn count_four(
         looks += 1; // one look, at the third edge
         let at_d = differing(d, doubled[first + 3 + r]);
         looks += 1; // one look, at the fourth edge
-        part[r] = part[r] + (at_a + at_b + at_c + at_d);
-        r += 1;
+        part[r] += at_a + at_b + at_c + at_d;
     }
     looks
 }
@@ -146,11 +137,7 @@ fn part_end(from: usize, m: usize) -> usize
     requires { from < m }
     ensures { IsPartEnd from m result }
 {
-    if m - from < PART_EDGES {
-        m
-    } else {
-        from + PART_EDGES
-    }
+    from + PART_EDGES.min(m - from)
 }
 
 // Adds a part's counts of m rotations to the counts of the parts before it.
@@ -158,11 +145,8 @@ fn add_part(counts: &mut [u16; MOST_COUNTS], part: &[u8; MOST_COUNTS], m: usize)
     requires { CanAddPart m counts.old part.now }
     ensures { StoredFirst m (λ r. get_or counts.old r 0 + get_or part.now r 0) counts.old counts.new }
 {
-    let mut r = 0;
-    while r < m {
-        let earlier = counts[r];
-        counts[r] = earlier + part[r] as u16;
-        r += 1;
+    for r in 0..m {
+        counts[r] += u16::from(part[r]);
     }
 }
 
@@ -225,40 +209,34 @@ fn count_edges(counts: &mut [u16; MOST_COUNTS], doubled: &[u8], window: &[u8]) -
         past = counted.past;
         q += counted.edges;
     }
-    let least = count_value(least_of(counts, m));
+    let least = usize::from(least_of(counts, m));
     Fresh { least, looks, past }
 }
 
 // Whether a window of m edges can be counted: m is 1 to 256, `room` counts are enough for m rotations, and `long` edges
 // of the doubled ring are enough for 2·m. There are always 256 counts; their number is a parameter because a contract
 // does not know the length of a lent array.
+#[tactic(auto, unfolding(crate::specs::Counts::can_count))]
 fn can_count(m: usize, room: usize, long: usize) -> bool
     ensures { result ≡ can_count m room long }
 {
-    if m == 0 {
-        return false;
-    }
-    if MOST_COUNTS < m {
-        return false;
-    }
-    if room < m {
-        return false;
-    }
-    2 * m <= long
+    0 < m && m <= MOST_COUNTS && m <= room && 2 * m <= long
 }
 
-// Counts the tally of a window: its edges are compared with those of every rotation. If the window cannot be counted,
-// no count changes and no look is taken.
-pub fn count_afresh(counts: &mut [u16; MOST_COUNTS], doubled: &[u8], window: &[u8]) -> Fresh
-    ensures { IsCounted doubled.now window.now counts.old counts.new result }
-{
-    let all = &counts[..];
-    if !can_count(window.len(), all.len(), doubled.len()) {
-        return Fresh {
-            least: 0,
-            looks: 0,
-            past: 0,
-        };
+impl Tally {
+    // Counts the tally of a window: its edges are compared with those of every rotation. If the window cannot be
+    // counted, no count changes and no look is taken.
+    pub fn count_afresh(&mut self, doubled: &[u8], window: &[u8]) -> Fresh
+        ensures { IsCounted doubled.now window.now self.old.counts self.new.counts result }
+    {
+        let all = &self.counts[..];
+        if !can_count(window.len(), all.len(), doubled.len()) {
+            return Fresh {
+                least: 0,
+                looks: 0,
+                past: 0,
+            };
+        }
+        count_edges(&mut self.counts, doubled, window)
     }
-    count_edges(counts, doubled, window)
 }

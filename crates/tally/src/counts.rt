@@ -1,9 +1,8 @@
 // Counts of differing edges, one for each rotation. A tally's count is at most 256, one more than eight bits hold, so
 // it is a u16.
-ghost use Rattle.std.specs.Prelude.{◌≡◌, min, eqb, length};
-ghost use Rattle.meaning.specs.Counting.{one_if};
+ghost use Rattle.std.specs.Prelude.{◌≡◌, eqb, length};
 ghost use Rattle.lists.specs.ByPlace.{StoredFirst};
-ghost use Rattle.tally.specs.Counts.{most_counts, IsComparison, IsFindingAt, HasCounts, IsLeast, IsLowestWith, IsTies};
+ghost use Rattle.tally.specs.Counts.{IsComparison, IsFindingAt, HasCounts, IsLeast, IsLowestWith, IsTies};
 
 use answers::{LinePlace, RingPlace};
 use findings::{Finding, MOST_RING};
@@ -11,8 +10,12 @@ use findings::{Finding, MOST_RING};
 // One count for each rotation of the longest ring.
 pub const MOST_COUNTS: usize = MOST_RING;
 
-// The largest number that a count can hold.
-const LAST_COUNT: usize = 65535;
+// The tally of rule 5: one count for each rotation. A ring of m edges has its counts at the first m places. It is lent
+// from the top of a search down to the one function that moves it, so that no copy of it is made.
+#[derive(Clone, Copy)]
+pub struct Tally {
+    pub counts: [u16; MOST_COUNTS],
+}
 
 // The least of a start's counts, and the looks taken to compute them.
 #[derive(Clone, Copy)]
@@ -26,15 +29,7 @@ pub struct Least {
 pub fn differing(a: u8, b: u8) -> u8
     ensures { IsComparison a b result }
 {
-    if a == b { 0 } else { 1 }
-}
-
-// A sixteen-bit number as a usize: a count, which is compared with the allowance and becomes the distance of a finding,
-// or the number of ties.
-pub fn count_value(count: u16) -> usize
-    ensures { result ≡ count }
-{
-    count as usize
+    u8::from(a != b)
 }
 
 // Sets the counts of m rotations to 0.
@@ -42,11 +37,7 @@ pub fn clear(counts: &mut [u16; MOST_COUNTS], m: usize)
     requires { HasCounts m (length counts.old) }
     ensures { StoredFirst m (λ _. 0) counts.old counts.new }
 {
-    let mut r = 0;
-    while r < m {
-        counts[r] = 0;
-        r += 1;
-    }
+    counts[..m].fill(0);
 }
 
 // The least of the first m counts.
@@ -55,22 +46,10 @@ pub fn least_of(counts: &[u16; MOST_COUNTS], m: usize) -> u16
     ensures { IsLeast m counts.now result }
 {
     let mut least = counts[0];
-    let mut r = 1;
-    while r < m {
-        let count = counts[r];
-        if count < least {
-            least = count;
-        }
-        r += 1;
+    for count in &counts[1..m] {
+        least = least.min(*count);
     }
     least
-}
-
-// The number of rotations that have a count: m, but at most 256.
-fn rotations(m: usize) -> usize
-    ensures { result ≡ min m most_counts }
-{
-    if m < MOST_COUNTS { m } else { MOST_COUNTS }
 }
 
 // The lowest of m rotations whose count is `least`; m if none has that count. An m above 256 is taken as 256 (the
@@ -78,22 +57,11 @@ fn rotations(m: usize) -> usize
 fn lowest_rotation(counts: &[u16; MOST_COUNTS], m: usize, least: usize) -> RingPlace
     ensures { IsLowestWith m counts.now least result.0 }
 {
-    let all = rotations(m);
-    let mut rotation = 0;
-    while rotation < all {
-        if count_value(counts[rotation]) == least {
-            return RingPlace(rotation);
-        }
-        rotation += 1;
-    }
-    RingPlace(rotation)
-}
-
-// 1 if the two counts are equal, else 0.
-fn same(a: u16, b: u16) -> u16
-    ensures { result ≡ one_if (eqb a b) }
-{
-    if a == b { 1 } else { 0 }
+    let all = m.min(MOST_COUNTS);
+    let lowest = counts[..all]
+        .iter()
+        .position(|count| usize::from(*count) == least);
+    RingPlace(lowest.unwrap_or(all))
 }
 
 // "how many rotations reach the least distance" (document 02, ticket 1): how many of m rotations have the count `least`.
@@ -102,32 +70,28 @@ fn same(a: u16, b: u16) -> u16
 fn count_ties(counts: &[u16; MOST_COUNTS], m: usize, least: usize) -> usize
     ensures { IsTies m counts.now least result }
 {
-    if LAST_COUNT < least {
+    let Ok(wanted) = u16::try_from(least) else {
         return 0;
-    }
-    let wanted = least as u16;
-    let all = rotations(m);
+    };
     let mut ties: u16 = 0;
-    let mut at = 0;
-    while at < all {
-        ties += same(counts[at], wanted);
-        at += 1;
+    for count in &counts[..m.min(MOST_COUNTS)] {
+        ties += u16::from(*count == wanted);
     }
-    count_value(ties)
+    usize::from(ties)
 }
 
-// "It carries start, rotation, distance: the least distance, and the lowest r that reaches it", and how many reach it:
-// the finding at a start whose least count is `least`. Callers call it only for a start that is a finding, so rotation
-// and ties are sought only then. Both are read off the counts, so no line edge is read.
-pub fn finding_at(counts: &[u16; MOST_COUNTS], m: usize, start: LinePlace, least: usize) -> Finding
-    ensures { IsFindingAt m counts.now start least result }
-{
-    let rotation = lowest_rotation(counts, m, least);
-    let ties = count_ties(counts, m, least);
-    Finding {
-        start,
-        rotation,
-        distance: least,
-        ties,
+impl Tally {
+    // "It carries start, rotation, distance: the least distance, and the lowest r that reaches it", and how many reach
+    // it: the finding at a start whose least count is `least`. Callers call it only for a start that is a finding, so
+    // rotation and ties are sought only then. Both are read off the counts, so no line edge is read.
+    pub fn finding_at(&self, m: usize, start: LinePlace, least: usize) -> Finding
+        ensures { IsFindingAt m self.now.counts start least result }
+    {
+        Finding {
+            start,
+            rotation: lowest_rotation(&self.counts, m, least),
+            distance: least,
+            ties: count_ties(&self.counts, m, least),
+        }
     }
 }

@@ -9,6 +9,6 @@ mod afresh;
 mod counts;
 mod marks;
 
-pub use afresh::{DOUBLED, Fresh, count_afresh, double};
-pub use counts::{Least, MOST_COUNTS, differing, finding_at};
+pub use afresh::{DOUBLED, Fresh, double};
+pub use counts::{Least, MOST_COUNTS, Tally, differing};
 pub use marks::past_mark;

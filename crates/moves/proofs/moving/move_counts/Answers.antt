@@ -7,11 +7,11 @@ use Rattle.moves.proofs.moving.move_counts.Goals as goal
 pub returns-then-not-can_move : goal.returns-then-not-can_move
 returns-then-not-can_move c = moved_no _ _ _ _ _ _ c.whole_length.ensures (sym c.can_move.ensures ∙ c.if-not-can_move.true)
 
-pub move_tally-there-requires : goal.move_tally-there-requires
-move_tally-there-requires c =
+pub move_along-requires : goal.move_along-requires
+move_along-requires c =
     can_be_moved c.whole_length.ensures (sym c.can_move.ensures ∙ c.if-not-can_move.false)
 
 -- The counts are moved.
 pub returns : goal.returns
 returns c =
-    moved_yes _ _ _ _ _ _ c.whole_length.ensures _ _ (sym c.can_move.ensures ∙ c.if-not-can_move.false) c.move_tally-there.ensures
+    moved_yes _ _ _ _ _ _ c.whole_length.ensures _ _ (sym c.can_move.ensures ∙ c.if-not-can_move.false) c.move_along.ensures

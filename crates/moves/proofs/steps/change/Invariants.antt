@@ -1,8 +1,6 @@
--- `moves::steps::change` meets its contract: before turn r the counts below r are changed, and their least is known (`ChangeLoop`). The measure is the number of ring
--- edges left.
-use Prim.Native.Nat.{◌-◌, ◌*◌, ◌≤◌}
+-- `moves::steps::change` meets its contract: before turn r the counts below r are changed, and their least is known (`ChangeLoop`).
+use Prim.Native.Nat.{◌*◌}
 use mathlib.Core.Path.{◌≡◌}
-use lib.ListN.{length}
 use Rattle.lists.specs.ByPlace.{StoredFirst}
 use Rattle.tally.proofs.LeastSoFar.{LeastSoFar}
 use Rattle.moves.specs.Moves.{changed_at}
@@ -11,7 +9,4 @@ use Rattle.moves.proofs.steps.change.Given as goal
 
 abbrev pub invariant-loop-r : goal.invariant-loop-r
 invariant-loop-r l =
-    (l.r ≤ length l.ring) × (l.looks ≡ 2 * l.r) × StoredFirst l.r (changed_at l.ring l.leaving l.entering l.initial.counts) l.initial.counts l.counts × LeastSoFar last_count l.counts l.least l.r
-
-abbrev pub decreases-loop-r : goal.decreases-loop-r
-decreases-loop-r l = length l.ring - l.r
+    (l.looks ≡ 2 * l.r) × StoredFirst l.r (changed_at l.ring l.leaving l.entering l.initial.counts) l.initial.counts l.counts × LeastSoFar last_count l.counts l.least l.r

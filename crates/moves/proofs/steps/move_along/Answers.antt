@@ -1,11 +1,12 @@
--- `moves::steps::move_along` meets its contract: the loop keeps `Moving`, and a turn goes on or ends the move. The measure is the number of steps left.
+-- `moves::steps::move_along` meets its contract: the loop keeps `Moving`, and a turn goes on or ends the move.
+use mathlib.Core.Path.{refl}
 use native.Mathlib.Omega.{arith}
 use Rattle.windows.proofs.WindowEdges.{fitting_length}
 use Rattle.moves.proofs.MoveLoop.{moving_start, moving_has_counts, moving_turn, moving_stops, moving_end}
 use Rattle.moves.proofs.steps.move_along.Goals as goal
 
 pub loop-i-init : goal.loop-i-init
-loop-i-init c = moving_start _ _ _ _ _ _ c.requires
+loop-i-init c = (refl, moving_start _ _ _ _ _ _ c.requires)
 
 pub bounds-next-m : goal.bounds-next-m
 bounds-next-m c =
@@ -17,23 +18,23 @@ bounds-here-0 c =
 
 pub step-stepped-requires : goal.step-stepped-requires
 step-stepped-requires c =
-    moving_has_counts _ _ _ _ _ _ c.requires _ _ _ _ _ c.loop-i.invariant
+    moving_has_counts _ _ _ _ _ _ c.requires _ _ _ _ _ c.loop-i.invariant.1
 
-pub overflow_add-looks : goal.overflow_add-looks
-overflow_add-looks c =
-    omega (arith, c.loop-i.invariant.looks_le, c.step-stepped.ensures.looks_are, c.requires.has_counts.most)
+pub overflow_add-reached : goal.overflow_add-reached
+overflow_add-reached c =
+    omega (arith, c.loop-i.invariant.1.looks_le, c.step-stepped.ensures.looks_are, c.requires.has_counts.most)
 
 -- The least count is below the bound: the move ends here.
-pub returns-then-least-below : goal.returns-then-least-below
-returns-then-least-below c =
-    moving_stops _ _ _ _ _ _ c.requires _ _ _ _ _ c.loop-i.invariant c.loop-i-test.true
-    _ _ _ _ c.window-here.ensures c.window-next.ensures c.step-stepped.ensures c.past_mark-past.ensures c.if-least-below.true
+pub returns-then-reached-below : goal.returns-then-reached-below
+returns-then-reached-below c =
+    moving_stops _ _ _ _ _ _ c.requires _ _ _ _ _ c.loop-i.invariant.1 c.loop-i-test.true
+    _ _ _ _ c.window-here.ensures c.window-next.ensures c.step-stepped.ensures c.past_mark.ensures c.if-reached-below.true
 
 pub loop-i-preserved : goal.loop-i-preserved
 loop-i-preserved c =
-    moving_turn _ _ _ _ _ _ c.requires _ _ _ _ _ c.loop-i.invariant c.loop-i-test.true
-    _ _ _ _ c.window-here.ensures c.window-next.ensures c.step-stepped.ensures c.past_mark-past.ensures c.if-least-below.false
+    (refl, moving_turn _ _ _ _ _ _ c.requires _ _ _ _ _ c.loop-i.invariant.1 c.loop-i-test.true
+    _ _ _ _ c.window-here.ensures c.window-next.ensures c.step-stepped.ensures c.past_mark.ensures c.if-reached-below.false)
 
 -- All steps are taken.
 pub returns : goal.returns
-returns c = moving_end _ _ _ _ _ _ c.requires _ _ _ _ _ c.loop-i.invariant c.loop-i-test.false
+returns c = moving_end _ _ _ _ _ _ c.requires _ _ _ _ _ c.loop-i.invariant.1 c.loop-i.invariant.0 c.loop-i-test.false

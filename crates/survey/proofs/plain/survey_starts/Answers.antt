@@ -37,7 +37,7 @@ pub loop-i-preserved-then-is_finding : goal.loop-i-preserved-then-is_finding
 loop-i-preserved-then-is_finding c = (
   c.loop-i.invariant.0,
   survey_found c.loop-i.invariant.1 (fits_whole c.loop-i.invariant.0 c.loop-i-test.true) c.verify_on-reached.ensures
-      c.later-past.ensures (sym c.is_finding.ensures ∙ c.if-is_finding.true) c.finding_at.ensures c.put_finding.ensures,
+      c.max-past.ensures (sym c.is_finding.ensures ∙ c.if-is_finding.true) c.finding_at.ensures c.put_finding.ensures,
 )
 
 pub loop-i-smaller : goal.loop-i-smaller
@@ -49,7 +49,7 @@ pub loop-i-preserved : goal.loop-i-preserved
 loop-i-preserved c = (
   c.loop-i.invariant.0,
   survey_none c.loop-i.invariant.1 (fits_whole c.loop-i.invariant.0 c.loop-i-test.true) c.verify_on-reached.ensures
-      c.later-past.ensures (sym c.is_finding.ensures ∙ c.if-is_finding.false),
+      c.max-past.ensures (sym c.is_finding.ensures ∙ c.if-is_finding.false),
 )
 
 pub shape_of-words : goal.shape_of-words

@@ -7,7 +7,7 @@ use Rattle.survey.proofs.plain.survey_starts.Given as goal
 
 abbrev pub invariant-loop-i : goal.invariant-loop-i
 invariant-loop-i l =
-    IsWholeLength (length l.ring) (parts l.line l.join) l.n × SurveyKeeps l.ring l.doubled (parts l.line l.join) l.k l.initial.words l.i l.found l.looks l.past l.counts l.words
+    IsWholeLength (length l.ring) (parts l.line l.join) l.n × SurveyKeeps l.ring l.doubled (parts l.line l.join) l.k l.initial.words l.i l.found l.looks l.past l.tally.counts l.words
 
 abbrev pub decreases-loop-i : goal.decreases-loop-i
 decreases-loop-i l = whole_length (length l.ring) l.line l.join + 1 - l.i

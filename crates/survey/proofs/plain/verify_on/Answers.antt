@@ -11,4 +11,4 @@ returns-then-start-eq0 c =
 -- A later start, and those after it.
 pub returns-else-start-eq0 : goal.returns-else-start-eq0
 returns-else-start-eq0 c =
-    moved_verified c.requires (omega (arith, c.if-start-eq0.false)) c.whole_length.ensures c.move_counts.ensures
+    moved_verified c.requires (omega (arith, c.if-start-eq0.false)) c.whole_length.ensures c.move_tally.ensures

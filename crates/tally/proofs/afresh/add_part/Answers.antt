@@ -7,10 +7,6 @@ use Rattle.tally.proofs.afresh.add_part.Goals as goal
 pub loop-r-init : goal.loop-r-init
 loop-r-init c = (omega arith, stored_start)
 
-pub overflow_cast-counts : goal.overflow_cast-counts
-overflow_cast-counts c =
-    omega (arith, c.requires.each_le _ c.loop-r-test.true)
-
 pub overflow_add-counts : goal.overflow_add-counts
 overflow_add-counts c =
     omega (arith, c.loop-r.invariant.1.rest c.loop-r.r (omega arith), c.requires.each_le _ c.loop-r-test.true)

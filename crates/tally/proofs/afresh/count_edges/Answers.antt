@@ -40,4 +40,4 @@ least_of-requires c =
 
 pub returns : goal.returns
 returns c =
-    counting_afresh_end c.clear.ensures c.loop-q.invariant c.loop-q-test.false (rw c.count_value-least.ensures c.least_of.ensures)
+    counting_afresh_end c.clear.ensures c.loop-q.invariant c.loop-q-test.false (rw c.from-least.ensures c.least_of.ensures)

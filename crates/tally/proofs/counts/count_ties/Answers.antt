@@ -1,22 +1,23 @@
--- `tally::counts::count_ties` meets its contract: before turn r the ties are those of the rotations below r (`TiesLoop`). A count has sixteen bits, so none is
--- above 65,535. The measure is the number of rotations left.
+-- `tally::counts::count_ties` meets its contract: before each turn the ties are those of the rotations passed (`TiesLoop`).
+use Rattle.tally.proofs.TiesLoop.{one_tie, ties_start, ties_turn, ties_end, ties_none}
+use mathlib.Core.Logic.{dite}
+use native.Mathlib.Decide.{dec_lt}
 use native.Mathlib.Omega.{arith}
-use Rattle.tally.proofs.TiesLoop.{ties_start, ties_turn, ties_end, ties_none}
+use Rattle.tally.specs.Counts.{last_count}
 use Rattle.tally.proofs.counts.count_ties.Goals as goal
 
 -- `least` is larger than a count can be.
-pub returns-then-least-gt-LAST_COUNT : goal.returns-then-least-gt-LAST_COUNT
-returns-then-least-gt-LAST_COUNT c = ties_none (omega arith)
+pub returns-in_default : goal.returns-in_default
+returns-in_default c = ties_none (dite (dec_lt last_count c.args.least) (λ large. large) (λ small. absurd (c.in_default.ensures (omega (arith, small)))))
 
-pub loop-at-init : goal.loop-at-init
-loop-at-init c = (omega arith, ties_start)
+pub loop-count-init : goal.loop-count-init
+loop-count-init c = ties_start
 
 pub overflow_add-ties : goal.overflow_add-ties
-overflow_add-ties c = omega (arith, (ties_turn c.loop-at.invariant.1 c.same-ties.ensures).ties_le)
+overflow_add-ties c = omega (arith, (ties_turn c.loop-count.invariant (one_tie c.args.counts.now _ _ c.loop-count-test.true c.in-Ok.ensures.1 c.from-ties.ensures)).ties_le)
 
-pub loop-at-preserved : goal.loop-at-preserved
-loop-at-preserved c = (omega arith, ties_turn c.loop-at.invariant.1 c.same-ties.ensures)
+pub loop-count-preserved : goal.loop-count-preserved
+loop-count-preserved c = ties_turn c.loop-count.invariant (one_tie c.args.counts.now _ _ c.loop-count-test.true c.in-Ok.ensures.1 c.from-ties.ensures)
 
 pub returns : goal.returns
-returns c =
-    rw c.count_value.ensures (ties_end c.loop-at.invariant.1 (omega arith) c.rotations-all.ensures (omega arith))
+returns c = rw c.from.ensures (ties_end c.loop-count.invariant (omega arith) c.min.ensures (omega arith))

@@ -1,23 +1,16 @@
--- `tally::counts::lowest_rotation` meets its contract: before turn r no rotation below r has the count, so the loop ends at the right rotation (`LowestLoop`). The
--- measure is the number of rotations left.
-use mathlib.Core.Path.{◌∙◌, sym}
-use native.Mathlib.Omega.{arith}
-use borrow.Author.Count.{below_more}
-use Rattle.tally.proofs.LowestLoop.{seeking_ends}
+-- `tally::counts::lowest_rotation` meets its contract: `position` finds the first of the counts that is `least` (`first_with` of LowestLoop).
+use mathlib.Core.Path.{◌≡◌}
+use lib.ListN.{take}
+use borrow.Author.Tests.{tests}
+use Rattle.std.proofs.Common.{rules}
+use Rattle.std.proofs.lemmas.Iterator.{IsFirst-from_position, YieldsList-from_slice}
+use Rattle.tally.proofs.LowestLoop.{first_with}
 use Rattle.tally.proofs.counts.lowest_rotation.Goals as goal
 
-pub loop-rotation-init : goal.loop-rotation-init
-loop-rotation-init c = (omega arith, λ s l. absurd (omega arith))
-
--- Rotation r has the count.
-pub returns-then-count_value-least : goal.returns-then-count_value-least
-returns-then-count_value-least c =
-    seeking_ends _ _ c.rotations-all.ensures (omega arith) c.loop-rotation.invariant.1 (λ _. sym c.count_value.ensures ∙ c.if-count_value-least.true)
-
-pub loop-rotation-preserved : goal.loop-rotation-preserved
-loop-rotation-preserved c =
-    (omega arith, below_more _ _ c.loop-rotation.invariant.1 (λ same. c.if-count_value-least.false (c.count_value.ensures ∙ same)))
-
--- No rotation has the count.
 pub returns : goal.returns
-returns c = seeking_ends _ _ c.rotations-all.ensures (omega arith) c.loop-rotation.invariant.1 (λ l. absurd (omega (arith, c.loop-rotation-test.false)))
+returns c =
+    let counts = take c.min-all.result c.args.counts.now in
+    rw c.unwrap_or.ensures
+    (first_with _ _ _ c.min-all.ensures c.told-counts
+    (IsFirst-from_position _ _ _ (λ x. x ≡ c.args.least) (λ x. x ≡ c.args.least → ⊥) c.position-lowest.ensures.ran (YieldsList-from_slice counts c.iter.ensures.rest)
+    (λ x q k. search (rules, tests)) (λ x q k. search (rules, tests))))

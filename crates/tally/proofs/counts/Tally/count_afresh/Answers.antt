@@ -1,7 +1,7 @@
--- `tally::afresh::count_afresh` meets its contract: its two returns are the two cases of the test (`CountCases`).
+-- `tally::counts::Tally::count_afresh` meets its contract: its two returns are the two cases of the test (`CountCases`).
 use mathlib.Core.Path.{◌∙◌, sym}
 use Rattle.tally.proofs.CountCases.{can_count_iff, counted_yes, counted_no}
-use Rattle.tally.proofs.afresh.count_afresh.Goals as goal
+use Rattle.tally.proofs.counts.Tally.count_afresh.Goals as goal
 
 -- The window cannot be counted.
 pub returns-then-not-can_count : goal.returns-then-not-can_count
