@@ -10,7 +10,7 @@ use Rattle.lists.proofs.Cases.{by_test}
 use Rattle.meaning.specs.Meanings.{FitsInLine, IsPastLine, fits_in_line}
 use Rattle.meaning.proofs.Starts.{fits_line_iff, past_line_iff}
 use Rattle.vectors.specs.Bits.{word_count}
-use Rattle.occurrences.specs.EdgeVectors.{EdgeVectors}
+use Rattle.occurrences.specs.declared.table.EdgeVectors.{EdgeVectors}
 use Rattle.windows.specs.Windows.{Parts, window_of, whole_line, IsWindow}
 use Rattle.windows.proofs.WindowEdges.{fitting_length, some_fits}
 use Rattle.tally.specs.Counts.{most_counts}

@@ -12,7 +12,7 @@ use Rattle.meaning.specs.Meanings.{FitsInLine, IsPastLine, window, fits_in_line}
 use Rattle.meaning.proofs.Starts.{fits_line_iff, past_line_iff}
 use Rattle.meaning.specs.Rules.{stops_at, is_stopped, read_window}
 use Rattle.meaning.proofs.WindowAlone.{alone_reading}
-use Rattle.occurrences.specs.EdgeVectors.{EdgeVectors}
+use Rattle.occurrences.specs.declared.table.EdgeVectors.{EdgeVectors}
 use Rattle.windows.specs.Windows.{Parts, window_of, whole_line, Joined}
 use Rattle.windows.proofs.WindowEdges.{fitting_window, fitting_length}
 use Rattle.sweep.specs.declared.reading.WindowRead.{WindowRead}

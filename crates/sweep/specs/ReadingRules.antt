@@ -4,7 +4,7 @@
 use Rattle.std.specs.Prelude.{ℕ, ◌+◌, ◌≤◌, ◌<◌, ◌≡◌, false, List, length}
 use Rattle.meaning.specs.Meanings.{holds_mark}
 use Rattle.meaning.specs.Rules.{is_stopped, read_window}
-use Rattle.occurrences.specs.EdgeVectors.{EdgeVectors}
+use Rattle.occurrences.specs.declared.table.EdgeVectors.{EdgeVectors}
 use Rattle.occurrences.specs.Storing.{Occurrences}
 use Rattle.tally.specs.Counts.{most_counts}
 use Rattle.sweep.specs.declared.reading.WindowRead.{WindowRead}

@@ -12,8 +12,9 @@ use Rattle.std.specs.Prelude.{ℕ, zero, suc, ◌+◌, ◌-◌, ◌≤◌, ◌<�
 use Rattle.meaning.specs.Meanings.{fits_in_line, is_mark}
 use Rattle.meaning.specs.Rules.{stops_at}
 use Rattle.vectors.specs.Bits.{word_count, first_bits, no_bit}
-use Rattle.vectors.specs.ByValue.{vector_words, grown_words}
-use Rattle.occurrences.specs.EdgeVectors.{EdgeVectors, vector_at}
+use Rattle.vectors.specs.ByValue.{grown_words}
+use Rattle.occurrences.specs.declared.table.EdgeVectors.{EdgeVectors}
+use Rattle.occurrences.specs.EdgeVectors.{vector_at}
 use Rattle.windows.specs.Windows.{Parts, window_of, whole_line}
 use Rattle.tally.specs.Counts.{most_counts}
 use Rattle.findings.specs.Limits.{most_places}
@@ -33,7 +34,7 @@ read_on table window k words zero held breaks looks = record { left = 0; looks =
 read_on table window k words (suc left) held breaks looks =
     let next : List ℕ = held_with table window words left held in
     let stopped : WindowRead = record { left = left; looks = looks + 1; stopped = true } in
-    let emptied : WindowRead = read_on table window k words left (first_bits (length window) vector_words) (breaks + 1) (looks + 1) in
+    let emptied : WindowRead = read_on table window k words left (first_bits (length window) words) (breaks + 1) (looks + 1) in
     let grown : WindowRead = read_on table window k words left next breaks (looks + 1) in
     let unfit : WindowRead = cond (stops_at k (breaks + 1) (is_mark (get_or window left 0))) stopped emptied in
     cond (no_bit next words) unfit grown
@@ -41,7 +42,7 @@ read_on table window k words (suc left) held breaks looks =
 -- Rule 1: "read its edges from the last towards the first". At first all m bits are set, because the empty stretch is the beginning of every rotation. `words` is
 -- the number of machine words of a vector, of the held one and of the edges' occurrence vectors.
 abbrev pub read_with : EdgeVectors → List ℕ → ℕ → ℕ → WindowRead
-read_with table window k words = read_on table window k words (length window) (first_bits (length window) vector_words) 0 0
+read_with table window k words = read_on table window k words (length window) (first_bits (length window) words) 0 0
 
 -- The window read with as few words as m bits need.
 abbrev pub read_by : EdgeVectors → List ℕ → ℕ → WindowRead
