@@ -38,12 +38,38 @@ def parted(tokens):
     return [part for part in parts if part]
 
 
-class Function:
-    """name; place, the number of its line; public, whether `pub` stands before it; for_c, whether it is `unsafe(no_mangle)`; parameters [(name, type)]; result; clauses;
-    body. Types, result, clauses and body are tokens. `lines` has the line of each token of the body, and `fellow` and `within` are the body's `pairs`."""
+def impls(tokens, fellow):
+    """[(where its block begins, where it ends, its type, whether it is an impl of a trait)]"""
+    found = []
+    for at, token in enumerate(tokens):
+        if token != "impl" or at and tokens[at - 1] not in BOUNDS | {"]"}:
+            continue
+        opened = tokens.index("{", at)
+        head, depth = [], 0
+        for word in tokens[at + 1:opened]:  # what stands in angle brackets is left out
+            depth += word == "<"
+            if not depth and not word.startswith("'"):
+                head.append(word)
+            depth -= word == ">"
+        of_trait = "for" in head
+        found.append((opened, fellow[opened], head[head.index("for") + 1] if of_trait else head[0], of_trait))
+    return found
 
-    def __init__(self, tokens, lines, at, fellow):
-        self.name, self.place = tokens[at + 1], lines[at]
+
+def parameter(part):
+    """(name, type) of a parameter; a method's first is `self`, and its type then what stands before that word"""
+    if "self" in part and ":" not in part:
+        return "self", part[:part.index("self")]
+    return (part[1], part[3:]) if part[0] == "mut" else (part[0], part[2:])
+
+
+class Function:
+    """name, of a method with its type before it, as `Type::name`; place, the number of its line; public, whether `pub` stands before it; for_c, whether it is
+    `unsafe(no_mangle)`; parameters [(name, type)]; result; clauses; body. Types, result, clauses and body are tokens. `lines` has the line of each token of the body, and
+    `fellow` and `within` are the body's `pairs`. `owner` is the type of a method, and None for another function."""
+
+    def __init__(self, tokens, lines, at, fellow, owner=None):
+        self.owner, self.name, self.place = owner, f"{owner}::{tokens[at + 1]}" if owner else tokens[at + 1], lines[at]
         before = at - 1
         while tokens[before] in ("const", "unsafe", "extern", '"C"'):
             before -= 1
@@ -54,8 +80,7 @@ class Function:
             self.for_c |= tokens[fellow[before]:before + 1] == ["[", "unsafe", "(", "no_mangle", ")", "]"]
             before = fellow[before] - 2
         opened = tokens.index("(", at)
-        words = [part[1:] if part[0] == "mut" else part for part in parted(tokens[opened + 1:fellow[opened]])]
-        self.parameters = [(part[0], part[2:]) for part in words]
+        self.parameters = [parameter(part) for part in parted(tokens[opened + 1:fellow[opened]])]
         at, self.result, self.clauses = fellow[opened] + 1, [], []
         while tokens[at] not in ("{", ";"):
             if tokens[at] in CLAUSES:
@@ -69,13 +94,23 @@ class Function:
         self.body, self.lines = tokens[at:end], lines[at:end]
         self.fellow, self.within = pairs(self.body)
 
-    def called(self):
-        """the names that stand before a call's bracket; a method's name is none"""
-        return {self.body[i - 1] for i, token in enumerate(self.body) if token == "(" and self.body[i - 2] != "."}
+    def called(self, methods=False):
+        """the names that stand before a call's bracket; those of methods, which stand behind a point, only if they are asked for"""
+        names = [self.named(i) for i, token in enumerate(self.body) if token == "("]
+        return {self.body[i] for i in names if methods or self.body[i - 1] != "."}
+
+    def named(self, opened):
+        """where the name stands before a call's bracket; `::<..>` may stand between"""
+        at = opened - 1
+        if self.body[at] == ">":
+            while self.body[at] != "<":
+                at -= 1
+            at -= 2
+        return at
 
     def call_start(self, opened):
         """where the way to the name begins that stands before a call's bracket"""
-        start = opened - 1
+        start = self.named(opened)
         while self.body[start - 1] == "::":
             start -= 2
         return start
@@ -113,7 +148,9 @@ def functions(text):
     found = [(m[0], number) for number, line in enumerate(without_comments(text).split("\n"), 1) for m in TOKEN.finditer(line)]
     tokens, lines = [token for token, _ in found], [number for _, number in found]
     fellow, _ = pairs(tokens)
-    return [Function(tokens, lines, at, fellow) for at, token in enumerate(tokens) if token == "fn" and tokens[at + 1] not in OPENING]
+    blocks = impls(tokens, fellow)
+    owner = lambda at: next((kind for begin, end, kind, _ in blocks if begin < at < end), None)
+    return [Function(tokens, lines, at, fellow, owner(at)) for at, token in enumerate(tokens) if token == "fn" and tokens[at + 1] not in OPENING]
 
 
 def handed_on(text):
@@ -135,7 +172,8 @@ def read_file(path):
 
 
 def public_functions(src, read=read_file):
-    """[(path, function)] of a library's src: what is `pub`, and re-exported or in modules that are `pub` all the way; and what is for C. A program has none"""
+    """[(path, function)] of a library's src: what is `pub`, and re-exported (a method: its type) or in modules that are `pub` all the way; and what is for C. A program has
+    none"""
     found, names, todo = [], set(), [(os.path.join(src, "lib.rt"), True)]
     if read(todo[0][0]) is None:
         return []
@@ -148,4 +186,4 @@ def public_functions(src, read=read_file):
             for file in (os.path.join(home, module + ".rt"), os.path.join(home, module, "mod.rt")):
                 if read(file) is not None:
                     todo.append((file, open_way and bool(public)))
-    return [(path, f) for path, open_way, f in found if f.for_c or f.public and (open_way or f.name in names or "*" in names)]
+    return [(path, f) for path, open_way, f in found if f.for_c or f.public and (open_way or (f.owner or f.name) in names or "*" in names)]

@@ -11,7 +11,7 @@ use Rattle.reply.proofs.refusing.put_refusal.Goals as goal
 pub returns : goal.returns
 unfolding ascii filled refusal_line_of
 returns c =
-    let place = c.place_of in
-    let number = c.number_of in
+    let place = c.place in
+    let number = c.number in
     let short = refusal_line_le number.result place.result (omega arith) (omega arith) in
     text_same (ap₂ refusal_line_of number.ensures.is place.ensures.is) (text_stands (omega arith) c.put_line.ensures)
