@@ -4,6 +4,7 @@ use Prim.Native.Nat.{ℕ, zero, suc, ◌+◌, ◌-◌, ◌≤◌, ◌<◌}
 use mathlib.Core.Path.{◌≡◌, refl, sym, ap, ◌∙◌}
 use mathlib.Core.Bool.{Bool, true, false}
 use mathlib.Core.List.{List, [], ◌∷◌, ◌++◌}
+use Rattle.std.specs.Prelude.{None, Some}
 use native.Mathlib.Omega.{arith}
 use lib.ListN.{length, get_or, take}
 use lib.Seq.{take_all}
@@ -16,7 +17,7 @@ use Rattle.vectors.specs.ByValue.{grown_words}
 use Rattle.occurrences.specs.declared.table.EdgeVectors.{EdgeVectors}
 use Rattle.occurrences.specs.EdgeVectors.{vector_at}
 use Rattle.sweep.specs.declared.reading.WindowRead.{WindowRead}
-use Rattle.sweep.specs.Reads.{held_with, read_on, read_with}
+use Rattle.sweep.specs.Reads.{unread, held_with, read_on, read_with}
 
 -- The invariant before a turn, with the edges of `rest`, the window's first, left to read. `still` says that reading them gives the result of the whole window.
 pub record StillToRead (table : EdgeVectors) (window : List ℕ) (k words : ℕ) (held rest : List ℕ) (breaks looks : ℕ) : Type 0 where
@@ -32,7 +33,7 @@ to_read_all table window k words =
 
 module _ {table : EdgeVectors} {window : List ℕ} {k words : ℕ} {held rest : List ℕ} {breaks looks : ℕ} (known : StillToRead table window k words held rest breaks looks) where
   -- If no edge is left, the contract is met.
-  pub to_read_none : length rest ≡ 0 → record { left = 0; looks = looks; stopped = false } ≡ read_with table window k words
+  pub to_read_none : length rest ≡ 0 → record { looks = looks; stopped_at = None } ≡ read_with table window k words
   unfolding read_on
   to_read_none none = rw none at known.still
 
@@ -63,7 +64,7 @@ module _ {table : EdgeVectors} {window : List ℕ} {k words : ℕ} {held rest : 
       says_here = ap (λ (e : ℕ). stops_at k (breaks + 1) (is_mark e)) edge_is ∙ sym says
 
       -- If reading stops there, returning meets the contract.
-      pub to_read_stops : stops ≡ true → record { left = left; looks = looks + 1; stopped = true } ≡ read_with table window k words
+      pub to_read_stops : stops ≡ true → record { looks = looks + 1; stopped_at = Some left } ≡ read_with table window k words
       unfolding read_on
       to_read_stops stop = rw (new_is, none, says_here ∙ stop) at from_here
 
@@ -96,8 +97,8 @@ module _ (table : EdgeVectors) (window : List ℕ) (k words : ℕ) where
 
   -- What holds for the result r of reading on with `left` edges unread: each edge read is one look, and if an edge is left, at least one is read.
   record ReadGoes (left looks : ℕ) (r : WindowRead) : Type 0 where
-    pub looks_are : r.looks + r.left ≡ looks + left
-    pub left_le : r.left ≤ left - 1
+    pub looks_are : r.looks + unread r ≡ looks + left
+    pub left_le : unread r ≤ left - 1
 
   read_goes : (left : ℕ) (held : List ℕ) (breaks looks : ℕ) → ReadGoes left looks (read_on table window k words left held breaks looks)
   unfolding read_on
@@ -112,9 +113,9 @@ module _ (table : EdgeVectors) (window : List ℕ) (k words : ℕ) where
       (λ _. record { looks_are = omega (arith, grown.looks_are); left_le = omega (arith, grown.left_le) })
 
   -- Looks and edges left unread add up to m.
-  pub read_sum : (read_with table window k words).looks + (read_with table window k words).left ≡ m
+  pub read_sum : (read_with table window k words).looks + unread (read_with table window k words) ≡ m
   read_sum = (read_goes m full 0 0).looks_are ∙ omega arith
 
   -- If the window has an edge, at least one edge is read.
-  pub read_some : 0 < m → (read_with table window k words).left < m
+  pub read_some : 0 < m → unread (read_with table window k words) < m
   read_some some = omega (arith, (read_goes m full 0 0).left_le)

@@ -12,13 +12,12 @@ use findings::is_mark;
 use occurrences::EdgeVectors;
 use vectors::{first_bits, grown, no_bit};
 
-// How far a window was read: the number of edges left unread; the looks, one for each edge read; and whether the window was
-// stopped, at break k + 1 or at a mark. If not, all its edges were read, and it is a candidate.
+// How far a window was read: the looks, one for each edge read; and if reading stopped, at break k + 1 or at a mark, the
+// number of edges left unread there. If it did not, all edges were read, and the window is a candidate.
 #[derive(Clone, Copy)]
 pub struct WindowRead {
-    pub left: usize,
     pub looks: usize,
-    pub stopped: bool,
+    pub stopped_at: Option<usize>,
 }
 
 // Whether reading stops at an edge that does not fit; `breaks` counts the breaks before it. It stops at a mark. Any other
@@ -46,9 +45,8 @@ fn read_words<const W: usize>(window: &[u8], vectors: &EdgeVectors, k: usize) ->
         if no_bit(next) {
             if stops_at(*edge, k, breaks) {
                 return WindowRead {
-                    left,
                     looks,
-                    stopped: true,
+                    stopped_at: Some(left),
                 };
             }
             breaks += 1;
@@ -58,9 +56,8 @@ fn read_words<const W: usize>(window: &[u8], vectors: &EdgeVectors, k: usize) ->
         }
     }
     WindowRead {
-        left: 0,
         looks,
-        stopped: false,
+        stopped_at: None,
     }
 }
 

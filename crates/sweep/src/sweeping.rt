@@ -76,16 +76,17 @@ fn read_windows<'a>(
         }
         let read = read_window(edges, vectors, k);
         looks += read.looks;
-        let next = i + read.left + 1;
-        if !read.stopped {
-            return WindowsRead {
-                start: LinePlace(i),
-                next: LinePlace(next),
-                looks,
-                candidate: true,
-            };
+        match read.stopped_at {
+            None => {
+                return WindowsRead {
+                    start: LinePlace(i),
+                    next: LinePlace(i + 1),
+                    looks,
+                    candidate: true,
+                };
+            }
+            Some(left) => i += left + 1,
         }
-        i = next;
     }
 }
 
