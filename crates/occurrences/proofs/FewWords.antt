@@ -14,7 +14,8 @@ use borrow.Author.Tests.{le-leb, lt-leb, eq-eqb}
 use Rattle.lists.proofs.Cases.{by_test, not_passed}
 use Rattle.vectors.specs.Bits.{word_bits, word_count, put_word}
 use Rattle.vectors.specs.ByValue.{vector_bits}
-use Rattle.occurrences.specs.EdgeVectors.{byte_codes, last_part, EdgeVectors, word_place, word_of}
+use Rattle.occurrences.specs.declared.table.EdgeVectors.{EdgeVectors}
+use Rattle.occurrences.specs.EdgeVectors.{byte_codes, last_part, word_place, word_of}
 use Rattle.occurrences.specs.Storing.{kept_count, slot_of, part_word, counted_places, Occurrences, not_zero}
 use Rattle.occurrences.proofs.PlacesOfCode.{has_code_is, has_code_below}
 use Rattle.occurrences.proofs.WordOfPart.{part_none, part_some}
@@ -70,7 +71,7 @@ module _ (ring : List ℕ) (table : EdgeVectors) (is : Occurrences ring table) w
     word_is : word_of table code (word_count (length ring)) w ≡ part_word ring (counted_places ring) w code
     unfolding word_of
     word_is = dite (dec_lt word_bits (length ring))
-        (λ many. rw (lt-leb (word_count (length ring)) 1 (omega arith)) (parted_read ring (counted_places ring) (omega arith) table code is_code
+        (λ many. rw (lt-leb (word_count (length ring)) 1 (omega arith), le-leb w last_part part) (parted_read ring (counted_places ring) (omega arith) table code is_code
         (is.slots_are ∙ sym (slots_for_parts ring many)) (is.kept_are ∙ sym (kept_for_parts ring many)) w part))
         (λ few. rw (le-leb (word_count (length ring)) 1 (omega (arith, few))) (whole_read ring (counted_places ring) (omega arith) table code is_code
         (omega (arith, few)) (is.kept_are ∙ sym (kept_for_one ring (omega (arith, few)))) w))

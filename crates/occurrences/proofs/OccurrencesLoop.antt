@@ -1,4 +1,4 @@
--- The loops of `keep_whole` and `keep_parts`. Before turn r both arrays are as the ring's first r places make them. At the end they hold each code's occurrence vector.
+-- The loops of `keep_whole` and `keep_parts`. Before turn r slots and kept words are as the ring's first r places make them. At the end they hold each code's occurrence vector.
 use mathlib.Core.Path.{◌≡◌, refl, sym, ◌∙◌}
 use mathlib.Core.Bool.{cond}
 use mathlib.Core.List.{List}
@@ -6,14 +6,15 @@ use mathlib.Core.Logic.{dite}
 use Prim.Native.Nat.{ℕ, ◌+◌, ◌*◌, ◌/◌, ◌%◌, ◌≤◌, ◌<◌}
 use native.Mathlib.Decide.{dec_lt, ℕ_discrete}
 use native.Mathlib.Omega.{arith}
-use lib.ListN.{length, get_or, set, take, replicate, length-take}
+use lib.ListN.{length, get_or, set, take, length-take}
 use lib.Seq.{get_or-take}
 use lib.Dec.{eqb}
 use borrow.Author.Tests.{ne_eqb}
 use Rattle.vectors.specs.Bits.{word_bits, word_count, is_set, put_word}
 use Rattle.vectors.specs.ByValue.{vector_bits}
-use Rattle.occurrences.specs.EdgeVectors.{byte_codes, EdgeVectors, edge_vectors, word_place, vector_at, OccurrenceTable}
-use Rattle.occurrences.specs.Storing.{kept_count, has_code, no_slot, no_slots, slot_of, counted_places, Occurrences}
+use Rattle.occurrences.specs.declared.table.EdgeVectors.{EdgeVectors}
+use Rattle.occurrences.specs.EdgeVectors.{byte_codes, word_place, vector_at, OccurrenceTable}
+use Rattle.occurrences.specs.Storing.{has_code, no_slot, no_slots, slot_of, counted_places, Occurrences, IsCleared}
 use Rattle.occurrences.proofs.PlacesOfCode.{has_code_below, has_code_past}
 use Rattle.occurrences.proofs.SlotOfPart.{slot_own}
 use Rattle.occurrences.proofs.ArraysOfRing.{slots_of, kept_of, whole_of, kept_at_first, whole_at_first, slots_at_first, slots_for_one, kept_for_one, slots_for_parts, kept_for_parts}
@@ -49,28 +50,38 @@ table_of_bits ring table count codes bits =
     }
 
 -- Before turn r of `keep_whole`.
-pub record WholeBelow (ring slots kept : List ℕ) (r : ℕ) : Type 0 where
+pub record WholeBelow (ring : List ℕ) (table : EdgeVectors) (r : ℕ) : Type 0 where
   pub turn_le : r ≤ length ring
   pub codes : CodesBelow ring r
-  pub slots_are : slots ≡ no_slots
-  pub kept_are : kept ≡ whole_of ring r
+  pub slots_are : table.slots ≡ no_slots
+  pub kept_are : table.kept ≡ whole_of ring r
 
 -- Before turn r of `keep_parts`.
-pub record PartsBelow (ring slots kept : List ℕ) (r : ℕ) : Type 0 where
+pub record PartsBelow (ring : List ℕ) (table : EdgeVectors) (r : ℕ) : Type 0 where
   pub turn_le : r ≤ counted_places ring
   pub codes : CodesBelow ring r
-  pub slots_are : slots ≡ slots_of ring r
-  pub kept_are : kept ≡ kept_of ring r
+  pub slots_are : table.slots ≡ slots_of ring r
+  pub kept_are : table.kept ≡ kept_of ring r
 
-module _ (ring : List ℕ) where
+module _ (ring : List ℕ) (table : EdgeVectors) where
   -- The invariant of `keep_whole` holds before the first turn.
-  pub whole_start : (slots : List ℕ) → slots ≡ no_slots → WholeBelow ring slots (replicate kept_count 0) 0
-  whole_start slots is = record { turn_le = omega arith; codes = λ q h. absurd (omega arith); slots_are = is; kept_are = whole_at_first ring }
+  pub whole_start : IsCleared table → WholeBelow ring table 0
+  whole_start is =
+      record { turn_le = omega arith; codes = λ q h. absurd (omega arith); slots_are = is.slots_are; kept_are = is.kept_are ∙ whole_at_first ring }
+
+  -- The invariant of `keep_parts` holds before the first turn.
+  pub parts_start : IsCleared table → PartsBelow ring table 0
+  parts_start is = record {
+    turn_le = omega arith;
+    codes = λ q h. absurd (omega arith);
+    slots_are = is.slots_are ∙ slots_at_first ring;
+    kept_are = is.kept_are ∙ kept_at_first ring;
+  }
 
   -- Turn r puts bit r into the word of the code at place r.
-  pub whole_turned : (slots kept : List ℕ) (r code : ℕ) → length ring ≤ word_bits → WholeBelow ring slots kept r → r < length ring → code ≡ get_or ring r 0 → code < byte_codes
-      → WholeBelow ring slots (set kept code (put_word (get_or kept code 0) r 1)) (r + 1)
-  whole_turned slots kept r code most known h is is_code = record {
+  pub whole_turned : (r code : ℕ) → length ring ≤ word_bits → WholeBelow ring table r → r < length ring → code ≡ get_or ring r 0 → code < byte_codes
+      → WholeBelow ring (record { slots = table.slots; kept = set table.kept code (put_word (get_or table.kept code 0) r 1) }) (r + 1)
+  whole_turned r code most known h is is_code = record {
     turn_le = omega arith;
     codes = codes_more ring r code known.codes is is_code;
     slots_are = known.slots_are;
@@ -78,32 +89,27 @@ module _ (ring : List ℕ) where
   }
 
   -- At the end each code has its occurrence vector, of one word.
-  pub whole_end : (slots kept : List ℕ) (r : ℕ) → length ring ≤ word_bits → WholeBelow ring slots kept r → length ring ≤ r → Occurrences ring (edge_vectors slots kept)
-  whole_end slots kept r most known h =
+  pub whole_end : (r : ℕ) → length ring ≤ word_bits → WholeBelow ring table r → length ring ≤ r → Occurrences ring table
+  whole_end r most known h =
       let n : ℕ = counted_places ring in
       let all : r ≡ n = omega (arith, known.turn_le) in
-      let kept_all : kept ≡ whole_of ring n = rw (sym all) known.kept_are in
+      let kept_all : table.kept ≡ whole_of ring n = rw (sym all) known.kept_are in
       record {
-        each = table_of_bits ring (edge_vectors slots kept) (word_count (length ring)) (λ q l. known.codes q (omega arith))
-            (λ code is_code. whole_bit ring n (omega arith) (edge_vectors slots kept) code is_code (omega arith) kept_all (word_count (length ring)) (omega arith));
+        each = table_of_bits ring table (word_count (length ring)) (λ q l. known.codes q (omega arith))
+            (λ code is_code. whole_bit ring n (omega arith) table code is_code (omega arith) kept_all (word_count (length ring)) (omega arith) (omega arith));
         slots_are = known.slots_are ∙ slots_for_one ring most;
         kept_are = kept_all ∙ kept_for_one ring most;
       }
 
-  -- The invariant of `keep_parts` holds before the first turn.
-  pub parts_start : (slots : List ℕ) → slots ≡ no_slots → PartsBelow ring slots (replicate kept_count 0) 0
-  parts_start slots is =
-      record { turn_le = omega arith; codes = λ q h. absurd (omega arith); slots_are = is ∙ slots_at_first ring; kept_are = kept_at_first ring }
-
   -- Turn r makes r the slot of its part and code if they have none, and puts bit r mod 64 into the word that the slot leads to.
-  pub parts_turned : (slots kept : List ℕ) (r code at slot word : ℕ) → PartsBelow ring slots kept r → r < length ring → r < vector_bits
+  pub parts_turned : (r code at slot word : ℕ) → PartsBelow ring table r → r < length ring → r < vector_bits
       → code ≡ get_or ring r 0 → code < byte_codes → at ≡ code + r / word_bits * byte_codes
-      → slot ≡ cond (eqb (get_or slots at 0) (no_slot (r / word_bits))) r (get_or slots at 0) → word ≡ word_place (r / word_bits) slot
-      → PartsBelow ring (set slots at slot) (set kept word (put_word (get_or kept word 0) (r % word_bits) 1)) (r + 1)
-  parts_turned slots kept r code at slot word known h counts is is_code there slot_is word_is =
+      → slot ≡ cond (eqb (get_or table.slots at 0) (no_slot (r / word_bits))) r (get_or table.slots at 0) → word ≡ word_place (r / word_bits) slot
+      → PartsBelow ring (record { slots = set table.slots at slot; kept = set table.kept word (put_word (get_or table.kept word 0) (r % word_bits) 1) }) (r + 1)
+  parts_turned r code at slot word known h counts is is_code there slot_is word_is =
       let w : ℕ = r / word_bits in
-      let old : get_or slots at 0 ≡ slot_of ring r w code =
-      slot_there ring r (omega arith) (edge_vectors slots kept) code is_code known.slots_are w at (omega arith) there in
+      let old : get_or table.slots at 0 ≡ slot_of ring r w code =
+      slot_there ring r (omega arith) table code is_code known.slots_are w at (omega arith) there in
       let new : slot ≡ slot_of ring (r + 1) w code = slot_is ∙ rw old (sym (slot_own ring r w code refl (sym is) (omega arith))) in
       record {
         turn_le = omega arith;
@@ -113,15 +119,15 @@ module _ (ring : List ℕ) where
       }
 
   -- At the end each code has its occurrence vector, of several words.
-  pub parts_end : (slots kept : List ℕ) (r : ℕ) → word_bits < length ring → PartsBelow ring slots kept r → counted_places ring ≤ r → Occurrences ring (edge_vectors slots kept)
-  parts_end slots kept r many known h =
+  pub parts_end : (r : ℕ) → word_bits < length ring → PartsBelow ring table r → counted_places ring ≤ r → Occurrences ring table
+  parts_end r many known h =
       let n : ℕ = counted_places ring in
       let all : r ≡ n = omega (arith, known.turn_le) in
-      let slots_all : slots ≡ slots_of ring n = rw (sym all) known.slots_are in
-      let kept_all : kept ≡ kept_of ring n = rw (sym all) known.kept_are in
+      let slots_all : table.slots ≡ slots_of ring n = rw (sym all) known.slots_are in
+      let kept_all : table.kept ≡ kept_of ring n = rw (sym all) known.kept_are in
       record {
-        each = table_of_bits ring (edge_vectors slots kept) (word_count (length ring)) (λ q l. known.codes q (omega arith))
-            (λ code is_code. parted_bit ring n (omega arith) (edge_vectors slots kept) code is_code slots_all kept_all (word_count (length ring)) (omega arith));
+        each = table_of_bits ring table (word_count (length ring)) (λ q l. known.codes q (omega arith))
+            (λ code is_code. parted_bit ring n (omega arith) table code is_code slots_all kept_all (word_count (length ring)) (omega arith) (omega arith));
         slots_are = slots_all ∙ slots_for_parts ring many;
         kept_are = kept_all ∙ kept_for_parts ring many;
       }

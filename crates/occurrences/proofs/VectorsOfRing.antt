@@ -1,4 +1,4 @@
--- What a caller of `occurrences` and `vector_of` cites: with the arrays of a ring and the word count of its length, a code's vector is its occurrence vector, and
+-- What a caller of `hold` and `vector_of` cites: with the slots and kept words of a ring and the word count of its length, a code's vector is its occurrence vector, and
 -- with `grown` of crates/vectors it makes one turn of the loop that reads a window. The proofs are in the other modules; who uses this one need not look at slots
 -- and words.
 use mathlib.Core.Path.{◌≡◌, refl, sym, ◌∙◌}
@@ -18,7 +18,8 @@ use Rattle.vectors.specs.Holding.{Grown}
 use Rattle.vectors.specs.ByValue.{vector_bits, HeldVector, grown_words}
 use Rattle.vectors.proofs.GrownInFewestWords.{grown_words_is}
 use Rattle.vectors.proofs.HeldVectors.{grown_held}
-use Rattle.occurrences.specs.EdgeVectors.{Occurs, EdgeVectors, vector_at}
+use Rattle.occurrences.specs.declared.table.EdgeVectors.{EdgeVectors}
+use Rattle.occurrences.specs.EdgeVectors.{Occurs, vector_at}
 use Rattle.occurrences.specs.Storing.{counted_places, Occurrences}
 use Rattle.occurrences.proofs.ArraysOfRing.{kept_vector, whole_vector, kept_for_one, kept_for_parts}
 use Rattle.occurrences.proofs.VectorsRead.{read_vector}
@@ -47,7 +48,7 @@ pub record GrownByEdge (m : ℕ) (ring : List ℕ) (code : ℕ) (held new : List
   pub vector : HeldVector m new
   pub each : (r : ℕ) → r < m → is_set new r ≡ (is_set held ((r + 1) % m) && eqb (get_or ring r 0) code)
 
--- What `occurrences`, `vector_of` and `grown` return makes one turn of the loop that reads a window (`GrownByEdge`), for a ring of 1 to 256 edges and the fewest
+-- What `hold`, `vector_of` and `grown` return makes one turn of the loop that reads a window (`GrownByEdge`), for a ring of 1 to 256 edges and the fewest
 -- words that hold as many bits.
 pub grown_by_edge : (m count code : ℕ) (ring : List ℕ) (table : EdgeVectors) (occurs held new : List ℕ) → m ≡ length ring → 0 < m → m ≤ vector_bits → count ≡ word_count m
     → Occurrences ring table → HeldVector m held → occurs ≡ vector_at table code count → new ≡ grown_words m count occurs held
@@ -56,8 +57,8 @@ grown_by_edge m count code ring table occurs held new whole some most few of_rin
     let words : Vector occurs = rw is_occurs (read_vector table code count (kept_words ring table code of_ring)) in
     let edge : Occurs ring code occurs = rw (is_occurs, few, whole) (vector_occurs ring table code of_ring (omega arith)) in
     let inside : WithinBits m occurs = record { rest = λ i h. edge.rest i (omega arith) } in
-    let turn : Grown m occurs held new = rw is_new (grown_words_is m count occurs held some most few is_held_lem words inside) in
+    let turn : Grown m occurs held new = rw is_new (grown_words_is m count occurs held some few is_held_lem words inside) in
     record {
-      vector = rw is_new (grown_held m count occurs held some most few is_held_lem words inside);
+      vector = rw is_new (grown_held m count occurs held some few is_held_lem words inside);
       each = λ r h. turn.each r h ∙ rw (edge.each r (omega arith)) refl;
     }

@@ -12,13 +12,15 @@
 --     kept_place, place_word, kept_word        the place whose word is kept at i; the word kept for a place; the word kept at i
 --     counted_places, slot_for, kept_at        how many places count; the slot and the word at each place of the arrays, for every ring
 --     slots_for, kept_for                     both arrays, for every ring
---     Occurrences                           the contract of `occurrences`
+--     Occurrences                           the contract of `hold`
+--     IsCleared                               slots and words before any place is put in
 --     not_zero                               how many words are not 0
-use Rattle.std.specs.Prelude.{◌≡◌, Bool, cond, ◌&&◌, List, [], ◌∷◌, ℕ, zero, suc, ◌+◌, ◌-◌, ◌*◌, ◌/◌, ◌%◌, min, length, get_or, take, ltb, leb, eqb}
+use Rattle.std.specs.Prelude.{◌≡◌, Bool, cond, ◌&&◌, List, [], ◌∷◌, ℕ, zero, suc, ◌+◌, ◌-◌, ◌*◌, ◌/◌, ◌%◌, min, length, get_or, take, replicate, ltb, leb, eqb}
 use Rattle.lists.specs.ByPlace.{list_of}
 use Rattle.vectors.specs.Bits.{word_bits, word_count, put_word}
 use Rattle.vectors.specs.ByValue.{vector_bits}
-use Rattle.occurrences.specs.EdgeVectors.{byte_codes, last_part, EdgeVectors, empty_word, OccurrenceTable}
+use Rattle.occurrences.specs.declared.table.EdgeVectors.{EdgeVectors}
+use Rattle.occurrences.specs.EdgeVectors.{byte_codes, last_part, empty_word, OccurrenceTable}
 
 -- How many slots there are: one for each part and code.
 abbrev pub slot_count : ℕ
@@ -104,12 +106,17 @@ slots_for ring = list_of slot_count (slot_for ring)
 unfoldable pub kept_for : List ℕ → List ℕ
 kept_for ring = list_of kept_count (kept_at ring)
 
--- The contract of `occurrences`. `each` says what the two arrays mean: one occurrence vector for each edge code. `slots_are` and `kept_are` fix every slot and every
+-- The contract of `hold`. `each` says what the two arrays mean: one occurrence vector for each edge code. `slots_are` and `kept_are` fix every slot and every
 -- word. If the ring has more edges than a vector has bits, only the first `vector_bits` edges count.
 pub record Occurrences (ring : List ℕ) (table : EdgeVectors) : Type 0 where
   pub each : OccurrenceTable (take vector_bits ring) (word_count (length ring)) table
   pub slots_are : table.slots ≡ slots_for ring
   pub kept_are : table.kept ≡ kept_for ring
+
+-- No place counts yet: every part lacks every code, and every word is 0.
+pub record IsCleared (table : EdgeVectors) : Type 0 where
+  pub slots_are : table.slots ≡ no_slots
+  pub kept_are : table.kept ≡ replicate kept_count 0
 
 -- How many words of a list are not 0.
 unfoldable pub not_zero : List ℕ → ℕ

@@ -1,12 +1,12 @@
 // The occurrence vectors of a ring's edge codes. Only the words that have a bit are kept: each ring place sets one bit of
 // one word, so there are at most 256 of them, whatever the ring. A slot, one byte for each code and part of 64 places,
-// leads to the kept word. A ring of at most 64 edges keeps its words by code, and its slots are not read. Both arrays
-// take 3,080 bytes; all words of all 256 codes would take 8,192.
+// leads to the kept word. A ring of at most 64 edges keeps its words by code, and its slots are not read. Slots and kept
+// words take 3,080 bytes; all words of all 256 codes would take 8,192.
 ghost use Rattle.std.specs.Prelude.{◌≡◌, cond, ◌≤◌, ◌<◌, eqb, length};
 ghost use Rattle.vectors.specs.Bits.{word_bits};
-ghost use Rattle.vectors.specs.ByValue.{vector_words, vector_bits};
-ghost use Rattle.occurrences.specs.EdgeVectors.{byte_codes, edge_vectors, word_place, slot_word, vector_at};
-ghost use Rattle.occurrences.specs.Storing.{no_slot, kept_count, no_slots, Occurrences};
+ghost use Rattle.vectors.specs.ByValue.{vector_bits};
+ghost use Rattle.occurrences.specs.EdgeVectors.{word_place, word_of, vector_at};
+ghost use Rattle.occurrences.specs.Storing.{no_slot, kept_count, Occurrences, IsCleared};
 
 use crate::widths::{BYTE_CODES, KEPT_WORDS, LAST_PART, SLOTS};
 use vectors::{VECTOR_BITS, VECTOR_WORDS, WORD_BITS};
@@ -17,11 +17,11 @@ const EMPTY: u8 = 192;
 // The same for the last part: its words stand one place further on, so 191 leads to the empty word.
 const EMPTY_IN_LAST: u8 = 191;
 
-// A byte as an index: an edge code or a slot.
-fn byte_index(byte: u8) -> usize
-    ensures { (result ≡ byte) × (result < byte_codes) }
-{
-    byte as usize
+// The slots and the kept words. A caller lends them as they come, and `hold` writes those of a ring.
+#[derive(Drop)]
+pub struct EdgeVectors {
+    pub slots: [u8; SLOTS],
+    pub kept: [u64; KEPT_WORDS],
 }
 
 // The slot of a code that a part lacks. It is no place of the part.
@@ -39,7 +39,7 @@ fn no_slot(part: usize) -> u8
 fn word_place(part: usize, slot: u8) -> usize
     ensures { (result ≡ word_place part slot) × (result < kept_count) }
 {
-    let at = byte_index(slot);
+    let at = usize::from(slot);
     if part < LAST_PART { at } else { at + 1 }
 }
 
@@ -51,92 +51,81 @@ fn slot_from(slot: u8, part: usize, r: usize) -> u8
     if slot == no_slot(part) { r as u8 } else { slot }
 }
 
-// Gives every part and code the slot of a code that the part lacks.
-fn clear_slots(slots: &mut [u8; SLOTS])
-    ensures { slots.new ≡ no_slots }
-{
-    *slots = [EMPTY; SLOTS];
-    let mut at = LAST_PART * BYTE_CODES;
-    while at < SLOTS {
-        slots[at] = EMPTY_IN_LAST;
-        at += 1;
+impl EdgeVectors {
+    // Gives every part and code the slot of a code that the part lacks, and makes every kept word 0.
+    fn clear(&mut self)
+        ensures { IsCleared self.new }
+    {
+        self.slots.fill(EMPTY);
+        self.slots[LAST_PART * BYTE_CODES..].fill(EMPTY_IN_LAST);
+        self.kept.fill(0);
     }
-}
 
-// The vectors of a ring of at most 64 edges have one word each. They are kept by code, so that reading one needs no slot.
-// The slots are cleared all the same, because the contract fixes both arrays.
-fn keep_whole(ring: &[u8], slots: &mut [u8; SLOTS], kept: &mut [u64; KEPT_WORDS])
-    requires { length ring.now ≤ word_bits }
-    ensures { Occurrences ring.now (edge_vectors slots.new kept.new) }
-{
-    clear_slots(slots);
-    *kept = [0u64; KEPT_WORDS];
-    let mut r = 0;
-    while r < ring.len() {
-        let word = byte_index(ring[r]);
-        kept[word] = kept[word] | (1u64 << r);
-        r += 1;
+    // The vectors of a ring of at most 64 edges have one word each. They are kept by code, so that reading one needs no
+    // slot. The slots are cleared all the same, because the contract fixes both arrays.
+    fn keep_whole(&mut self, ring: &[u8])
+        requires { length ring.now ≤ word_bits }
+        ensures { Occurrences ring.now self.new }
+    {
+        self.clear();
+        for (r, edge) in ring.iter().enumerate() {
+            self.kept[usize::from(*edge)] |= 1u64 << r;
+        }
     }
-}
 
-// Of the vectors of a longer ring the words that have a bit are kept.
-fn keep_parts(ring: &[u8], slots: &mut [u8; SLOTS], kept: &mut [u64; KEPT_WORDS])
-    requires { word_bits < length ring.now }
-    ensures { Occurrences ring.now (edge_vectors slots.new kept.new) }
-{
-    clear_slots(slots);
-    *kept = [0u64; KEPT_WORDS];
-    let mut r = 0;
-    while r < ring.len() && r < VECTOR_BITS {
-        let part = r / WORD_BITS;
-        let at = byte_index(ring[r]) + part * BYTE_CODES;
-        let slot = slot_from(slots[at], part, r);
-        slots[at] = slot;
-        let word = word_place(part, slot);
-        kept[word] = kept[word] | (1u64 << (r % WORD_BITS));
-        r += 1;
+    // Of the vectors of a longer ring the words that have a bit are kept.
+    fn keep_parts(&mut self, ring: &[u8])
+        requires { word_bits < length ring.now }
+        ensures { Occurrences ring.now self.new }
+    {
+        self.clear();
+        let counted = ring.len().min(VECTOR_BITS);
+        for (r, edge) in ring[..counted].iter().enumerate() {
+            let part = r / WORD_BITS;
+            let at = usize::from(*edge) + part * BYTE_CODES;
+            let slot = slot_from(self.slots[at], part, r);
+            self.slots[at] = slot;
+            self.kept[word_place(part, slot)] |= 1u64 << (r % WORD_BITS);
+        }
     }
-}
 
-// Writes the slots and the kept words of a ring, whatever the two arrays held before. If the ring has more edges than a
-// vector has bits, only the first 256 count.
-pub fn occurrences(ring: &[u8], slots: &mut [u8; SLOTS], kept: &mut [u64; KEPT_WORDS])
-    ensures { Occurrences ring.now (edge_vectors slots.new kept.new) }
-{
-    if ring.len() <= WORD_BITS {
-        keep_whole(ring, slots, kept);
-    } else {
-        keep_parts(ring, slots, kept);
+    // Writes the slots and the kept words of a ring, whatever they were before. If the ring has more edges than a vector
+    // has bits, only the first 256 count.
+    pub fn hold(&mut self, ring: &[u8])
+        ensures { Occurrences ring.now self.new }
+    {
+        if ring.len() <= WORD_BITS {
+            self.keep_whole(ring);
+        } else {
+            self.keep_parts(ring);
+        }
     }
-}
 
-// The word of an edge code in a part, of vectors with several words. There is a kept word for any byte, so nothing is
-// tested.
-fn word_of(slots: &[u8; SLOTS], kept: &[u64; KEPT_WORDS], code: u8, part: usize) -> u64
-    requires { part < vector_words }
-    ensures { result ≡ slot_word (edge_vectors slots.now kept.now) code part }
-{
-    let slot = slots[byte_index(code) + part * BYTE_CODES];
-    kept[word_place(part, slot)]
-}
-
-// The occurrence vector of an edge code, for a ring whose vectors have `count` words. It has four words. For a count above
-// 1 all four are read; in the arrays of a ring those past its last part are 0.
-pub fn vector_of(
-    slots: &[u8; SLOTS],
-    kept: &[u64; KEPT_WORDS],
-    code: u8,
-    count: usize,
-) -> [u64; VECTOR_WORDS]
-    ensures { result ≡ vector_at (edge_vectors slots.now kept.now) code count }
-{
-    if count <= 1 {
-        return [kept[byte_index(code)], 0, 0, 0];
+    // The word of an edge code in a part, where vectors have W words. There is a kept word for any byte, so no slot is
+    // tested.
+    fn word_of<const W: usize>(&self, code: u8, part: usize) -> u64
+        requires { part < W }
+        ensures { result ≡ word_of self.now code W part }
+    {
+        if W == 1 {
+            self.kept[usize::from(code)]
+        } else if part < VECTOR_WORDS {
+            let slot = self.slots[usize::from(code) + part * BYTE_CODES];
+            self.kept[word_place(part, slot)]
+        } else {
+            0
+        }
     }
-    [
-        word_of(slots, kept, code, 0),
-        word_of(slots, kept, code, 1),
-        word_of(slots, kept, code, 2),
-        word_of(slots, kept, code, 3),
-    ]
+
+    // The occurrence vector of an edge code, for a ring whose vectors have W words. All W are read; those past the ring's
+    // last part are 0.
+    pub fn vector_of<const W: usize>(&self, code: u8) -> [u64; W]
+        ensures { result ≡ vector_at self.now code W }
+    {
+        let mut vector = [0u64; W];
+        for (part, word) in vector.iter_mut().enumerate() {
+            *word = self.word_of::<W>(code, part);
+        }
+        vector
+    }
 }

@@ -17,7 +17,7 @@ use Rattle.meaning.proofs.ScanLoop.{scan_found_le, scan_end}
 use Rattle.silences.specs.Silences.{Silence}
 use Rattle.silences.specs.Reading.{field_at, silences_read}
 use Rattle.silences.specs.Addresses.{sought_of}
-use Rattle.occurrences.specs.EdgeVectors.{EdgeVectors}
+use Rattle.occurrences.specs.declared.table.EdgeVectors.{EdgeVectors}
 use Rattle.windows.specs.Windows.{Parts, whole_line}
 use Rattle.findings.specs.Limits.{most_places, CanSearch}
 use Rattle.findings.proofs.WordsSoFar.{WordsSoFar, so_far_none, so_far_length, so_far_more}

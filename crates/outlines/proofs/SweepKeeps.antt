@@ -17,7 +17,7 @@ use Rattle.meaning.proofs.LookBound.{quick_looks_most}
 use Rattle.meaning.proofs.Places.{found_start}
 use Rattle.meaning.proofs.FoundExactly.{found_is}
 use Rattle.meaning.proofs.ScanLoop.{ScanLoop, scan_start, scan_so_far_le, scan_verified}
-use Rattle.occurrences.specs.EdgeVectors.{EdgeVectors}
+use Rattle.occurrences.specs.declared.table.EdgeVectors.{EdgeVectors}
 use Rattle.windows.specs.Windows.{Parts, whole_line}
 use Rattle.tally.specs.Counts.{most_counts}
 use Rattle.findings.specs.Limits.{most_places, CanSearch}

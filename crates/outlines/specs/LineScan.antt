@@ -9,7 +9,7 @@ use Rattle.lists.specs.Areas.{written}
 use Rattle.meaning.specs.Findings.{findings, words_of}
 use Rattle.meaning.specs.Looks.{quick_looks}
 use Rattle.silences.specs.Reading.{book_refusal, silences_read}
-use Rattle.occurrences.specs.EdgeVectors.{EdgeVectors}
+use Rattle.occurrences.specs.declared.table.EdgeVectors.{EdgeVectors}
 use Rattle.occurrences.specs.Storing.{Occurrences}
 use Rattle.windows.specs.Windows.{Parts, whole_line, Joined}
 use Rattle.tally.specs.Counts.{most_counts, IsDoubled}

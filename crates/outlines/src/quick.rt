@@ -1,7 +1,6 @@
 // The quick scan, rules 1 to 5. A silence book is asked for each finding before its words are written: the report lends
 // its own book, and the scan an empty one, which hides no finding.
 ghost use Rattle.std.specs.Prelude.{length};
-ghost use Rattle.occurrences.specs.EdgeVectors.{edge_vectors};
 ghost use Rattle.windows.specs.Windows.{parts, whole_line};
 ghost use Rattle.outlines.specs.Scan.{IsScanned};
 ghost use Rattle.outlines.specs.LineScan.{CanScan, CanScanLine, LineScanned};
@@ -9,7 +8,7 @@ ghost use Rattle.outlines.specs.LineScan.{CanScan, CanScanLine, LineScanned};
 use crate::asking::{BookAsked, ask, put_shown};
 use answers::LinePlace;
 use findings::{Searched, Verdict, admit};
-use occurrences::{KEPT_WORDS, SLOTS, occurrences};
+use occurrences::{EdgeVectors, KEPT_WORDS, SLOTS};
 use silences::field_at;
 use sweep::{Sweep, Swept, sweep_on};
 use tally::{DOUBLED, MOST_COUNTS, Tally, double};
@@ -31,8 +30,7 @@ fn scan_windows<'a>(
     ring_number: u16,
     ring: &[u8],
     doubled: &[u8],
-    slots: &[u8; SLOTS],
-    kept: &[u64; KEPT_WORDS],
+    vectors: &EdgeVectors,
     line: &'a [u8],
     join: &'a [u8],
     k: usize,
@@ -40,7 +38,7 @@ fn scan_windows<'a>(
     tally: &mut Tally,
     words: &mut [u32],
 ) -> LineCounts
-    requires { CanScan ring.now doubled.now (edge_vectors slots.now kept.now) (parts line.now join.now) k book.now tally.old.counts words.old }
+    requires { CanScan ring.now doubled.now vectors.now (parts line.now join.now) k book.now tally.old.counts words.old }
     ensures { LineScanned cell ring_number ring.now (whole_line (length ring.now) (parts line.now join.now)) k book.now words.old result.found result.hidden result.looks words.new }
 {
     let m = ring.len();
@@ -57,7 +55,7 @@ fn scan_windows<'a>(
         held,
     };
     while at.start.0 + m <= n {
-        match sweep_on(at, ring, doubled, slots, kept, line, join, k, tally) {
+        match sweep_on(at, ring, doubled, vectors, line, join, k, tally) {
             Swept::Ended(next) | Swept::NoFinding(next) => {
                 at = next;
             }
@@ -92,9 +90,11 @@ pub fn scan_line<'a>(
     requires { CanScanLine ring.now (parts line.now join.now) k book.now words.old }
     ensures { LineScanned cell ring_number ring.now (whole_line (length ring.now) (parts line.now join.now)) k book.now words.old result.found result.hidden result.looks words.new }
 {
-    let mut slots = [0u8; SLOTS];
-    let mut kept = [0u64; KEPT_WORDS];
-    occurrences(ring, &mut slots, &mut kept);
+    let mut vectors = EdgeVectors {
+        slots: [0; SLOTS],
+        kept: [0; KEPT_WORDS],
+    };
+    vectors.hold(ring);
     let mut doubled = [0u8; DOUBLED];
     double(ring, &mut doubled);
     let mut tally = Tally {
@@ -105,8 +105,7 @@ pub fn scan_line<'a>(
         ring_number,
         ring,
         &doubled,
-        &slots,
-        &kept,
+        &vectors,
         line,
         join,
         k,

@@ -7,6 +7,8 @@ use mathlib.Core.Bool.{Bool, true, false, ◌||◌, or-true, or-false, true≢fa
 use mathlib.Core.List.{List}
 use native.Mathlib.Nat.{zero-add}
 use native.Mathlib.Numerals.{add-one}
+use Rattle.std.specs.Prelude.{Option, None, Some}
+use Rattle.std.specs.Option.{is_some}
 use native.Mathlib.Omega.{arith}
 use lib.Dec.{ltb}
 use lib.ListN.{length, get_or}
@@ -18,11 +20,12 @@ use Rattle.lists.proofs.Cases.{by_test, not_passed}
 use Rattle.meaning.proofs.Some.{some_yes, some_by}
 use Rattle.meaning.proofs.WindowLoop.{AllSet, GrownBy, WindowLoop, ReadTo, window_start, window_end, window_stopped, window_grows, window_marked, window_breaks}
 use Rattle.vectors.specs.Bits.{word_count, is_set, first_bits, no_bit}
-use Rattle.vectors.specs.ByValue.{vector_words, vector_bits, HeldVector}
+use Rattle.vectors.specs.ByValue.{vector_bits, HeldVector}
 use Rattle.vectors.proofs.HeldVectors.{first_held, first_set, no_bit_iff_lem, no_bit_no_lem}
-use Rattle.occurrences.specs.EdgeVectors.{EdgeVectors, vector_at}
+use Rattle.occurrences.specs.declared.table.EdgeVectors.{EdgeVectors}
+use Rattle.occurrences.specs.EdgeVectors.{vector_at}
 use Rattle.occurrences.proofs.VectorsOfRing.{GrownByEdge, grown_by_edge}
-use Rattle.sweep.specs.Reads.{held_with, read_on, read_by}
+use Rattle.sweep.specs.Reads.{unread_from, held_with, read_on, read_by}
 use Rattle.sweep.specs.ReadingRules.{OwnVectors, IsWindowRead}
 
 -- What holds with `left` edges unread: there are at most k breaks, each edge read was one look, and the vector stands for the stretch.
@@ -46,7 +49,7 @@ module _ (ring window : List ℕ) (table : EdgeVectors) (k : ℕ) (own : OwnVect
 
   -- The vector with every bit set.
   abbrev full : List ℕ
-  full = first_bits m vector_words
+  full = first_bits m words
 
   some_edge : 0 < m
   some_edge = omega (arith, own.some_edge)
@@ -56,13 +59,13 @@ module _ (ring window : List ℕ) (table : EdgeVectors) (k : ℕ) (own : OwnVect
 
   full_set : AllSet ring (is_set full)
   unfolding AllSet
-  full_set r l = first_set m most r (omega arith)
+  full_set r l = first_set m r (omega arith)
 
   -- Where reading ends by the rules, this is its result.
-  read_to : (left breaks looks : ℕ) (marked stopped : Bool) → looks + left ≡ length ring → stopped ≡ stops_at k breaks marked → ReadTo ring window k 0 left breaks marked
-      → IsWindowRead ring window k (record { left = left; looks = looks; stopped = stopped })
-  read_to left breaks looks marked stopped all stops to =
-      record { read_is = omega (arith, to.left_is); left_is = all; stopped_is = stops ∙ ap₂ (stops_at k) (sym to.breaks_is) (sym to.mark_is) }
+  read_to : (left breaks looks : ℕ) (marked : Bool) (at : Option ℕ) → looks + left ≡ length ring → unread_from at ≡ left → is_some at ≡ stops_at k breaks marked → ReadTo ring window k 0 left breaks marked
+      → IsWindowRead ring window k (record { looks = looks; stopped_at = at })
+  read_to left breaks looks marked at all left_at stops to =
+      record { read_is = omega (arith, to.left_is); left_is = omega (arith, left_at, all); stopped_is = stops ∙ ap₂ (stops_at k) (sym to.breaks_is) (sym to.mark_is) }
 
   module _ (left : ℕ) (held : List ℕ) (breaks looks : ℕ) (h : StandsFor ring window k held (suc left) breaks looks) where
     -- The held vector grown by the window's edge at `left`.
@@ -107,12 +110,12 @@ module _ (ring window : List ℕ) (table : EdgeVectors) (k : ℕ) (own : OwnVect
 
     -- The result where reading stops at the edge.
     abbrev Stops : Type 0
-    Stops = IsWindowRead ring window k (record { left = left; looks = looks + 1; stopped = true })
+    Stops = IsWindowRead ring window k (record { looks = looks + 1; stopped_at = Some left })
 
     -- If the edge is a mark, reading stops, without a break.
     leaves : is_mark edge ≡ true → Stops
     leaves is =
-        read_to left breaks (looks + 1) true true (omega (arith, h.looks_are)) (sym (or-true (ltb k breaks)))
+        read_to left breaks (looks + 1) true (Some left) (omega (arith, h.looks_are)) refl (sym (or-true (ltb k breaks)))
         (window_marked ring window k 0 left breaks (is_set held) (is_set new) own.no_mark h.few grown_by h.reading (edge_is is))
 
     module _ (e : no_bit new words ≡ true) where
@@ -125,7 +128,7 @@ module _ (ring window : List ℕ) (table : EdgeVectors) (k : ℕ) (own : OwnVect
       empties : stops_at k (breaks + 1) (is_mark edge) ≡ false → StandsFor ring window k full left (breaks + 1) (looks + 1)
       empties goes_on =
           let both = or_fails (ltb k (breaks + 1)) (is_mark edge) goes_on in
-          record { few = ltb-false k (breaks + 1) both.0; looks_are = omega (arith, h.looks_are); vector = first_held m most; reading = broken both.1 }
+          record { few = ltb-false k (breaks + 1) both.0; looks_are = omega (arith, h.looks_are); vector = first_held m; reading = broken both.1 }
 
       -- If it is a mark or break k + 1, reading stops, as the rules say.
       stops : stops_at k (breaks + 1) (is_mark edge) ≡ true → Stops
@@ -135,7 +138,7 @@ module _ (ring window : List ℕ) (table : EdgeVectors) (k : ℕ) (own : OwnVect
           go true is = leaves is
           go false unmarked =
               let many : ltb k (breaks + 1) ≡ true = sym (or-false _) ∙ (rw unmarked at stop) in
-              read_to left (breaks + 1) (looks + 1) false true (omega (arith, h.looks_are)) (sym (or-false _ ∙ many))
+              read_to left (breaks + 1) (looks + 1) false (Some left) (omega (arith, h.looks_are)) refl (sym (or-false _ ∙ many))
               (window_stopped ring window k 0 left (breaks + 1) (is_set full) (ltb-true k (breaks + 1) many) (broken unmarked))
 
   -- Reading the edges before place `left`, with a vector that stands for the stretch, follows the rules.
@@ -143,7 +146,7 @@ module _ (ring window : List ℕ) (table : EdgeVectors) (k : ℕ) (own : OwnVect
       → IsWindowRead ring window k (read_on table window k words left held breaks looks)
   unfolding read_on
   read_on_lem zero held breaks looks h =
-      read_to 0 breaks looks false false h.looks_are (rw (le-ltb k breaks h.few) refl) (window_end ring window k 0 breaks (is_set held) h.reading)
+      read_to 0 breaks looks false None h.looks_are refl (rw (le-ltb k breaks h.few) refl) (window_end ring window k 0 breaks (is_set held) h.reading)
   read_on_lem (suc left) held breaks looks h =
       by_test (IsWindowRead ring window k) (no_bit (new left held breaks looks h) words)
       (λ none. by_test (IsWindowRead ring window k) (stops_at k (breaks + 1) (is_mark (get_or window left 0)))
@@ -158,6 +161,6 @@ module _ (ring window : List ℕ) (table : EdgeVectors) (k : ℕ) (own : OwnVect
       read_on_lem m full 0 0 (record {
         few = omega arith;
         looks_are = omega arith;
-        vector = first_held m most;
+        vector = first_held m;
         reading = subst (λ (left : ℕ). WindowLoop ring window k 0 left 0 (is_set full)) (sym long) (window_start ring window k 0 (is_set full) full_set);
       })

@@ -7,7 +7,7 @@ use mathlib.Core.List.{List}
 use mathlib.Core.Logic.{◌↔◌}
 use lib.Dec.{leb}
 use lib.ListN.{length}
-use Rattle.occurrences.specs.EdgeVectors.{EdgeVectors}
+use Rattle.occurrences.specs.declared.table.EdgeVectors.{EdgeVectors}
 use Rattle.windows.specs.Windows.{Parts, whole_line, IsWholeLength}
 use Rattle.tally.specs.Counts.{most_counts}
 use Rattle.lists.proofs.SizesTested.{lt_iff, le_iff, and_iff, test_same}

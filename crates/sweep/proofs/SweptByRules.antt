@@ -13,7 +13,7 @@ use Rattle.meaning.specs.Findings.{found_at}
 use Rattle.meaning.specs.Looks.{tally_looks}
 use Rattle.lists.proofs.Cases.{by_test}
 use Rattle.meaning.proofs.CandidateStart.{candidate_is_start}
-use Rattle.occurrences.specs.EdgeVectors.{EdgeVectors}
+use Rattle.occurrences.specs.declared.table.EdgeVectors.{EdgeVectors}
 use Rattle.windows.specs.Windows.{Parts, whole_line, Joined}
 use Rattle.tally.specs.Counts.{finding_with, TallyResult}
 use Rattle.tally.specs.Tallied.{Verified}

@@ -2,21 +2,24 @@
 -- looks, and each starts past the one before.
 use Prim.Native.Nat.{ℕ, zero, suc, ◌+◌, ◌-◌, ◌*◌, ◌≤◌, ◌<◌}
 use mathlib.Core.Path.{◌≡◌, refl, sym, ap, ◌∙◌}
-use mathlib.Core.Bool.{true, false}
+use mathlib.Core.Bool.{true}
 use mathlib.Core.List.{List}
+use Rattle.std.specs.Prelude.{None, Some}
+use Rattle.std.specs.Option.{is_some}
+use native.Mathlib.Nat.{add-zero}
 use native.Mathlib.Omega.{arith}
 use lib.ListN.{length}
 use Rattle.lists.proofs.Cases.{by_test}
 use Rattle.meaning.specs.Meanings.{FitsInLine, IsPastLine, fits_in_line}
 use Rattle.meaning.proofs.Starts.{fits_line_iff, past_line_iff}
 use Rattle.vectors.specs.Bits.{word_count}
-use Rattle.occurrences.specs.EdgeVectors.{EdgeVectors}
+use Rattle.occurrences.specs.declared.table.EdgeVectors.{EdgeVectors}
 use Rattle.windows.specs.Windows.{Parts, window_of, whole_line, IsWindow}
 use Rattle.windows.proofs.WindowEdges.{fitting_length, some_fits}
 use Rattle.tally.specs.Counts.{most_counts}
 use Rattle.sweep.specs.declared.reading.WindowRead.{WindowRead}
 use Rattle.sweep.specs.declared.sweeping.WindowsRead.{WindowsRead}
-use Rattle.sweep.specs.Reads.{read_by, none_left, windows_on, windows_by, CanReadWindows}
+use Rattle.sweep.specs.Reads.{unread_from, unread, read_by, none_left, windows_on, windows_by, CanReadWindows}
 use Rattle.sweep.proofs.ReadTurns.{read_sum, read_some}
 
 -- The invariant before the turn at start i: at most `left` windows are still to come, and `still` says that reading them from here gives the result of the whole loop.
@@ -31,7 +34,7 @@ pub record StillWindows (ring : List ℕ) (table : EdgeVectors) (p : Parts) (k f
 -- Of a window that fits in the line at least one edge is read, and looks and edges left unread add up to m.
 window_reads : (table : EdgeVectors) (k : ℕ) {ring edges : List ℕ} {p : Parts} {i : ℕ} → 0 < length ring → FitsInLine ring (whole_line (length ring) p) i
     → IsWindow p i (length ring) edges
-    → ((read_by table edges k).looks + (read_by table edges k).left ≡ length ring) × ((read_by table edges k).left < length ring)
+    → ((read_by table edges k).looks + unread (read_by table edges k) ≡ length ring) × (unread (read_by table edges k) < length ring)
 window_reads table k {ring} {edges = edges} some_edge in_line handed =
     let size : length edges ≡ length ring = fitting_length some_edge handed in_line in
     let words : ℕ = word_count (length edges) in
@@ -78,34 +81,37 @@ module _ {ring : List ℕ} {table : EdgeVectors} {p : Parts} {k from i looks : �
         let one_more : known.left ≡ suc (known.left - 1) = omega (arith, known.enough) in
         ap (λ (x : ℕ). windows_on ring table p k x i looks) (sym one_more) ∙ known.still
 
-    reads_fit : (r.looks + r.left ≡ m) × (r.left < m)
+    reads_fit : (r.looks + unread r ≡ m) × (unread r < m)
     reads_fit = rw reads (window_reads table k known.can.some_edge in_line handed)
 
     -- The next window starts at n + 1 at most: i + edges left + 1 ≤ n + 1.
-    pub windows_next_le : i + r.left + 1 ≤ n + 1
+    pub windows_next_le : i + unread r + 1 ≤ n + 1
     windows_next_le = omega (arith, reads_fit.1)
 
     -- The looks so far are at most 256 for each place before the next start.
-    pub windows_looks_le : looks + r.looks ≤ most_counts * (i + r.left + 1)
+    pub windows_looks_le : looks + r.looks ≤ most_counts * (i + unread r + 1)
     windows_looks_le = omega (arith, known.looks_le, reads_fit.0, known.can.most)
 
     -- If the window was not stopped it is the candidate, and returning there meets the contract.
-    pub windows_stop : r.stopped ≡ false
-        → record { start = record { 0 = i }; next = record { 0 = i + r.left + 1 }; looks = looks + r.looks; candidate = true } ≡ windows_by ring table p k from
+    pub windows_stop : r.stopped_at ≡ None
+        → record { start = record { 0 = i }; next = record { 0 = i + 1 }; looks = looks + r.looks; candidate = true } ≡ windows_by ring table p k from
     unfolding windows_on
-    windows_stop goes_on = rw ((fits_line_iff ring line i).1 in_line, is_read, goes_on) at from_here
+    windows_stop goes_on = rw (add-zero i) at (rw ((fits_line_iff ring line i).1 in_line, is_read, goes_on) at from_here)
 
-    -- If the window was stopped, the invariant holds at the next start.
-    pub windows_turn : r.stopped ≡ true → StillWindows ring table p k from (i + r.left + 1) (looks + r.looks)
+    -- If the window was stopped with `left` edges unread, the invariant holds at the next start.
+    pub windows_turn : {left : ℕ} → r.stopped_at ≡ Some left → StillWindows ring table p k from (i + (left + 1)) (looks + r.looks)
     unfolding windows_on
-    windows_turn stop = record {
-      can = known.can;
-      left = known.left - 1;
-      enough = omega (arith, known.enough);
-      start_le = windows_next_le;
-      looks_le = windows_looks_le;
-      still = rw ((fits_line_iff ring line i).1 in_line, is_read, stop) at from_here;
-    }
+    windows_turn {left} stop =
+        let left_is : unread r ≡ left = ap unread_from stop in
+        let next : i + unread r + 1 ≡ i + (left + 1) = omega arith in
+        record {
+          can = known.can;
+          left = known.left - 1;
+          enough = omega (arith, known.enough);
+          start_le = rw next at windows_next_le;
+          looks_le = rw next at windows_looks_le;
+          still = rw next at (rw ((fits_line_iff ring line i).1 in_line, is_read, ap is_some stop) at from_here);
+        }
 
 -- How far reading at most `left` windows goes: to a start of at most n + 1, with at most 256 looks for each window.
 pub record WindowsGo (n looks left : ℕ) (to : WindowsRead) : Type 0 where
@@ -125,9 +131,9 @@ module _ (ring : List ℕ) (table : EdgeVectors) (p : Parts) (k from : ℕ) (can
       let in_line = (fits_line_iff ring line' i).0 e in
       let r : WindowRead = read_by table (window_of (length ring) p i) k in
       let reads = window_reads table k can.some_edge in_line (record { is = refl }) in
-      by_test (WindowsGo (length line') looks (suc left)) r.stopped
+      by_test (WindowsGo (length line') looks (suc left)) (is_some r.stopped_at)
       (λ _.
-      let later = windows_go left (i + r.left + 1) (looks + r.looks) (omega (arith, reads.1)) in
+      let later = windows_go left (i + unread r + 1) (looks + r.looks) (omega (arith, reads.1)) in
       record { start_le = later.start_le; looks_le = omega (arith, later.looks_le, reads.0, can.most) })
       (λ _. record { start_le = l; looks_le = omega (arith, reads.0, can.most) }))
       (λ _. record { start_le = l; looks_le = omega arith })

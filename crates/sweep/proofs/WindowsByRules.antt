@@ -5,6 +5,7 @@ use Prim.Native.Nat.{ℕ, zero, suc, ◌+◌, ◌-◌, ◌≤◌}
 use mathlib.Core.Path.{◌≡◌, refl, sym, ap, ap₂, ◌∙◌}
 use mathlib.Core.Bool.{true, false, true≢false}
 use mathlib.Core.List.{List}
+use Rattle.std.specs.Option.{is_some}
 use native.Mathlib.Omega.{arith}
 use lib.ListN.{length}
 use Rattle.lists.proofs.Cases.{by_test}
@@ -12,11 +13,11 @@ use Rattle.meaning.specs.Meanings.{FitsInLine, IsPastLine, window, fits_in_line}
 use Rattle.meaning.proofs.Starts.{fits_line_iff, past_line_iff}
 use Rattle.meaning.specs.Rules.{stops_at, is_stopped, read_window}
 use Rattle.meaning.proofs.WindowAlone.{alone_reading}
-use Rattle.occurrences.specs.EdgeVectors.{EdgeVectors}
+use Rattle.occurrences.specs.declared.table.EdgeVectors.{EdgeVectors}
 use Rattle.windows.specs.Windows.{Parts, window_of, whole_line, Joined}
 use Rattle.windows.proofs.WindowEdges.{fitting_window, fitting_length}
 use Rattle.sweep.specs.declared.reading.WindowRead.{WindowRead}
-use Rattle.sweep.specs.Reads.{read_by, none_left, windows_on, windows_by}
+use Rattle.sweep.specs.Reads.{unread, read_by, none_left, windows_on, windows_by}
 use Rattle.sweep.specs.ReadingRules.{OwnVectors, IsWindowRead}
 use Rattle.sweep.specs.SweepRules.{swept_start, StoppedTo, none_stopped, one_stopped, IsWindowsRead}
 use Rattle.sweep.proofs.ReadByRules.{read_by_rules}
@@ -53,21 +54,21 @@ module _ (ring : List ℕ) (table : EdgeVectors) (p : Parts) (k from : ℕ) (own
       reads_are = by_rules.read_is ∙ ap (λ (w : List ℕ). (read_window ring w k 0).read) alone ∙ (alone_reading ring line i k).read_is
 
       -- The window is stopped exactly when the rules stop it.
-      stops_are : (read i).stopped ≡ is_stopped k (read_window ring line k i)
+      stops_are : is_some (read i).stopped_at ≡ is_stopped k (read_window ring line k i)
       stops_are =
           let in_line_too = alone_reading ring line i k in
           by_rules.stopped_is ∙ ap (λ (w : List ℕ). is_stopped k (read_window ring w k 0)) alone ∙ ap₂ (stops_at k) in_line_too.breaks_is in_line_too.mark_is
 
-      next_is : i + (read i).left + 1 ≡ swept_start ring line k i
+      next_is : i + unread (read i) + 1 ≡ swept_start ring line k i
       next_is = omega (arith, reads_are, by_rules.left_is)
 
       -- The case that the window is stopped.
-      stopped_here : (read i).stopped ≡ true → StoppedTo ring line k from (i + (read i).left + 1) (looks + (read i).looks)
+      stopped_here : is_some (read i).stopped_at ≡ true → StoppedTo ring line k from (i + unread (read i) + 1) (looks + (read i).looks)
       stopped_here stop = rw (next_is, reads_are) (one_stopped h in_line (sym stops_are ∙ stop))
 
       -- The case that it is the candidate.
-      stops_here : (read i).stopped ≡ false
-          → IsWindowsRead ring line k from (record { start = record { 0 = i }; next = record { 0 = i + (read i).left + 1 }; looks = looks + (read i).looks; candidate = true })
+      stops_here : is_some (read i).stopped_at ≡ false
+          → IsWindowsRead ring line k from (record { start = record { 0 = i }; next = record { 0 = i + unread (read i) + 1 }; looks = looks + (read i).looks; candidate = true })
       stops_here goes_on = record {
         looks = looks;
         stopped_to = h;
@@ -84,8 +85,8 @@ module _ (ring : List ℕ) (table : EdgeVectors) (p : Parts) (k from : ℕ) (own
       by_test (IsWindowsRead ring line k from) (fits_in_line ring line i)
       (λ passed.
       let in_line = (fits_line_iff ring line i).0 passed in
-      by_test (IsWindowsRead ring line k from) (read i).stopped
-      (λ stop. windows_on_lem left (i + (read i).left + 1) (looks + (read i).looks) (omega arith) (stopped_here i looks h in_line stop))
+      by_test (IsWindowsRead ring line k from) (is_some (read i).stopped_at)
+      (λ stop. windows_on_lem left (i + unread (read i) + 1) (looks + (read i).looks) (omega arith) (stopped_here i looks h in_line stop))
       (λ goes_on. stops_here i looks h in_line goes_on))
       (λ out. ended i looks h ((past_line_iff ring line i).0 out))
 

@@ -2,12 +2,14 @@
 -- line. `read_by` of Reads is what the code computes with any table. `read_by_rules` in proofs/ReadByRules.antt proves that with the own vectors of a ring without marks it is what the
 -- rules give.
 use Rattle.std.specs.Prelude.{ℕ, ◌+◌, ◌≤◌, ◌<◌, ◌≡◌, false, List, length}
+use Rattle.std.specs.Option.{is_some}
 use Rattle.meaning.specs.Meanings.{holds_mark}
 use Rattle.meaning.specs.Rules.{is_stopped, read_window}
-use Rattle.occurrences.specs.EdgeVectors.{EdgeVectors}
+use Rattle.occurrences.specs.declared.table.EdgeVectors.{EdgeVectors}
 use Rattle.occurrences.specs.Storing.{Occurrences}
 use Rattle.tally.specs.Counts.{most_counts}
 use Rattle.sweep.specs.declared.reading.WindowRead.{WindowRead}
+use Rattle.sweep.specs.Reads.{unread}
 
 -- The ring has 1 to 256 edges and holds no mark, and `table` holds its occurrence vectors.
 pub record OwnVectors (ring : List ℕ) (table : EdgeVectors) : Type 0 where
@@ -20,5 +22,5 @@ pub record OwnVectors (ring : List ℕ) (table : EdgeVectors) : Type 0 where
 -- k + 1 or at a mark.
 pub record IsWindowRead (ring window : List ℕ) (k : ℕ) (r : WindowRead) : Type 0 where
   pub read_is : r.looks ≡ (read_window ring window k 0).read
-  pub left_is : r.looks + r.left ≡ length ring
-  pub stopped_is : r.stopped ≡ is_stopped k (read_window ring window k 0)
+  pub left_is : r.looks + unread r ≡ length ring
+  pub stopped_is : is_some r.stopped_at ≡ is_stopped k (read_window ring window k 0)

@@ -3,22 +3,35 @@
 -- `IsWindowsRead` of SweepRules, by `read_by_rules` and `windows_by_rules` of proofs/. Windows come from the line and its join area, the parts p; n is the length of
 -- the whole line (specs/Windows.antt of crates/windows).
 --
+--   unread_from, unread                the edges that reading a window leaves unread
 --   held_with                         the held vector after one more edge
 --   read_on, read_with, read_by       one window: from a given point; from its last edge with a given number of words; with as few words as m bits need
 --   none_left                         the result if no window fits in the line any more
 --   windows_on, windows_by            window after window, to the next candidate: at most a given number of them; all from a given start
 --   CanReadWindows                    the precondition of `read_windows`
 use Rattle.std.specs.Prelude.{ℕ, zero, suc, ◌+◌, ◌-◌, ◌≤◌, ◌<◌, true, false, cond, List, length, get_or}
+use Rattle.std.specs.Prelude.{Option, None, Some}
+use Rattle.std.specs.Option.{is_some}
 use Rattle.meaning.specs.Meanings.{fits_in_line, is_mark}
 use Rattle.meaning.specs.Rules.{stops_at}
 use Rattle.vectors.specs.Bits.{word_count, first_bits, no_bit}
-use Rattle.vectors.specs.ByValue.{vector_words, grown_words}
-use Rattle.occurrences.specs.EdgeVectors.{EdgeVectors, vector_at}
+use Rattle.vectors.specs.ByValue.{grown_words}
+use Rattle.occurrences.specs.declared.table.EdgeVectors.{EdgeVectors}
+use Rattle.occurrences.specs.EdgeVectors.{vector_at}
 use Rattle.windows.specs.Windows.{Parts, window_of, whole_line}
 use Rattle.tally.specs.Counts.{most_counts}
 use Rattle.findings.specs.Limits.{most_places}
 use Rattle.sweep.specs.declared.reading.WindowRead.{WindowRead}
 use Rattle.sweep.specs.declared.sweeping.WindowsRead.{WindowsRead}
+
+-- The place where reading stopped; 0 if it did not.
+abbrev pub unread_from : Option ℕ → ℕ
+unread_from None = 0
+unread_from (Some left) = left
+
+-- The edges that reading a window leaves unread: those before the place where it stopped; none if it was not stopped.
+abbrev pub unread : WindowRead → ℕ
+unread r = unread_from r.stopped_at
 
 -- The held vector after the edge at place `left` of the window is read: `held` grown by the edge's occurrence vector.
 abbrev pub held_with : EdgeVectors → List ℕ → ℕ → ℕ → List ℕ → List ℕ
@@ -29,11 +42,11 @@ held_with table window words left held = grown_words (length window) words (vect
 -- k+1, or when all m edges are read." And a mark is where "the quick scan leaves the window" (document 02, ticket 2): "one look and no break". Whether reading stops
 -- is asked only where the grown vector has no bit, because a mark fits no ring of an accepted call; there an edge that is no mark is break `breaks + 1`.
 unfoldable pub read_on : EdgeVectors → List ℕ → ℕ → ℕ → ℕ → List ℕ → ℕ → ℕ → WindowRead
-read_on table window k words zero held breaks looks = record { left = 0; looks = looks; stopped = false }
+read_on table window k words zero held breaks looks = record { looks = looks; stopped_at = None }
 read_on table window k words (suc left) held breaks looks =
     let next : List ℕ = held_with table window words left held in
-    let stopped : WindowRead = record { left = left; looks = looks + 1; stopped = true } in
-    let emptied : WindowRead = read_on table window k words left (first_bits (length window) vector_words) (breaks + 1) (looks + 1) in
+    let stopped : WindowRead = record { looks = looks + 1; stopped_at = Some left } in
+    let emptied : WindowRead = read_on table window k words left (first_bits (length window) words) (breaks + 1) (looks + 1) in
     let grown : WindowRead = read_on table window k words left next breaks (looks + 1) in
     let unfit : WindowRead = cond (stops_at k (breaks + 1) (is_mark (get_or window left 0))) stopped emptied in
     cond (no_bit next words) unfit grown
@@ -41,7 +54,7 @@ read_on table window k words (suc left) held breaks looks =
 -- Rule 1: "read its edges from the last towards the first". At first all m bits are set, because the empty stretch is the beginning of every rotation. `words` is
 -- the number of machine words of a vector, of the held one and of the edges' occurrence vectors.
 abbrev pub read_with : EdgeVectors → List ℕ → ℕ → ℕ → WindowRead
-read_with table window k words = read_on table window k words (length window) (first_bits (length window) vector_words) 0 0
+read_with table window k words = read_on table window k words (length window) (first_bits (length window) words) 0 0
 
 -- The window read with as few words as m bits need.
 abbrev pub read_by : EdgeVectors → List ℕ → ℕ → WindowRead
@@ -58,9 +71,9 @@ unfoldable pub windows_on : List ℕ → EdgeVectors → Parts → ℕ → ℕ �
 windows_on ring table p k zero i looks = none_left i looks
 windows_on ring table p k (suc left) i looks =
     let read : WindowRead = read_by table (window_of (length ring) p i) k in
-    let found : WindowsRead = record { start = record { 0 = i }; next = record { 0 = i + read.left + 1 }; looks = looks + read.looks; candidate = true } in
-    let later : WindowsRead = windows_on ring table p k left (i + read.left + 1) (looks + read.looks) in
-    let tried : WindowsRead = cond read.stopped later found in
+    let found : WindowsRead = record { start = record { 0 = i }; next = record { 0 = i + unread read + 1 }; looks = looks + read.looks; candidate = true } in
+    let later : WindowsRead = windows_on ring table p k left (i + unread read + 1) (looks + read.looks) in
+    let tried : WindowsRead = cond (is_some read.stopped_at) later found in
     let none : WindowsRead = none_left i looks in
     cond (fits_in_line ring (whole_line (length ring) p) i) tried none
 

@@ -18,7 +18,7 @@ use Rattle.meaning.specs.Meanings.{FitsInLine, IsPastLine, holds_mark}
 use Rattle.meaning.specs.Findings.{Finding, found_at}
 use Rattle.meaning.specs.Rules.{is_stopped, read_window}
 use Rattle.meaning.specs.Looks.{tally_looks}
-use Rattle.occurrences.specs.EdgeVectors.{EdgeVectors}
+use Rattle.occurrences.specs.declared.table.EdgeVectors.{EdgeVectors}
 use Rattle.occurrences.specs.Storing.{Occurrences}
 use Rattle.findings.specs.Putting.{finding_of}
 use Rattle.sweep.specs.declared.sweeping.Sweep.{Sweep}

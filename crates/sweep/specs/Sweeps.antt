@@ -11,7 +11,7 @@
 --   IsCountedTo, IsTalliedBy, IsSweptTo   the contracts of `verify_afresh`, `verify` and `to_candidate`
 use Rattle.std.specs.Prelude.{ℕ, ◌+◌, ◌-◌, ◌*◌, ◌^◌, ◌≤◌, ◌≡◌, Bool, cond, ◌&&◌, List, Option, None, Some, ltb, leb, length}
 use Rattle.findings.specs.declared.searching.Finding.{Finding as FindingStruct}
-use Rattle.occurrences.specs.EdgeVectors.{EdgeVectors}
+use Rattle.occurrences.specs.declared.table.EdgeVectors.{EdgeVectors}
 use Rattle.windows.specs.Windows.{Parts, window_of, whole_line}
 use Rattle.tally.specs.Counts.{most_counts, finding_with, TallyResult, counted_to}
 use Rattle.findings.specs.Limits.{most_places}

@@ -4,21 +4,20 @@
 ghost use Rattle.std.specs.Prelude.{◌≡◌, ◌+◌, ◌<◌, ◌≤◌, length};
 ghost use Rattle.meaning.specs.Meanings.{is_mark};
 ghost use Rattle.meaning.specs.Rules.{stops_at};
-ghost use Rattle.occurrences.specs.EdgeVectors.{edge_vectors};
+ghost use Rattle.vectors.specs.ByValue.{vector_words};
 ghost use Rattle.tally.specs.Counts.{most_counts};
 ghost use Rattle.sweep.specs.Reads.{read_with, read_by};
 
 use findings::is_mark;
-use occurrences::{KEPT_WORDS, SLOTS, vector_of};
+use occurrences::EdgeVectors;
 use vectors::{first_bits, grown, no_bit};
 
-// How far a window was read: the number of edges left unread; the looks, one for each edge read; and whether the window was
-// stopped, at break k + 1 or at a mark. If not, all its edges were read, and it is a candidate.
+// How far a window was read: the looks, one for each edge read; and if reading stopped, at break k + 1 or at a mark, the
+// number of edges left unread there. If it did not, all edges were read, and the window is a candidate.
 #[derive(Clone, Copy)]
 pub struct WindowRead {
-    pub left: usize,
     pub looks: usize,
-    pub stopped: bool,
+    pub stopped_at: Option<usize>,
 }
 
 // Whether reading stops at an edge that does not fit; `breaks` counts the breaks before it. It stops at a mark. Any other
@@ -29,34 +28,25 @@ fn stops_at(edge: u8, k: usize, breaks: usize) -> bool
     k <= breaks || is_mark(edge)
 }
 
-// Rules 1 to 3, where vectors have `words` words. Whether reading stops is asked only where the grown vector has no bit: the
+// Rules 1 to 3, where vectors have W words. Whether reading stops is asked only where the grown vector has no bit: the
 // number of breaks changes nowhere else, and a mark fits nothing, because a ring holds none.
-fn read_words(
-    window: &[u8],
-    slots: &[u8; SLOTS],
-    kept: &[u64; KEPT_WORDS],
-    k: usize,
-    words: usize,
-) -> WindowRead
-    ensures { result ≡ read_with (edge_vectors slots.now kept.now) window.now k words }
+fn read_words<const W: usize>(window: &[u8], vectors: &EdgeVectors, k: usize) -> WindowRead
+    requires { W ≤ vector_words }
+    ensures { result ≡ read_with vectors.now window.now k W }
 {
     let m = window.len();
-    let full = first_bits(m);
+    let full: [u64; W] = first_bits(m);
     let mut held = full;
-    let mut left = m;
     let mut breaks: usize = 0;
     let mut looks: usize = 0;
-    while 0 < left {
-        left -= 1;
-        let edge = window[left];
+    for (left, edge) in window.iter().enumerate().rev() {
         looks += 1; // one look
-        let next = grown(held, vector_of(slots, kept, edge, words), m, words);
-        if no_bit(next, words) {
-            if stops_at(edge, k, breaks) {
+        let next = grown(held, vectors.vector_of(*edge), m);
+        if no_bit(next) {
+            if stops_at(*edge, k, breaks) {
                 return WindowRead {
-                    left,
                     looks,
-                    stopped: true,
+                    stopped_at: Some(left),
                 };
             }
             breaks += 1;
@@ -66,32 +56,20 @@ fn read_words(
         }
     }
     WindowRead {
-        left,
         looks,
-        stopped: false,
+        stopped_at: None,
     }
 }
 
-// Reads the window with as few words as m bits need. Each call passes the number of words as a literal, so that the
-// compiler can make code of its own for each number.
-pub fn read_window(
-    window: &[u8],
-    slots: &[u8; SLOTS],
-    kept: &[u64; KEPT_WORDS],
-    k: usize,
-) -> WindowRead
+// Reads the window with as few words as m bits need.
+pub fn read_window(window: &[u8], vectors: &EdgeVectors, k: usize) -> WindowRead
     requires { (0 < length window.now) × (length window.now ≤ most_counts) }
-    ensures { result ≡ read_by (edge_vectors slots.now kept.now) window.now k }
+    ensures { result ≡ read_by vectors.now window.now k }
 {
-    let m = window.len();
-    if m <= 64 {
-        return read_words(window, slots, kept, k, 1);
+    match window.len() {
+        0..=64 => read_words::<1>(window, vectors, k),
+        65..=128 => read_words::<2>(window, vectors, k),
+        129..=192 => read_words::<3>(window, vectors, k),
+        _ => read_words::<4>(window, vectors, k),
     }
-    if m <= 128 {
-        return read_words(window, slots, kept, k, 2);
-    }
-    if m <= 192 {
-        return read_words(window, slots, kept, k, 3);
-    }
-    read_words(window, slots, kept, k, 4)
 }

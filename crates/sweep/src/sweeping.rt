@@ -1,7 +1,6 @@
 // The sweep goes from candidate to candidate. Its state is small and is passed by value; the tally and the ring's vectors
 // are lent beside it.
 ghost use Rattle.std.specs.Prelude.{◌≡◌, length};
-ghost use Rattle.occurrences.specs.EdgeVectors.{edge_vectors};
 ghost use Rattle.windows.specs.Windows.{parts, whole_length};
 ghost use Rattle.sweep.specs.Reads.{CanReadWindows, windows_by};
 ghost use Rattle.sweep.specs.Sweeps.{can_sweep, CanSweep, IsSweptTo, IsSweptBy};
@@ -11,7 +10,7 @@ use crate::verifying::verify;
 use answers::LinePlace;
 use findings::Finding;
 use moves::MOST_PLACES;
-use occurrences::{KEPT_WORDS, SLOTS};
+use occurrences::EdgeVectors;
 use tally::{MOST_COUNTS, Tally};
 use windows::{whole_length, window};
 
@@ -53,15 +52,14 @@ pub struct WindowsRead {
 // start. Most windows are stopped after a few reads, so nothing else is done between them.
 fn read_windows<'a>(
     ring: &[u8],
-    slots: &[u8; SLOTS],
-    kept: &[u64; KEPT_WORDS],
+    vectors: &EdgeVectors,
     line: &'a [u8],
     join: &'a [u8],
     k: usize,
     from: LinePlace,
 ) -> WindowsRead
     requires { CanReadWindows (length ring.now) (whole_length (length ring.now) line.now join.now) from.0 }
-    ensures { result ≡ windows_by ring.now (edge_vectors slots.now kept.now) (parts line.now join.now) k from.0 }
+    ensures { result ≡ windows_by ring.now vectors.now (parts line.now join.now) k from.0 }
 {
     let m = ring.len();
     let mut i = from.0;
@@ -77,18 +75,19 @@ fn read_windows<'a>(
                 candidate: false,
             };
         }
-        let read = read_window(edges, slots, kept, k);
+        let read = read_window(edges, vectors, k);
         looks += read.looks;
-        let next = i + read.left + 1;
-        if !read.stopped {
-            return WindowsRead {
-                start: LinePlace(i),
-                next: LinePlace(next),
-                looks,
-                candidate: true,
-            };
+        match read.stopped_at {
+            None => {
+                return WindowsRead {
+                    start: LinePlace(i),
+                    next: LinePlace(i + 1),
+                    looks,
+                    candidate: true,
+                };
+            }
+            Some(left) => i += left + 1,
         }
-        i = next;
     }
 }
 
@@ -97,18 +96,17 @@ fn to_candidate<'a>(
     at: Sweep,
     ring: &[u8],
     doubled: &[u8],
-    slots: &[u8; SLOTS],
-    kept: &[u64; KEPT_WORDS],
+    vectors: &EdgeVectors,
     line: &'a [u8],
     join: &'a [u8],
     k: usize,
     tally: &mut Tally,
 ) -> Swept
     requires { CanSweep (length ring.now) (whole_length (length ring.now) line.now join.now) at.start.0 at.looks }
-    ensures { IsSweptTo ring.now doubled.now (edge_vectors slots.now kept.now) (parts line.now join.now) k at tally.old.counts tally.new.counts result }
+    ensures { IsSweptTo ring.now doubled.now vectors.now (parts line.now join.now) k at tally.old.counts tally.new.counts result }
 {
     let last = at.last;
-    let read = read_windows(ring, slots, kept, line, join, k, at.start);
+    let read = read_windows(ring, vectors, line, join, k, at.start);
     let start = read.start;
     let looks = at.looks + read.looks;
     if !read.candidate {
@@ -142,18 +140,17 @@ pub fn sweep_on<'a>(
     at: Sweep,
     ring: &[u8],
     doubled: &[u8],
-    slots: &[u8; SLOTS],
-    kept: &[u64; KEPT_WORDS],
+    vectors: &EdgeVectors,
     line: &'a [u8],
     join: &'a [u8],
     k: usize,
     tally: &mut Tally,
 ) -> Swept
-    ensures { IsSweptBy ring.now doubled.now (edge_vectors slots.now kept.now) (parts line.now join.now) k at tally.old.counts tally.new.counts result }
+    ensures { IsSweptBy ring.now doubled.now vectors.now (parts line.now join.now) k at tally.old.counts tally.new.counts result }
 {
     let m = ring.len();
     if !can_sweep(m, whole_length(line, join, m), at.start, at.looks) {
         return Swept::Ended(at);
     }
-    to_candidate(at, ring, doubled, slots, kept, line, join, k, tally)
+    to_candidate(at, ring, doubled, vectors, line, join, k, tally)
 }

@@ -1,9 +1,10 @@
 -- `sweep::sweeping::read_windows` meets its contract: the loop keeps `StillWindows`. A turn ends where `window` returns no edge, because no window fits in the whole
 -- line there (`none_is_past`); else it passes a window that is stopped, or ends at the candidate. The measure is n + 1 - i.
+use mathlib.Core.Path.{ap}
 use native.Mathlib.Omega.{arith}
-use borrow.Author.Tests.{not-true, not-false}
 use Rattle.windows.proofs.WindowEdges.{none_is_past}
 use Rattle.sweep.proofs.WindowTurns.{windows_start, windows_end, windows_fit, windows_size, windows_next_le, windows_looks_le, windows_stop, windows_turn}
+use Rattle.sweep.specs.Reads.{unread_from}
 use Rattle.sweep.proofs.sweeping.read_windows.Goals as goal
 
 pub loop-edges-init : goal.loop-edges-init
@@ -33,27 +34,29 @@ overflow_add-looks c =
       known.can.most_line,
     )
 
-pub overflow_add-next : goal.overflow_add-next
-overflow_add-next c =
+pub overflow_add-i : goal.overflow_add-i
+overflow_add-i c =
     let handed = c.window-edges.ensures in
     let known = c.loop-edges.invariant in
     let in_line = windows_fit known handed (omega (arith, c.if-edges-eq0.false)) in
-    omega (arith, known.can.most_line, windows_next_le known in_line handed c.read_window-read.ensures)
+    let left_is = ap unread_from c.in-Some.is in
+    omega (arith, known.can.most_line, windows_next_le known in_line handed c.read_window-read.ensures, left_is)
 
-pub overflow_add-next-in-loop-edges : goal.overflow_add-next-in-loop-edges
-overflow_add-next-in-loop-edges c =
+pub overflow_add-i-in-Some : goal.overflow_add-i-in-Some
+overflow_add-i-in-Some c =
     let handed = c.window-edges.ensures in
     let known = c.loop-edges.invariant in
     let in_line = windows_fit known handed (omega (arith, c.if-edges-eq0.false)) in
-    omega (arith, known.can.most_line, windows_next_le known in_line handed c.read_window-read.ensures)
+    let left_is = ap unread_from c.in-Some.is in
+    omega (arith, known.can.most_line, windows_next_le known in_line handed c.read_window-read.ensures, left_is)
 
 -- The candidate.
-pub returns-then-not-read : goal.returns-then-not-read
-returns-then-not-read c =
+pub returns-in-None : goal.returns-in-None
+returns-in-None c =
     let handed = c.window-edges.ensures in
     let known = c.loop-edges.invariant in
     let in_line = windows_fit known handed (omega (arith, c.if-edges-eq0.false)) in
-    windows_stop known in_line handed c.read_window-read.ensures (not-true _ c.if-not-read.true)
+    windows_stop known in_line handed c.read_window-read.ensures c.in-None.is
 
 pub loop-edges-smaller : goal.loop-edges-smaller
 loop-edges-smaller c =
@@ -67,4 +70,4 @@ loop-edges-preserved c =
     let handed = c.window-edges.ensures in
     let known = c.loop-edges.invariant in
     let in_line = windows_fit known handed (omega (arith, c.if-edges-eq0.false)) in
-    windows_turn known in_line handed c.read_window-read.ensures (not-false _ c.if-not-read.false)
+    windows_turn known in_line handed c.read_window-read.ensures c.in-Some.is

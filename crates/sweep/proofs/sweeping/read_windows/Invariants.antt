@@ -2,13 +2,12 @@
 -- line there (`none_is_past`); else it passes a window that is stopped, or ends at the candidate. The measure is n + 1 - i.
 use Prim.Native.Nat.{◌+◌, ◌-◌}
 use lib.ListN.{length}
-use Rattle.occurrences.specs.EdgeVectors.{edge_vectors}
 use Rattle.windows.specs.Windows.{parts, whole_length}
 use Rattle.sweep.proofs.WindowTurns.{StillWindows}
 use Rattle.sweep.proofs.sweeping.read_windows.Given as goal
 
 abbrev pub invariant-loop-edges : goal.invariant-loop-edges
-invariant-loop-edges l = StillWindows l.ring (edge_vectors l.slots l.kept) (parts l.line l.join) l.k l.initial.i l.i l.looks
+invariant-loop-edges l = StillWindows l.ring l.vectors (parts l.line l.join) l.k l.initial.i l.i l.looks
 
 abbrev pub decreases-loop-edges : goal.decreases-loop-edges
 decreases-loop-edges l = whole_length (length l.ring) l.line l.join + 1 - l.i

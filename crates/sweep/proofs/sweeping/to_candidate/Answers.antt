@@ -1,7 +1,6 @@
 -- `sweep::sweeping::to_candidate` meets its contract: its three returns are the three cases of `sweep_by` (`SweepWays`).
 use native.Mathlib.Omega.{arith}
 use borrow.Author.Tests.{not-true, not-false}
-use Rattle.occurrences.specs.EdgeVectors.{edge_vectors}
 use Rattle.windows.specs.Windows.{parts}
 use Rattle.sweep.proofs.SweepWays.{sweep_looks_le, sweep_start_le, way_ended, sweep_all_looks_le, way_none, way_found}
 use Rattle.sweep.proofs.sweeping.to_candidate.Goals as goal
@@ -11,7 +10,7 @@ read_windows-read-requires c = c.requires.can_read
 
 pub overflow_add-looks : goal.overflow_add-looks
 overflow_add-looks c =
-    omega (arith, sweep_looks_le _ (edge_vectors c.args.slots.now c.args.kept.now) (parts c.args.line.now c.args.join.now) c.args.k c.args.at c.requires _ c.read_windows-read.ensures)
+    omega (arith, sweep_looks_le _ c.args.vectors.now (parts c.args.line.now c.args.join.now) c.args.k c.args.at c.requires _ c.read_windows-read.ensures)
 
 -- No candidate.
 pub returns-then-not-read : goal.returns-then-not-read
@@ -19,7 +18,7 @@ returns-then-not-read c = way_ended _ _ _ _ _ _ _ _ c.read_windows-read.ensures 
 
 pub verify-verified-requires : goal.verify-verified-requires
 verify-verified-requires c =
-    sweep_start_le _ (edge_vectors c.args.slots.now c.args.kept.now) (parts c.args.line.now c.args.join.now) c.args.k c.args.at c.requires _ c.read_windows-read.ensures
+    sweep_start_le _ c.args.vectors.now (parts c.args.line.now c.args.join.now) c.args.k c.args.at c.requires _ c.read_windows-read.ensures
 
 pub overflow_add-next : goal.overflow_add-next
 overflow_add-next c =
