@@ -1,5 +1,5 @@
 -- Whether counts can be moved. The test `can_move` is a conjunction of comparisons, and the record `CanMove` states the same (`can_move_iff`). So counts that pass
--- meet the precondition of `move_tally`, and the two returns of `move_counts` are the two cases of its contract.
+-- meet the precondition of `move_along`, and the two returns of `move_counts` are the two cases of its contract.
 use Prim.Native.Nat.{ℕ, ◌+◌, ◌-◌, ◌≤◌}
 use mathlib.Core.Path.{◌≡◌, refl, sym}
 use mathlib.Core.Bool.{Bool, true, false}
@@ -22,14 +22,6 @@ can_move_iff m room n from steps =
     let all = and_iff (and_iff (lt_iff 0 m) (and_iff (le_iff m most_counts) (le_iff m room))) (and_iff (le_iff n most_places) (le_iff (from + steps + m) n)) in (
       λ e. let is = all.0 e in record { has_counts = record { some_edge = is.0.0; most = is.0.1.0; room = is.0.1.1 }; most_line = is.1.0; in_line = is.1.1 },
       λ can. all.1 ((can.has_counts.some_edge, (can.has_counts.most, can.has_counts.room)), (can.most_line, can.in_line)),
-    )
-
--- If m, the counts and n are within the limits and a window fits in the line at `from`, the test `can_move` passes exactly when `steps` is at most n − m − from.
-pub can_move_last : (m room n from steps : ℕ) → HasCounts m room → n ≤ most_places → m ≤ n → from ≤ n - m → leb steps (n - m - from) ≡ can_move m room n from steps
-can_move_last m room n from steps has_counts most_line long begins =
-    test_same (le_iff steps (n - m - from)) (can_move_iff m room n from steps) (
-      λ ends. record { has_counts = has_counts; most_line = most_line; in_line = omega arith },
-      λ can. omega (arith, can.in_line),
     )
 
 -- If the test `can_move` passes for the length that `whole_length` returned, the counts can be moved along the whole line.

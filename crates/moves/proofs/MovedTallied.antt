@@ -139,7 +139,7 @@ module _ (ring : List ℕ) (p : Parts) (below : ℕ) (some : 0 < length ring) (m
         (record { has_counts = record { some_edge = some; most = most; room = omega (arith, tallied.size) }; most_line = most_line; in_line = ends.in_line })
 
     -- For a ring of 1 to 256 edges, a whole line of at most 2^32 edges, a join area that is right and 1 step or more: if the counts are the tally of start
-    -- `from` and a window fits in the whole line at from + steps, then `move_counts` gives the tally of the start reached (`IsReached`).
+    -- `from` and a window fits in the whole line at from + steps, then `move_tally` gives the tally of the start reached (`IsReached`).
     pub moved_tallied : (new : List ℕ) (r : Reached) → IsMoved ring p from steps below old new r → IsReached ring line from steps below new r
     moved_tallied new r moved =
         let is : reached_with r new ≡ move_on ring p below steps (unmoved from old) = rw can_be at moved.is in

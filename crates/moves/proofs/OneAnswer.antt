@@ -1,4 +1,4 @@
--- The contract of `move_counts` is one equation for the returned struct and the counts at exit, so it determines both.
+-- The contract of `move_tally` is one equation for the returned struct and the counts at exit, so it determines both.
 use Prim.Native.Nat.{ℕ}
 use mathlib.Core.Path.{◌≡◌, sym, ap, ◌∙◌}
 use mathlib.Core.List.{List}
@@ -6,7 +6,7 @@ use Rattle.windows.specs.Windows.{Parts}
 use Rattle.moves.specs.declared.steps.Reached.{Reached}
 use Rattle.moves.specs.Moves.{CountsAt, reached_with, IsMoved}
 
--- Any two answers that meet the contract of `move_counts` are equal, and so are the counts at exit.
+-- Any two answers that meet the contract of `move_tally` are equal, and so are the counts at exit.
 pub one_move : (ring : List ℕ) (p : Parts) (from steps below : ℕ) (old new new' : List ℕ) (r r' : Reached) → IsMoved ring p from steps below old new r
     → IsMoved ring p from steps below old new' r' → (r ≡ r') × (new ≡ new')
 one_move ring p from steps below old new new' r r' a b =

@@ -13,7 +13,7 @@
 --   can_move, CanMove           whether counts can be moved: the test, and the same as facts
 --   moved_from                  the counts moved, or unchanged if they cannot be moved
 --   reached_with                the returned struct and the final counts, as one point of a move
---   IsMoved                     the contract of `move_counts`
+--   IsMoved                     the contract of `move_tally`
 --   IsReached                   the result of moving a start's tally, as facts
 --   IsStepped, IsMovedOn        the contracts of private functions
 use Rattle.std.specs.Prelude.{ℕ, zero, suc, ◌+◌, ◌-◌, ◌*◌, ◌%◌, ◌^◌, ◌≤◌, ◌<◌, ◌≡◌, Bool, cond, ◌&&◌, List, ltb, leb, eqb, length, get_or}
@@ -102,7 +102,7 @@ moved_from ring p from steps below old =
 abbrev pub reached_with : Reached → List ℕ → CountsAt
 reached_with r counts = record { start = r.start.0; counts = counts; least = r.least; looks = r.looks; past = r.past }
 
--- The contract of `move_counts`. `from` is the number of the line place to move from, `old` are the counts at entry, `new` those at exit, r is the returned struct.
+-- The contract of `move_tally` and `move_counts`. `from` is the number of the line place to move from, `old` are the counts at entry, `new` those at exit, r is the returned struct.
 pub record IsMoved (ring : List ℕ) (p : Parts) (from steps below : ℕ) (old new : List ℕ) (r : Reached) : Type 0 where
   pub is : reached_with r new ≡ moved_from ring p from steps below old
 
@@ -125,12 +125,12 @@ pub record IsStepped (ring : List ℕ) (leaving entering : ℕ) (old new : List 
   pub least_is : z.least ≡ least_of (length ring) new
   pub looks_are : z.looks ≡ step_looks (length ring)
 
--- What `can_move` tests, as facts; the precondition of `move_along`, `move_tally` and `moved_tally`.
+-- What `can_move` tests, as facts; the precondition of `move_along`.
 pub record CanMove (m room n from steps : ℕ) : Type 0 where
   pub has_counts : HasCounts m room
   pub most_line : n ≤ most_places
   pub in_line : from + steps + m ≤ n
 
--- The contract of `move_along`, `move_tally` and `moved_tally`: the counts are moved by at most `steps` steps.
+-- The contract of `move_along`: the counts are moved by at most `steps` steps.
 pub record IsMovedOn (ring : List ℕ) (p : Parts) (from steps below : ℕ) (old new : List ℕ) (r : Reached) : Type 0 where
   pub is : reached_with r new ≡ move_on ring p below steps (unmoved from old)

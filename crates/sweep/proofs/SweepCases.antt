@@ -28,11 +28,6 @@ can_sweep_iff m n start looks =
       λ can. all.1 ((can.can_read.some_edge, can.can_read.most), (can.can_read.most_line, (can.can_read.start_le, can.looks_le))),
     )
 
--- If ring, line and start are within the limits, the test `can_sweep` passes exactly when the looks so far are at most 2^62.
-pub can_sweep_last : (m n start looks : ℕ) → CanReadWindows m n start → leb looks most_looks ≡ can_sweep m n start looks
-can_sweep_last m n start looks can_read =
-    test_same (le_iff looks most_looks) (can_sweep_iff m n start looks) (λ room. record { can_read = can_read; looks_le = room }, λ can. can.looks_le)
-
 -- If the test `can_sweep` passes for the length that `whole_length` returned, the sweep can go on along the whole line.
 pub can_go_on : {m n start looks : ℕ} {p : Parts} → IsWholeLength m p n → can_sweep m n start looks ≡ true → CanSweep m (length (whole_line m p)) start looks
 can_go_on {m} {n} {start} {looks} long passed = rw (sym long.is) ((can_sweep_iff m n start looks).0 passed)

@@ -20,11 +20,6 @@ can_count_iff m room long =
       λ can. all.1 ((can.has_counts.some_edge, can.has_counts.most), (can.has_counts.room, can.twice)),
     )
 
--- If m is 1 to 256 and there are at least m counts, the test `can_count` passes exactly when the doubled ring has at least 2·m edges.
-pub can_count_last : (m room long : ℕ) → HasCounts m room → leb (2 * m) long ≡ can_count m room long
-can_count_last m room long has_counts =
-    test_same (le_iff (2 * m) long) (can_count_iff m room long) (λ twice. record { has_counts = has_counts; twice = twice }, λ can. can.twice)
-
 module _ (doubled window old : List ℕ) where
   abbrev test : Bool
   test = can_count (length window) (length old) (length doubled)

@@ -1,5 +1,5 @@
--- The loop of `double`. A turn stores the ring's edge p twice, at p and at m + p; past 2·m nothing is stored. So at the end the edge at s is the ring's at s mod m:
--- for s below m this is s, and for s from m on it is s − m.
+-- `double` copies the ring to the first m places and to the next m; past 2·m nothing is stored. So the edge at s is the ring's at s mod m: for s below m this is s,
+-- and for s from m on it is s − m.
 use Prim.Native.Nat.{ℕ, ◌+◌, ◌-◌, ◌*◌, ◌%◌, ◌≤◌, ◌<◌}
 use mathlib.Core.Path.{◌≡◌, refl, sym, ap, ◌∙◌}
 use mathlib.Core.List.{List, ◌++◌}
@@ -18,11 +18,11 @@ use Rattle.lists.proofs.Cases.{by_test}
 use Rattle.tally.specs.Counts.{most_counts, doubled_edge, IsDoubled}
 use Rattle.lists.proofs.ByPlace.{list_of_is, list_of_at, list_of_length}
 
--- The invariant before turn p: in both rings the edges below p are stored, and past 2·m all is 0.
-pub record Doubling (ring doubled : List ℕ) (p : ℕ) : Type 0 where
+-- The edges of both rings are stored, and past 2·m all is 0.
+pub record Doubling (ring doubled : List ℕ) : Type 0 where
   pub size : length doubled ≡ 2 * most_counts
-  pub first : (s : ℕ) → s < p → get_or doubled s 0 ≡ get_or ring s 0
-  pub second : (s : ℕ) → s < p → get_or doubled (length ring + s) 0 ≡ get_or ring s 0
+  pub first : (s : ℕ) → s < length ring → get_or doubled s 0 ≡ get_or ring s 0
+  pub second : (s : ℕ) → s < length ring → get_or doubled (length ring + s) 0 ≡ get_or ring s 0
   pub past : (s : ℕ) → 2 * length ring ≤ s → s < 2 * most_counts → get_or doubled s 0 ≡ 0
 
 module _ (ring : List ℕ) where
@@ -40,7 +40,7 @@ module _ (ring : List ℕ) where
   module _ (most : m ≤ most_counts) where
     -- The ring copied to the first m places and to the next m, over zeros.
     pub doubling_copied : {first second : List ℕ} → first ≡ ring → second ≡ ring
-        → Doubling ring (put_mid m (2 * m - m) (first ++ post_of 0 m (replicate (2 * most_counts) 0)) second) m
+        → Doubling ring (put_mid m (2 * m - m) (first ++ post_of 0 m (replicate (2 * most_counts) 0)) second)
     doubling_copied one two =
         let zeros = replicate {A = ℕ} (2 * most_counts) 0 in
         let behind = post_of 0 m zeros in
@@ -57,9 +57,9 @@ module _ (ring : List ℕ) where
               ∙ get_or-replicate (2 * most_counts) (m + (2 * m - m + (s - m - m))) 0 0 (omega arith);
         })
 
-    -- After the last turn the edge at s is the ring's at s mod m.
-    edge_in : (doubled : List ℕ) (p : ℕ) → Doubling ring doubled p → m ≤ p → (s : ℕ) → s < 2 * m → get_or doubled s 0 ≡ get_or ring (s % m) 0
-    edge_in doubled p known h s l = dite (dec_lt s m)
+    -- So the edge at s is the ring's at s mod m.
+    edge_in : (doubled : List ℕ) → Doubling ring doubled → (s : ℕ) → s < 2 * m → get_or doubled s 0 ≡ get_or ring (s % m) 0
+    edge_in doubled known s l = dite (dec_lt s m)
         (λ in_first. rw (mod-eq_of_lt in_first) (known.first s (omega arith)))
         (λ behind.
         let q : ℕ = s - m in
@@ -68,14 +68,14 @@ module _ (ring : List ℕ) where
         ap (λ (t : ℕ). get_or doubled t 0) whole ∙ known.second q (omega arith)
         ∙ ap (λ (t : ℕ). get_or ring t 0) (sym (ap (λ (t : ℕ). t % m) whole ∙ add-mod_left m q ∙ mod-eq_of_lt in_second)))
 
-    -- After the last turn the contract of `double` is met.
-    pub doubling_end : (doubled : List ℕ) (p : ℕ) → Doubling ring doubled p → m ≤ p → IsDoubled ring doubled
+    -- So the contract of `double` is met.
+    pub doubling_end : (doubled : List ℕ) → Doubling ring doubled → IsDoubled ring doubled
     unfolding doubled_edge
-    doubling_end doubled p known h = record {
+    doubling_end doubled known = record {
       is = list_of_is doubled (2 * most_counts) (doubled_edge ring) known.size
           (λ s l. rw (le-leb m most_counts most)
           (by_test (λ (x : ℕ). get_or doubled s 0 ≡ x) (ltb s (2 * m))
-          (λ e. edge_in doubled p known h s (ltb-true s (2 * m) e))
+          (λ e. edge_in doubled known s (ltb-true s (2 * m) e))
           (λ e. known.past s (ltb-false s (2 * m) e) l)));
     }
 

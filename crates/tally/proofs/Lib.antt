@@ -4,12 +4,12 @@
 --
 -- The place just past the last mark.
 pub mod PastMark
--- Loops over counts: the least count, the lowest rotation that has it, and how many rotations have it.
+-- What is read off the counts: the least count, the lowest rotation that has it, and how many rotations have it.
 pub mod LeastSoFar
 pub mod LeastIsOne
 pub mod LowestLoop
 pub mod TiesLoop
--- The fresh count: what `double`, `count_some`, `count_part` and `count_edges` compute.
+-- The fresh count: what `double`, `count_run`, `count_part` and `count_edges` compute.
 pub mod DoubledLoop
 pub mod SomeCounted
 pub mod AfreshLoop

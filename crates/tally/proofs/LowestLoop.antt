@@ -1,5 +1,5 @@
--- The loop of `lowest_rotation`. Before turn r no rotation below r has the given count. So the loop ends at the lowest rotation that has it, or past the last one if
--- none has it, and this is `lowest_from`. If the given count is the least, this is the lowest rotation at which the counts are least.
+-- `lowest_rotation` seeks the first place among the counts that has the given count. It is the lowest rotation that has it, or past the last one if none has it, and
+-- this is `lowest_from`. If the given count is the least, this is the lowest rotation at which the counts are least.
 use Prim.Native.Nat.{ℕ, zero, suc, ◌+◌, ◌-◌, ◌≤◌, ◌<◌, min}
 use mathlib.Core.Path.{◌≡◌, refl, sym, ◌∙◌}
 use mathlib.Core.List.{List}

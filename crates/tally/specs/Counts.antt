@@ -14,7 +14,7 @@
 --   counted_past                 the place just past the last mark of a counted window
 --   finding_with                 the finding at a start with a given least count
 --   IsComparison, IsDoubled, IsCounted, IsFindingAt   the contracts of `differing`, `double`, `count_afresh` and `finding_at`
---   differs_over, edge_counted, four_counted   what one window edge adds to the count of a rotation; the count after one edge more, after four
+--   differs_over, run_counted    whether one of some neighbouring window edges differs from a rotation's edge over it; the count of a rotation after them
 --   IsLowestWith, IsTies, HasCounts, IsLeast, CanCountOn, IsCountedOn, IsPartEnd, CanAddPart, IsCountedAfresh   preconditions and contracts of private functions
 use Rattle.std.specs.Prelude.{ℕ, zero, suc, ◌+◌, ◌-◌, ◌*◌, ◌%◌, ◌≤◌, ◌<◌, min, ◌≡◌, Bool, cond, ◌&&◌, List, ltb, leb, eqb, length, get_or}
 use Rattle.lists.specs.ByPlace.{list_of, stored_first, StoredFirst}
@@ -155,20 +155,14 @@ pub record CanCount (m room long : ℕ) : Type 0 where
   pub has_counts : HasCounts m room
   pub twice : 2 * m ≤ long
 
--- 1 if a window edge differs from rotation r's edge over it, else 0. `place` is the ring place whose edge rotation 0 has there, so rotation r has the doubled
--- ring's at place + r.
-abbrev pub differs_over : List ℕ → ℕ → ℕ → ℕ → ℕ
-differs_over doubled place edge r = one_if (unequal edge (get_or doubled (place + r) 0))
+-- Of some neighbouring window edges, edge e differs from rotation r's edge over it. `place` is the ring place that rotation 0 has over the first, so over edge e
+-- rotation r has the doubled ring's edge at place + e + r.
+abbrev pub differs_over : List ℕ → List ℕ → ℕ → ℕ → ℕ → Bool
+differs_over doubled edges place r e = unequal (get_or edges e 0) (get_or doubled (place + e + r) 0)
 
--- The count of rotation r after one window edge more; `place` as above.
-abbrev pub edge_counted : List ℕ → List ℕ → ℕ → ℕ → ℕ → ℕ
-edge_counted doubled old place edge r = get_or old r 0 + differs_over doubled place edge r
-
--- The count of rotation r after four neighbouring edges more, a to d; `place` is the ring place that rotation 0 has over the first, a.
-abbrev pub four_counted : List ℕ → List ℕ → ℕ → ℕ → ℕ → ℕ → ℕ → ℕ → ℕ
-four_counted doubled old place a b c d r =
-    get_or old r 0
-    + (differs_over doubled place a r + differs_over doubled (place + 1) b r + differs_over doubled (place + 2) c r + differs_over doubled (place + 3) d r)
+-- The count of rotation r after n neighbouring window edges more; `place` as above.
+abbrev pub run_counted : List ℕ → List ℕ → ℕ → List ℕ → ℕ → ℕ → ℕ
+run_counted doubled old place edges n r = get_or old r 0 + count (differs_over doubled edges place r) 0 n
 
 -- `least` is the least of the first m counts: none of them is below it, and the one at `place` equals it.
 pub record IsLeast (m : ℕ) (counts : List ℕ) (least : ℕ) : Type 0 where
@@ -177,9 +171,9 @@ pub record IsLeast (m : ℕ) (counts : List ℕ) (least : ℕ) : Type 0 where
   pub place_lt : place < m
   pub is : get_or counts place 0 ≡ least
 
--- The precondition of `count_some` and `count_part`: a window can be counted and has an edge at q, before `end`; each of its counts plus the number of edges from q to
--- `end` is at most `last`, the largest number that a count can hold (255 in `count_some`, 65,535 in `count_part`); and `past` is the place just past the last mark of
--- its first q edges. For `count_part` `end` is the window's end.
+-- The precondition of `count_run`, `count_some` and `count_part`: a window can be counted and has an edge at q, before `end`; each of its counts plus the number of
+-- edges from q to `end` is at most `last`, the largest number that a count can hold (255 in the first two, 65,535 in `count_part`); and `past` is the place just past
+-- the last mark of its first q edges. For `count_part` `end` is the window's end.
 pub record CanCountOn (doubled window counts : List ℕ) (last q end past : ℕ) : Type 0 where
   pub can : CanCount (length window) (length counts) (length doubled)
   pub has_edge : q < end
@@ -187,9 +181,9 @@ pub record CanCountOn (doubled window counts : List ℕ) (last q end past : ℕ)
   pub each_le : (r : ℕ) → r < length window → get_or counts r 0 + (end - q) ≤ last
   pub past_is : past ≡ past_mark window 0 q
 
--- The contract of `count_some` and `count_part`: the next `edges` edges of the window are counted, from place q on, at least one, and none from `end` on. The count
--- of each rotation grows by the number of these places where it differs from the window. Each edge costs m looks. `past` is the place just past the last mark up to
--- there. `old` and `new` are the counts at entry and exit, z is returned.
+-- The contract of `count_run`, `count_some` and `count_part`: the next `edges` edges of the window are counted, from place q on, at least one, and none from `end`
+-- on. The count of each rotation grows by the number of these places where it differs from the window. Each edge costs m looks. `past` is the place just past the last
+-- mark up to there. `old` and `new` are the counts at entry and exit, z is returned.
 pub record IsCountedOn (doubled window : List ℕ) (q end : ℕ) (old new : List ℕ) (z : EdgesCounted) : Type 0 where
   pub some : 0 < z.edges
   pub within : q + z.edges ≤ end

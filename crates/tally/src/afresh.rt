@@ -1,7 +1,7 @@
 // Rule 5: the tally counted afresh, m·m looks.
 ghost use Rattle.std.specs.Prelude.{◌≡◌, ℕ, ◌+◌, ◌*◌, ◌<◌, ◌≤◌, length, get_or};
 ghost use Rattle.lists.specs.ByPlace.{StoredFirst};
-ghost use Rattle.tally.specs.Counts.{last_count, last_part_count, can_count, CanCount, IsDoubled, edge_counted, four_counted, CanCountOn, IsCountedOn, IsPartEnd, CanAddPart, IsCountedAfresh, IsCounted};
+ghost use Rattle.tally.specs.Counts.{last_count, last_part_count, can_count, CanCount, IsDoubled, run_counted, CanCountOn, IsCountedOn, IsPartEnd, CanAddPart, IsCountedAfresh, IsCounted};
 
 use crate::counts::{MOST_COUNTS, Tally, clear, differing, least_of};
 use crate::marks::past_mark;
@@ -29,61 +29,36 @@ pub fn double(ring: &[u8], doubled: &mut [u8; DOUBLED])
     doubled[m..2 * m].copy_from_slice(ring);
 }
 
-// Compares one window edge with every rotation's edge over it and counts the differences, in the counts of a part.
-// Rotation 0 has the ring's edge at `place` there, rotation r the doubled ring's edge at place + r. Returns the m looks.
-fn count_edge(
+// Compares EDGES neighbouring window edges with every rotation's edges over them and counts the differences, in the counts
+// of a part. `place` is the ring place that rotation 0 has over the first; over the one at e rotation r has the doubled
+// ring's edge at place + e + r. The comparisons of a rotation are added up first, so each count is read and written once
+// for EDGES edges. Their number is a const parameter, so that the compiler writes the inner loop out. Returns the
+// EDGES·m looks.
+fn compare_run<const EDGES: usize>(
     part: &mut [u8; MOST_COUNTS],
     doubled: &[u8],
     m: usize,
     place: RingPlace,
-    edge: u8,
+    edges: &[u8],
 ) -> usize
-    requires { CanCount m (length part.old) (length doubled.now) × (place.0 < m) × ((r : ℕ) → r < m → get_or part.old r 0 + 1 ≤ last_part_count) }
-    ensures { StoredFirst m (edge_counted doubled.now part.old place.0 edge) part.old part.new × (result ≡ m) }
+    requires { CanCount m (length part.old) (length doubled.now) × (place.0 + EDGES ≤ m) × (EDGES ≡ length edges.now) × ((r : ℕ) → r < m → get_or part.old r 0 + EDGES ≤ last_part_count) }
+    ensures { StoredFirst m (run_counted doubled.now part.old place.0 edges.now EDGES) part.old part.new × (result ≡ m * EDGES) }
 {
     let first = place.0;
     let mut looks: usize = 0;
     for r in 0..m {
-        part[r] += differing(edge, doubled[first + r]);
-        looks += 1; // one look
+        let mut differ: u8 = 0;
+        for e in 0..EDGES {
+            differ += differing(edges[e], doubled[first + e + r]);
+            looks += 1; // one look
+        }
+        part[r] += differ;
     }
     looks
 }
 
-// The same for four neighbouring edges; `place` is the ring place that rotation 0 has over the first. The four
-// comparisons of a rotation are added up first, so each count is read and written once for four edges. Returns the 4·m
-// looks.
-fn count_four(
-    part: &mut [u8; MOST_COUNTS],
-    doubled: &[u8],
-    m: usize,
-    place: RingPlace,
-    a: u8,
-    b: u8,
-    c: u8,
-    d: u8,
-) -> usize
-    requires { CanCount m (length part.old) (length doubled.now) × (place.0 + 3 < m) × ((r : ℕ) → r < m → get_or part.old r 0 + 4 ≤ last_part_count) }
-    ensures { StoredFirst m (four_counted doubled.now part.old place.0 a b c d) part.old part.new × (result ≡ 4 * m) }
-{
-    let first = place.0;
-    let mut looks: usize = 0;
-    for r in 0..m {
-        let at_a = differing(a, doubled[first + r]);
-        looks += 1; // one look, at the first edge
-        let at_b = differing(b, doubled[first + 1 + r]);
-        looks += 1; // one look, at the second edge
-        let at_c = differing(c, doubled[first + 2 + r]);
-        looks += 1; // one look, at the third edge
-        let at_d = differing(d, doubled[first + 3 + r]);
-        looks += 1; // one look, at the fourth edge
-        part[r] += at_a + at_b + at_c + at_d;
-    }
-    looks
-}
-
-// The result of `count_some` and `count_part`: how many edges were counted, the looks, and the place just past the last
-// mark up to there.
+// The result of `count_run`, `count_some` and `count_part`: how many edges were counted, the looks, and the place just
+// past the last mark up to there.
 #[derive(Clone, Copy)]
 pub struct EdgesCounted {
     pub edges: usize,
@@ -91,10 +66,35 @@ pub struct EdgesCounted {
     pub past: usize,
 }
 
+// Counts the next EDGES edges of a window, from place q on. The window is read as a line of its own, from place 0 on;
+// `to_ring` gives the ring place that rotation 0 has over its edge at q, outside the loop over the rotations. Whether an
+// edge is a mark is asked as it is counted; `past` is the place just past the last mark before q.
+fn count_run<const EDGES: usize>(
+    part: &mut [u8; MOST_COUNTS],
+    doubled: &[u8],
+    window: &[u8],
+    q: usize,
+    past: usize,
+) -> EdgesCounted
+    requires { CanCountOn doubled.now window.now part.old last_part_count q (q + EDGES) past }
+    ensures { IsCountedOn doubled.now window.now q (q + EDGES) part.old part.new result }
+{
+    let m = window.len();
+    let place = to_ring(LinePlace(q), LinePlace(0), RingPlace(0), m);
+    let edges = &window[q..q + EDGES];
+    let mut past_here = past;
+    for (e, edge) in edges.iter().enumerate() {
+        past_here = past_mark(*edge, past_here, q + e + 1);
+    }
+    EdgesCounted {
+        edges: EDGES,
+        looks: compare_run::<EDGES>(part, doubled, m, place, edges),
+        past: past_here,
+    }
+}
+
 // Counts the next edges of a window, from place q on: four, or one if fewer than four are left before `end`, where the
-// part ends. The window is read as a line of its own, from place 0 on; `to_ring` gives the ring place that rotation 0 has
-// over its edge at q, outside the loop over the rotations. Whether an edge is a mark is asked as it is counted; `past` is
-// the place just past the last mark before q.
+// part ends.
 fn count_some(
     part: &mut [u8; MOST_COUNTS],
     doubled: &[u8],
@@ -106,29 +106,10 @@ fn count_some(
     requires { CanCountOn doubled.now window.now part.old last_part_count q end past }
     ensures { IsCountedOn doubled.now window.now q end part.old part.new result }
 {
-    let m = window.len();
-    let place = to_ring(LinePlace(q), LinePlace(0), RingPlace(0), m);
-    let a = window[q];
-    let past_a = past_mark(a, past, q + 1);
     if end - q < 4 {
-        let looks = count_edge(part, doubled, m, place, a);
-        return EdgesCounted {
-            edges: 1,
-            looks,
-            past: past_a,
-        };
-    }
-    let b = window[q + 1];
-    let c = window[q + 2];
-    let d = window[q + 3];
-    let past_b = past_mark(b, past_a, q + 2);
-    let past_c = past_mark(c, past_b, q + 3);
-    let past_d = past_mark(d, past_c, q + 4);
-    let looks = count_four(part, doubled, m, place, a, b, c, d);
-    EdgesCounted {
-        edges: 4,
-        looks,
-        past: past_d,
+        count_run::<1>(part, doubled, window, q, past)
+    } else {
+        count_run::<4>(part, doubled, window, q, past)
     }
 }
 

@@ -1,5 +1,4 @@
 -- `tally::afresh::double` meets its contract: the ring is copied to the first m places and to the next m, over zeros (`DoubledLoop`).
-use native.Mathlib.Omega.{arith}
 use Rattle.tally.proofs.DoubledLoop.{not_doubled, doubling_copied, doubling_end}
 use Rattle.tally.proofs.afresh.double.Goals as goal
 
@@ -8,4 +7,4 @@ returns-then-m-gt-MOST_COUNTS c = not_doubled _ c.if-m-gt-MOST_COUNTS.true
 
 pub returns : goal.returns
 returns c =
-    doubling_end _ c.if-m-gt-MOST_COUNTS.false _ _ (doubling_copied _ c.if-m-gt-MOST_COUNTS.false c.copy_from_slice.ensures.after c.copy_from_slice-2.ensures.after) (omega arith)
+    doubling_end _ c.if-m-gt-MOST_COUNTS.false _ (doubling_copied _ c.if-m-gt-MOST_COUNTS.false c.copy_from_slice.ensures.after c.copy_from_slice-2.ensures.after)
