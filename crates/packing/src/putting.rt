@@ -2,7 +2,7 @@
 ghost use Rattle.std.specs.Prelude.{◌≡◌, ◌+◌, ◌≤◌, length};
 ghost use Rattle.lists.specs.Areas.{written};
 ghost use Rattle.silences.specs.Layout.{field_of, layout};
-ghost use Rattle.silences.specs.Packing.{record_words, silence_of_words, silences_of};
+ghost use Rattle.silences.specs.Packing.{silence_of_words, silences_of};
 ghost use Rattle.silences.specs.Faults.{AllFit};
 ghost use Rattle.packing.specs.Putting.{AreBytesPut, CanPutField};
 

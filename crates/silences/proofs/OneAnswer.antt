@@ -1,6 +1,6 @@
 -- Each function's contract has one answer: any two answers that meet it are equal. One law for each function. The contract of `is_above` is an equation for the
--- answer itself, and so is what the derived `<` and `==` give (DerivedOrder). The contract of `field_at` is an equation for `sought_of r`, which determines `r`
--- (`sought_unique`).
+-- answer itself, and so is what the derived `<` and `==` of an address give (DerivedOrder). The contract of `field_at` is an equation for `sought_of r`, which
+-- determines `r` (`sought_unique`).
 use Prim.Native.Nat.{ℕ}
 use mathlib.Core.Path.{◌≡◌, refl, sym, ap, ◌∙◌}
 use mathlib.Core.Bool.{Bool}
@@ -8,7 +8,7 @@ use mathlib.Core.List.{List}
 use Rattle.std.specs.Prelude.{Option, None, Some}
 use Rattle.silences.specs.declared.addresses.Address.{Address as AddressStruct}
 use Rattle.silences.specs.declared.addresses.Field.{Field}
-use Rattle.silences.specs.Silences.{is_above}
+use Rattle.silences.specs.Silences.{is_below, is_same, is_above}
 use Rattle.silences.specs.Reading.{FieldAt, whole, faulty, field_at}
 use Rattle.silences.specs.Addresses.{address_of, last_of, sought_of}
 
@@ -30,6 +30,14 @@ sought_unique r r' e = sym (sought_back_lem r) ∙ ap sought_back e ∙ sought_b
 -- Any two answers of `field_at` that meet its contract are equal.
 pub field_at_unique : (book : List ℕ) (at : ℕ) (r r' : Option Field) → sought_of r ≡ field_at book at → sought_of r' ≡ field_at book at → r ≡ r'
 field_at_unique book at r r' p p' = sought_unique r r' (p ∙ sym p')
+
+-- Any two answers to whether one address is below another are equal. `a < b` is such an answer (`derived_below`).
+pub is_below_unique : (a b : AddressStruct) (r r' : Bool) → r ≡ is_below (address_of a) (address_of b) → r' ≡ is_below (address_of a) (address_of b) → r ≡ r'
+is_below_unique a b r r' p p' = p ∙ sym p'
+
+-- Any two answers to whether two addresses are the same are equal. `a == b` is such an answer (`derived_same`).
+pub is_same_unique : (a b : AddressStruct) (r r' : Bool) → r ≡ is_same (address_of a) (address_of b) → r' ≡ is_same (address_of a) (address_of b) → r ≡ r'
+is_same_unique a b r r' p p' = p ∙ sym p'
 
 -- Any two answers of `is_above` that meet its contract are equal.
 pub is_above_unique : (last : Option AddressStruct) (address : AddressStruct) (r r' : Bool) → r ≡ is_above (last_of last) (address_of address) → r' ≡ is_above (last_of last) (address_of address)
