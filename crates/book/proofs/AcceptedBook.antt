@@ -1,14 +1,14 @@
 -- What the answer of `read` says about a book. If it is a number of records, the book is accepted with as many silences. There are no more of them than bytes,
 -- so at most 15,000, and four times their number does not overflow.
 use Prim.Native.Nat.{ℕ, ◌≤◌}
-use mathlib.Core.Path.{◌≡◌, refl, sym, ap, ◌∙◌}
+use mathlib.Core.Path.{◌≡◌, refl, sym}
 use mathlib.Core.List.{List}
 use native.Mathlib.Omega.{arith}
 use lib.ListN.{length}
+use Rattle.std.specs.Prelude.{Result}
 use Rattle.answers.specs.declared.refusals.Refusal.{Refusal}
 use Rattle.answers.specs.Paper.{Answer, accepted, refused}
 use Rattle.answers.proofs.OneAnswer.{answer_unique}
-use Rattle.book.specs.declared.answering.BookAnswer.{BookAnswer}
 use Rattle.silences.specs.Silences.{Silence}
 use Rattle.silences.specs.Layout.{most_bytes}
 use Rattle.silences.specs.Reading.{read_book}
@@ -18,8 +18,8 @@ use Rattle.silences.proofs.FieldsRead.{read_length_le}
 use Rattle.silences.proofs.AcceptedIsBook.{IsReadWhole, accepted_whole_iff}
 
 -- What `read` returns is the number of silences that reading gives, or its refusal: the paper determines it.
-pub read_answer_is : (book : List ℕ) (r answer : BookAnswer) → IsRead book r → r ≡ answer → record_count (read_book book) ≡ answer_of answer
-read_answer_is book r answer h e = sym (answer_unique 0 (answer_of r) (record_count (read_book book)) h.paper) ∙ ap answer_of e
+pub read_answer_is : (book : List ℕ) (r : Result ℕ Refusal) → IsRead book r → record_count (read_book book) ≡ answer_of r
+read_answer_is book r h = sym (answer_unique 0 (answer_of r) (record_count (read_book book)) h.paper)
 
 -- The answer `a` is accepted with some silences, and `records` is their number.
 pub record HasRecords (a : Answer (List Silence)) (records : ℕ) : Type 0 where

@@ -10,6 +10,7 @@
 
 -- answers, and what is known of an accepted book
 pub mod OneAnswer
+pub mod Returned
 pub mod AcceptedBook
 -- seeking: its equation, what it finds in an accepted book, and rising addresses
 pub mod SeekFrom
@@ -19,7 +20,8 @@ pub mod SeekRising
 pub mod RowNumbers
 pub mod RowsOfReading
 pub mod RowsOfUnpacking
--- what the proofs of functions cite: invariants of loops, and the cases of `unpack`
+-- what the proofs of functions cite: a part of an area that is written, invariants of loops, and the cases of `unpack`
+pub mod PartWritten
 pub mod ReadLoop
 pub mod SeekLoop
 pub mod UnpackLoop

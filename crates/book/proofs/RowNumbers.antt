@@ -14,8 +14,7 @@ use Rattle.answers.proofs.OneAnswer.{answer_unique}
 use Rattle.answers.proofs.AnswerByRows.{answer_gives_iff}
 use Rattle.silences.specs.Silences.{Silence}
 use Rattle.silences.specs.Packing.{area_at_exit}
-use Rattle.book.specs.declared.answering.BookAnswer.{BookAnswer}
-use Rattle.book.specs.declared.answering.BookAnswer.TheVariants.{Records}
+use Rattle.std.specs.Prelude.{Result, Ok}
 use Rattle.book.specs.Calls.{answer_of, paper_of, records_paper}
 use Rattle.book.proofs.OneAnswer.{paper_unique}
 
@@ -31,10 +30,10 @@ paper_by None ss e = e
 paper_by (Some q) ss e = e
 
 -- A call returns n records exactly when no row is given and there are n silences.
-pub records_iff : (o : Option Refusal) (ss : List Silence) (r : BookAnswer) → paper_of r ≡ records_paper (answer_by o ss) → (n : ℕ)
-    → (r ≡ Records n) ↔ ((o ≡ None) × (length ss ≡ n))
+pub records_iff : (o : Option Refusal) (ss : List Silence) (r : Result ℕ Refusal) → paper_of r ≡ records_paper (answer_by o ss) → (n : ℕ)
+    → (r ≡ Ok n) ↔ ((o ≡ None) × (length ss ≡ n))
 records_iff o ss r paper n =
     let is = answer_unique 0 (answer_of r) (answer_by o (length ss)) (paper_by o ss paper) in (
       λ e. (answer_gives_iff (length ss) n o).0 (sym is ∙ ap answer_of e),
-      λ h. paper_unique r (Records n) (ap (answer_paper 0) (is ∙ (answer_gives_iff (length ss) n o).1 h)),
+      λ h. paper_unique r (Ok n) (ap (answer_paper 0) (is ∙ (answer_gives_iff (length ss) n o).1 h)),
     )

@@ -24,8 +24,7 @@ use Rattle.silences.specs.Books.{IsBook}
 use Rattle.silences.specs.Faults.{IsFieldFault, IsOrderFault}
 use Rattle.silences.proofs.AcceptedIsBook.{read_book_iff, no_refusal_iff}
 use Rattle.silences.proofs.BookRows.{book_answer_is, refusal_5_iff, refusal_6_iff, refusal_7_iff, refusal_has}
-use Rattle.book.specs.declared.answering.BookAnswer.{BookAnswer}
-use Rattle.book.specs.declared.answering.BookAnswer.TheVariants.{Records}
+use Rattle.std.specs.Prelude.{Result, Ok}
 use Rattle.book.specs.Calls.{paper_of, records_paper, IsRead}
 use Rattle.book.proofs.RowNumbers.{paper_by, records_iff}
 
@@ -45,7 +44,7 @@ module _ (book : List ℕ) {p : Paper ℕ} (o : Option Refusal) (counts : ℕ) (
     pub row_7 : ((p.number ≡ 7) × (p.place ≡ at)) ↔ ((length book ≤ most_bytes) × IsOrderFault book at)
     row_7 = Iff.trans (row_place_iff 0 counts o paper (NotAbove at)) (Iff.trans (same (NotAbove at) (λ e. omega arith)) (refusal_7_iff book bytes at))
 
-module _ (book : List ℕ) (r : BookAnswer) (meets : IsRead book r) where
+module _ (book : List ℕ) (r : Result ℕ Refusal) (meets : IsRead book r) where
   -- the paper of `r`, by the first row that is given
   paper : paper_of r ≡ answer_paper 0 (answer_by (book_refusal book) (length (silences_read book)))
   paper = paper_by (book_refusal book) (silences_read book) (meets.paper ∙ ap records_paper (book_answer_is book))
@@ -83,6 +82,6 @@ module _ (book : List ℕ) (r : BookAnswer) (meets : IsRead book r) where
     read_accepted = Iff.trans (accepted_number_iff 0 (length (silences_read book)) (book_refusal book) paper) (no_refusal_iff book bytes)
 
     -- `read` returns n records exactly for a book of n silences.
-    pub read_records : (n : ℕ) → (r ≡ Records n) ↔ ((ss : List Silence) × IsBook ss book × (length ss ≡ n))
+    pub read_records : (n : ℕ) → (r ≡ Ok n) ↔ ((ss : List Silence) × IsBook ss book × (length ss ≡ n))
     read_records n =
         Iff.trans (records_iff (book_refusal book) (silences_read book) r (meets.paper ∙ ap records_paper (book_answer_is book)) n) (read_book_iff book bytes (λ (ss : List Silence). length ss ≡ n))

@@ -26,13 +26,12 @@ use Rattle.silences.specs.Books.{IsBook}
 use Rattle.silences.specs.Faults.{IsFieldFault, IsOrderFault}
 use Rattle.silences.proofs.AcceptedIsBook.{read_book_iff}
 use Rattle.silences.proofs.UnpackRows.{unpack_has, unpack_row_iff, unpack_10_iff, unpack_none_iff}
-use Rattle.book.specs.declared.answering.BookAnswer.{BookAnswer}
-use Rattle.book.specs.declared.answering.BookAnswer.TheVariants.{Records}
+use Rattle.std.specs.Prelude.{Result, Ok}
 use Rattle.book.specs.Calls.{paper_of, IsUnpacked}
 use Rattle.book.proofs.RowNumbers.{area_by_lem, paper_by, records_iff}
 use Rattle.book.proofs.RowsOfReading.{row_5, row_6, row_7}
 
-module _ (book area : List ℕ) (r : BookAnswer) (out : List ℕ) (meets : IsUnpacked book area r out) where
+module _ (book area : List ℕ) (r : Result ℕ Refusal) (out : List ℕ) (meets : IsUnpacked book area r out) where
   -- the first row that is given
   abbrev o : Option Refusal
   o = unpack_refusal book (length area)
@@ -98,7 +97,7 @@ module _ (book area : List ℕ) (r : BookAnswer) (out : List ℕ) (meets : IsUnp
         (Iff.trans (unpack_none_iff book (length area)) (read_book_iff book bytes (λ (ss : List Silence). record_words * length ss ≤ length area)))
 
     -- `unpack` returns n records exactly for a book of n silences with room for four words for each.
-    pub unpack_records : (n : ℕ) → (r ≡ Records n) ↔ ((ss : List Silence) × IsBook ss book × ((length ss ≡ n) × (record_words * length ss ≤ length area)))
+    pub unpack_records : (n : ℕ) → (r ≡ Ok n) ↔ ((ss : List Silence) × IsBook ss book × ((length ss ≡ n) × (record_words * length ss ≤ length area)))
     unfolding unpacked
     unpack_records n =
         Iff.trans (records_iff o (silences_read book) r meets.paper n)

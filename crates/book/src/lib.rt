@@ -2,12 +2,10 @@
 // function returns and writes, on every input, is its contract in specs/. No public function has a `requires`.
 #![tactic(auto)]
 
-mod answering;
 mod reading;
 mod seeking;
 mod unpacking;
 
-pub use answering::BookAnswer;
 pub use reading::read;
 pub use seeking::{hides, seek, seek_on};
 pub use unpacking::unpack;

@@ -4,6 +4,7 @@ use Prim.Native.Nat.{ℕ, suc, ◌<◌, ◌^◌}
 use mathlib.Core.Path.{◌≡◌, refl, ap, ◌∙◌}
 use mathlib.Core.List.{List}
 use Rattle.std.specs.Prelude.{Option, None, Some}
+use Rattle.std.specs.Prelude.{Result}
 use native.Mathlib.Omega.{arith}
 use lib.IntN.{ℤ}
 use lib.ListN.{length}
@@ -12,7 +13,6 @@ use Rattle.answers.specs.declared.refusals.Refusal.{Refusal}
 use Rattle.answers.specs.Refusals.{place_of}
 use Rattle.answers.specs.Paper.{Paper, answer_paper}
 use Rattle.answers.specs.Rows.{first_given, answer_by}
-use Rattle.book.specs.declared.answering.BookAnswer.{BookAnswer}
 use Rattle.book.specs.Calls.{paper_of as book_paper_of, IsUnpacked}
 use Rattle.packing.specs.Calls.{IsPacked}
 use Rattle.findings.specs.declared.searching.Searched.{Searched}
@@ -101,11 +101,11 @@ import_place {numbers} {area} h =
     omega (arith, place_is h.paper, place_lt 0 (vertex_count numbers) (first_given (import_rows numbers room)) (λ q e. (import_row_places numbers room q e).0))
 
 -- A place of `pack` fits 32 bits.
-pub pack_place : {words area out : List ℕ} {r : BookAnswer} → IsPacked words area r out → (book_paper_of r).place < 2 ^ 32
+pub pack_place : {words area out : List ℕ} {r : Result ℕ Refusal} → IsPacked words area r out → (book_paper_of r).place < 2 ^ 32
 pack_place {words} {area} h = omega (arith, place_is h.paper, packed_place_le words (length area))
 
 -- A place of `unpack` fits 32 bits.
-pub unpack_place : {book area out : List ℕ} {r : BookAnswer} → IsUnpacked book area r out → (book_paper_of r).place < 2 ^ 32
+pub unpack_place : {book area out : List ℕ} {r : Result ℕ Refusal} → IsUnpacked book area r out → (book_paper_of r).place < 2 ^ 32
 unpack_place {book} {area} h = omega (arith, place_is h.paper, unpacked_place_le book (length area))
 
 -- If the call's own contract gives its paper and its area at exit, the struct that holds that paper meets the exported contract with the same paper and area.

@@ -9,7 +9,6 @@ ghost use Rattle.vertices.specs.Importing.{paper_of as import_paper_of};
 ghost use Rattle.exports.specs.Exported.{paper_of, search_in_struct, one_count_in_struct, paper_in_struct};
 
 use answers::Refusal;
-use book::BookAnswer;
 use outlines::{Reported, Searched};
 use vertices::Imported;
 
@@ -80,19 +79,19 @@ pub fn report_answer(reported: Reported) -> Answer
 }
 
 // The answer of pack and unpack.
-pub fn book_answer(answer: BookAnswer) -> Answer
+pub fn book_answer(answer: Result<usize, Refusal>) -> Answer
     requires { (book_paper_of answer).place < 2 ^ 32 }
     ensures { paper_of result ≡ paper_in_struct one_count_in_struct (book_paper_of answer) }
 {
     match answer {
-        BookAnswer::Records(records) => Answer {
+        Ok(records) => Answer {
             refusal: 0,
             place: 0,
             found: records as u64,
             hidden: 0,
             looks: 0,
         },
-        BookAnswer::Refused(refusal) => refused_answer(refusal),
+        Err(refusal) => refused_answer(refusal),
     }
 }
 

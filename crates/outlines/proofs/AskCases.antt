@@ -4,16 +4,17 @@ use Prim.Native.Nat.{ℕ, ◌+◌}
 use mathlib.Core.Path.{◌≡◌, refl, ap, ◌∙◌}
 use mathlib.Core.Bool.{Bool, true, false, cond}
 use mathlib.Core.List.{List}
+use Rattle.std.specs.Prelude.{Option}
 use Rattle.meaning.specs.Findings.{Finding}
 use Rattle.silences.specs.declared.addresses.Address.{Address as AddressStruct}
-use Rattle.silences.specs.declared.addresses.Sought.{Sought}
+use Rattle.silences.specs.declared.addresses.Field.{Field}
 use Rattle.silences.specs.Addresses.{address_of, sought_of}
 use Rattle.book.specs.Seeking.{is_hiding}
 use Rattle.book.specs.Calls.{IsSoughtOn, IsHidingAsked}
 use Rattle.outlines.specs.declared.asking.BookAsked.{BookAsked}
 use Rattle.outlines.specs.Hiding.{finding_address, held_for, hides_finding, IsHiddenOrShown}
 
-module _ {book : List ℕ} (asked : BookAsked) (cell ring_number : ℕ) (f : Finding) {address : AddressStruct} {held : Sought} (sought : IsSoughtOn book asked.held address held)
+module _ {book : List ℕ} (asked : BookAsked) (cell ring_number : ℕ) (f : Finding) {address : AddressStruct} {held : Option Field} (sought : IsSoughtOn book asked.held address held)
     {t : Bool} (asked_for : IsHidingAsked held address f.distance t) (address_is : address_of address ≡ finding_address cell ring_number f) where
   -- the field sought is the field for the finding
   held_is : sought_of held ≡ held_for cell ring_number book f (sought_of asked.held)

@@ -4,10 +4,10 @@
 use Prim.Native.Nat.{ℕ, ◌≤◌}
 use mathlib.Core.Path.{◌≡◌, refl, sym, ap, ◌∙◌}
 use mathlib.Core.List.{List}
-use Rattle.std.specs.Prelude.{None}
+use Rattle.std.specs.Prelude.{Option, None}
 use native.Mathlib.Omega.{arith}
 use Rattle.meaning.specs.Findings.{Finding}
-use Rattle.silences.specs.declared.addresses.Sought.{Sought}
+use Rattle.silences.specs.declared.addresses.Field.{Field}
 use Rattle.silences.specs.Silences.{address}
 use Rattle.silences.specs.Reading.{FieldAt, field_at, silences_read, book_refusal}
 use Rattle.silences.specs.Addresses.{sought_of}
@@ -20,20 +20,20 @@ use Rattle.outlines.specs.Report.{is_hidden}
 use Rattle.outlines.specs.Hiding.{finding_address, held_for, hides_finding}
 
 -- One step of seeking at the field gives, for every start from i on, what seeking from the first byte would give.
-pub record HeldFrom (cell ring_number : ℕ) (book : List ℕ) (i : ℕ) (held : Sought) : Type 0 where
+pub record HeldFrom (cell ring_number : ℕ) (book : List ℕ) (i : ℕ) (held : Option Field) : Type 0 where
   pub step_is : (start : ℕ) → i ≤ start
       → seek_field (address cell ring_number start) (sought_of held) (seek_from book (address cell ring_number start)) ≡ seek_from book (address cell ring_number start) 0
 
 module _ {cell ring_number : ℕ} {book : List ℕ} where
   -- The book's first field can be held at every i.
-  pub held_start : (i : ℕ) {held : Sought} → sought_of held ≡ field_at book 0 → HeldFrom cell ring_number book i held
+  pub held_start : (i : ℕ) {held : Option Field} → sought_of held ≡ field_at book 0 → HeldFrom cell ring_number book i held
   held_start i first = record {
     step_is = λ start l.
         let a = address cell ring_number start in
         ap (λ (f : FieldAt). seek_field a f (seek_from book a)) first ∙ sym (seek_from_step book a 0);
   }
 
-  module _ {i : ℕ} {held : Sought} (h : HeldFrom cell ring_number book i held) where
+  module _ {i : ℕ} {held : Option Field} (h : HeldFrom cell ring_number book i held) where
     -- A field that can be held at i can be held at every later i'.
     pub held_later : {i' : ℕ} → i ≤ i' → HeldFrom cell ring_number book i' held
     held_later l = record { step_is = λ start from. h.step_is start (omega arith) }
@@ -44,7 +44,7 @@ module _ {cell ring_number : ℕ} {book : List ℕ} where
       held_next = record { held_is = h.step_is f.start from_le }
 
       -- The field for a finding that starts at i or later can be held at every i' from its start on.
-      pub held_turn : {held' : Sought} {i' : ℕ} → sought_of held' ≡ held_for cell ring_number book f (sought_of held) → f.start ≤ i'
+      pub held_turn : {held' : Option Field} {i' : ℕ} → sought_of held' ≡ held_for cell ring_number book f (sought_of held) → f.start ≤ i'
           → HeldFrom cell ring_number book i' held'
       held_turn is l = record {
         step_is = λ start from.

@@ -1,7 +1,7 @@
 -- The three ways in which a report meets its contract: one of the search's rows is given; none of them is, and one of the book's rows is; or no row is given,
 -- and the line is scanned with the book. A refusal leaves the words as they were. Stated for the rows of any search.
 use Prim.Native.Nat.{ℕ}
-use mathlib.Core.Path.{◌≡◌, sym, ap, ◌∙◌}
+use mathlib.Core.Path.{◌≡◌, sym, ap, subst, ◌∙◌}
 use mathlib.Core.List.{List}
 use Rattle.std.specs.Prelude.{Option, None, Some}
 use Rattle.lists.specs.Areas.{written}
@@ -11,8 +11,7 @@ use Rattle.answers.specs.Paper.{answer_paper}
 use Rattle.answers.specs.Rows.{first_given, answer_by, area_by}
 use Rattle.silences.specs.Reading.{read_book, silences_read, book_refusal}
 use Rattle.silences.proofs.BookRows.{book_refused_iff, book_accepted_iff}
-use Rattle.book.specs.declared.answering.BookAnswer.{BookAnswer}
-use Rattle.book.specs.declared.answering.BookAnswer.TheVariants.{Records, Refused as BookRefused}
+use Rattle.std.specs.Prelude.{Result, Ok, Err}
 use Rattle.book.specs.Calls.{IsRead}
 use Rattle.book.proofs.AcceptedBook.{has_records, has_refusal, read_answer_is}
 use Rattle.outlines.specs.declared.reporting.Reported.TheVariants.{Counts as CountsCase, Refused}
@@ -21,15 +20,15 @@ use Rattle.outlines.specs.LineScan.{LineScanned}
 use Rattle.outlines.proofs.FirstOfReport.{early_given, late_given, none_row_iff}
 
 -- If `read` accepts the book, the book has no refusal.
-pub read_accepted : {book : List ℕ} {r : BookAnswer} {records : ℕ} → IsRead book r → r ≡ Records records → book_refusal book ≡ None
+pub read_accepted : {book : List ℕ} {r : Result ℕ Refusal} {records : ℕ} → IsRead book r → r ≡ Ok records → book_refusal book ≡ None
 read_accepted {book} {r} {records} meets e =
-    let has = has_records (read_book book) records (read_answer_is book r (Records records) meets e) in
+    let has = has_records (read_book book) records (read_answer_is book (Ok records) (subst (IsRead book) e meets)) in
     ((book_accepted_iff book has.silences).0 has.is).0
 
 -- If `read` refuses the book, the book has this refusal.
-pub read_refused : {book : List ℕ} {r : BookAnswer} {refusal : Refusal} → IsRead book r → r ≡ BookRefused refusal → book_refusal book ≡ Some refusal
+pub read_refused : {book : List ℕ} {r : Result ℕ Refusal} {refusal : Refusal} → IsRead book r → r ≡ Err refusal → book_refusal book ≡ Some refusal
 read_refused {book} {r} {refusal} meets e =
-    (book_refused_iff book refusal).0 (has_refusal (read_book book) refusal (read_answer_is book r (BookRefused refusal) meets e))
+    (book_refused_iff book refusal).0 (has_refusal (read_book book) refusal (read_answer_is book (Err refusal) (subst (IsRead book) e meets)))
 
 module _ {rows : List (Option Refusal)} {cell ring_number : ℕ} {ring line : List ℕ} {k : ℕ} {book words : List ℕ} where
   -- If a row is given, returning the first one's refusal and leaving the words meets the contract of a report.

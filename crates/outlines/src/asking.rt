@@ -8,7 +8,7 @@ ghost use Rattle.outlines.specs.Hiding.{CanAsk, IsHiddenOrShown, IsShownPut};
 use answers::LinePlace;
 use book::{hides, seek_on};
 use findings::{Finding, put_finding};
-use silences::{Address, Sought};
+use silences::{Address, Field};
 
 // How many findings were shown so far, how many were hidden, and the field that the book gave for the last finding (at
 // first the book's first field). Starts rise, so no field before that one is read again.
@@ -16,7 +16,7 @@ use silences::{Address, Sought};
 pub struct BookAsked {
     pub shown: usize,
     pub hidden: usize,
-    pub held: Sought,
+    pub held: Option<Field>,
 }
 
 // The address of a start: cell, ring number and start.
@@ -43,23 +43,20 @@ pub fn ask(
     requires { CanAsk asked (finding_of finding) }
     ensures { IsHiddenOrShown cell ring_number book.now asked (finding_of finding) result }
 {
-    let start = finding.start;
-    let address = address_of(cell, ring_number, start);
-    let before = asked.held;
-    let held = seek_on(book, before, address);
+    let address = address_of(cell, ring_number, finding.start);
+    let held = seek_on(book, asked.held, address);
     if hides(held, address, finding.distance) {
-        let hidden = asked.hidden + 1;
-        return BookAsked {
-            shown: asked.shown,
-            hidden,
+        BookAsked {
+            hidden: asked.hidden + 1,
             held,
-        };
-    }
-    let shown = asked.shown + 1;
-    BookAsked {
-        shown,
-        hidden: asked.hidden,
-        held,
+            ..asked
+        }
+    } else {
+        BookAsked {
+            shown: asked.shown + 1,
+            held,
+            ..asked
+        }
     }
 }
 

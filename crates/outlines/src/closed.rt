@@ -6,7 +6,7 @@ ghost use Rattle.outlines.specs.ClosedReport.{IsClosedReported};
 
 use crate::quick::scan_line;
 use crate::reporting::Reported;
-use book::{BookAnswer, read};
+use book::read;
 use findings::{Searched, Verdict, admit_closed};
 use windows::fill_join;
 
@@ -49,8 +49,8 @@ pub fn report_closed(
     match admit_closed(ring, k, line.len(), words.len(), join.len()) {
         Verdict::Refused(refusal) => Reported::Refused(refusal),
         Verdict::Accepted => match read(book) {
-            BookAnswer::Refused(refusal) => Reported::Refused(refusal),
-            BookAnswer::Records(_) => {
+            Err(refusal) => Reported::Refused(refusal),
+            Ok(_) => {
                 let used = fill_join(line, ring.len(), join);
                 let counted = scan_line(
                     cell,

@@ -3,7 +3,7 @@ ghost use Rattle.outlines.specs.Report.{IsReported};
 
 use crate::quick::scan_line;
 use answers::Refusal;
-use book::{BookAnswer, read};
+use book::read;
 use findings::{Verdict, admit};
 
 // The answer of a report: its counts, or a refusal.
@@ -33,8 +33,8 @@ pub fn report(
     match admit(ring, k, line.len(), words.len()) {
         Verdict::Refused(refusal) => Reported::Refused(refusal),
         Verdict::Accepted => match read(book) {
-            BookAnswer::Refused(refusal) => Reported::Refused(refusal),
-            BookAnswer::Records(_) => {
+            Err(refusal) => Reported::Refused(refusal),
+            Ok(_) => {
                 let counted = scan_line(cell, ring_number, ring, line, &line[..0], k, book, words);
                 Reported::Counts {
                     found: counted.found,

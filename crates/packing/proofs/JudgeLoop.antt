@@ -1,129 +1,97 @@
--- The loop of `judge`. Before each turn the records before word `at` are passed: they ascend, their numbers fit, and they and the bytes of their fields are
--- counted. Where a record is refused, or none is left, the walk so far is the whole walk (`packs_as_is`).
+-- The loop of `judge`. Before each turn the records before the words left are passed: they ascend, and their numbers fit. Where a record is refused, or none is
+-- left, the walk so far is the whole walk (`packs_as_is`).
 --
---   words                        the words to pack
---   last, records, bytes, at     the last record passed, the numbers of records and bytes passed, the word to read next
-use Prim.Native.Nat.{ℕ, ◌+◌, ◌*◌, ◌≤◌, ◌<◌}
+--   words            the words to pack
+--   last, i, left    the last record passed, the number of records passed, the words left
+use Prim.Native.Nat.{ℕ, ◌+◌, ◌<◌}
 use mathlib.Core.Path.{◌≡◌, refl, sym, ap, subst, ◌∙◌}
 use mathlib.Core.Bool.{true, false}
 use mathlib.Core.List.{List, [], ◌∷◌, ◌++◌, append-nil}
 use Rattle.std.specs.Prelude.{Option, None, Some}
 use native.Mathlib.Omega.{arith}
-use lib.ListN.{length, drop, length-append}
+use lib.ListN.{length, length-append}
 use lib.Seq.{append_snoc}
-use Rattle.lists.specs.Records.{numbers_of_each}
-use Rattle.lists.proofs.Records.{each_more}
-use Rattle.answers.specs.declared.refusals.Refusal.{Refusal}
 use Rattle.answers.specs.declared.refusals.Refusal.TheVariants.{NotAbove, NumberInRecord}
-use Rattle.answers.specs.Paper.{Answer, accepted, refused}
-use Rattle.answers.specs.Rows.{first_given, answer_by}
+use Rattle.answers.specs.Rows.{first_given}
 use Rattle.silences.specs.Silences.{Address, Silence, is_above}
-use Rattle.silences.specs.Layout.{packed_length, field_of, layout}
-use Rattle.silences.specs.Packing.{silences_of, record_words, record_rows, record_fault}
+use Rattle.silences.specs.Packing.{silences_of, silence_of_words, record_words, record_rows, record_fault}
 use Rattle.silences.specs.Faults.{NumbersFit, AllFit, TooLarge}
-use Rattle.packing.specs.Judging.{Sizes, sized, sizes}
-use Rattle.silences.proofs.FieldBytes.{packed_length_lem}
-use Rattle.silences.proofs.WordsOfSilences.{silence_from, silences_of_step, silences_of_end}
+use Rattle.silences.proofs.WordsOfSilences.{silences_of_record, silences_of_few}
 use Rattle.silences.proofs.AscendingAfter.{AscendingAfter, last_after, last_after_end, ascends_more}
 use Rattle.silences.proofs.RecordsPacked.{RecordStands, packed_all, stopped_number, stopped_record, all_fit_more, packs_as_is}
 
--- The loop's invariant. `records_le` and `bytes_le` show that the two sums do not overflow: there are no more records than words.
-pub record JudgedTo (words : List ℕ) (last : Option Address) (records bytes at : ℕ) : Type 0 where
-  pub at_le : at ≤ length words
-  pub records_le : records ≤ at
-  pub bytes_le : bytes ≤ packed_length * at
+-- The loop's invariant. `size` is the number of words that the loop takes in a turn.
+pub record JudgedTo (words : List ℕ) (last : Option Address) (i size : ℕ) (left : List ℕ) : Type 0 where
+  pub size_is : size ≡ record_words
   pub passed : List Silence
-  pub all_are : silences_of words ≡ passed ++ silences_of (drop at words)
+  pub all_are : silences_of words ≡ passed ++ silences_of left
   pub all_fit : AllFit passed
   pub ascends : AscendingAfter None passed
   pub last_is : last ≡ last_after None passed
-  pub records_is : records ≡ length passed
-  pub bytes_is : bytes ≡ length (layout passed)
-
--- what `judge` must return, as an answer
-abbrev judgement : List ℕ → Answer Sizes
-judgement words = answer_by (record_fault words) (sizes (silences_of words))
-
--- the refusal of the first faulty record decides it
-judged_by : (words : List ℕ) {o : Option Refusal} → record_fault words ≡ o → judgement words ≡ answer_by o (sizes (silences_of words))
-judged_by words e = ap (λ (o : Option Refusal). answer_by o (sizes (silences_of words))) e
+  pub number_is : i ≡ length passed
 
 module _ {words : List ℕ} where
   -- The invariant holds at the start: no record is passed.
-  pub judge_start : JudgedTo words None 0 0 0
-  unfolding numbers_of_each
-  judge_start =
+  pub judge_start : {i size : ℕ} {left : List ℕ} → i ≡ 0 → size ≡ record_words → left ≡ words → JudgedTo words None i size left
+  judge_start i_is size_is left_is =
       record {
-        at_le = omega arith;
-        records_le = omega arith;
-        bytes_le = omega arith;
+        size_is = size_is;
         passed = [];
-        all_are = refl;
+        all_are = ap silences_of (sym left_is);
         all_fit = tt;
         ascends = tt;
         last_is = refl;
-        records_is = refl;
-        bytes_is = refl;
+        number_is = i_is;
       }
 
-  module _ {last : Option Address} {records bytes at : ℕ} (now : JudgedTo words last records bytes at) where
-    module _ (h : at + record_words ≤ length words) where
+  module _ {last : Option Address} {i size : ℕ} {left : List ℕ} (now : JudgedTo words last i size left) where
+    module _ (four rest : List ℕ) (left_is : left ≡ four ++ rest) (long : length four ≡ size) where
       -- this record is the next of them
-      all_from : silences_of words ≡ now.passed ++ silence_from words at ∷ silences_of (drop (at + record_words) words)
-      all_from = now.all_are ∙ ap (λ (l : List Silence). now.passed ++ l) (silences_of_step words at h)
+      all_from : silences_of words ≡ now.passed ++ silence_of_words four ∷ silences_of rest
+      all_from = now.all_are ∙ ap (λ (l : List Silence). now.passed ++ l) (silences_of_record left four rest left_is (long ∙ now.size_is))
 
-      -- its number is `records`, and those before it are passed
-      stands_here : RecordStands None 0 (silences_of words) now.passed records (silence_from words at)
-      stands_here =
+      -- its number is i, and those before it are passed
+      stands_here : {number : ℕ} → number ≡ i → RecordStands None 0 (silences_of words) now.passed number (silence_of_words four)
+      stands_here number_is =
           record {
-            later = silences_of (drop (at + record_words) words);
+            later = silences_of rest;
             records_are = all_from;
-            number_is = omega (arith, now.records_is);
+            number_is = omega (arith, now.number_is, number_is);
             all_fit = now.all_fit;
             ascends = now.ascends;
           }
 
       -- If a number of this record is too large, refusal 9 with its number is the answer.
-      pub judge_too_large : TooLarge (silence_from words at) → refused (NumberInRecord records) ≡ judgement words
-      judge_too_large high = sym (judged_by words (packs_as_is (stopped_number stands_here high)))
+      pub judge_too_large : {number : ℕ} → number ≡ i → TooLarge (silence_of_words four) → Some (NumberInRecord number) ≡ record_fault words
+      judge_too_large number_is high = sym (packs_as_is (stopped_number (stands_here number_is) high))
 
-      module _ (fit : NumbersFit (silence_from words at)) where
+      module _ (fit : NumbersFit (silence_of_words four)) where
         -- If this record is not above the last, refusal 7 with its number is the answer.
-        pub judge_not_above : is_above last (silence_from words at).address ≡ false → refused (NotAbove records) ≡ judgement words
-        judge_not_above e =
-            sym (judged_by words (packs_as_is (stopped_record stands_here fit (subst (λ (l : Option Address). is_above l (silence_from words at).address ≡ false) now.last_is e))))
+        pub judge_not_above : {number : ℕ} → number ≡ i → is_above last (silence_of_words four).address ≡ false → Some (NotAbove number) ≡ record_fault words
+        judge_not_above number_is e =
+            sym (packs_as_is (stopped_record (stands_here number_is) fit
+            (subst (λ (l : Option Address). is_above l (silence_of_words four).address ≡ false) now.last_is e)))
 
-        -- If this record is above the last, the invariant holds again with it passed and counted.
-        pub judge_turn : {field : ℕ} → is_above last (silence_from words at).address ≡ true → length (field_of (silence_from words at)) ≡ field
-            → JudgedTo words (Some (silence_from words at).address) (records + 1) (bytes + field) (at + record_words)
-        unfolding numbers_of_each
-        judge_turn {field} e long =
-            let here : Silence = silence_from words at in
-            let others : List Silence = silences_of (drop (at + record_words) words) in
+        -- If this record is above the last, the invariant holds again with it passed.
+        pub judge_turn : {i' size' : ℕ} → i' ≡ i + 1 → size' ≡ size → is_above last (silence_of_words four).address ≡ true
+            → JudgedTo words (Some (silence_of_words four).address) i' size' rest
+        judge_turn {i'} {size'} i_is same_size e =
+            let here : Silence = silence_of_words four in
             record {
-              at_le = h;
-              records_le = omega (arith, now.records_le);
-              bytes_le = omega (arith, now.bytes_le, packed_length_lem here);
+              size_is = same_size ∙ now.size_is;
               passed = now.passed ++ here ∷ [];
-              all_are = all_from ∙ sym (append_snoc now.passed here others);
+              all_are = all_from ∙ sym (append_snoc now.passed here (silences_of rest));
               all_fit = all_fit_more now.passed here now.all_fit fit;
               ascends = ascends_more None now.passed here now.ascends (subst (λ (l : Option Address). is_above l here.address ≡ true) now.last_is e);
               last_is = sym (last_after_end None now.passed here);
-              records_is = omega (arith, now.records_is, length-append now.passed (here ∷ []));
-              bytes_is =
-                  omega (
-                    arith,
-                    now.bytes_is,
-                    ap length (each_more field_of now.passed here),
-                    length-append (layout now.passed) (field_of here),
-                  );
+              number_is = omega (arith, i_is, now.number_is, length-append now.passed (here ∷ []));
             }
 
-    -- When fewer than four words are left, the sizes counted are the answer.
-    pub judge_end : length words < at + record_words → accepted (sized records bytes) ≡ judgement words
-    judge_end h =
+    -- When fewer than four words are left, no record is faulty.
+    pub judge_end : length left < size → None ≡ record_fault words
+    judge_end few =
         let all : silences_of words ≡ now.passed =
-        now.all_are ∙ ap (λ (l : List Silence). now.passed ++ l) (silences_of_end words at h) ∙ append-nil now.passed in
-        (λ i. accepted (sized (now.records_is i) (now.bytes_is i)))
-        ∙ ap (λ (ss : List Silence). accepted (sizes ss)) (sym all)
-        ∙ sym (judged_by words (ap (λ (ss : List Silence). first_given (record_rows None 0 ss)) all ∙ packs_as_is (packed_all now.all_fit now.ascends)))
+        now.all_are
+        ∙ ap (λ (l : List Silence). now.passed ++ l) (silences_of_few left (omega (arith, few, now.size_is)))
+        ∙ append-nil now.passed in
+        sym (ap (λ (ss : List Silence). first_given (record_rows None 0 ss)) all ∙ packs_as_is (packed_all now.all_fit now.ascends))

@@ -9,8 +9,7 @@
 pub mod OneAnswer
 pub mod RowsOfPacking
 pub mod RoundTripsOfCalls
--- what the proofs of functions cite: writing a number and a field, invariants of loops, and the cases of `pack`
-pub mod NumberPut
+-- what the proofs of functions cite: writing a field, invariants of loops, and the cases of `pack`
 pub mod FieldPut
 pub mod FieldsLoop
 pub mod JudgeLoop

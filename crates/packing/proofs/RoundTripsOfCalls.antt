@@ -25,8 +25,8 @@ use Rattle.silences.proofs.WordsOfSilences.{words_length}
 use Rattle.silences.proofs.AreaAtExit.{area_front}
 use Rattle.silences.proofs.RoundTrips.{packed_unpacked, packed_words_are, unpacked_packed, many_refused, unpacked_read_back, unpacked_bytes}
 use Rattle.silences.proofs.UnpackRows.{unpacked_accepted_iff}
-use Rattle.book.specs.declared.answering.BookAnswer.{BookAnswer}
-use Rattle.book.specs.declared.answering.BookAnswer.TheVariants.{Records, Refused}
+use Rattle.std.specs.Prelude.{Result}
+use Rattle.std.specs.Prelude.{Ok, Err}
 use Rattle.book.specs.Calls.{paper_of, records_paper, IsUnpacked}
 use Rattle.book.proofs.RowNumbers.{records_iff}
 use Rattle.book.proofs.OneAnswer.{paper_unique}
@@ -35,8 +35,8 @@ use Rattle.packing.specs.Calls.{IsPacked}
 module _ (output : List Silence → List ℕ) (each : ℕ) (length_is : (ss : List Silence) → length (output ss) ≡ each * length ss) (o : Option Refusal)
     (ss : List Silence) (area : List ℕ) (n : ℕ) (out : List ℕ) (wrote : out ≡ area_at_exit output (answer_by o ss) area) where
   -- if the definition gives n silences, the call returns n records, and the area at exit begins with their output
-  gives_records : (ts : List Silence) → answer_by o ss ≡ accepted ts → length ts ≡ n → (r : BookAnswer) → paper_of r ≡ records_paper (answer_by o ss)
-      → (r ≡ Records n) × (take (each * n) out ≡ output ts)
+  gives_records : (ts : List Silence) → answer_by o ss ≡ accepted ts → length ts ≡ n → (r : Result ℕ Refusal) → paper_of r ≡ records_paper (answer_by o ss)
+      → (r ≡ Ok n) × (take (each * n) out ≡ output ts)
   gives_records ts is records_is r paper =
       let given = (answer_gives_iff ss ts o).0 is in (
         (records_iff o ss r paper n).1 (given.0, ap length given.1 ∙ records_is),
@@ -44,16 +44,16 @@ module _ (output : List Silence → List ℕ) (each : ℕ) (length_is : (ss : Li
       )
 
   -- if the call returned n records, the definition gives n silences, and the area at exit begins with their output
-  gave : paper_of (Records n) ≡ records_paper (answer_by o ss) → (answer_by o ss ≡ accepted ss) × (length ss ≡ n) × (take (each * n) out ≡ output ss)
+  gave : paper_of (Ok n) ≡ records_paper (answer_by o ss) → (answer_by o ss ≡ accepted ss) × (length ss ≡ n) × (take (each * n) out ≡ output ss)
   gave paper =
-      let has = (records_iff o ss (Records n) paper n).0 refl in
+      let has = (records_iff o ss (Ok n) paper n).0 refl in
       let is = (answer_gives_iff ss ss o).1 (has.0, refl) in
-      (is, has.1, (gives_records ss is has.1 (Records n) paper).1)
+      (is, has.1, (gives_records ss is has.1 (Ok n) paper).1)
 
 -- If `pack` returned n records, `unpack` with room, given the 15·n bytes that `pack` wrote, returns n records and writes the same words.
-pub pack_unpack : (words area : List ℕ) (n : ℕ) (out : List ℕ) → IsWords words → IsPacked words area (Records n) out
-    → (area' : List ℕ) (r : BookAnswer) (out' : List ℕ) → record_words * n ≤ length area' → IsUnpacked (take (packed_length * n) out) area' r out'
-    → (r ≡ Records n) × (take (record_words * n) out' ≡ words)
+pub pack_unpack : (words area : List ℕ) (n : ℕ) (out : List ℕ) → IsWords words → IsPacked words area (Ok n) out
+    → (area' : List ℕ) (r : Result ℕ Refusal) (out' : List ℕ) → record_words * n ≤ length area' → IsUnpacked (take (packed_length * n) out) area' r out'
+    → (r ≡ Ok n) × (take (record_words * n) out' ≡ words)
 unfolding packed unpacked
 pack_unpack words area n out are_words pack area' r out' room unpack =
     let ss : List Silence = silences_of words in
@@ -70,9 +70,9 @@ pack_unpack words area n out are_words pack area' r out' room unpack =
 
 -- If `unpack` returned n records, at most 1,000, `pack` with room, given the 4·n words that `unpack` wrote, returns n records, and the 15·n bytes that it
 -- writes read back as the same silences. They are the same bytes if the book has no field of tag 21.
-pub unpack_pack : (book area : List ℕ) (n : ℕ) (out : List ℕ) → IsBytes book → IsUnpacked book area (Records n) out → n ≤ most_silences
-    → (area' : List ℕ) (r : BookAnswer) (out' : List ℕ) → packed_length * n ≤ length area' → IsPacked (take (record_words * n) out) area' r out'
-    → (r ≡ Records n) × (read_book (take (packed_length * n) out') ≡ read_book book) × (LaidDown NoTag21 (silences_read book) book → take (packed_length * n) out' ≡ book)
+pub unpack_pack : (book area : List ℕ) (n : ℕ) (out : List ℕ) → IsBytes book → IsUnpacked book area (Ok n) out → n ≤ most_silences
+    → (area' : List ℕ) (r : Result ℕ Refusal) (out' : List ℕ) → packed_length * n ≤ length area' → IsPacked (take (record_words * n) out) area' r out'
+    → (r ≡ Ok n) × (read_book (take (packed_length * n) out') ≡ read_book book) × (LaidDown NoTag21 (silences_read book) book → take (packed_length * n) out' ≡ book)
 unfolding packed unpacked
 unpack_pack book area n out are_bytes unpack few area' r out' room pack =
     let ss : List Silence = silences_read book in
@@ -89,8 +89,8 @@ unpack_pack book area n out are_bytes unpack few area' r out' room pack =
     (back.0, ap read_book back.1 ∙ reads_back ∙ sym reads, λ laid. back.1 ∙ unpacked_bytes book are_bytes (length area) ss was.0 laid)
 
 -- If `unpack` returned more than 1,000 records, `pack`, given the words that it wrote, refuses them by row 8.
-pub unpack_pack_many : (book area : List ℕ) (n : ℕ) (out : List ℕ) → IsUnpacked book area (Records n) out → most_silences < n
-    → (area' : List ℕ) (r : BookAnswer) (out' : List ℕ) → IsPacked (take (record_words * n) out) area' r out' → r ≡ Refused WordCount
+pub unpack_pack_many : (book area : List ℕ) (n : ℕ) (out : List ℕ) → IsUnpacked book area (Ok n) out → most_silences < n
+    → (area' : List ℕ) (r : Result ℕ Refusal) (out' : List ℕ) → IsPacked (take (record_words * n) out) area' r out' → r ≡ Err WordCount
 unfolding packed unpacked
 unpack_pack_many book area n out unpack many area' r out' pack =
     let ss : List Silence = silences_read book in
@@ -98,4 +98,4 @@ unpack_pack_many book area n out unpack many area' r out' pack =
     let was = gave words_of_silences record_words words_length (unpack_refusal book (length area)) ss area n out unpack.written unpack.paper in
     let refuses : pack_refusal words (length area') ≡ Some WordCount =
     ap (λ (l : List ℕ). pack_refusal l (length area')) was.2 ∙ many_refused ss (omega (arith, was.1)) (length area') in
-    paper_unique r (Refused WordCount) (pack.paper ∙ ap (λ (o : Option Refusal). records_paper (answer_by o (silences_of words))) refuses)
+    paper_unique r (Err WordCount) (pack.paper ∙ ap (λ (o : Option Refusal). records_paper (answer_by o (silences_of words))) refuses)

@@ -22,13 +22,13 @@ use Rattle.silences.specs.Packing.{silences_of, pack_refusal, packed}
 use Rattle.silences.specs.Faults.{HasWordCount, IsNumberFault, IsRecordFault, IsPackable}
 use Rattle.silences.proofs.LayoutRead.{layout_length}
 use Rattle.silences.proofs.PackRows.{HasWrongCount, pack_has, pack_8_iff, pack_9_iff, pack_7_iff, pack_10_iff, pack_none_iff}
-use Rattle.book.specs.declared.answering.BookAnswer.{BookAnswer}
-use Rattle.book.specs.declared.answering.BookAnswer.TheVariants.{Records}
+use Rattle.std.specs.Prelude.{Result}
+use Rattle.std.specs.Prelude.{Ok}
 use Rattle.book.specs.Calls.{paper_of}
 use Rattle.book.proofs.RowNumbers.{area_by_lem, paper_by, records_iff}
 use Rattle.packing.specs.Calls.{IsPacked}
 
-module _ (words area : List ℕ) (r : BookAnswer) (out : List ℕ) (meets : IsPacked words area r out) where
+module _ (words area : List ℕ) (r : Result ℕ Refusal) (out : List ℕ) (meets : IsPacked words area r out) where
   -- the first row that is given
   abbrev o : Option Refusal
   o = pack_refusal words (length area)
@@ -98,6 +98,6 @@ module _ (words area : List ℕ) (r : BookAnswer) (out : List ℕ) (meets : IsPa
   pack_accepted = Iff.trans (accepted_number_iff 0 records o paper) none_iff
 
   -- `pack` returns n records exactly for words of n silences that can be packed, with room for 15 bytes for each silence.
-  pub pack_records : (n : ℕ) → (r ≡ Records n) ↔ ((IsPackable words × (packed_length * records ≤ length area)) × (records ≡ n))
+  pub pack_records : (n : ℕ) → (r ≡ Ok n) ↔ ((IsPackable words × (packed_length * records ≤ length area)) × (records ≡ n))
   unfolding packed
   pack_records n = Iff.trans (records_iff o (silences_of words) r meets.paper n) (Iff.and none_iff Iff.rfl)

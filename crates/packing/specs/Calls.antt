@@ -3,10 +3,11 @@
 use Rattle.std.specs.Prelude.{ℕ, ◌≡◌, List, length}
 use Rattle.silences.specs.Layout.{layout}
 use Rattle.silences.specs.Packing.{packed, area_at_exit}
-use Rattle.book.specs.declared.answering.BookAnswer.{BookAnswer}
+use Rattle.std.specs.Prelude.{Result}
+use Rattle.answers.specs.declared.refusals.Refusal.{Refusal}
 use Rattle.book.specs.Calls.{paper_of, records_paper}
 
 -- The contract of `pack`, which returns `r` and leaves the lent bytes `area` as `out`.
-pub record IsPacked (words area : List ℕ) (r : BookAnswer) (out : List ℕ) : Type 0 where
+pub record IsPacked (words area : List ℕ) (r : Result ℕ Refusal) (out : List ℕ) : Type 0 where
   pub paper : paper_of r ≡ records_paper (packed words (length area))
   pub written : out ≡ area_at_exit layout (packed words (length area)) area

@@ -1,71 +1,44 @@
-// Writing a book's bytes: numbers, fields of numbers, and a book of fields.
+// Writing a book's bytes: bytes behind others, fields, and a book of fields.
 ghost use Rattle.std.specs.Prelude.{◌≡◌, ◌+◌, ◌≤◌, length};
 ghost use Rattle.lists.specs.Areas.{written};
-ghost use Rattle.fields.specs.Numbers.{bytes_of};
-ghost use Rattle.silences.specs.Silences.{address, silence};
 ghost use Rattle.silences.specs.Layout.{field_of, layout};
-ghost use Rattle.silences.specs.Packing.{silences_of};
-ghost use Rattle.packing.specs.Putting.{AreBytesPut};
+ghost use Rattle.silences.specs.Packing.{silence_of_words, silences_of};
+ghost use Rattle.silences.specs.Faults.{AllFit};
+ghost use Rattle.packing.specs.Putting.{AreBytesPut, CanPutField};
 
-use fields::{LENGTH_BYTES, TAG_BYTES};
-use silences::{
-    CEILING_BYTES, CEILING_TAG, CELL_BYTES, PACKED_VALUE_LENGTH, RECORD_WORDS, RING_NUMBER_BYTES,
-    START_BYTES,
-};
+use silences::{CEILING_TAG, PACKED_VALUE_LENGTH, RECORD_WORDS};
 
-// Writes a number into `count` bytes from `at` on, high byte first, and returns the byte offset just past them. It
-// writes the last byte first: that is the number mod 256, and the bytes before it are the number divided by 256.
-fn put_number(out: &mut [u8], at: usize, count: usize, number: u32) -> usize
-    requires { at + count ≤ length out.old }
-    ensures { AreBytesPut at (bytes_of count number) out.old result out.new }
+// Writes bytes from `at` on and returns the byte offset just past them.
+fn put_bytes(out: &mut [u8], at: usize, bytes: &[u8]) -> usize
+    requires { at + length bytes.now ≤ length out.old }
+    ensures { AreBytesPut at bytes.now out.old result out.new }
 {
-    let mut rest = number;
-    let mut left = count;
-    while 0 < left {
-        out[at + (left - 1)] = (rest % 256) as u8;
-        rest = rest / 256;
-        left -= 1;
-    }
-    at + count
+    let next = at + bytes.len();
+    out[at..next].copy_from_slice(bytes);
+    next
 }
 
-// Writes a silence's field from `at` on: "tag 22, length 12, the old ten bytes and a two-byte distance". Returns the
-// byte offset just past it.
-fn put_field(
-    out: &mut [u8],
-    at: usize,
-    cell: u32,
-    ring_number: u32,
-    start: u32,
-    ceiling: u32,
-) -> usize
-    requires { at + length (field_of (silence (address cell ring_number start) ceiling)) ≤ length out.old }
-    ensures { AreBytesPut at (field_of (silence (address cell ring_number start) ceiling)) out.old result out.new }
+// Writes the field of a record's silence from `at` on: "tag 22, length 12, the old ten bytes and a two-byte distance",
+// "numbers high byte first". Returns the byte offset just past it.
+fn put_field(out: &mut [u8], at: usize, words: &[u32]) -> usize
+    requires { CanPutField at words.now out.old }
+    ensures { AreBytesPut at (field_of (silence_of_words words.now)) out.old result out.new }
 {
-    let length_at = put_number(out, at, TAG_BYTES, CEILING_TAG as u32);
-    let value_at = put_number(out, length_at, LENGTH_BYTES, PACKED_VALUE_LENGTH as u32);
-    let ring_number_at = put_number(out, value_at, CELL_BYTES, cell);
-    let start_at = put_number(out, ring_number_at, RING_NUMBER_BYTES, ring_number);
-    let ceiling_at = put_number(out, start_at, START_BYTES, start);
-    put_number(out, ceiling_at, CEILING_BYTES, ceiling)
+    let length_at = put_bytes(out, at, &[CEILING_TAG]);
+    let value_at = put_bytes(out, length_at, &(PACKED_VALUE_LENGTH as u16).to_be_bytes());
+    let ring_number_at = put_bytes(out, value_at, &words[0].to_be_bytes());
+    let start_at = put_bytes(out, ring_number_at, &(words[1] as u16).to_be_bytes());
+    let ceiling_at = put_bytes(out, start_at, &words[2].to_be_bytes());
+    put_bytes(out, ceiling_at, &(words[3] as u16).to_be_bytes())
 }
 
 // Writes the field of each silence of the words, one after the other from the area's first byte on.
 pub fn put_fields(words: &[u32], out: &mut [u8])
-    requires { length (layout (silences_of words.now)) ≤ length out.old }
+    requires { AllFit (silences_of words.now) × (length (layout (silences_of words.now)) ≤ length out.old) }
     ensures { out.new ≡ written (layout (silences_of words.now)) out.old }
 {
-    let mut at: usize = 0;
-    let mut to: usize = 0;
-    while RECORD_WORDS <= words.len() - at {
-        to = put_field(
-            out,
-            to,
-            words[at],
-            words[at + 1],
-            words[at + 2],
-            words[at + 3],
-        );
-        at += RECORD_WORDS;
+    let mut to = 0;
+    for record in words.chunks_exact(RECORD_WORDS) {
+        to = put_field(out, to, record);
     }
 }

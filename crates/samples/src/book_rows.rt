@@ -3,11 +3,11 @@ use crate::area::BOOK_ROOM;
 use crate::calls::READ;
 use crate::printing::PrintedAs;
 use crate::{area, books, paper, printing, table};
-use book::BookAnswer;
+use answers::Refusal;
 use std::io;
 
 // Calls `read` or `unpack`.
-fn read_or_unpack(call: usize, book: &[u8], lent: &mut [u32]) -> BookAnswer {
+fn read_or_unpack(call: usize, book: &[u8], lent: &mut [u32]) -> Result<usize, Refusal> {
     if call == READ {
         book::read(book)
     } else {

@@ -4,7 +4,7 @@ use crate::printing::{
     BACKWARD_LABEL, EDGES_LABEL, FORWARD_LABEL, FOUND_LABEL, HIDDEN_LABEL, LOOKS_LABEL,
     NUMBER_LABEL, PLACE_LABEL, RECORDS_LABEL, print_number,
 };
-use book::BookAnswer;
+use answers::Refusal;
 use findings::SearchCounts;
 use outlines::{Reported, Searched};
 use std::io;
@@ -18,13 +18,13 @@ fn print_refusal(rt: &impl Print, refusal: usize, place: usize) -> io::Result<()
 }
 
 // "Packer and unpacker return the number of records".
-pub fn print_book(rt: &impl Print, answer: BookAnswer) -> io::Result<()> {
+pub fn print_book(rt: &impl Print, answer: Result<usize, Refusal>) -> io::Result<()> {
     match answer {
-        BookAnswer::Records(records) => {
+        Ok(records) => {
             print_refusal(rt, 0, 0)?;
             print_number(rt, RECORDS_LABEL, records)
         }
-        BookAnswer::Refused(refusal) => {
+        Err(refusal) => {
             print_refusal(rt, refusal.number(), refusal.place())?;
             print_number(rt, RECORDS_LABEL, 0)
         }

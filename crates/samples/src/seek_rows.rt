@@ -5,7 +5,7 @@ use crate::printing::{
     CEILING_LABEL, CELL_LABEL, FROM_LABEL, NEXT_LABEL, RING_NUMBER_LABEL, START_LABEL,
 };
 use crate::{area, books, printing, table};
-use silences::{Address, Sought};
+use silences::{Address, Field};
 use std::io;
 
 // The address that a field gives: cell, ring number, start.
@@ -18,20 +18,16 @@ fn address_of(field: &[u8]) -> Address {
 }
 
 // Prints the field that was found, or that there is none.
-fn print_sought(rt: &impl Print, sought: Sought) -> io::Result<()> {
+fn print_sought(rt: &impl Print, sought: Option<Field>) -> io::Result<()> {
     match sought {
-        Sought::Field {
-            address,
-            ceiling,
-            next,
-        } => {
-            printing::print_number(rt, CELL_LABEL, address.cell as usize)?;
-            printing::print_number(rt, RING_NUMBER_LABEL, address.ring_number as usize)?;
-            printing::print_number(rt, START_LABEL, address.start as usize)?;
-            printing::print_number(rt, CEILING_LABEL, ceiling as usize)?;
-            printing::print_number(rt, NEXT_LABEL, next)
+        Some(field) => {
+            printing::print_number(rt, CELL_LABEL, field.address.cell as usize)?;
+            printing::print_number(rt, RING_NUMBER_LABEL, field.address.ring_number as usize)?;
+            printing::print_number(rt, START_LABEL, field.address.start as usize)?;
+            printing::print_number(rt, CEILING_LABEL, field.ceiling as usize)?;
+            printing::print_number(rt, NEXT_LABEL, field.next)
         }
-        Sought::Nothing => printing::print_text(rt, b" nothing"),
+        None => printing::print_text(rt, b" nothing"),
     }
 }
 

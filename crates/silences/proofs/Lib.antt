@@ -12,6 +12,7 @@
 -- the order of addresses, and what silences hide
 pub mod SilenceOrder
 pub mod StrictOrder
+pub mod DerivedOrder
 pub mod AscendingAfter
 pub mod HidesIff
 pub mod ZeroIsOrdinary

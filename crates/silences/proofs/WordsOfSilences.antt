@@ -1,18 +1,18 @@
 -- Silences and their words determine each other: `silences_of` and `words_of_silences` undo each other, on words whose number is a multiple of 4. A walk through
--- the words meets the silence of the next four (`silences_of_step`), or none (`silences_of_end`). By the laws of records of any width (Records of crates/lists).
+-- the words meets the silence of the next four (`silences_of_record`), or none (`silences_of_few`). By the laws of records of any width (Records of crates/lists).
 -- If the words are 32-bit words and their numbers fit, the silences are in range.
-use Prim.Native.Nat.{ℕ, suc, ◌+◌, ◌*◌, ◌%◌, ◌≤◌, ◌<◌}
-use mathlib.Core.Path.{◌≡◌, refl, sym, ap, ◌∙◌}
-use mathlib.Core.List.{List, [], ◌∷◌}
-use native.Mathlib.Nat.{add-zero}
+use Prim.Native.Nat.{ℕ, suc, ◌*◌, ◌%◌, ◌<◌}
+use mathlib.Core.Path.{◌≡◌, refl, sym, ap, ap₂, ◌∙◌}
+use mathlib.Core.List.{List, [], ◌∷◌, ◌++◌}
 use native.Mathlib.Omega.{arith}
-use lib.ListN.{length, get_or, drop}
+use lib.ListN.{length, get_or, length-append}
+use lib.Seq.{take_at, drop_at}
 use Rattle.lists.specs.Bounds.{IsWords}
 use Rattle.lists.specs.ByPlace.{list_of}
 use Rattle.lists.specs.Records.{numbers_of_each}
 use Rattle.lists.proofs.ByPlace.{list_of_is}
-use Rattle.lists.proofs.Records.{each_length, part_places, records_step, records_end, records_of_words, words_of_records}
-use Rattle.silences.specs.Silences.{Silence, silence, address, AllInRange}
+use Rattle.lists.proofs.Records.{each_length, records_step, records_end, records_of_words, words_of_records}
+use Rattle.silences.specs.Silences.{Silence, AllInRange}
 use Rattle.silences.specs.Packing.{silence_words, words_of_silences, record_words, silence_of_words, silences_of}
 use Rattle.silences.specs.Faults.{AllFit}
 
@@ -34,22 +34,16 @@ words_of_silences_lem =
 pub silences_length : (words : List ℕ) → length words % record_words ≡ 0 → record_words * length (silences_of words) ≡ length words
 silences_length words h = sym (words_length (silences_of words)) ∙ ap length (words_of_silences_lem words h)
 
--- The silence of the four words from word `at` on.
-abbrev pub silence_from : List ℕ → ℕ → Silence
-silence_from words at = silence (address (get_or words at 0) (get_or words (at + 1) 0) (get_or words (at + 2) 0)) (get_or words (at + 3) 0)
+-- If words begin with the four words of a record, these are the first silence, and the rest follow.
+pub silences_of_record : (words four rest : List ℕ) → words ≡ four ++ rest → length four ≡ record_words → silences_of words ≡ silence_of_words four ∷ silences_of rest
+silences_of_record words four rest is long =
+    ap silences_of is
+    ∙ records_step record_words silence_of_words (omega arith) (four ++ rest) 0 (omega (arith, long, length-append four rest))
+    ∙ ap₂ (λ (l m : List ℕ). silence_of_words l ∷ silences_of m) (take_at four rest record_words long) (drop_at four rest record_words long)
 
-module _ (words : List ℕ) (at : ℕ) where
-  -- If four words are left at `at`, they are the next silence, and the rest follow.
-  pub silences_of_step : at + record_words ≤ length words → silences_of (drop at words) ≡ silence_from words at ∷ silences_of (drop (at + record_words) words)
-  unfolding list_of
-  silences_of_step h =
-      records_step record_words silence_of_words (omega arith) words at h
-      ∙ ap (λ (l : List ℕ). silence_of_words l ∷ silences_of (drop (at + record_words) words)) (part_places words at record_words h)
-      ∙ ap (λ (n : ℕ). silence (address (get_or words n 0) (get_or words (at + 1) 0) (get_or words (at + 2) 0)) (get_or words (at + 3) 0) ∷ silences_of (drop (at + record_words) words)) (add-zero at)
-
-  -- If fewer than four words are left, there is no silence more.
-  pub silences_of_end : length words < at + record_words → silences_of (drop at words) ≡ []
-  silences_of_end = records_end record_words silence_of_words (omega arith) words at
+-- Fewer than four words are no silence.
+pub silences_of_few : (words : List ℕ) → length words < record_words → silences_of words ≡ []
+silences_of_few words few = records_end record_words silence_of_words (omega arith) words 0 few
 
 -- Silences whose words are 32-bit words are in range, if their numbers fit.
 pub silences_in_range : (ss : List Silence) → IsWords (words_of_silences ss) → AllFit ss → AllInRange ss

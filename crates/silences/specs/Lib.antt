@@ -7,7 +7,7 @@
 --   Reading      what reading any bytes gives: silences, or refusal 5, 6 or 7
 --   Packing      what packing and unpacking give and write; refusals 7 to 10
 --   Faults       when rows 6 to 9 of the table of refusals are given, as propositions
---   Addresses    the values of this crate's types (`Kind`, `Address`, `Last`, `Sought`) as kinds, addresses and fields
+--   Addresses    what this crate's functions take and return (`Address`, `Field`, each perhaps missing) as kinds, addresses and fields
 --   Samples      computed examples
 pub mod Silences
 pub mod Layout

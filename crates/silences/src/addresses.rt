@@ -1,21 +1,19 @@
 // An address, and a field of a book.
 
-// An address: the cell, ring number and start that a silence is for, or that a caller seeks.
-#[derive(Clone, Copy)]
+// An address: the cell, ring number and start that a silence is for, or that a caller seeks. "Records ascend strictly by
+// cell, then ring number, then start": the derived order compares the three numbers in this order, and the derived
+// equality compares all three. "Zero is an ordinary cell, ring number and start."
+#[derive(Clone, Copy, PartialEq, Eq, PartialOrd, Ord)]
 pub struct Address {
     pub cell: u32,
     pub ring_number: u16,
     pub start: u32,
 }
 
-// The result of reading a field at a byte offset, or of seeking one: its address, its ceiling and the byte offset just
-// past it, where reading or seeking goes on; or that there is no such field.
+// A whole field of a book: its address, its ceiling and the byte offset just past it, where reading or seeking goes on.
 #[derive(Clone, Copy)]
-pub enum Sought {
-    Field {
-        address: Address,
-        ceiling: u16,
-        next: usize,
-    },
-    Nothing,
+pub struct Field {
+    pub address: Address,
+    pub ceiling: u16,
+    pub next: usize,
 }

@@ -8,10 +8,10 @@ mod field;
 mod lengths;
 mod order;
 
-pub use addresses::{Address, Sought};
+pub use addresses::{Address, Field};
 pub use field::field_at;
 pub use lengths::{
-    CEILING_BYTES, CEILING_TAG, CELL_BYTES, EXACT_TAG, MOST_SILENCES, PACKED_LENGTH,
-    PACKED_VALUE_LENGTH, RECORD_WORDS, RING_NUMBER_BYTES, START_BYTES,
+    CEILING_BYTES, CEILING_TAG, EXACT_TAG, MOST_SILENCES, PACKED_LENGTH, PACKED_VALUE_LENGTH,
+    RECORD_WORDS,
 };
-pub use order::{Last, is_above, is_below, is_same};
+pub use order::is_above;

@@ -10,22 +10,22 @@ pub loop-at-init : goal.loop-at-init
 loop-at-init c = read_start _
 
 -- no whole field: row 6
-pub returns-in-Nothing : goal.returns-in-Nothing
-returns-in-Nothing c =
-    read_faulty c.loop-at.invariant (rw c.in-Nothing.is at c.field_at-field.ensures) (omega arith)
+pub returns-in_default : goal.returns-in_default
+returns-in_default c =
+    read_faulty c.loop-at.invariant c.in_default.ensures (omega arith)
 
 -- a record that is not above the last: row 7
 pub returns-then-not-is_above : goal.returns-then-not-is_above
 returns-then-not-is_above c =
-    read_not_above c.loop-at.invariant (rw c.in-Field.is at c.field_at-field.ensures) (sym c.is_above.ensures ∙ c.if-not-is_above.true)
+    read_not_above c.loop-at.invariant c.in-Some.ensures (sym c.is_above.ensures ∙ c.if-not-is_above.true)
 
 pub loop-at-smaller : goal.loop-at-smaller
-loop-at-smaller c = omega (arith, field_ends _ _ _ _ (sym (rw c.in-Field.is at c.field_at-field.ensures)))
+loop-at-smaller c = omega (arith, field_ends _ _ _ _ (sym c.in-Some.ensures))
 
 -- one record more
 pub loop-at-preserved : goal.loop-at-preserved
 loop-at-preserved c =
-    read_turn c.loop-at.invariant (rw c.in-Field.is at c.field_at-field.ensures) (sym c.is_above.ensures ∙ c.if-not-is_above.false)
+    read_turn c.loop-at.invariant c.in-Some.ensures (sym c.is_above.ensures ∙ c.if-not-is_above.false)
 
 -- the book's end
 pub returns : goal.returns

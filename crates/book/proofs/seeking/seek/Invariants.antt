@@ -6,8 +6,8 @@ use Rattle.silences.specs.Addresses.{address_of}
 use Rattle.book.proofs.SeekLoop.{SeekSoFar}
 use Rattle.book.proofs.seeking.seek.Given as goal
 
-abbrev pub invariant-loop-found : goal.invariant-loop-found
-invariant-loop-found l = SeekSoFar l.book l.from (address_of l.address) l.at
+abbrev pub invariant-loop-field : goal.invariant-loop-field
+invariant-loop-field l = SeekSoFar l.book l.from (address_of l.address) l.at
 
-abbrev pub decreases-loop-found : goal.decreases-loop-found
-decreases-loop-found l = length l.book - l.at
+abbrev pub decreases-loop-field : goal.decreases-loop-field
+decreases-loop-field l = length l.book - l.at

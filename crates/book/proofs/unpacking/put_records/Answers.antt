@@ -1,33 +1,27 @@
--- `book::unpacking::put_records` meets its contract. Before the field at `at` the words of the first `done` records stand in the area (`PutSoFar`). The return
--- at a faulty field is never reached. The number of records left falls.
+-- `book::unpacking::put_records` meets its contract. Before the field at `at` the words of the records before it stand in the area (`PutSoFar`). The number of
+-- bytes left falls, because a whole field ends after it begins, within the book (`field_ends`).
+use mathlib.Core.Path.{sym}
 use native.Mathlib.Omega.{arith}
-use Rattle.book.proofs.UnpackLoop.{put_start, put_length_is, put_end, put_faulty_no, put_room_le, put_turn}
+use Rattle.silences.proofs.FieldTest.{field_ends}
+use Rattle.book.proofs.UnpackLoop.{put_start, put_end, put_room_le, put_turn}
 use Rattle.book.proofs.unpacking.put_records.Goals as goal
 
-pub loop-done-init : goal.loop-done-init
-loop-done-init c = put_start c.requires.0 c.requires.1
-
-pub shape_of-words-in_default : goal.shape_of-words-in_default
-shape_of-words-in_default c = put_length_is c.loop-done.invariant
-
--- never reached: an accepted book has a whole field for each record
-pub returns-in_default : goal.returns-in_default
-returns-in_default c =
-    absurd (put_faulty_no c.loop-done.invariant (omega arith) (rw c.in_default.is at c.field_at-field.ensures))
+pub loop-field-init : goal.loop-field-init
+loop-field-init c = put_start c.requires.0 c.requires.1
 
 pub put_record-requires : goal.put_record-requires
-put_record-requires c =
-    let at-loop = c.loop-done in
-    put_room_le at-loop.invariant (omega arith)
+put_record-requires c = put_room_le c.loop-field.invariant c.in-Some.ensures
 
-pub loop-done-preserved : goal.loop-done-preserved
-loop-done-preserved c =
-    rw c.put_record.ensures
-    (put_turn c.loop-done.invariant (omega arith) (rw c.in-Field.is at c.field_at-field.ensures))
+pub overflow_add-to : goal.overflow_add-to
+overflow_add-to c = omega (arith, put_room_le c.loop-field.invariant c.in-Some.ensures)
 
-pub shape_of-words : goal.shape_of-words
-shape_of-words c = put_length_is c.loop-done.invariant
+pub loop-field-smaller : goal.loop-field-smaller
+loop-field-smaller c = omega (arith, field_ends _ _ _ _ (sym c.in-Some.ensures))
+
+-- one record more
+pub loop-field-preserved : goal.loop-field-preserved
+loop-field-preserved c = put_turn c.loop-field.invariant c.in-Some.ensures c.put_record.ensures
 
 -- all words written
 pub returns : goal.returns
-returns c = put_end c.loop-done.invariant (omega arith)
+returns c = put_end c.loop-field.invariant c.in_default.ensures

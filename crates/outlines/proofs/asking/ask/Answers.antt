@@ -11,8 +11,8 @@ returns-then-hides c =
     (cc c.address_of-address.ensures) c.if-hides.true
 
 -- Shown.
-pub returns : goal.returns
-returns c =
+pub returns-else-hides : goal.returns-else-hides
+returns-else-hides c =
     let args = c.args in
     ask_shown args.asked args.cell args.ring_number (finding_of args.finding) c.seek_on-held.ensures c.hides.ensures
     (cc c.address_of-address.ensures) c.if-hides.false

@@ -15,14 +15,14 @@ use Rattle.outlines.proofs.closed.report_closed.Goals as goal
 pub slice_bounds-scan_line-end : goal.slice_bounds-scan_line-end
 slice_bounds-scan_line-end c = used_le c.fill_join-used.ensures
 
-pub slice_bounds-scan_line-end-in-Records : goal.slice_bounds-scan_line-end-in-Records
-slice_bounds-scan_line-end-in-Records c = sym (length-take-le _ _ (used_le c.fill_join-used.ensures))
+pub slice_bounds-scan_line-end-in-Ok : goal.slice_bounds-scan_line-end-in-Ok
+slice_bounds-scan_line-end-in-Ok c = sym (length-take-le _ _ (used_le c.fill_join-used.ensures))
 
 pub scan_line-counted-requires : goal.scan_line-counted-requires
 scan_line-counted-requires c =
     let none_given = told_none c.admit_closed.ensures c.in-Accepted.is in
     can_scan_line (closed_lent ((closed_no_row_iff _ _ _ _ _).0 none_given) c.fill_join-used.ensures)
-    (read_accepted c.read.ensures c.in-Records.is) refl
+    (read_accepted c.read.ensures c.in-Ok.is) refl
 
 -- One of the search's rows is given.
 pub returns-in-Refused : goal.returns-in-Refused
@@ -30,16 +30,16 @@ returns-in-Refused c =
     closed_report_refused_row (told_refused c.admit_closed.ensures c.in-Refused.is)
 
 -- One of the book's rows is given.
-pub returns-in-Refused-read : goal.returns-in-Refused-read
-returns-in-Refused-read c =
+pub returns-in-Err : goal.returns-in-Err
+returns-in-Err c =
     closed_report_refused_book (told_accepted c.admit_closed.ensures c.in-Accepted.is)
-    (read_refused c.read.ensures c.in-Refused-read.is)
+    (read_refused c.read.ensures c.in-Err.is)
 
 -- Accepted.
-pub returns-in-Records : goal.returns-in-Records
-returns-in-Records c =
+pub returns-in-Ok : goal.returns-in-Ok
+returns-in-Ok c =
     let admit = c.admit_closed in
     let no-refusal = c.in-Accepted.is in
     let admitted = (closed_no_row_iff _ _ _ _ _).0 (told_none admit.ensures no-refusal) in
-    closed_report_accepted (told_accepted admit.ensures no-refusal) (read_accepted c.read.ensures c.in-Records.is)
+    closed_report_accepted (told_accepted admit.ensures no-refusal) (read_accepted c.read.ensures c.in-Ok.is)
     (searched_scanned (closed_lent admitted c.fill_join-used.ensures) c.scan_line-counted.ensures) (closed_joined admitted c.fill_join-used.ensures)

@@ -1,37 +1,43 @@
--- `packing::judging::judge` meets its contract. The loop's invariant is `JudgedTo`: the records before `at` are passed and counted. Each return is one case of
--- the record there, or that none is left. The number of words left falls.
-use mathlib.Core.Path.{sym, ◌∙◌}
+-- `packing::judging::judge` meets its contract. The loop's invariant is `JudgedTo`: the records before the words left are passed. Each return is one case of the
+-- next record, or that none is left.
+use mathlib.Core.Path.{sym, ap, ◌∙◌}
 use mathlib.Core.Logic.{inl, inr}
 use native.Mathlib.Omega.{arith}
-use Rattle.silences.proofs.FieldBytes.{packed_length_lem}
+use Rattle.std.specs.Iterator.Adapters.{enumerate_source, enumerate_count}
+use Rattle.std.specs.Slice.Iter.{chunks_exact_rest, chunks_exact_size}
 use Rattle.packing.proofs.JudgeLoop.{judge_start, judge_too_large, judge_not_above, judge_turn, judge_end}
 use Rattle.packing.proofs.judging.judge.Goals as goal
+use Rattle.packing.proofs.judging.judge.Goals.{then-record-gt-MOST_RING_NUMBER-via-then-record-gt-MOST_RING_NUMBER, then-record-gt-MOST_RING_NUMBER-via-else-record-gt-MOST_RING_NUMBER+then-record-gt-MOST_CEILING}
 
-pub loop-at-init : goal.loop-at-init
-loop-at-init c = judge_start
+pub loop-i-init : goal.loop-i-init
+loop-i-init c =
+    let same = c.into_iter-i-iterator.ensures.into_iter_gives in
+    let source = ap enumerate_source same ∙ c.enumerate-i-items.ensures.source in
+    judge_start (ap enumerate_count same ∙ c.enumerate-i-items.ensures.count) (ap chunks_exact_size source ∙ c.chunks_exact.ensures.size)
+    (ap chunks_exact_rest source ∙ c.chunks_exact.ensures.rest)
 
--- row 9 at this record, by its ring number
-pub returns-then-ring_number-gt-MOST_RING_NUMBER : goal.returns-then-ring_number-gt-MOST_RING_NUMBER
-returns-then-ring_number-gt-MOST_RING_NUMBER c =
-    judge_too_large c.loop-at.invariant (omega arith) (inl (omega (arith, c.if-ring_number-gt-MOST_RING_NUMBER.true)))
-
--- row 9 at this record, by its ceiling
-pub returns-then-ceiling-gt-MOST_CEILING : goal.returns-then-ceiling-gt-MOST_CEILING
-returns-then-ceiling-gt-MOST_CEILING c =
-    judge_too_large c.loop-at.invariant (omega arith) (inr (omega (arith, c.if-ceiling-gt-MOST_CEILING.true)))
+-- row 9 at this record, by its ring number or its ceiling
+pub returns-then-record-gt-MOST_RING_NUMBER : goal.returns-then-record-gt-MOST_RING_NUMBER
+returns-then-record-gt-MOST_RING_NUMBER c =
+    let s = c.in-Some.ensures.steps in
+    judge_too_large c.loop-i.invariant _ _ s.0.1.0 s.0.1.1 s.1
+    (elim c.then-record-gt-MOST_RING_NUMBER.branch [
+      | then-record-gt-MOST_RING_NUMBER-via-then-record-gt-MOST_RING_NUMBER w ↦ inl (omega arith)
+      | then-record-gt-MOST_RING_NUMBER-via-else-record-gt-MOST_RING_NUMBER+then-record-gt-MOST_CEILING w ↦ inr (omega arith)
+    ])
 
 -- row 7 at this record
 pub returns-then-not-is_above : goal.returns-then-not-is_above
 returns-then-not-is_above c =
-    judge_not_above c.loop-at.invariant (omega arith) (record { ring_number_le = omega (arith, c.if-ring_number-gt-MOST_RING_NUMBER.false); ceiling_le = omega (arith, c.if-ceiling-gt-MOST_CEILING.false) })
-    (sym c.is_above.ensures ∙ c.if-not-is_above.true)
+    let s = c.in-Some.ensures.steps in
+    judge_not_above c.loop-i.invariant _ _ s.0.1.0 s.0.1.1 (record { ring_number_le = omega arith; ceiling_le = omega arith }) s.1 (sym c.if-not-is_above.ensures)
 
 -- this record is passed
-pub loop-at-preserved : goal.loop-at-preserved
-loop-at-preserved c =
-    judge_turn c.loop-at.invariant (omega arith) (record { ring_number_le = omega (arith, c.if-ring_number-gt-MOST_RING_NUMBER.false); ceiling_le = omega (arith, c.if-ceiling-gt-MOST_CEILING.false) })
-    (sym c.is_above.ensures ∙ c.if-not-is_above.false) (packed_length_lem _)
+pub loop-i-preserved : goal.loop-i-preserved
+loop-i-preserved c =
+    let s = c.in-Some.ensures.steps in
+    judge_turn c.loop-i.invariant _ _ s.0.1.0 s.0.1.1 (record { ring_number_le = omega arith; ceiling_le = omega arith }) s.2 s.0.0 (sym c.if-not-is_above.ensures)
 
 -- no record is left
 pub returns : goal.returns
-returns c = judge_end c.loop-at.invariant (omega arith)
+returns c = judge_end c.loop-i.invariant c.in-None.ensures.steps.0.1.0
