@@ -2,14 +2,14 @@
 use std::fmt;
 
 // The three searches, of a line and of a closed line.
-#[derive(Clone, Copy, PartialEq, Eq)]
+#[derive(Clone, Copy)]
 pub enum Search {
     Scan,
     Survey,
     Report,
 }
 
-#[derive(Clone, Copy, PartialEq, Eq)]
+#[derive(Clone, Copy)]
 pub enum Call {
     Pack,
     Read,

@@ -31,7 +31,8 @@ use table::Row;
 fn run_row(rt: &impl Print, call: Call, row: Row<'_>) -> io::Result<()> {
     match call {
         Call::Pack => pack_rows::pack_row(rt, row),
-        Call::Read | Call::Unpack => book_rows::book_row(rt, call, row),
+        Call::Read => book_rows::book_row(rt, row, |book, _| book::read(book)),
+        Call::Unpack => book_rows::book_row(rt, row, |book, lent| book::unpack(book, lent)),
         Call::Seek => seek_rows::seek_row(rt, row),
         Call::OfLine(search) => search_rows::search_row(rt, search, row),
         Call::Answer => answer_rows::answer_row(rt, row),
@@ -61,10 +62,7 @@ fn read_text<'a>(reader: &mut impl Read, area: &'a mut [u8]) -> io::Result<&'a s
     let mut rest: &mut [u8] = &mut *area;
     io::copy(reader, &mut rest)?;
     let got = room.saturating_sub(rest.len());
-    match str::from_utf8(&area[..got]) {
-        Ok(text) => Ok(text),
-        Err(_) => Err(io::Error::from(ErrorKind::InvalidData)),
-    }
+    str::from_utf8(&area[..got]).map_err(|_| io::Error::from(ErrorKind::InvalidData))
 }
 
 // Reads the table of rows and runs each of its fourteen sections through its calls.

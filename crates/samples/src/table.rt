@@ -1,4 +1,5 @@
-// The text of the rows, cut into parts: sections, the rows of a section, the fields of a row, the numbers of a field.
+// The text of the rows, cut into parts: sections, each begun by an equals sign; the rows of a section, a line each; the
+// fields of a row, with bars between them; the numbers of a field, with spaces between them.
 use std::str::{FromStr, Split};
 
 // The section with this number; the text before the first has number 0.
@@ -16,7 +17,7 @@ pub fn decimal(text: &str) -> usize {
         })
 }
 
-// A line of a section: its fields stand between bars.
+// A line of a section.
 #[derive(Clone, Copy)]
 pub struct Row<'a>(pub &'a str);
 
