@@ -13,7 +13,7 @@ pub const AREA_BYTES: usize = 65537;
 // The canary in bytes. No row's output ends with a canary, in bytes or in words.
 pub const CANARY_BYTE: u8 = 0xA5;
 
-// The canary in words: four canary bytes, as `printing::print_bytes` makes words of bytes.
+// The canary in words: four canary bytes, so that a `Room` works for bytes and words alike.
 pub const CANARY_WORD: u32 = 0xA5A5A5A5;
 
 // The room for a call on a book: bytes for the packer, words for the unpacker. It is more than the bytes of any book.
@@ -33,8 +33,60 @@ pub fn filled<T: Copy, const N: usize>(value: T) -> [T; N] {
     [value; N]
 }
 
-// The first `room` places of an area, to be lent to a call. No row asks for more than there are.
-pub fn lend<T>(area: &mut [T], room: usize) -> &mut [T] {
-    let lent = room.min(area.len());
+// The first `count` places of an area; all, if it has fewer.
+pub fn lend<T>(area: &mut [T], count: usize) -> &mut [T] {
+    let lent = count.min(area.len());
     &mut area[..lent]
+}
+
+// What rooms are made of: bytes and words.
+pub trait Place: Copy {
+    // The word that is compared with the canary, shown and summed up.
+    fn word(self) -> u32;
+}
+
+// A byte four times over, as the canary in words is made.
+impl Place for u8 {
+    fn word(self) -> u32 {
+        u32::from_be_bytes([self; 4])
+    }
+}
+
+impl Place for u32 {
+    fn word(self) -> u32 {
+        self
+    }
+}
+
+// Room for a call, all canaries: the places lent to it, and those after them.
+#[derive(Drop)]
+pub struct Room<'a, T> {
+    pub lent: &'a mut [T],
+    behind: &'a [T],
+}
+
+impl<'a, T: Place> Room<'a, T> {
+    // As many places of an area as a row lends; all if it does not say. No row lends more than there are.
+    pub fn new(area: &'a mut [T], count: Option<usize>) -> Room<'a, T> {
+        let most = area.len();
+        let (lent, behind) = area.split_at_mut(count.unwrap_or(most).min(most));
+        Room { lent, behind }
+    }
+
+    // The places lent, up to the last one that the call wrote.
+    pub fn written(&self) -> &[T] {
+        match self
+            .lent
+            .iter()
+            .rposition(|place| place.word() != CANARY_WORD)
+        {
+            Some(last) => &self.lent[..=last],
+            None => &[],
+        }
+    }
+
+    // Whether every place after those lent is still a canary.
+    pub fn is_kept(&self) -> bool {
+        self.behind.iter().all(|place| place.word() == CANARY_WORD)
+    }
 }

@@ -1,5 +1,5 @@
 // Rows for `read` and `unpack`. A row gives its name, its book (books.rt says how), and the room for `unpack`.
-use crate::area::{AREA_BYTES, BOOK_ROOM, CANARY_WORD};
+use crate::area::{AREA_BYTES, BOOK_ROOM, CANARY_WORD, Room};
 use crate::printing::PrintedAs;
 use crate::table::Row;
 use crate::{area, books, paper, printing};
@@ -16,10 +16,9 @@ pub fn book_row<F: Fn(&[u8], &mut [u32]) -> BookAnswer>(
 {
     let mut bytes: [u8; AREA_BYTES] = area::filled(0);
     let book = books::book(row, 1, &mut bytes);
-    let room = row.number(5).unwrap_or(BOOK_ROOM);
     let mut words: [u32; BOOK_ROOM] = area::filled(CANARY_WORD);
-    let space: &mut [u32] = &mut words;
-    let answer = call(book, area::lend(space, room));
+    let mut room = Room::new(&mut words, row.number(5));
+    let answer = call(book, room.lent);
     paper::print_book(rt, answer)?;
-    printing::end_row(rt, PrintedAs::Silences, space, room)
+    printing::end_row(rt, PrintedAs::Silences, &room)
 }

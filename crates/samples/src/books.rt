@@ -33,10 +33,9 @@ fn rising_record(start: u32) -> [u32; RECORD_WORDS] {
 // record. A field `*` gives 1,001 rising records, with the starts 0, 1, 2 and so on.
 pub fn words<'a>(field: &str, area: &'a mut [u32; MOST_ROW_WORDS]) -> &'a [u32] {
     if field == "*" {
-        for (record, start) in area.chunks_mut(RECORD_WORDS).zip(0u32..) {
-            for (word, value) in record.iter_mut().zip(rising_record(start)) {
-                *word = value;
-            }
+        let (records, _) = area.as_chunks_mut::<RECORD_WORDS>();
+        for (record, start) in records.iter_mut().zip(0u32..) {
+            *record = rising_record(start);
         }
         return area;
     }

@@ -1,12 +1,13 @@
 // Rows for `scan_closed`, `survey_closed` and `report_closed`. A row gives its name, ring, line, allowance, room and the
 // bytes of the join area, and for a report also cell, ring number and a book. Printed are the answer, the words written,
 // the bytes written into the join area, and whether all words and bytes after those that were lent are kept.
-use crate::area::{AREA_BYTES, BOOK_ROOM, CANARY_BYTE, CANARY_WORD, SEARCH_ROOM};
+use crate::area::{AREA_BYTES, BOOK_ROOM, CANARY_BYTE, CANARY_WORD, Room, SEARCH_ROOM};
 use crate::books::Silenced;
 use crate::calls::Search;
 use crate::edges::Searched;
+use crate::printing::{PrintedAs, print_room};
 use crate::table::Row;
-use crate::{area, paper, printing};
+use crate::{area, paper};
 use std::io;
 
 // Calls `outlines::report_closed` with the cell, ring number and book of a row, and prints the answer.
@@ -51,20 +52,14 @@ fn print_counts(
 // Searches a closed line for a ring, and prints the answer and what was written into the two areas. A join area that the
 // row leaves out has the bytes of a book's room, more than any ring needs.
 fn print_search(rt: &impl Print, search: Search, searched: Searched<'_>) -> io::Result<()> {
-    let room = searched.row.number(4).unwrap_or(SEARCH_ROOM);
-    let joins = searched.row.number(5).unwrap_or(BOOK_ROOM);
     let mut words: [u32; SEARCH_ROOM] = area::filled(CANARY_WORD);
-    let space: &mut [u32] = &mut words;
+    let mut room = Room::new(&mut words, searched.row.number(4));
     let mut bytes: [u8; BOOK_ROOM] = area::filled(CANARY_BYTE);
-    let join: &mut [u8] = &mut bytes;
-    print_counts(
-        rt,
-        search,
-        searched,
-        area::lend(join, joins),
-        area::lend(space, room),
-    )?;
-    printing::end_closed_row(rt, space, room, join, joins)
+    let mut join = Room::new(&mut bytes, searched.row.number(5));
+    print_counts(rt, search, searched, join.lent, room.lent)?;
+    print_room(rt, "written", PrintedAs::Findings, &room)?;
+    print_room(rt, "joined", PrintedAs::Bytes, &join)?;
+    println!(rt)
 }
 
 // Runs one row through one of the three calls.

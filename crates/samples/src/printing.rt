@@ -1,5 +1,5 @@
 // Printing the line of a row after the call and the row's name: numbers with their labels, then what the call wrote.
-use crate::area::{BOOK_ROOM, CANARY_WORD, filled};
+use crate::area::{Place, Room};
 use findings::WORDS_EACH;
 use silences::RECORD_WORDS;
 use std::io;
@@ -42,80 +42,42 @@ fn print_value(rt: &impl Print, shown: PrintedAs, at: usize, word: u32) -> io::R
 }
 
 // The checksum of words: for each word, 31 times the sum so far plus the word, mod 1,000,003.
-fn checksum(words: &[u32]) -> u32 {
-    words.iter().fold(0, |sum: u32, word| {
-        ((u64::from(sum) * 31 + u64::from(*word)) % CHECKSUM_MODULUS) as u32
+fn checksum<T: Place>(places: &[T]) -> u32 {
+    places.iter().fold(0, |sum: u32, place| {
+        ((u64::from(sum) * 31 + u64::from(place.word())) % CHECKSUM_MODULUS) as u32
     })
 }
 
-// Prints the words, or their checksum if they are many.
-pub fn print_words(rt: &impl Print, shown: PrintedAs, words: &[u32]) -> io::Result<()> {
-    if MOST_SHOWN < words.len() {
-        return print_number(rt, "checksum", checksum(words) as usize);
+// Prints bytes or words, or their checksum if they are many.
+pub fn print_places<T: Place>(rt: &impl Print, shown: PrintedAs, places: &[T]) -> io::Result<()> {
+    if MOST_SHOWN < places.len() {
+        return print_number(rt, "checksum", checksum(places) as usize);
     }
-    for (at, word) in words.iter().enumerate() {
-        print_value(rt, shown, at, *word)?;
+    for (at, place) in places.iter().enumerate() {
+        print_value(rt, shown, at, place.word())?;
     }
     Ok(())
 }
 
-// The words up to the last one that a call wrote.
-fn written(lent: &[u32]) -> &[u32] {
-    match lent.iter().rposition(|word| *word != CANARY_WORD) {
-        Some(last) => &lent[..=last],
-        None => &[],
-    }
-}
-
-// Prints what a call wrote into the first `room` words of an area, and whether all words after them are kept.
-fn print_area(
+// Prints what a call wrote into its room, and whether all places after it are kept.
+pub fn print_room<T: Place>(
     rt: &impl Print,
     label: &str,
     shown: PrintedAs,
-    area: &[u32],
-    room: usize,
+    room: &Room<'_, T>,
 ) -> io::Result<()> {
-    let (lent, behind) = area.split_at(room.min(area.len()));
-    let words = written(lent);
-    print_number(rt, label, words.len())?;
-    print_words(rt, shown, words)?;
-    if behind.iter().all(|word| *word == CANARY_WORD) {
+    let written = room.written();
+    print_number(rt, label, written.len())?;
+    print_places(rt, shown, written)?;
+    if room.is_kept() {
         print!(rt; " behind kept")
     } else {
         print!(rt; " behind touched")
     }
 }
 
-// The same for an area of bytes: they are printed as words that have each byte four times over.
-fn print_bytes(rt: &impl Print, label: &str, bytes: &[u8], room: usize) -> io::Result<()> {
-    let mut words: [u32; BOOK_ROOM] = filled(CANARY_WORD);
-    for (word, byte) in words.iter_mut().zip(bytes) {
-        *word = u32::from_be_bytes([*byte; 4]);
-    }
-    print_area(rt, label, PrintedAs::Bytes, &words, room)
-}
-
-// Ends the line of a row whose call was lent words.
-pub fn end_row(rt: &impl Print, shown: PrintedAs, area: &[u32], room: usize) -> io::Result<()> {
-    print_area(rt, "written", shown, area, room)?;
-    println!(rt)
-}
-
-// Ends the line of a row whose call was lent bytes.
-pub fn end_row_of_bytes(rt: &impl Print, bytes: &[u8], room: usize) -> io::Result<()> {
-    print_bytes(rt, "written", bytes, room)?;
-    println!(rt)
-}
-
-// Ends the line of a row whose call was lent words for findings and bytes for the join area.
-pub fn end_closed_row(
-    rt: &impl Print,
-    words: &[u32],
-    room: usize,
-    join: &[u8],
-    joins: usize,
-) -> io::Result<()> {
-    print_area(rt, "written", PrintedAs::Findings, words, room)?;
-    print_bytes(rt, "joined", join, joins)?;
+// Ends the line of a row whose call had one room.
+pub fn end_row<T: Place>(rt: &impl Print, shown: PrintedAs, room: &Room<'_, T>) -> io::Result<()> {
+    print_room(rt, "written", shown, room)?;
     println!(rt)
 }

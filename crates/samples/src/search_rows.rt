@@ -1,7 +1,7 @@
 // Rows for `scan`, `survey` and `report`. A row gives its name, ring, line, allowance and room, and for a report also
 // what report_rows.rt says. Printed are the answer, the words written, and whether all words after the room that was
 // lent are kept.
-use crate::area::{AREA_BYTES, CANARY_WORD, SEARCH_ROOM};
+use crate::area::{AREA_BYTES, CANARY_WORD, Room, SEARCH_ROOM};
 use crate::calls::Search;
 use crate::edges::Searched;
 use crate::printing::PrintedAs;
@@ -26,11 +26,10 @@ fn print_counts(
 
 // Searches a line for a ring, and prints the answer and the words written.
 fn print_search(rt: &impl Print, search: Search, searched: Searched<'_>) -> io::Result<()> {
-    let room = searched.row.number(4).unwrap_or(SEARCH_ROOM);
     let mut words: [u32; SEARCH_ROOM] = area::filled(CANARY_WORD);
-    let space: &mut [u32] = &mut words;
-    print_counts(rt, search, searched, area::lend(space, room))?;
-    printing::end_row(rt, PrintedAs::Findings, space, room)
+    let mut room = Room::new(&mut words, searched.row.number(4));
+    print_counts(rt, search, searched, room.lent)?;
+    printing::end_row(rt, PrintedAs::Findings, &room)
 }
 
 // Runs one row through one of the three calls.

@@ -2,7 +2,7 @@
 // line, allowance and room; printed are the answer, the words written, and whether all words after the room that was lent
 // are kept. A row for `reversed_code` gives codes, one for `reversed` a ring; printed are the reversed codes, and for a
 // ring whether the places past them have 0.
-use crate::area::{AREA_BYTES, CANARY_WORD, TWO_WAY_ROOM};
+use crate::area::{AREA_BYTES, CANARY_WORD, Room, TWO_WAY_ROOM};
 use crate::edges::Searched;
 use crate::printing::PrintedAs;
 use crate::table::Row;
@@ -13,14 +13,10 @@ use std::io;
 // Scans a line for a ring both ways, and prints the answer and the words written.
 pub fn scan(rt: &impl Print, searched: Searched<'_>) -> io::Result<()> {
     let Searched { row, ring, line, k } = searched;
-    let room = row.number(4).unwrap_or(TWO_WAY_ROOM);
     let mut words: [u32; TWO_WAY_ROOM] = area::filled(CANARY_WORD);
-    let space: &mut [u32] = &mut words;
-    paper::print_two_way(
-        rt,
-        two_way::scan_two_way(ring, line, k, area::lend(space, room)),
-    )?;
-    printing::end_row(rt, PrintedAs::Findings, space, room)
+    let mut room = Room::new(&mut words, row.number(4));
+    paper::print_two_way(rt, two_way::scan_two_way(ring, line, k, room.lent))?;
+    printing::end_row(rt, PrintedAs::Findings, &room)
 }
 
 // Runs one row through the two-way scan.
@@ -38,8 +34,8 @@ pub fn reversed_code_row(rt: &impl Print, row: Row<'_>) -> io::Result<()> {
     for (word, code) in words.iter_mut().zip(codes) {
         *word = u32::from(reversed_code(*code));
     }
-    let held = area::lend(&mut words, codes.len());
-    printing::print_words(rt, PrintedAs::Codes, held)?;
+    let held = codes.len().min(MOST_REVERSED);
+    printing::print_places(rt, PrintedAs::Codes, &words[..held])?;
     println!(rt)
 }
 
@@ -50,7 +46,7 @@ pub fn reversed_row(rt: &impl Print, row: Row<'_>) -> io::Result<()> {
     let words = reversed(ring).map(u32::from);
     let (held, behind) = words.split_at(ring.len().min(MOST_REVERSED));
     printing::print_number(rt, "edges", held.len())?;
-    printing::print_words(rt, PrintedAs::Codes, held)?;
+    printing::print_places(rt, PrintedAs::Codes, held)?;
     if behind.iter().all(|word| *word == 0) {
         println!(rt; " behind zero")
     } else {

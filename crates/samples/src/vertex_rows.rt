@@ -2,8 +2,9 @@
 // vertices, how many of them are passed, and the room; printed are the answer, the bytes written, and whether all bytes
 // after the room that was lent are kept. A row for `scan_vertices` gives a ring and a line by their vertices and an
 // allowance: both are imported, and the line is scanned for the ring both ways.
-use crate::area::{BOOK_ROOM, CANARY_BYTE};
+use crate::area::{BOOK_ROOM, CANARY_BYTE, Room};
 use crate::edges::Searched;
+use crate::printing::PrintedAs;
 use crate::table::{Row, count_numbers};
 use crate::{area, paper, printing, table, two_way_rows};
 use std::io;
@@ -52,11 +53,10 @@ fn import(field: &str, count: usize, edges: &mut [u8]) -> Imported {
 pub fn import_row(rt: &impl Print, row: Row<'_>) -> io::Result<()> {
     let field = row.field(1);
     let count = row.number(2).unwrap_or(number_count(field));
-    let room = row.number(3).unwrap_or(BOOK_ROOM);
     let mut bytes: [u8; BOOK_ROOM] = area::filled(CANARY_BYTE);
-    let space: &mut [u8] = &mut bytes;
-    paper::print_import(rt, import(field, count, area::lend(space, room)))?;
-    printing::end_row_of_bytes(rt, space, room)
+    let mut room = Room::new(&mut bytes, row.number(3));
+    paper::print_import(rt, import(field, count, room.lent))?;
+    printing::end_row(rt, PrintedAs::Bytes, &room)
 }
 
 // How many edges an import wrote.
