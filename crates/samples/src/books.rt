@@ -116,10 +116,10 @@ pub fn book<'a>(row: Row<'_>, at: usize, area: &'a mut [u8]) -> &'a [u8]
 {
     let book = area::lend(area, row.number(at + 1).unwrap_or(0));
     fill(row.field(at), book);
-    if let Some(offset) = row.number(at + 2) {
-        if let Some(byte) = book.get_mut(offset) {
-            *byte = whole(row.field(at + 3));
-        }
+    if let Some(offset) = row.number(at + 2)
+        && let Some(byte) = book.get_mut(offset)
+    {
+        *byte = whole(row.field(at + 3));
     }
     book
 }

@@ -19,18 +19,21 @@ fn report(
 ) -> io::Result<()> {
     let Searched { row, ring, line, k } = searched;
     let mut bytes: [u8; AREA_BYTES] = area::filled(0);
-    let Silenced {
-        cell,
-        ring_number,
-        book,
-    } = Silenced::of_row(row, 6, &mut bytes);
-    paper::print_report(
-        rt,
-        outlines::report_closed(cell, ring_number, ring, line, k, book, join, lent),
-    )
+    let of = Silenced::of_row(row, 6, &mut bytes);
+    let answer = outlines::report_closed(
+        of.cell,
+        of.ring_number,
+        ring,
+        line,
+        k,
+        of.book,
+        join,
+        lent,
+    );
+    paper::print_report(rt, answer)
 }
 
-// Calls the search and prints its answer.
+// Calls the search and prints its answer. It is not the function of search_rows.rt, since these calls take a join area too.
 fn print_counts(
     rt: &impl Print,
     search: Search,

@@ -10,13 +10,7 @@ use std::io;
 pub fn report_row(rt: &impl Print, searched: Searched<'_>, lent: &mut [u32]) -> io::Result<()> {
     let Searched { row, ring, line, k } = searched;
     let mut bytes: [u8; AREA_BYTES] = area::filled(0);
-    let Silenced {
-        cell,
-        ring_number,
-        book,
-    } = Silenced::of_row(row, 5, &mut bytes);
-    paper::print_report(
-        rt,
-        outlines::report(cell, ring_number, ring, line, k, book, lent),
-    )
+    let of = Silenced::of_row(row, 5, &mut bytes);
+    let answer = outlines::report(of.cell, of.ring_number, ring, line, k, of.book, lent);
+    paper::print_report(rt, answer)
 }
