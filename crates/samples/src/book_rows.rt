@@ -19,6 +19,6 @@ pub fn book_row<F: Fn(&[u8], &mut [u32]) -> Result<usize, Refusal>>(
     let mut words: [u32; BOOK_ROOM] = area::filled(CANARY_WORD);
     let mut room = Room::new(&mut words, row.number(5));
     let answer = call(book, room.lent);
-    paper::print_book(rt, answer)?;
+    paper::print_count(rt, "records", answer)?;
     printing::end_row(rt, PrintedAs::Silences, &room)
 }

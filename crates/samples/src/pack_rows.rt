@@ -11,7 +11,7 @@ use std::io;
 fn pack_words(rt: &impl Print, words: &[u32], lent: Option<usize>) -> io::Result<()> {
     let mut bytes: [u8; BOOK_ROOM] = area::filled(CANARY_BYTE);
     let mut room = Room::new(&mut bytes, lent);
-    paper::print_book(rt, packing::pack(words, room.lent))?;
+    paper::print_count(rt, "records", packing::pack(words, room.lent))?;
     printing::end_row(rt, PrintedAs::Bytes, &room)
 }
 

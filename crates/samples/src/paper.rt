@@ -14,18 +14,18 @@ fn print_refusal(rt: &impl Print, refusal: usize, place: usize) -> io::Result<()
     print_number(rt, "place", place)
 }
 
-// "Packer and unpacker return the number of records".
-pub fn print_book(rt: &impl Print, answer: Result<usize, Refusal>) -> io::Result<()> {
+// Prints number and place of an answer.
+fn print_standing<T: Copy>(rt: &impl Print, answer: &Result<T, Refusal>) -> io::Result<()> {
     match answer {
-        Ok(records) => {
-            print_refusal(rt, 0, 0)?;
-            print_number(rt, "records", records)
-        }
-        Err(refusal) => {
-            print_refusal(rt, refusal.number(), refusal.place())?;
-            print_number(rt, "records", 0)
-        }
+        Ok(_) => print_refusal(rt, 0, 0),
+        Err(refusal) => print_refusal(rt, refusal.number(), refusal.place()),
     }
+}
+
+// Prints an answer of one count: "Packer and unpacker return the number of records".
+pub fn print_count(rt: &impl Print, label: &str, answer: Result<usize, Refusal>) -> io::Result<()> {
+    print_standing(rt, &answer)?;
+    print_number(rt, label, answer.unwrap_or(0))
 }
 
 // "Survey and scan return found and looks."
