@@ -4,12 +4,12 @@ use crate::printing::{
     BACKWARD_LABEL, EDGES_LABEL, FORWARD_LABEL, FOUND_LABEL, HIDDEN_LABEL, LOOKS_LABEL,
     NUMBER_LABEL, PLACE_LABEL, RECORDS_LABEL, print_number,
 };
+use answers::Refusal;
 use book::BookAnswer;
 use findings::SearchCounts;
 use outlines::{Reported, Searched};
 use std::io;
 use two_way::TwoWay;
-use vertices::Imported;
 
 // Prints the number of a refusal (0 for none) and its place.
 fn print_refusal(rt: &impl Print, refusal: usize, place: usize) -> io::Result<()> {
@@ -93,13 +93,13 @@ pub fn print_two_way(rt: &impl Print, answer: TwoWay) -> io::Result<()> {
 }
 
 // "Only edge bytes come out, one per vertex" (document 02, ticket 7): the number of edges.
-pub fn print_import(rt: &impl Print, answer: Imported) -> io::Result<()> {
+pub fn print_import(rt: &impl Print, answer: Result<usize, Refusal>) -> io::Result<()> {
     match answer {
-        Imported::Edges(edges) => {
+        Ok(edges) => {
             print_refusal(rt, 0, 0)?;
             print_number(rt, EDGES_LABEL, edges)
         }
-        Imported::Refused(refusal) => {
+        Err(refusal) => {
             print_refusal(rt, refusal.number(), refusal.place())?;
             print_number(rt, EDGES_LABEL, 0)
         }

@@ -4,8 +4,9 @@
 // allowance: both are imported, and the line is scanned for the ring both ways.
 use crate::area::BOOK_ROOM;
 use crate::{area, paper, printing, table, two_way_rows};
+use answers::Refusal;
 use std::io;
-use vertices::{Imported, import_vertices};
+use vertices::import_vertices;
 
 // The numbers of a vertex: north and east.
 const NUMBERS_EACH: usize = 2;
@@ -78,7 +79,7 @@ fn no_numbers() -> [i32; MOST_ROW_NUMBERS] {
 }
 
 // Imports the first `count` numbers that a field gives.
-fn import(field: &[u8], count: usize, edges: &mut [u8]) -> Imported {
+fn import(field: &[u8], count: usize, edges: &mut [u8]) -> Result<usize, Refusal> {
     let mut area = no_numbers();
     let numbers = area::lend_numbers(&mut area, count);
     fill_numbers(field, numbers);
@@ -96,17 +97,9 @@ pub fn import_row(rt: &impl Print, row: &[u8]) -> io::Result<()> {
     printing::end_row_of_bytes(rt, space, room)
 }
 
-// How many edges an import wrote.
-fn edge_count(answer: Imported) -> usize {
-    match answer {
-        Imported::Edges(edges) => edges,
-        Imported::Refused(_) => 0,
-    }
-}
-
 // Imports the vertices that a field gives into the front of an area, and returns their edges.
 fn edges_of<'a>(field: &[u8], area: &'a mut [u8]) -> &'a [u8] {
-    let count = edge_count(import(field, number_count(field), area));
+    let count = import(field, number_count(field), area).unwrap_or(0);
     &*area::lend_bytes(area, count)
 }
 
