@@ -6,7 +6,6 @@ use findings::SearchCounts;
 use outlines::{Reported, Searched};
 use std::io;
 use two_way::TwoWay;
-use vertices::Imported;
 
 // Prints the number of a refusal (0 for none) and its place.
 fn print_refusal(rt: &impl Print, refusal: usize, place: usize) -> io::Result<()> {
@@ -22,7 +21,8 @@ fn print_standing<T: Copy>(rt: &impl Print, answer: &Result<T, Refusal>) -> io::
     }
 }
 
-// Prints an answer of one count: "Packer and unpacker return the number of records".
+// Prints an answer of one count: "Packer and unpacker return the number of records"; "Only edge bytes come out, one per
+// vertex" (document 02, ticket 7), their number.
 pub fn print_count(rt: &impl Print, label: &str, answer: Result<usize, Refusal>) -> io::Result<()> {
     print_standing(rt, &answer)?;
     print_number(rt, label, answer.unwrap_or(0))
@@ -85,20 +85,6 @@ pub fn print_two_way(rt: &impl Print, answer: TwoWay) -> io::Result<()> {
             print_refusal(rt, refusal.number(), refusal.place())?;
             print_pass(rt, "forward", none)?;
             print_pass(rt, "backward", none)
-        }
-    }
-}
-
-// "Only edge bytes come out, one per vertex" (document 02, ticket 7): the number of edges.
-pub fn print_import(rt: &impl Print, answer: Imported) -> io::Result<()> {
-    match answer {
-        Imported::Edges(edges) => {
-            print_refusal(rt, 0, 0)?;
-            print_number(rt, "edges", edges)
-        }
-        Imported::Refused(refusal) => {
-            print_refusal(rt, refusal.number(), refusal.place())?;
-            print_number(rt, "edges", 0)
         }
     }
 }

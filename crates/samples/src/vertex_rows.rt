@@ -7,8 +7,9 @@ use crate::edges::Searched;
 use crate::printing::PrintedAs;
 use crate::table::{Row, count_numbers};
 use crate::{area, paper, printing, table, two_way_rows};
+use answers::Refusal;
 use std::io;
-use vertices::{Imported, import_vertices};
+use vertices::import_vertices;
 
 // The numbers of a vertex: north and east.
 const NUMBERS_EACH: usize = 2;
@@ -42,7 +43,7 @@ fn fill_numbers(field: &str, numbers: &mut [i32]) {
 }
 
 // Imports the first `count` numbers that a field gives.
-fn import(field: &str, count: usize, edges: &mut [u8]) -> Imported {
+fn import(field: &str, count: usize, edges: &mut [u8]) -> Result<usize, Refusal> {
     let mut area = [0i32; MOST_ROW_NUMBERS];
     let numbers = area::lend(&mut area, count);
     fill_numbers(field, numbers);
@@ -55,21 +56,13 @@ pub fn import_row(rt: &impl Print, row: Row<'_>) -> io::Result<()> {
     let count = row.number(2).unwrap_or(number_count(field));
     let mut bytes: [u8; BOOK_ROOM] = area::filled(CANARY_BYTE);
     let mut room = Room::new(&mut bytes, row.number(3));
-    paper::print_import(rt, import(field, count, room.lent))?;
+    paper::print_count(rt, "edges", import(field, count, room.lent))?;
     printing::end_row(rt, PrintedAs::Bytes, &room)
-}
-
-// How many edges an import wrote.
-fn edge_count(answer: Imported) -> usize {
-    match answer {
-        Imported::Edges(edges) => edges,
-        Imported::Refused(_) => 0,
-    }
 }
 
 // Imports the vertices that a field gives into the front of an area, and returns their edges.
 fn edges_of<'a>(field: &str, area: &'a mut [u8]) -> &'a [u8] {
-    let count = edge_count(import(field, number_count(field), area));
+    let count = import(field, number_count(field), area).unwrap_or(0);
     area::lend(area, count)
 }
 
