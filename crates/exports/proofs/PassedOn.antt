@@ -3,8 +3,7 @@
 use Prim.Native.Nat.{ℕ, suc, ◌<◌, ◌^◌}
 use mathlib.Core.Path.{◌≡◌, refl, ap, ◌∙◌}
 use mathlib.Core.List.{List}
-use Rattle.std.specs.Prelude.{Option, None, Some}
-use Rattle.std.specs.Prelude.{Result}
+use Rattle.std.specs.Prelude.{Option, None, Some, Result}
 use native.Mathlib.Omega.{arith}
 use lib.IntN.{ℤ}
 use lib.ListN.{length}
@@ -31,7 +30,6 @@ use Rattle.two_way.specs.declared.passes.TwoWay.{TwoWay}
 use Rattle.two_way.specs.Admitting.{two_way_rows}
 use Rattle.two_way.specs.TwoWay.{no_two_way_counts, two_way_counts, two_way_answer, paper_of as two_way_scan_paper_of, IsScannedTwoWay}
 use Rattle.two_way.proofs.TwoWayAdmitRows.{two_way_row_places}
-use Rattle.vertices.specs.declared.importing.Imported.{Imported}
 use Rattle.vertices.specs.Boundary.{vertex_count}
 use Rattle.vertices.specs.Importing.{import_rows, import_answer, paper_of as import_paper_of, IsImported}
 use Rattle.vertices.proofs.RowsOfImport.{import_row_places}
@@ -94,7 +92,7 @@ two_way_place {ring} {line} {k} {words} h =
     )
 
 -- A place of `import_vertices` fits 32 bits: it is 0, or a vertex of a boundary of at most 4,096.
-pub import_place : {numbers : List ℤ} {area out : List ℕ} {r : Imported} → IsImported numbers area r out → (import_paper_of r).place < 2 ^ 32
+pub import_place : {numbers : List ℤ} {area out : List ℕ} {r : Result ℕ Refusal} → IsImported numbers area r out → (import_paper_of r).place < 2 ^ 32
 unfolding import_answer
 import_place {numbers} {area} h =
     let room = length area in

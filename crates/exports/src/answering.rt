@@ -10,7 +10,6 @@ ghost use Rattle.exports.specs.Exported.{paper_of, search_in_struct, one_count_i
 
 use answers::Refusal;
 use outlines::{Reported, Searched};
-use vertices::Imported;
 
 // What every exported call but the two-way scan returns. `refusal` is 0 where the call is accepted. A count that a call does
 // not have is 0; pack and unpack return the number of records in `found`, the import of vertices the number of edges.
@@ -96,18 +95,18 @@ pub fn book_answer(answer: Result<usize, Refusal>) -> Answer
 }
 
 // The answer of the import of vertices.
-pub fn import_answer(imported: Imported) -> Answer
+pub fn import_answer(imported: Result<usize, Refusal>) -> Answer
     requires { (import_paper_of imported).place < 2 ^ 32 }
     ensures { paper_of result ≡ paper_in_struct one_count_in_struct (import_paper_of imported) }
 {
     match imported {
-        Imported::Edges(edges) => Answer {
+        Ok(edges) => Answer {
             refusal: 0,
             place: 0,
             found: edges as u64,
             hidden: 0,
             looks: 0,
         },
-        Imported::Refused(refusal) => refused_answer(refusal),
+        Err(refusal) => refused_answer(refusal),
     }
 }

@@ -1,12 +1,15 @@
 -- The loop of `number_at`: it reads a number byte by byte, high byte first. After `done` bytes the number is the one in these bytes, and below 256^done; so with
 -- at most four bytes no turn overflows 32 bits. For more bytes, or bytes that reach past the end, 0 is returned.
-use Prim.Native.Nat.{ℕ, ◌+◌, ◌*◌, ◌^◌, ◌≤◌, ◌<◌}
-use mathlib.Core.Path.{◌≡◌, refl, sym, ◌∙◌}
+use Prim.Native.Nat.{ℕ, ◌+◌, ◌-◌, ◌*◌, ◌^◌, ◌≤◌, ◌<◌}
+use mathlib.Core.Path.{◌≡◌, refl, sym, ap, ◌∙◌}
 use mathlib.Core.List.{List}
 use native.Mathlib.Nat.{pow-suc, pow-le-pow_right}
 use native.Mathlib.Numerals.{add-one}
 use native.Mathlib.Omega.{arith}
-use lib.ListN.{length, get_or}
+use lib.ListN.{length, get_or, drop}
+use Rattle.std.proofs.lemmas.List.{get_or-take}
+use lib.Seq.{get_or-drop}
+use Rattle.std.specs.List.{slice_range}
 use Rattle.fields.specs.Numbers.{number_at, most_number_bytes, IsNumberRead}
 use Rattle.fields.proofs.NumberWithin.{number_within_is, number_within_many, number_within_past}
 
@@ -20,6 +23,13 @@ pub record Numbered (bytes : List ℕ) (at count number done : ℕ) : Type 0 whe
 number_at_step : (done : ℕ) (bytes : List ℕ) (at : ℕ) → number_at (done + 1) bytes at ≡ number_at done bytes at * 256 + get_or bytes (at + done) 0
 unfolding number_at
 number_at_step done bytes at = rw (add-one done)
+
+-- The bytes that are read are those from byte offset `at` on.
+pub digit_at : (bytes : List ℕ) {rest digits : List ℕ} (at : ℕ) {count : ℕ} (i : ℕ) → rest ≡ slice_range bytes at (length bytes) → digits ≡ slice_range rest 0 count
+    → i < count → at + count ≤ length bytes → get_or digits i 0 ≡ get_or bytes (at + i) 0
+digit_at bytes {rest} {digits} at {count} i rest_is digits_is left within =
+    ap (λ (l : List ℕ). get_or l i 0) digits_is ∙ get_or-take (count - 0) rest i 0 (omega arith)
+    ∙ ap (λ (l : List ℕ). get_or l i 0) rest_is ∙ get_or-take (length bytes - at) (drop at bytes) i 0 (omega arith) ∙ get_or-drop at bytes i 0
 
 module _ (bytes : List ℕ) (at count : ℕ) where
   -- 0 fits any count of bytes.

@@ -8,16 +8,13 @@ pub const MOST_REVERSED: usize = 256;
 
 // "Reversed, the edges come in opposite order". Of the lent places the first m get the reversed ring, and the others 0. A
 // search refuses a ring of more than 256 edges itself, so none is refused here: of such a ring the first 256 reversed
-// edges are written.
+// edges are written. They are stored by number: of an array lent to a `zip` a proof knows no value afterwards.
 pub fn reverse(ring: &[u8], codes: &mut [u8; MOST_REVERSED])
     ensures { IsReversed ring.now codes.new }
 {
     *codes = [0u8; MOST_REVERSED];
-    let m = ring.len();
-    let mut q = 0;
-    while q < m && q < MOST_REVERSED {
-        codes[q] = reversed_code(ring[m - 1 - q]);
-        q += 1;
+    for (q, edge) in ring.iter().rev().take(MOST_REVERSED).enumerate() {
+        codes[q] = reversed_code(*edge);
     }
 }
 

@@ -1,27 +1,24 @@
 // Rows for `reply::answer`, which makes the report program's text from its input. A row gives its name, the first bytes
 // of the input, and the input's length if it is longer; the further bytes are 0. The whole text is printed after the
 // row's own line.
-use crate::{area, edges, printing, table};
+use crate::area::AREA_BYTES;
+use crate::table::Row;
+use crate::{area, edges};
 use reply::MOST_TEXT;
 use std::io;
 
-// Room for the longest text.
-fn no_text() -> [u8; MOST_TEXT] {
-    [0; MOST_TEXT]
-}
-
 // Prints the program's text for an input.
 fn print_answer(rt: &impl Print, input: &[u8]) -> io::Result<()> {
-    let mut text = no_text();
+    let mut text: [u8; MOST_TEXT] = area::filled(0);
     let length = reply::answer(input, &mut text);
-    printing::print_text(rt, &text[..length])
+    rt.write_all(&text[..length])
 }
 
 // Runs one row.
-pub fn answer_row(rt: &impl Print, row: &[u8]) -> io::Result<()> {
-    let mut input = area::zeros();
-    let listed = edges::of_field(table::field(row, 1), &mut input).len();
-    let count = table::number_or(row, 2, listed);
-    printing::print_text(rt, b"\n")?;
-    print_answer(rt, &*area::lend_bytes(&mut input, count))
+pub fn answer_row(rt: &impl Print, row: Row<'_>) -> io::Result<()> {
+    let mut input: [u8; AREA_BYTES] = area::filled(0);
+    let listed = edges::of_field(row.field(1), &mut input).len();
+    let count = row.number(2).unwrap_or(listed);
+    println!(rt)?;
+    print_answer(rt, area::lend(&mut input, count))
 }

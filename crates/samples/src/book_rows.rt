@@ -1,27 +1,24 @@
 // Rows for `read` and `unpack`. A row gives its name, its book (books.rt says how), and the room for `unpack`.
-use crate::area::BOOK_ROOM;
-use crate::calls::READ;
+use crate::area::{AREA_BYTES, BOOK_ROOM, CANARY_WORD, Room};
 use crate::printing::PrintedAs;
-use crate::{area, books, paper, printing, table};
+use crate::table::Row;
+use crate::{area, books, paper, printing};
 use answers::Refusal;
 use std::io;
 
-// Calls `read` or `unpack`.
-fn read_or_unpack(call: usize, book: &[u8], lent: &mut [u32]) -> Result<usize, Refusal> {
-    if call == READ {
-        book::read(book)
-    } else {
-        book::unpack(book, lent)
-    }
-}
-
-// Runs one row through one of the two calls.
-pub fn book_row(rt: &impl Print, call: usize, row: &[u8]) -> io::Result<()> {
-    let mut bytes = area::zeros();
+// Runs one row through one of the two calls, which is given the book and the room.
+pub fn book_row<F: Fn(&[u8], &mut [u32]) -> Result<usize, Refusal>>(
+    rt: &impl Print,
+    row: Row<'_>,
+    call: F,
+) -> io::Result<()>
+    requires { F.IsAlwaysCallable call }
+{
+    let mut bytes: [u8; AREA_BYTES] = area::filled(0);
     let book = books::book(row, 1, &mut bytes);
-    let room = table::number_or(row, 5, BOOK_ROOM);
-    let mut words = area::book_room();
-    let space: &mut [u32] = &mut words;
-    paper::print_book(rt, read_or_unpack(call, book, area::lend(space, room)))?;
-    printing::end_row(rt, PrintedAs::Silences, space, room)
+    let mut words: [u32; BOOK_ROOM] = area::filled(CANARY_WORD);
+    let mut room = Room::new(&mut words, row.number(5));
+    let answer = call(book, room.lent);
+    paper::print_count(rt, "records", answer)?;
+    printing::end_row(rt, PrintedAs::Silences, &room)
 }

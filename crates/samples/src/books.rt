@@ -3,9 +3,10 @@
 // has, and the byte offset and the byte of a fault, if there is one.
 ghost use Rattle.std.specs.Prelude.{◌<◌};
 
-use crate::filling::{ByteKind, WordKind};
-use crate::{area, edges, filling, table};
+use crate::area;
+use crate::table::{Row, count_numbers, fill_numbers, next, whole};
 use silences::{CEILING_BYTES, MOST_SILENCES, PACKED_LENGTH, RECORD_WORDS};
+use std::str::Split;
 
 // The most records of tag 22 that a row gives: 1,001, one more than can be packed.
 const ROW_RECORDS: usize = MOST_SILENCES + 1;
@@ -13,140 +14,134 @@ const ROW_RECORDS: usize = MOST_SILENCES + 1;
 // The most words that a row gives.
 pub const MOST_ROW_WORDS: usize = RECORD_WORDS * ROW_RECORDS;
 
-// The bytes of the book of these records. If a row gives no fault, this is its offset: no book has a byte there, so
-// nothing is written.
-const MOST_ROW_BOOK: usize = PACKED_LENGTH * ROW_RECORDS;
-
-// The words of a record that is laid out under tag 21, and the bytes of its field.
-const EXACT_WORDS: usize = 3;
-
+// The bytes of a field under tag 21.
 const EXACT_LENGTH: usize = PACKED_LENGTH - CEILING_BYTES;
 
-// The number mod 2^32.
-pub fn cut_to_word(number: usize) -> u32 {
-    (number % 4294967296) as u32
+// The tag that a book's fields have: 21, without a ceiling, or 22.
+#[derive(Clone, Copy)]
+enum Tag {
+    Exact,
+    Ceiling,
 }
 
-// The number mod 2^16.
-pub fn cut_to_ring_number(number: usize) -> u16 {
-    (number % 65536) as u16
+// The record of cell 7 and ring number 2 with this start, which is also its ceiling.
+fn rising_record(start: u32) -> [u32; RECORD_WORDS] {
+    [7, 2, start, start]
 }
 
-// A word of record number `record` of cell 7, ring number 2 and the starts 0, 1, 2 and so on. Its start is its ceiling.
-fn rising_word(record: usize, place: usize) -> u32 {
-    match place {
-        0 => 7,
-        1 => 2,
-        _ => cut_to_word(record),
+// Fills the words that a field gives into the front of an area of zeros, and returns them: the numbers in it, four for each
+// record. A field `*` gives 1,001 rising records, with the starts 0, 1, 2 and so on.
+pub fn words<'a>(field: &str, area: &'a mut [u32; MOST_ROW_WORDS]) -> &'a [u32] {
+    if field == "*" {
+        let (records, _) = area.as_chunks_mut::<RECORD_WORDS>();
+        for (record, start) in records.iter_mut().zip(0u32..) {
+            *record = rising_record(start);
+        }
+        return area;
     }
-}
-
-// The word at place `at` of the words that a field gives: the numbers in it, four for each record. A field `*` gives
-// 1,001 rising records.
-pub fn word_of(field: &[u8], at: usize) -> u32 {
-    if table::begins(field, b'*') {
-        rising_word(at / RECORD_WORDS, at % RECORD_WORDS)
-    } else {
-        cut_to_word(table::nth_number(field, at))
-    }
-}
-
-// The word at place `at` of records under tag 21: three numbers for each record stand behind the `-`. A field `-` gives
-// rising records.
-fn exact_word(field: &[u8], at: usize) -> u32 {
-    if field.len() <= 1 {
-        rising_word(at / EXACT_WORDS, at % EXACT_WORDS)
-    } else {
-        cut_to_word(table::nth_number(field, at))
-    }
-}
-
-// How many words a field gives.
-fn word_count(field: &[u8]) -> usize {
-    if table::begins(field, b'*') {
-        MOST_ROW_WORDS
-    } else {
-        table::number_count(field)
-    }
-}
-
-// Fills the words that a field gives into the front of an area, and returns them.
-pub fn words<'a>(field: &[u8], area: &'a mut [u32]) -> &'a [u32] {
-    let words = area::lend(area, word_count(field));
-    filling::fill_words(WordKind::Silences, field, words);
+    let words = area::lend(area, count_numbers(field));
+    fill_numbers(field, words);
     words
 }
 
-// One byte of a number: the lowest for `above` 0, the one above it for 1, and so on.
-fn byte_of(number: u32, above: usize) -> u8 {
-    match above {
-        0 => (number % 256) as u8,
-        1 => (number / 256 % 256) as u8,
-        2 => (number / 65536 % 256) as u8,
-        _ => (number / 16777216) as u8,
+impl Tag {
+    // The bytes of a field.
+    fn length(self) -> usize
+        ensures { 0 < result }
+    {
+        match self {
+            Tag::Exact => EXACT_LENGTH,
+            Tag::Ceiling => PACKED_LENGTH,
+        }
+    }
+
+    // The record that the next numbers of a list give; past the last number, 0.
+    fn next_record(self, numbers: &mut Split<'_, char>) -> [u32; RECORD_WORDS] {
+        let cell = next(numbers);
+        let ring_number = next(numbers);
+        let start = next(numbers);
+        match self {
+            Tag::Exact => [cell, ring_number, start, 0],
+            Tag::Ceiling => [cell, ring_number, start, next(numbers)],
+        }
+    }
+
+    // A record laid out: "tag 21 hex, length 10, cell (4 bytes), ring number (2), start (4)", "numbers high byte first";
+    // "tag 22, length 12, the old ten bytes and a two-byte distance". Under tag 21 the last two bytes are none of the field.
+    fn laid_out(self, record: [u32; RECORD_WORDS]) -> [u8; PACKED_LENGTH] {
+        let (tag, length) = match self {
+            Tag::Exact => (0x21, 10),
+            Tag::Ceiling => (0x22, 12),
+        };
+        let [cell, ring_number, start, ceiling] = record;
+        let [c0, c1, c2, c3] = cell.to_be_bytes();
+        let [_, _, r0, r1] = ring_number.to_be_bytes();
+        let [s0, s1, s2, s3] = start.to_be_bytes();
+        let [_, _, d0, d1] = ceiling.to_be_bytes();
+        [
+            tag, 0, length, c0, c1, c2, c3, r0, r1, s0, s1, s2, s3, d0, d1,
+        ]
+    }
+
+    // Fills a book with the fields of the records that a list gives; the last may be cut. An empty list and `*` give rising
+    // records.
+    fn lay_out(self, list: &str, book: &mut [u8]) {
+        let mut numbers = list.split(' ');
+        for (field, start) in book.chunks_mut(self.length()).zip(0u32..) {
+            let record = match list {
+                "" | "*" => rising_record(start),
+                _ => self.next_record(&mut numbers),
+            };
+            for (byte, laid) in field.iter_mut().zip(self.laid_out(record)) {
+                *byte = laid;
+            }
+        }
     }
 }
 
-// The byte at an offset of silences laid out under tag 21: "tag 21 hex, length 10, cell (4 bytes), ring number (2),
-// start (4)", "numbers high byte first".
-fn exact_byte(field: &[u8], at: usize) -> u8 {
-    let first = at / EXACT_LENGTH * EXACT_WORDS;
-    let place = at % EXACT_LENGTH;
-    match place {
-        0 => 0x21,
-        1 => 0,
-        2 => 10,
-        3..=6 => byte_of(exact_word(field, first), 6 - place),
-        7..=8 => byte_of(exact_word(field, first + 1), 8 - place),
-        _ => byte_of(exact_word(field, first + 2), 12 - place),
+// Fills all of a book of zeros: `#` begins its bytes, `-` silences under tag 21; else they are under tag 22.
+fn fill(list: &str, book: &mut [u8]) {
+    if let Some(bytes) = list.strip_prefix('#') {
+        fill_numbers(bytes, book);
+    } else if let Some(exact) = list.strip_prefix('-') {
+        Tag::Exact.lay_out(exact, book);
+    } else {
+        Tag::Ceiling.lay_out(list, book);
     }
 }
 
-// The byte at an offset of silences laid out under tag 22: "tag 22, length 12, the old ten bytes and a two-byte
-// distance".
-fn ceiling_byte(field: &[u8], at: usize) -> u8 {
-    let first = at / PACKED_LENGTH * RECORD_WORDS;
-    let place = at % PACKED_LENGTH;
-    match place {
-        0 => 0x22,
-        1 => 0,
-        2 => 12,
-        3..=6 => byte_of(word_of(field, first), 6 - place),
-        7..=8 => byte_of(word_of(field, first + 1), 8 - place),
-        9..=12 => byte_of(word_of(field, first + 2), 12 - place),
-        _ => byte_of(word_of(field, first + 3), 14 - place),
-    }
-}
-
-// The byte at an offset of the book that a field gives: `#` begins its bytes, `-` silences under tag 21; else they are
-// under tag 22.
-pub fn book_byte(field: &[u8], at: usize) -> u8 {
-    if table::begins(field, b'#') {
-        return edges::cut_to_code(table::nth_number(field, at));
-    }
-    if table::begins(field, b'-') {
-        return exact_byte(field, at);
-    }
-    ceiling_byte(field, at)
-}
-
-// Writes the byte of a fault at its offset. Past the end of the book it writes nothing.
-fn put_fault(book: &mut [u8], at: usize, byte: u8) {
-    if at < book.len() {
-        book[at] = byte;
-    }
-}
-
-// Fills the book that a row gives in the four fields from `at` on into the front of an area, and returns it.
-pub fn book<'a>(row: &[u8], at: usize, area: &'a mut [u8]) -> &'a [u8]
+// Fills the book that a row gives in the four fields from `at` on into the front of an area of zeros, and returns it.
+pub fn book<'a>(row: Row<'_>, at: usize, area: &'a mut [u8]) -> &'a [u8]
     requires { at < 9 }
 {
-    let book = area::lend_bytes(area, table::number_or(row, at + 1, 0));
-    filling::fill_bytes(ByteKind::Book, table::field(row, at), book);
-    put_fault(
-        book,
-        table::number_or(row, at + 2, MOST_ROW_BOOK),
-        edges::cut_to_code(table::number_or(row, at + 3, 0)),
-    );
+    let book = area::lend(area, row.number(at + 1).unwrap_or(0));
+    fill(row.field(at), book);
+    if let Some(offset) = row.number(at + 2)
+        && let Some(byte) = book.get_mut(offset)
+    {
+        *byte = whole(row.field(at + 3));
+    }
     book
+}
+
+// What a report is given besides a search: cell, ring number and book.
+#[derive(Clone, Copy)]
+pub struct Silenced<'a> {
+    pub cell: u32,
+    pub ring_number: u16,
+    pub book: &'a [u8],
+}
+
+impl<'a> Silenced<'a> {
+    // Those that a row gives in the fields from `at` on. If it gives none of these, cell and ring number are 0 and the book
+    // is empty.
+    pub fn of_row(row: Row<'_>, at: usize, area: &'a mut [u8]) -> Silenced<'a>
+        requires { at < 7 }
+    {
+        Silenced {
+            cell: whole(row.field(at)),
+            ring_number: whole(row.field(at + 1)),
+            book: book(row, at + 2, area),
+        }
+    }
 }

@@ -1,44 +1,55 @@
-// The calls, numbered as their names stand in `begin_row`.
-use crate::{printing, table};
-use std::io;
+// The calls that the rows go through, each with the name that begins its lines.
+use std::fmt;
 
-pub const PACK: usize = 0;
+// The three searches, of a line and of a closed line.
+#[derive(Clone, Copy)]
+pub enum Search {
+    Scan,
+    Survey,
+    Report,
+}
 
-pub const READ: usize = 1;
+#[derive(Clone, Copy)]
+pub enum Call {
+    Pack,
+    Read,
+    Unpack,
+    Seek,
+    OfLine(Search),
+    Answer,
+    OfClosedLine(Search),
+    ScanTwoWay,
+    ReversedCode,
+    Reversed,
+    ImportVertices,
+    ScanVertices,
+}
 
-pub const UNPACK: usize = 2;
+impl fmt::Display for Search {
+    fn fmt<W: fmt::Write>(&self, f: &mut fmt::Formatter<W>) -> fmt::Result {
+        f.write_str(match self {
+            Search::Scan => "scan",
+            Search::Survey => "survey",
+            Search::Report => "report",
+        })
+    }
+}
 
-pub const SEEK: usize = 3;
-
-pub const SCAN: usize = 4;
-
-pub const SURVEY: usize = 5;
-
-pub const REPORT: usize = 6;
-
-pub const ANSWER: usize = 7;
-
-pub const SCAN_CLOSED: usize = 8;
-
-pub const SURVEY_CLOSED: usize = 9;
-
-pub const REPORT_CLOSED: usize = 10;
-
-pub const SCAN_TWO_WAY: usize = 11;
-
-pub const REVERSED_CODE: usize = 12;
-
-pub const REVERSED: usize = 13;
-
-pub const IMPORT_VERTICES: usize = 14;
-
-pub const SCAN_VERTICES: usize = 15;
-
-// Begins the line of a row: prints the call and the row's name.
-pub fn begin_row(rt: &impl Print, call: usize, row: &[u8]) -> io::Result<()> {
-    let names =
-        b"pack |read |unpack |seek |scan |survey |report |answer |scan_closed |survey_closed |report_closed |scan_two_way |reversed_code |reversed |import_vertices |scan_vertices ";
-    printing::print_text(rt, table::field(names, call))?;
-    printing::print_text(rt, table::field(row, 0))?;
-    printing::print_text(rt, b":")
+impl fmt::Display for Call {
+    fn fmt<W: fmt::Write>(&self, f: &mut fmt::Formatter<W>) -> fmt::Result {
+        match self {
+            Call::Pack => f.write_str("pack"),
+            Call::Read => f.write_str("read"),
+            Call::Unpack => f.write_str("unpack"),
+            Call::Seek => f.write_str("seek"),
+            Call::OfLine(search) => write!(f, "{search}"),
+            Call::Answer => f.write_str("answer"),
+            Call::OfClosedLine(search) => write!(f, "{search}_closed"),
+            Call::ScanTwoWay => f.write_str("scan_two_way"),
+            Call::ReversedCode => f.write_str("reversed_code"),
+            Call::Reversed => f.write_str("reversed"),
+            Call::ImportVertices => f.write_str("import_vertices"),
+            Call::ScanVertices => f.write_str("scan_vertices"),
+        }
+    }
 }

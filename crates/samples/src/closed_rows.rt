@@ -1,82 +1,73 @@
 // Rows for `scan_closed`, `survey_closed` and `report_closed`. A row gives its name, ring, line, allowance, room and the
 // bytes of the join area, and for a report also cell, ring number and a book. Printed are the answer, the words written,
 // the bytes written into the join area, and whether all words and bytes after those that were lent are kept.
-use crate::area::{BOOK_ROOM, SEARCH_ROOM};
-use crate::calls::{SCAN_CLOSED, SURVEY_CLOSED};
-use crate::{area, books, edges, paper, printing, table};
+use crate::area::{AREA_BYTES, BOOK_ROOM, CANARY_BYTE, CANARY_WORD, Room, SEARCH_ROOM};
+use crate::books::Silenced;
+use crate::calls::Search;
+use crate::edges::Searched;
+use crate::printing::{PrintedAs, print_room};
+use crate::table::Row;
+use crate::{area, paper};
 use std::io;
 
 // Calls `outlines::report_closed` with the cell, ring number and book of a row, and prints the answer.
 fn report(
     rt: &impl Print,
-    row: &[u8],
-    ring: &[u8],
-    line: &[u8],
-    k: usize,
+    searched: Searched<'_>,
     join: &mut [u8],
     lent: &mut [u32],
 ) -> io::Result<()> {
-    let mut bytes = area::zeros();
-    let book = books::book(row, 8, &mut bytes);
-    let cell = books::cut_to_word(table::number_or(row, 6, 0));
-    let ring_number = books::cut_to_ring_number(table::number_or(row, 7, 0));
-    paper::print_report(
-        rt,
-        outlines::report_closed(cell, ring_number, ring, line, k, book, join, lent),
-    )
+    let Searched { row, ring, line, k } = searched;
+    let mut bytes: [u8; AREA_BYTES] = area::filled(0);
+    let of = Silenced::of_row(row, 6, &mut bytes);
+    let answer = outlines::report_closed(
+        of.cell,
+        of.ring_number,
+        ring,
+        line,
+        k,
+        of.book,
+        join,
+        lent,
+    );
+    paper::print_report(rt, answer)
 }
 
-// Calls the search and prints its answer.
+// Calls the search and prints its answer. It is not the function of search_rows.rt, since these calls take a join area too.
 fn print_counts(
     rt: &impl Print,
-    call: usize,
-    row: &[u8],
-    ring: &[u8],
-    line: &[u8],
+    search: Search,
+    searched: Searched<'_>,
     join: &mut [u8],
     lent: &mut [u32],
 ) -> io::Result<()> {
-    let k = table::number_or(row, 3, 0);
-    match call {
-        SCAN_CLOSED => paper::print_search(rt, outlines::scan_closed(ring, line, k, join, lent)),
-        SURVEY_CLOSED => paper::print_search(
+    let Searched { row, ring, line, k } = searched;
+    match search {
+        Search::Scan => paper::print_search(rt, outlines::scan_closed(ring, line, k, join, lent)),
+        Search::Survey => paper::print_search(
             rt,
             outlines::survey_closed(ring, line, k, join, lent),
         ),
-        _ => report(rt, row, ring, line, k, join, lent),
+        Search::Report => report(rt, searched, join, lent),
     }
 }
 
 // Searches a closed line for a ring, and prints the answer and what was written into the two areas. A join area that the
 // row leaves out has the bytes of a book's room, more than any ring needs.
-fn search(rt: &impl Print, call: usize, row: &[u8], ring: &[u8], line: &[u8]) -> io::Result<()> {
-    let room = table::number_or(row, 4, SEARCH_ROOM);
-    let joins = table::number_or(row, 5, BOOK_ROOM);
-    let mut words = area::search_room();
-    let space: &mut [u32] = &mut words;
-    let mut bytes = area::book_room_bytes();
-    let join: &mut [u8] = &mut bytes;
-    print_counts(
-        rt,
-        call,
-        row,
-        ring,
-        line,
-        area::lend_bytes(join, joins),
-        area::lend(space, room),
-    )?;
-    printing::end_closed_row(rt, space, room, join, joins)
+fn print_search(rt: &impl Print, search: Search, searched: Searched<'_>) -> io::Result<()> {
+    let mut words: [u32; SEARCH_ROOM] = area::filled(CANARY_WORD);
+    let mut room = Room::new(&mut words, searched.row.number(4));
+    let mut bytes: [u8; BOOK_ROOM] = area::filled(CANARY_BYTE);
+    let mut join = Room::new(&mut bytes, searched.row.number(5));
+    print_counts(rt, search, searched, join.lent, room.lent)?;
+    print_room(rt, "written", PrintedAs::Findings, &room)?;
+    print_room(rt, "joined", PrintedAs::Bytes, &join)?;
+    println!(rt)
 }
 
 // Runs one row through one of the three calls.
-pub fn closed_row(rt: &impl Print, call: usize, row: &[u8]) -> io::Result<()> {
-    let mut ring = area::zeros();
-    let mut line = area::zeros();
-    search(
-        rt,
-        call,
-        row,
-        edges::of_field(table::field(row, 1), &mut ring),
-        edges::of_field(table::field(row, 2), &mut line),
-    )
+pub fn closed_row(rt: &impl Print, search: Search, row: Row<'_>) -> io::Result<()> {
+    let mut ring: [u8; AREA_BYTES] = area::filled(0);
+    let mut line: [u8; AREA_BYTES] = area::filled(0);
+    print_search(rt, search, Searched::of_row(row, &mut ring, &mut line))
 }

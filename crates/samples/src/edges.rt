@@ -1,65 +1,57 @@
 // Rings and lines. A field gives edges in one of three ways: letters, which stand for their codes; `#` and a list of
 // codes; `*` and three numbers: the first code, the last code and how many edges. The codes then rise by one from the
 // first to the last and begin again at 0.
-ghost use Rattle.std.specs.Prelude.{◌<◌};
+use crate::area;
+use crate::table::{Row, count_numbers, decimal, fill_numbers, next};
 
-use crate::filling::ByteKind;
-use crate::{area, filling, table};
-
-// The number mod 256.
-pub fn cut_to_code(number: usize) -> u8 {
-    (number % 256) as u8
+// What each search is given: ring, line and allowance, and the row for the rest.
+#[derive(Clone, Copy)]
+pub struct Searched<'a> {
+    pub row: Row<'a>,
+    pub ring: &'a [u8],
+    pub line: &'a [u8],
+    pub k: usize,
 }
 
-// How many codes come before they begin again at 0: those from `first` to `last`, and one if `first` is above `last`.
-fn first_run(first: u8, last: u8) -> usize
-    ensures { result < 257 }
-{
-    if first < last {
-        (last - first) as usize + 1
-    } else {
-        1
+impl<'a> Searched<'a> {
+    // Those that a row gives, its ring and its line in two areas of zeros.
+    pub fn of_row(row: Row<'a>, ring: &'a mut [u8], line: &'a mut [u8]) -> Searched<'a> {
+        Searched {
+            row,
+            ring: of_field(row.field(1), ring),
+            line: of_field(row.field(2), line),
+            k: row.number(3).unwrap_or(0),
+        }
     }
 }
 
-// The code at place `at` of codes that rise.
-pub fn rising(first: u8, last: u8, at: usize) -> u8 {
-    let run = first_run(first, last);
-    if at < run {
-        cut_to_code(first as usize + at)
-    } else {
-        cut_to_code((at - run) % (last as usize + 1))
+// Fills in codes that rise.
+fn fill_rising(first: u8, last: u8, edges: &mut [u8]) {
+    let mut code = first;
+    for edge in edges.iter_mut() {
+        *edge = code;
+        code = if code < last { code + 1 } else { 0 };
     }
 }
 
-// In which way a field gives edges.
-fn kind_of(field: &[u8]) -> ByteKind {
-    if table::begins(field, b'*') {
-        return ByteKind::Rising {
-            first: cut_to_code(table::nth_number(field, 0)),
-            last: cut_to_code(table::nth_number(field, 1)),
-        };
+// Fills the edges that a field gives into the front of an area of zeros, and returns them.
+pub fn of_field<'a>(field: &str, area: &'a mut [u8]) -> &'a [u8] {
+    if let Some(codes) = field.strip_prefix('#') {
+        let edges = area::lend(area, count_numbers(codes));
+        fill_numbers(codes, edges);
+        return edges;
     }
-    if table::begins(field, b'#') {
-        ByteKind::Codes
-    } else {
-        ByteKind::Letters
+    if let Some(rising) = field.strip_prefix('*') {
+        let mut numbers = rising.split(' ');
+        let first = next(&mut numbers);
+        let last = next(&mut numbers);
+        let edges = area::lend(area, decimal(numbers.next().unwrap_or("")));
+        fill_rising(first, last, edges);
+        return edges;
     }
-}
-
-// How many edges a field gives.
-fn edge_count(what: ByteKind, field: &[u8]) -> usize {
-    match what {
-        ByteKind::Rising { first: _, last: _ } => table::nth_number(field, 2),
-        ByteKind::Codes => table::number_count(field),
-        _ => field.len(),
+    let edges = area::lend(area, field.len());
+    for (edge, letter) in edges.iter_mut().zip(field.bytes()) {
+        *edge = letter;
     }
-}
-
-// Fills the edges that a field gives into the front of an area, and returns them.
-pub fn of_field<'a>(field: &[u8], area: &'a mut [u8]) -> &'a [u8] {
-    let what = kind_of(field);
-    let edges = area::lend_bytes(area, edge_count(what, field));
-    filling::fill_bytes(what, field, edges);
     edges
 }

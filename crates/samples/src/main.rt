@@ -3,8 +3,6 @@
 // crates/samples/stdout.
 #![tactic(auto)]
 
-ghost use Rattle.std.specs.Prelude.{◌≤◌, IfOk, length};
-
 mod answer_rows;
 mod area;
 mod book_rows;
@@ -12,7 +10,6 @@ mod books;
 mod calls;
 mod closed_rows;
 mod edges;
-mod filling;
 mod pack_rows;
 mod paper;
 mod printing;
@@ -23,81 +20,73 @@ mod table;
 mod two_way_rows;
 mod vertex_rows;
 
-use calls::{
-    ANSWER, IMPORT_VERTICES, PACK, READ, REPORT, REPORT_CLOSED, REVERSED, REVERSED_CODE, SCAN,
-    SCAN_CLOSED, SCAN_TWO_WAY, SCAN_VERTICES, SEEK, SURVEY, SURVEY_CLOSED, UNPACK,
-};
-use std::io;
-use std::io::Read;
+use area::TEXT_BYTES;
+use calls::Call;
+use calls::Search::{Report, Scan, Survey};
+use std::io::{ErrorKind, Read};
+use std::{io, str};
+use table::Row;
 
 // Runs one row through a call.
-fn run_row(rt: &impl Print, call: usize, row: &[u8]) -> io::Result<()> {
+fn run_row(rt: &impl Print, call: Call, row: Row<'_>) -> io::Result<()> {
     match call {
-        PACK => pack_rows::pack_row(rt, row),
-        READ | UNPACK => book_rows::book_row(rt, call, row),
-        SEEK => seek_rows::seek_row(rt, row),
-        ANSWER => answer_rows::answer_row(rt, row),
-        SCAN_CLOSED | SURVEY_CLOSED | REPORT_CLOSED => closed_rows::closed_row(rt, call, row),
-        SCAN_TWO_WAY => two_way_rows::two_way_row(rt, row),
-        REVERSED_CODE | REVERSED => two_way_rows::reversal_row(rt, call, row),
-        IMPORT_VERTICES => vertex_rows::import_row(rt, row),
-        SCAN_VERTICES => vertex_rows::scan_row(rt, row),
-        _ => search_rows::search_row(rt, call, row), // scan, survey, report
+        Call::Pack => pack_rows::pack_row(rt, row),
+        Call::Read => book_rows::book_row(rt, row, |book, _| book::read(book)),
+        Call::Unpack => book_rows::book_row(rt, row, |book, lent| book::unpack(book, lent)),
+        Call::Seek => seek_rows::seek_row(rt, row),
+        Call::OfLine(search) => search_rows::search_row(rt, search, row),
+        Call::Answer => answer_rows::answer_row(rt, row),
+        Call::OfClosedLine(search) => closed_rows::closed_row(rt, search, row),
+        Call::ScanTwoWay => two_way_rows::two_way_row(rt, row),
+        Call::ReversedCode => two_way_rows::reversed_code_row(rt, row),
+        Call::Reversed => two_way_rows::reversed_row(rt, row),
+        Call::ImportVertices => vertex_rows::import_row(rt, row),
+        Call::ScanVertices => vertex_rows::scan_row(rt, row),
     }
 }
 
-// Runs every row of a section through one call. Each line ends with the mark of rows; the first is a heading.
-fn run(rt: &impl Print, call: usize, text: &[u8], index: usize) -> io::Result<()> {
-    let section = table::part(text, table::SECTION_MARK, index);
-    let lines = table::marks(section, table::ROW_MARK);
-    let mut next: usize = 1;
-    while next < lines {
-        let row = table::part(section, table::ROW_MARK, next);
-        calls::begin_row(rt, call, row)?;
+// Runs every row of a section through one call. The section's first line is a heading.
+fn run(rt: &impl Print, call: Call, text: &str, number: usize) -> io::Result<()> {
+    for line in table::section(text, number).lines().skip(1) {
+        let row = Row(line);
+        let name = row.field(0);
+        print!(rt; "{call} {name}:")?;
         run_row(rt, call, row)?;
-        next += 1;
     }
     Ok(())
 }
 
-// Reads until `text` is full or the input ends, and returns the number of bytes read.
-fn read_text(reader: &mut impl Read, text: &mut [u8]) -> io::Result<usize>
-    ensures { IfOk result (λ n. n ≤ length text.new) }
-{
-    let mut got: usize = 0;
-    while got < text.len() {
-        let more = reader.read(&mut text[got..])?;
-        if more == 0 {
-            return Ok(got);
-        }
-        got += more;
-    }
-    Ok(got)
+// Reads the input to its end, and returns it as text. An input that is longer than the area is an error.
+fn read_text<'a>(reader: &mut impl Read, area: &'a mut [u8]) -> io::Result<&'a str> {
+    let room = area.len();
+    let mut rest: &mut [u8] = &mut *area;
+    io::copy(reader, &mut rest)?;
+    let got = room.saturating_sub(rest.len());
+    str::from_utf8(&area[..got]).map_err(|_| io::Error::from(ErrorKind::InvalidData))
 }
 
 // Reads the table of rows and runs each of its fourteen sections through its calls.
 fn main(rt: HostRuntime) -> io::Result<()> {
-    let mut input = area::text_room();
-    let n = read_text(&mut rt.stdin(), &mut input)?;
-    let text = &input[..n];
-    run(&rt, PACK, text, 1)?;
-    run(&rt, READ, text, 2)?;
-    run(&rt, UNPACK, text, 2)?;
-    run(&rt, UNPACK, text, 3)?;
-    run(&rt, SEEK, text, 4)?;
+    let mut input: [u8; TEXT_BYTES] = area::filled(0);
+    let text = read_text(&mut rt.stdin(), &mut input)?;
+    run(&rt, Call::Pack, text, 1)?;
+    run(&rt, Call::Read, text, 2)?;
+    run(&rt, Call::Unpack, text, 2)?;
+    run(&rt, Call::Unpack, text, 3)?;
+    run(&rt, Call::Seek, text, 4)?;
     // The same rows go through each search: a row without a book is a report with an empty book.
-    run(&rt, SCAN, text, 5)?;
-    run(&rt, SURVEY, text, 5)?;
-    run(&rt, REPORT, text, 5)?;
-    run(&rt, REPORT, text, 6)?;
-    run(&rt, ANSWER, text, 7)?;
-    run(&rt, SCAN_CLOSED, text, 8)?;
-    run(&rt, SURVEY_CLOSED, text, 8)?;
-    run(&rt, REPORT_CLOSED, text, 8)?;
-    run(&rt, REPORT_CLOSED, text, 9)?;
-    run(&rt, SCAN_TWO_WAY, text, 10)?;
-    run(&rt, REVERSED_CODE, text, 11)?;
-    run(&rt, REVERSED, text, 12)?;
-    run(&rt, IMPORT_VERTICES, text, 13)?;
-    run(&rt, SCAN_VERTICES, text, 14)
+    run(&rt, Call::OfLine(Scan), text, 5)?;
+    run(&rt, Call::OfLine(Survey), text, 5)?;
+    run(&rt, Call::OfLine(Report), text, 5)?;
+    run(&rt, Call::OfLine(Report), text, 6)?;
+    run(&rt, Call::Answer, text, 7)?;
+    run(&rt, Call::OfClosedLine(Scan), text, 8)?;
+    run(&rt, Call::OfClosedLine(Survey), text, 8)?;
+    run(&rt, Call::OfClosedLine(Report), text, 8)?;
+    run(&rt, Call::OfClosedLine(Report), text, 9)?;
+    run(&rt, Call::ScanTwoWay, text, 10)?;
+    run(&rt, Call::ReversedCode, text, 11)?;
+    run(&rt, Call::Reversed, text, 12)?;
+    run(&rt, Call::ImportVertices, text, 13)?;
+    run(&rt, Call::ScanVertices, text, 14)
 }

@@ -1,48 +1,40 @@
 // Rows for `scan`, `survey` and `report`. A row gives its name, ring, line, allowance and room, and for a report also
 // what report_rows.rt says. Printed are the answer, the words written, and whether all words after the room that was
 // lent are kept.
-use crate::area::SEARCH_ROOM;
-use crate::calls::{SCAN, SURVEY};
+use crate::area::{AREA_BYTES, CANARY_WORD, Room, SEARCH_ROOM};
+use crate::calls::Search;
+use crate::edges::Searched;
 use crate::printing::PrintedAs;
-use crate::{area, edges, paper, printing, report_rows, table};
+use crate::table::Row;
+use crate::{area, paper, printing, report_rows};
 use std::io;
 
 // Calls the search and prints its answer.
 fn print_counts(
     rt: &impl Print,
-    call: usize,
-    row: &[u8],
-    ring: &[u8],
-    line: &[u8],
-    k: usize,
+    search: Search,
+    searched: Searched<'_>,
     lent: &mut [u32],
 ) -> io::Result<()> {
-    match call {
-        SCAN => paper::print_search(rt, outlines::scan(ring, line, k, lent)),
-        SURVEY => paper::print_search(rt, outlines::survey(ring, line, k, lent)),
-        _ => report_rows::report_row(rt, row, ring, line, k, lent),
+    let Searched { row, ring, line, k } = searched;
+    match search {
+        Search::Scan => paper::print_search(rt, outlines::scan(ring, line, k, lent)),
+        Search::Survey => paper::print_search(rt, outlines::survey(ring, line, k, lent)),
+        Search::Report => report_rows::report_row(rt, searched, lent),
     }
 }
 
 // Searches a line for a ring, and prints the answer and the words written.
-fn search(rt: &impl Print, call: usize, row: &[u8], ring: &[u8], line: &[u8]) -> io::Result<()> {
-    let k = table::number_or(row, 3, 0);
-    let room = table::number_or(row, 4, SEARCH_ROOM);
-    let mut words = area::search_room();
-    let space: &mut [u32] = &mut words;
-    print_counts(rt, call, row, ring, line, k, area::lend(space, room))?;
-    printing::end_row(rt, PrintedAs::Findings, space, room)
+fn print_search(rt: &impl Print, search: Search, searched: Searched<'_>) -> io::Result<()> {
+    let mut words: [u32; SEARCH_ROOM] = area::filled(CANARY_WORD);
+    let mut room = Room::new(&mut words, searched.row.number(4));
+    print_counts(rt, search, searched, room.lent)?;
+    printing::end_row(rt, PrintedAs::Findings, &room)
 }
 
 // Runs one row through one of the three calls.
-pub fn search_row(rt: &impl Print, call: usize, row: &[u8]) -> io::Result<()> {
-    let mut ring = area::zeros();
-    let mut line = area::zeros();
-    search(
-        rt,
-        call,
-        row,
-        edges::of_field(table::field(row, 1), &mut ring),
-        edges::of_field(table::field(row, 2), &mut line),
-    )
+pub fn search_row(rt: &impl Print, search: Search, row: Row<'_>) -> io::Result<()> {
+    let mut ring: [u8; AREA_BYTES] = area::filled(0);
+    let mut line: [u8; AREA_BYTES] = area::filled(0);
+    print_search(rt, search, Searched::of_row(row, &mut ring, &mut line))
 }

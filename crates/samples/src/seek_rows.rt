@@ -1,42 +1,41 @@
 // Rows for `seek`, in whole and faulty books. A row gives its name, its book (books.rt says how), the byte offset to
 // seek from, and the address. Printed are the address and the ceiling of the field that is found, and the
 // byte offset just past it.
-use crate::printing::{
-    CEILING_LABEL, CELL_LABEL, FROM_LABEL, NEXT_LABEL, RING_NUMBER_LABEL, START_LABEL,
-};
-use crate::{area, books, printing, table};
+use crate::area::AREA_BYTES;
+use crate::printing::print_number;
+use crate::table::{Row, next};
+use crate::{area, books};
 use silences::{Address, Field};
 use std::io;
 
 // The address that a field gives: cell, ring number, start.
-fn address_of(field: &[u8]) -> Address {
+fn address_of(field: &str) -> Address {
+    let mut numbers = field.split(' ');
     Address {
-        cell: books::cut_to_word(table::nth_number(field, 0)),
-        ring_number: books::cut_to_ring_number(table::nth_number(field, 1)),
-        start: books::cut_to_word(table::nth_number(field, 2)),
+        cell: next(&mut numbers),
+        ring_number: next(&mut numbers),
+        start: next(&mut numbers),
     }
 }
 
 // Prints the field that was found, or that there is none.
 fn print_sought(rt: &impl Print, sought: Option<Field>) -> io::Result<()> {
-    match sought {
-        Some(field) => {
-            printing::print_number(rt, CELL_LABEL, field.address.cell as usize)?;
-            printing::print_number(rt, RING_NUMBER_LABEL, field.address.ring_number as usize)?;
-            printing::print_number(rt, START_LABEL, field.address.start as usize)?;
-            printing::print_number(rt, CEILING_LABEL, field.ceiling as usize)?;
-            printing::print_number(rt, NEXT_LABEL, field.next)
-        }
-        None => printing::print_text(rt, b" nothing"),
-    }
+    let Some(field) = sought else {
+        return print!(rt; " nothing");
+    };
+    print_number(rt, "cell", field.address.cell as usize)?;
+    print_number(rt, "ring number", field.address.ring_number as usize)?;
+    print_number(rt, "start", field.address.start as usize)?;
+    print_number(rt, "ceiling", field.ceiling as usize)?;
+    print_number(rt, "next", field.next)
 }
 
 // Runs one row.
-pub fn seek_row(rt: &impl Print, row: &[u8]) -> io::Result<()> {
-    let mut bytes = area::zeros();
+pub fn seek_row(rt: &impl Print, row: Row<'_>) -> io::Result<()> {
+    let mut bytes: [u8; AREA_BYTES] = area::filled(0);
     let book = books::book(row, 1, &mut bytes);
-    let from = table::number_or(row, 5, 0);
-    printing::print_number(rt, FROM_LABEL, from)?;
-    print_sought(rt, book::seek(book, from, address_of(table::field(row, 6))))?;
-    printing::print_text(rt, b"\n")
+    let from = row.number(5).unwrap_or(0);
+    print_number(rt, "from", from)?;
+    print_sought(rt, book::seek(book, from, address_of(row.field(6))))?;
+    println!(rt)
 }

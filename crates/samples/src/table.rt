@@ -1,139 +1,74 @@
-// The text of the rows, cut into parts: sections, the rows of a section, the fields of a row, the numbers of a field.
-// Each kind of part has a mark of its own between its parts.
-ghost use Rattle.std.specs.Prelude.{◌≤◌, length};
+// The text of the rows, cut into parts: sections, each begun by an equals sign; the rows of a section, a line each; the
+// fields of a row, with bars between them; the numbers of a field, with spaces between them.
+use std::str::{FromStr, Split};
 
-// The marks between sections, rows, the fields of a row, and the numbers of a field.
-pub const SECTION_MARK: u8 = b'=';
+// The section with this number; the text before the first has number 0.
+pub fn section(text: &str, number: usize) -> &str {
+    text.split('=').nth(number).unwrap_or("")
+}
 
-pub const ROW_MARK: u8 = b'\n';
+// The number whose decimal digits are in a text; the largest usize if it would be larger. A comma between digits is
+// ignored, as is all else that is no digit, so this is no `parse`.
+pub fn decimal(text: &str) -> usize {
+    text.chars()
+        .filter_map(|c| c.to_digit(10))
+        .fold(0usize, |value, digit| {
+            value.saturating_mul(10).saturating_add(digit as usize)
+        })
+}
 
-const FIELD_MARK: u8 = b'|';
-
-const NUMBER_MARK: u8 = b' ';
-
-// The largest number that a usize holds.
-const LARGEST: usize = 18446744073709551615;
-
-// A part's beginning and end in its text, and how many marks stand before its end.
+// A line of a section.
 #[derive(Clone, Copy)]
-struct Span {
-    begin: usize,
-    end: usize,
-    marks: usize,
-}
+pub struct Row<'a>(pub &'a str);
 
-// Finds the part with this index, from 0 on. Past the last part it is empty, at the text's end.
-fn find(text: &[u8], mark: u8, index: usize) -> Span
-    ensures { (result.begin ≤ result.end) × (result.end ≤ length text.now) }
-{
-    let mut begin: usize = 0;
-    let mut marks: usize = 0;
-    let mut at: usize = 0;
-    while at < text.len() {
-        if text[at] == mark {
-            if marks == index {
-                return Span {
-                    begin: begin,
-                    end: at,
-                    marks: marks,
-                };
-            }
-            marks += 1;
-            begin = at + 1;
+impl<'a> Row<'a> {
+    // The field with this index; past the last, an empty one.
+    pub fn field(self, index: usize) -> &'a str {
+        self.0.split('|').nth(index).unwrap_or("")
+    }
+
+    // The number in a field, if the field is not empty. Its digits may have commas between them.
+    pub fn number(self, index: usize) -> Option<usize> {
+        let text = self.field(index);
+        if text.is_empty() {
+            None
+        } else {
+            Some(decimal(text))
         }
-        at += 1;
-    }
-    if marks < index {
-        begin = at;
-    }
-    Span {
-        begin: begin,
-        end: at,
-        marks: marks,
     }
 }
 
-// The part with this index; past the last part, an empty one.
-pub fn part(text: &[u8], mark: u8, index: usize) -> &[u8] {
-    let span = find(text, mark, index);
-    let begin = span.begin;
-    let end = span.end;
-    &text[begin..end]
+// The number that a text without commas gives; 0 if it gives none of the type.
+pub fn whole<T: FromStr + Default>(text: &str) -> T
+where
+    T::Err: Drop,
+{
+    text.parse().unwrap_or_default()
 }
 
-// How many marks a text has.
-pub fn marks(text: &[u8], mark: u8) -> usize {
-    find(text, mark, text.len()).marks
+// The next number of a list; past the last, 0.
+pub fn next<T: FromStr + Default>(numbers: &mut Split<'_, char>) -> T
+where
+    T::Err: Drop,
+{
+    whole(numbers.next().unwrap_or(""))
 }
 
-// The field of a row with this index.
-pub fn field(row: &[u8], index: usize) -> &[u8] {
-    part(row, FIELD_MARK, index)
+// Fills the numbers of a list into the front of the places.
+pub fn fill_numbers<T: FromStr + Default + Copy>(list: &str, places: &mut [T])
+where
+    T::Err: Drop,
+{
+    for (place, number) in places.iter_mut().zip(list.split(' ')) {
+        *place = whole(number);
+    }
 }
 
-// Whether a field begins with this byte.
-pub fn begins(field: &[u8], byte: u8) -> bool {
-    if 0 < field.len() {
-        field[0] == byte
+// How many numbers a list gives; an empty one gives none.
+pub fn count_numbers(list: &str) -> usize {
+    if list.is_empty() {
+        0
     } else {
-        false
-    }
-}
-
-// The number with one digit more at its end; the largest usize if it would be larger. A byte that is not a digit, such
-// as a comma, is ignored.
-fn with_digit(value: usize, byte: u8) -> usize {
-    if byte < b'0' {
-        return value;
-    }
-    if b'9' < byte {
-        return value;
-    }
-    let digit = (byte - b'0') as usize;
-    if value <= (LARGEST - digit) / 10 {
-        value * 10 + digit
-    } else {
-        LARGEST
-    }
-}
-
-// The number whose decimal digits are in a text.
-fn decimal(text: &[u8]) -> usize {
-    let mut value: usize = 0;
-    let mut at: usize = 0;
-    while at < text.len() {
-        value = with_digit(value, text[at]);
-        at += 1;
-    }
-    value
-}
-
-// The number with this index in a field. A minus sign is ignored.
-pub fn nth_number(field: &[u8], index: usize) -> usize {
-    decimal(part(field, NUMBER_MARK, index))
-}
-
-// Whether the number with this index in a field has a minus sign.
-pub fn is_minus(field: &[u8], index: usize) -> bool {
-    begins(part(field, NUMBER_MARK, index), b'-')
-}
-
-// How many numbers a field gives; an empty field gives none. (No field of a row consists of marks alone.)
-pub fn number_count(field: &[u8]) -> usize {
-    let marks = marks(field, NUMBER_MARK);
-    if marks < field.len() {
-        marks + 1
-    } else {
-        marks
-    }
-}
-
-// The number in a row's field; `other` if that field is empty.
-pub fn number_or(row: &[u8], index: usize, other: usize) -> usize {
-    let text = field(row, index);
-    if text.len() == 0 {
-        other
-    } else {
-        decimal(text)
+        list.split(' ').count()
     }
 }

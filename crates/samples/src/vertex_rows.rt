@@ -2,10 +2,14 @@
 // vertices, how many of them are passed, and the room; printed are the answer, the bytes written, and whether all bytes
 // after the room that was lent are kept. A row for `scan_vertices` gives a ring and a line by their vertices and an
 // allowance: both are imported, and the line is scanned for the ring both ways.
-use crate::area::BOOK_ROOM;
+use crate::area::{BOOK_ROOM, CANARY_BYTE, Room};
+use crate::edges::Searched;
+use crate::printing::PrintedAs;
+use crate::table::{Row, count_numbers};
 use crate::{area, paper, printing, table, two_way_rows};
+use answers::Refusal;
 use std::io;
-use vertices::{Imported, import_vertices};
+use vertices::import_vertices;
 
 // The numbers of a vertex: north and east.
 const NUMBERS_EACH: usize = 2;
@@ -15,109 +19,62 @@ const ROW_VERTICES: usize = 4098;
 
 const MOST_ROW_NUMBERS: usize = NUMBERS_EACH * ROW_VERTICES;
 
-// The number mod 2^31.
-fn cut_to_positive(number: usize) -> i32 {
-    (number % 2147483648) as i32
-}
-
-// The number of this size with a minus sign. The size of the smallest i32 is no i32, so one is taken off before the sign
-// turns.
-fn negative(size: usize) -> i32 {
-    if size == 0 {
-        0
-    } else {
-        -1 - cut_to_positive(size - 1)
-    }
-}
-
-// The number at place `at` of the vertices that a field `*` gives: vertex i has north i and east i times i. The remainder
-// changes nothing at the places that are filled; it tells the check that the product fits.
-fn rising_number(at: usize) -> i32 {
-    let i = at / NUMBERS_EACH % ROW_VERTICES;
-    if at % NUMBERS_EACH == 0 {
-        cut_to_positive(i)
-    } else {
-        cut_to_positive(i * i)
-    }
-}
-
-// The number at place `at` of those that a field gives.
-fn number_of(field: &[u8], at: usize) -> i32 {
-    if table::begins(field, b'*') {
-        return rising_number(at);
-    }
-    let size = table::nth_number(field, at);
-    if table::is_minus(field, at) {
-        negative(size)
-    } else {
-        cut_to_positive(size)
-    }
-}
-
 // How many numbers a field gives.
-fn number_count(field: &[u8]) -> usize {
-    if table::begins(field, b'*') {
+fn number_count(field: &str) -> usize {
+    if field == "*" {
         MOST_ROW_NUMBERS
     } else {
-        table::number_count(field)
+        count_numbers(field)
     }
 }
 
-// Fills all of `numbers` with those that a field gives.
-fn fill_numbers(field: &[u8], numbers: &mut [i32]) {
-    let mut at: usize = 0;
-    while at < numbers.len() {
-        numbers[at] = number_of(field, at);
-        at += 1;
+// Fills the numbers that a field gives into the front of `numbers`, which are 0. Of the vertices that a field `*` gives,
+// vertex i has north i and east i times i.
+fn fill_numbers(field: &str, numbers: &mut [i32]) {
+    if field != "*" {
+        table::fill_numbers(field, numbers);
+        return;
     }
-}
-
-// Numbers to fill in.
-fn no_numbers() -> [i32; MOST_ROW_NUMBERS] {
-    [0; MOST_ROW_NUMBERS]
+    for (vertex, i) in numbers.chunks_mut(NUMBERS_EACH).zip(0i32..) {
+        for (number, value) in vertex.iter_mut().zip([i, i.saturating_mul(i)]) {
+            *number = value;
+        }
+    }
 }
 
 // Imports the first `count` numbers that a field gives.
-fn import(field: &[u8], count: usize, edges: &mut [u8]) -> Imported {
-    let mut area = no_numbers();
-    let numbers = area::lend_numbers(&mut area, count);
+fn import(field: &str, count: usize, edges: &mut [u8]) -> Result<usize, Refusal> {
+    let mut area = [0i32; MOST_ROW_NUMBERS];
+    let numbers = area::lend(&mut area, count);
     fill_numbers(field, numbers);
     import_vertices(numbers, edges)
 }
 
 // Runs one row through the import.
-pub fn import_row(rt: &impl Print, row: &[u8]) -> io::Result<()> {
-    let field = table::field(row, 1);
-    let count = table::number_or(row, 2, number_count(field));
-    let room = table::number_or(row, 3, BOOK_ROOM);
-    let mut bytes = area::book_room_bytes();
-    let space: &mut [u8] = &mut bytes;
-    paper::print_import(rt, import(field, count, area::lend_bytes(space, room)))?;
-    printing::end_row_of_bytes(rt, space, room)
-}
-
-// How many edges an import wrote.
-fn edge_count(answer: Imported) -> usize {
-    match answer {
-        Imported::Edges(edges) => edges,
-        Imported::Refused(_) => 0,
-    }
+pub fn import_row(rt: &impl Print, row: Row<'_>) -> io::Result<()> {
+    let field = row.field(1);
+    let count = row.number(2).unwrap_or(number_count(field));
+    let mut bytes: [u8; BOOK_ROOM] = area::filled(CANARY_BYTE);
+    let mut room = Room::new(&mut bytes, row.number(3));
+    paper::print_count(rt, "edges", import(field, count, room.lent))?;
+    printing::end_row(rt, PrintedAs::Bytes, &room)
 }
 
 // Imports the vertices that a field gives into the front of an area, and returns their edges.
-fn edges_of<'a>(field: &[u8], area: &'a mut [u8]) -> &'a [u8] {
-    let count = edge_count(import(field, number_count(field), area));
-    &*area::lend_bytes(area, count)
+fn edges_of<'a>(field: &str, area: &'a mut [u8]) -> &'a [u8] {
+    let count = import(field, number_count(field), area).unwrap_or(0);
+    area::lend(area, count)
 }
 
 // Runs one row through two imports and the two-way scan.
-pub fn scan_row(rt: &impl Print, row: &[u8]) -> io::Result<()> {
-    let mut ring = area::book_room_bytes();
-    let mut line = area::book_room_bytes();
-    two_way_rows::scan(
-        rt,
+pub fn scan_row(rt: &impl Print, row: Row<'_>) -> io::Result<()> {
+    let mut ring: [u8; BOOK_ROOM] = area::filled(CANARY_BYTE);
+    let mut line: [u8; BOOK_ROOM] = area::filled(CANARY_BYTE);
+    let searched = Searched {
         row,
-        edges_of(table::field(row, 1), &mut ring),
-        edges_of(table::field(row, 2), &mut line),
-    )
+        ring: edges_of(row.field(1), &mut ring),
+        line: edges_of(row.field(2), &mut line),
+        k: row.number(3).unwrap_or(0),
+    };
+    two_way_rows::scan(rt, searched)
 }

@@ -10,7 +10,8 @@ use lib.ListN.{length, get_or}
 use Rattle.lists.proofs.ByPlace.{list_of_length, list_of_at}
 use Rattle.meaning.specs.Meanings.{HoldsMark}
 use Rattle.meaning.specs.EdgeCodes.{edge_codes}
-use Rattle.vertices.specs.Boundary.{Vertex, vertex_count, vertex_at, following, boundary_edge, boundary_edges, NoEqualPair}
+use Rattle.vertices.specs.declared.boundary.Vertex.{Vertex}
+use Rattle.vertices.specs.Boundary.{vertex_count, vertex_at, following, boundary_edge, boundary_edges, NoEqualPair}
 use Rattle.vertices.specs.Steps.{IsCodeOf}
 use Rattle.vertices.proofs.Codes.{code_lt, code_iff}
 use Rattle.vertices.proofs.EqualPairs.{step_between}

@@ -1,18 +1,20 @@
 -- Equal neighbours. The tests pass exactly where numbers, vertices and neighbours are equal, so what First of crates/meaning proves of the first number that passes a test
 -- holds for the first of the earliest pair of equal neighbours. Two vertices that differ have steps that are not both 0 (`step_between`).
 use Prim.Native.Nat.{ℕ, ◌+◌, ◌≤◌, ◌<◌}
-use mathlib.Core.Path.{◌≡◌, sym, ap, ◌∙◌}
-use mathlib.Core.Bool.{true, true≢false}
+use mathlib.Core.Path.{◌≡◌, sym, ap, ap₂, ◌∙◌}
+use mathlib.Core.Bool.{true, false, true≢false}
 use mathlib.Core.List.{List}
 use mathlib.Core.Logic.{◌↔◌, ⊎_elim}
 use native.Mathlib.Omega.{arith}
 use lib.IntN.{ℤ, nat_abs, ◌-ℤ◌}
+use Rattle.std.proofs.lemmas.Bool.Decides.{Decides-int_eq}
 use Rattle.lists.proofs.Cases.{le_or_lt}
 use Rattle.lists.proofs.SizesTested.{and_iff, test_fails}
 use Rattle.meaning.proofs.First.{first_below_lem, first_by}
 use Rattle.vertices.specs.Steps.{IsStep}
-use Rattle.vertices.specs.Boundary.{Vertex, vertex_count, vertex_at, following, is_same_vertex, is_equal_pair, first_equal_pair, IsEqualPair, IsFirstEqualPair, NoEqualPair}
-use Rattle.vertices.proofs.WholeNumbers.{equal_by_difference, equal_iff}
+use Rattle.vertices.specs.declared.boundary.Vertex.{Vertex}
+use Rattle.vertices.specs.Boundary.{vertex_count, vertex_at, following, is_same_vertex, is_equal_pair, first_equal_pair, IsEqualPair, IsFirstEqualPair, NoEqualPair}
+use Rattle.vertices.proofs.WholeNumbers.{equal_by_difference}
 
 -- Two vertices with equal numbers are equal.
 pub vertex_by : {a b : Vertex} → a.north ≡ b.north → a.east ≡ b.east → a ≡ b
@@ -21,8 +23,12 @@ vertex_by north east = λ i. record { north = north i; east = east i }
 -- The test `is_same_vertex` passes exactly when the two vertices are equal.
 pub same_vertex_iff : (a b : Vertex) → (is_same_vertex a b ≡ true) ↔ (a ≡ b)
 same_vertex_iff a b =
-    let tests = and_iff (equal_iff a.north b.north) (equal_iff a.east b.east) in
+    let tests = and_iff (Decides-int_eq a.north b.north) (Decides-int_eq a.east b.east) in
     (λ e. vertex_by (tests.0 e).0 (tests.0 e).1, λ same. tests.1 (ap (λ (v : Vertex). v.north) same, ap (λ (v : Vertex). v.east) same))
+
+-- Two vertices for which the test fails differ.
+pub differ_by : {a b a' b' : Vertex} → a' ≡ a → b' ≡ b → is_same_vertex a' b' ≡ false → a ≡ b → ⊥
+differ_by {a} {b} is is' fails same = true≢false (sym ((same_vertex_iff a b).1 same) ∙ ap₂ is_same_vertex (sym is) (sym is') ∙ fails)
 
 -- The steps from one vertex to another that differs from it are not both 0.
 pub step_between : (a b : Vertex) → (a ≡ b → ⊥) → IsStep (b.north -ℤ a.north) (b.east -ℤ a.east)

@@ -3,7 +3,7 @@
 use Prim.Native.Nat.{ℕ, ◌%◌, ◌/◌, ◌≤◌, ◌<◌}
 use mathlib.Core.Path.{◌≡◌, sym, ap, ◌∙◌}
 use mathlib.Core.List.{List}
-use Rattle.std.specs.Prelude.{Option, None, Some}
+use Rattle.std.specs.Prelude.{Option, None, Some, Ok, Err}
 use native.Mathlib.Omega.{arith}
 use lib.IntN.{ℤ}
 use lib.ListN.{length}
@@ -12,12 +12,9 @@ use Rattle.answers.specs.declared.refusals.Refusal.{Refusal}
 use Rattle.answers.specs.declared.refusals.Refusal.TheVariants.{OutputRoom, VertexCount, EqualNeighbours}
 use Rattle.answers.specs.Paper.{answer_paper}
 use Rattle.answers.specs.Rows.{first_given, answer_by, area_by}
-use Rattle.vertices.specs.declared.importing.Imported.TheVariants.{Edges, Refused}
-use Rattle.vertices.specs.Boundary.{vertex_count, boundary_edges, first_equal_pair, NoEqualPair}
+use Rattle.vertices.specs.Boundary.{vertex_count, boundary_edges, IsFirstEqualPair, NoEqualPair}
 use Rattle.vertices.specs.Importing.{import_rows, import_answer, imported_area, IsImported}
 use Rattle.vertices.specs.ImportRows.{HasWrongCount, IsRightCount}
-use Rattle.vertices.specs.Putting.{CanPutEdges}
-use Rattle.vertices.proofs.EqualPairs.{first_pair_is, no_pair_by}
 use Rattle.vertices.proofs.ImportAdmitRows.{import_15_iff, import_16_iff, import_10_iff, import_none_iff}
 
 -- A count of numbers that passes the three tests is right: row 15 is not given.
@@ -26,7 +23,7 @@ right_count not_odd fewest most = record { even = omega arith; fewest = fewest; 
 
 module _ (numbers : List ℤ) (area : List ℕ) where
   -- Refusing by the first row that is given, and writing nothing.
-  refused_by : {q : Refusal} → first_given (import_rows numbers (length area)) ≡ Some q → IsImported numbers area (Refused q) area
+  refused_by : {q : Refusal} → first_given (import_rows numbers (length area)) ≡ Some q → IsImported numbers area (Err q) area
   unfolding import_answer imported_area
   refused_by e = record {
     paper = ap (λ (o : Option Refusal). answer_paper 0 (answer_by o (vertex_count numbers))) (sym e);
@@ -34,31 +31,22 @@ module _ (numbers : List ℤ) (area : List ℕ) where
   }
 
   -- Row 15.
-  pub refused_count : HasWrongCount (length numbers) → IsImported numbers area (Refused VertexCount) area
+  pub refused_count : HasWrongCount (length numbers) → IsImported numbers area (Err VertexCount) area
   refused_count wrong = refused_by ((import_15_iff numbers (length area)).1 wrong)
 
-  module _ (fits : IsRightCount (length numbers)) {place : ℕ} (first : place ≡ first_equal_pair numbers) where
-    -- Row 16: what `first_equal_pair` returned is below the number of vertices.
-    pub refused_pair : place < vertex_count numbers → IsImported numbers area (Refused (EqualNeighbours place)) area
-    refused_pair below =
-        refused_by ((import_16_iff numbers (length area) (first_equal_pair numbers)).1 (fits, first_pair_is numbers (omega arith)) ∙ ap (λ (p : ℕ). Some (EqualNeighbours p)) (sym first))
+  module _ (fits : IsRightCount (length numbers)) where
+    -- Row 16: two neighbours are equal.
+    pub refused_pair : {place : ℕ} → IsFirstEqualPair numbers place → IsImported numbers area (Err (EqualNeighbours place)) area
+    refused_pair {place} first = refused_by ((import_16_iff numbers (length area) place).1 (fits, first))
 
-    module _ (past : vertex_count numbers ≤ place) where
-      -- It is not below: no two neighbours are equal.
-      no_pair : NoEqualPair numbers
-      no_pair = no_pair_by numbers (omega arith)
-
+    module _ (no_pair : NoEqualPair numbers) where
       -- Row 10.
-      pub refused_room : length area < vertex_count numbers → IsImported numbers area (Refused OutputRoom) area
+      pub refused_room : length area < vertex_count numbers → IsImported numbers area (Err OutputRoom) area
       refused_room few = refused_by ((import_10_iff numbers (length area)).1 (fits, (no_pair, few)))
 
       module _ (room : vertex_count numbers ≤ length area) where
-        -- No row is given: the edges may be written.
-        pub can_put_lem : CanPutEdges numbers area
-        can_put_lem = record { no_pair = no_pair; room = room }
-
         -- Writing the edges and returning how many there are.
-        pub imported : {out : List ℕ} → out ≡ written (boundary_edges numbers) area → IsImported numbers area (Edges (vertex_count numbers)) out
+        pub imported : {out : List ℕ} → out ≡ written (boundary_edges numbers) area → IsImported numbers area (Ok (vertex_count numbers)) out
         unfolding import_answer imported_area
         imported is =
             let none_given : first_given (import_rows numbers (length area)) ≡ None = (import_none_iff numbers (length area)).1 (fits, (no_pair, room)) in

@@ -12,7 +12,8 @@ use Rattle.meaning.specs.Counting.{first_below}
 use Rattle.meaning.proofs.First.{first_same}
 use Rattle.answers.specs.declared.refusals.Refusal.TheVariants.{OutputRoom, VertexCount, EqualNeighbours}
 use Rattle.answers.specs.Rows.{row, first_given, answer_by, area_by}
-use Rattle.vertices.specs.Boundary.{Vertex, vertex_count, vertex_at, following, is_equal_pair, first_equal_pair, IsEqualPair, IsMoved}
+use Rattle.vertices.specs.declared.boundary.Vertex.{Vertex}
+use Rattle.vertices.specs.Boundary.{vertex_count, vertex_at, following, is_equal_pair, first_equal_pair, IsEqualPair, IsMoved}
 use Rattle.vertices.specs.Importing.{is_row15, import_rows, import_answer, imported_area}
 use Rattle.vertices.proofs.EqualPairs.{vertex_by, equal_pair_iff}
 use Rattle.vertices.proofs.BoundaryEdges.{following_lt}

@@ -2,16 +2,17 @@
 -- (−de, dn), and each octant two further on (`quarter_turn`). The turn swaps the two sizes, so the same two sizes are compared before and after it.
 use Prim.Native.Nat.{ℕ, zero, suc, ◌+◌, ◌%◌, ◌≤◌, ◌<◌}
 use mathlib.Core.Path.{◌≡◌, refl, sym, ap, ◌∙◌}
-use mathlib.Core.Bool.{Bool, true, false}
+use mathlib.Core.Bool.{true, false}
 use mathlib.Core.Logic.{⊎_elim}
 use native.Mathlib.Omega.{arith}
 use lib.Dec.{ltb, leb, eqb}
 use lib.IntN.{ℤ, pos, negsuc, neg_ℤ, nat_abs}
+use lib.Signed.{lt_z}
 use borrow.Author.Tests.{lt-ltb, le-ltb, le-leb, ne_eqb}
 use Rattle.lists.proofs.Cases.{le_or_lt}
 use Rattle.vertices.specs.Steps.{IsStep, step_octant}
 use Rattle.vertices.specs.Sizes.{is_negative, octant_by_sizes}
-use Rattle.vertices.proofs.WholeNumbers.{size_negated}
+use Rattle.vertices.proofs.WholeNumbers.{size_negated, negative_is}
 
 -- A number above 0 is not 0, and is above 0.
 not_zero_lem : (n : ℕ) → eqb (suc n) 0 ≡ false
@@ -40,10 +41,9 @@ octant_by_sizes_lem (negsuc n) (pos zero) step = simp (above_zero n)
 octant_by_sizes_lem (negsuc n) (pos (suc e)) step = simp (above_zero e, not_zero_lem e, at_least_zero (suc n))
 octant_by_sizes_lem (negsuc n) (negsuc e) step = simp (above_zero n, at_least_zero (suc e))
 
--- The same, for signs and sizes given by equations.
-pub octant_known : {dn de : ℤ} {south west : Bool} {n e : ℕ} → IsStep dn de → south ≡ is_negative dn → n ≡ nat_abs dn → west ≡ is_negative de → e ≡ nat_abs de
-    → octant_by_sizes south n west e ≡ step_octant dn de
-octant_known {dn} {de} step south_is n_is west_is e_is = rw (south_is, n_is, west_is, e_is) (octant_by_sizes_lem dn de step)
+-- The same, with the tests of the signs.
+pub octant_by_signs : (dn de : ℤ) → IsStep dn de → octant_by_sizes (lt_z dn (pos 0)) (nat_abs dn) (lt_z de (pos 0)) (nat_abs de) ≡ step_octant dn de
+octant_by_signs dn de step = rw (negative_is dn, negative_is de) (octant_by_sizes_lem dn de step)
 
 -- P holds if it holds where a < b and where b ≤ a.
 by_order : (a b : ℕ) {P : Type 0} → (a < b → P) → (b ≤ a → P) → P

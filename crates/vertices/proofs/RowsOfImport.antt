@@ -6,7 +6,7 @@ use mathlib.Core.Path.{◌≡◌, refl}
 use mathlib.Core.Logic.Iff
 use mathlib.Core.Logic.{◌⊎◌, inl, inr}
 use mathlib.Core.List.{List}
-use Rattle.std.specs.Prelude.{Option, None, Some}
+use Rattle.std.specs.Prelude.{Option, None, Some, Result}
 use native.Mathlib.Omega.{arith}
 use lib.IntN.{ℤ}
 use lib.ListN.{length}
@@ -17,7 +17,6 @@ use Rattle.answers.specs.Refusals.{number_of, place_of}
 use Rattle.answers.specs.Paper.{answer_paper}
 use Rattle.answers.specs.Rows.{first_given, answer_by}
 use Rattle.answers.proofs.AnswerByRows.{row_number_iff, row_place_iff, accepted_number_iff, accepted_counts, accepted_area, number_by, place_unless, refused_counts, refused_area}
-use Rattle.vertices.specs.declared.importing.Imported.{Imported}
 use Rattle.vertices.specs.Boundary.{vertex_count, boundary_edges}
 use Rattle.vertices.specs.Importing.{most_vertices, import_rows, import_answer, imported_area, paper_of, IsImported}
 use Rattle.vertices.specs.ImportRows.{ImportRows}
@@ -35,7 +34,7 @@ module _ (numbers : List ℤ) (room : ℕ) where
       import_row_has numbers room (λ q. (place_of q < most_vertices) × ((number_of q ≡ 16 → ⊥) → place_of q ≡ 0)) (omega arith, λ _. refl)
       (λ place below. (below, λ other. absurd (other refl))) (omega arith, λ _. refl)
 
-module _ {numbers : List ℤ} {area : List ℕ} {r : Imported} {out : List ℕ} (meets : IsImported numbers area r out) where
+module _ {numbers : List ℤ} {area : List ℕ} {r : Result ℕ Refusal} {out : List ℕ} (meets : IsImported numbers area r out) where
   abbrev room : ℕ
   room = length area
 

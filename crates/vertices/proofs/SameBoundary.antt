@@ -16,7 +16,8 @@ use Rattle.lists.proofs.ByPlace.{list_of_same}
 use Rattle.reversal.specs.Reversing.{reversed_code, reversed_ring, rotated}
 use Rattle.reversal.proofs.RingTwice.{reversed_length, reversed_at}
 use Rattle.vertices.specs.Steps.{step_code}
-use Rattle.vertices.specs.Boundary.{Vertex, numbers_each, vertex_count, vertex_at, following, edge_between, boundary_edge, boundary_edges, IsEqualPair, NoEqualPair, HasVertices, IsBegunAt, IsOpposite, IsMoved}
+use Rattle.vertices.specs.declared.boundary.Vertex.{Vertex}
+use Rattle.vertices.specs.Boundary.{numbers_each, vertex_count, vertex_at, following, edge_between, boundary_edge, boundary_edges, IsEqualPair, NoEqualPair, HasVertices, IsBegunAt, IsOpposite, IsMoved}
 use Rattle.vertices.proofs.WholeNumbers.{difference_opposite, difference_moved}
 use Rattle.vertices.proofs.Codes.{code_back}
 use Rattle.vertices.proofs.EqualPairs.{step_between}

@@ -1,15 +1,15 @@
--- Whole numbers: sizes, differences, and the tests of their order and of equality. Differences follow from the group laws of the kit's `lib.IntN`.
+-- Whole numbers: sizes, differences, and the tests of their order. Differences follow from the group laws of the kit's `lib.IntN`.
 use Prim.Native.Nat.{zero, suc}
 use mathlib.Core.Path.{◌≡◌, refl, sym, ap, subst, ◌∙◌}
-use mathlib.Core.Bool.{Bool, true, false, not, false≢true}
+use mathlib.Core.Bool.{Bool, true, false, not}
 use mathlib.Core.Logic.{◌↔◌}
 use native.Mathlib.Omega.{arith}
 use lib.Dec.{T}
-use lib.IntN.{ℤ, pos, negsuc, neg_ℤ, nat_abs, ◌+ℤ◌, ◌-ℤ◌, neg_ℤ-neg_ℤ, pos-ne-negsuc, +ℤ_idl, +ℤ_assoc, +ℤ_comm, neg_ℤ-+ℤ, +ℤ-neg_ℤ_cancel, -ℤ-+ℤ_cancel}
+use lib.IntN.{ℤ, pos, negsuc, neg_ℤ, nat_abs, ◌+ℤ◌, ◌-ℤ◌, neg_ℤ-neg_ℤ, +ℤ_idl, +ℤ_assoc, +ℤ_comm, neg_ℤ-+ℤ, +ℤ-neg_ℤ_cancel, -ℤ-+ℤ_cancel}
 use lib.Signed.{◌<ℤ◌, ◌≤ℤ◌, lt_z, le_z, lt_z_yes, le_z_yes, lt_z_no, clash_ℤ}
-use borrow.Author.Tests.{le-leb, eqb-true, eq-eqb}
+use borrow.Author.Tests.{le-ltb, le-leb}
 use Rattle.lists.proofs.Cases.{not_passed}
-use Rattle.vertices.specs.Boundary.{is_equal}
+use Rattle.vertices.specs.Sizes.{is_negative}
 
 -- A number and its negative have the same size.
 pub size_negated : (x : ℤ) → nat_abs (neg_ℤ x) ≡ nat_abs x
@@ -63,9 +63,7 @@ pub above_zero_le : (x : ℤ) → pos 0 <ℤ x → pos 0 ≤ℤ x
 above_zero_le (pos n) h = at_most_iff.0 (le-leb 0 n (omega arith))
 above_zero_le (negsuc n) h = absurd h.lt
 
--- The test `is_equal` passes exactly when the two numbers are equal.
-pub equal_iff : (a b : ℤ) → (is_equal a b ≡ true) ↔ (a ≡ b)
-equal_iff (pos a) (pos b) = (λ e. ap pos (eqb-true a b e), λ e. eq-eqb a b (ap nat_abs e))
-equal_iff (pos a) (negsuc b) = (λ e. absurd (false≢true e), λ e. absurd (pos-ne-negsuc a b e))
-equal_iff (negsuc a) (pos b) = (λ e. absurd (false≢true e), λ e. absurd (pos-ne-negsuc b a (sym e)))
-equal_iff (negsuc a) (negsuc b) = (λ e. ap negsuc (eqb-true a b e), λ e. eq-eqb a b (omega (arith, ap nat_abs e)))
+-- `x < 0` tests the sign.
+pub negative_is : (x : ℤ) → lt_z x (pos 0) ≡ is_negative x
+negative_is (pos n) = le-ltb n 0 (omega arith)
+negative_is (negsuc n) = refl

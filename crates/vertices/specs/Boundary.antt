@@ -1,28 +1,25 @@
 -- Document 02, ticket 7: "Import a boundary from pairs of signed 32-bit whole numbers, north before east. .. The last vertex joins the first. Only edge bytes come
--- out, one per vertex". A boundary is a list of numbers, two for each vertex. `get_or` gives 0 past a list's end.
+-- out, one per vertex". A boundary is a list of numbers, two for each vertex. `get_or` gives 0 past a list's end. A vertex is
+-- the code's struct: how far north, how far east.
 --
---   Vertex                 a vertex: how far north, how far east
 --   numbers_each           2 numbers a vertex
 --   vertex_count           the number of vertices
 --   vertex_at, following   vertex i; the vertex that follows a vertex
 --   edge_between           the code of the edge from one vertex to another
 --   boundary_edge          the code of edge i
 --   boundary_edges         the codes of all edges, one per vertex
---   is_equal, is_same_vertex whether two numbers, two vertices are equal
+--   is_same_vertex         whether two vertices are equal
 --   is_equal_pair          whether a vertex and the one that follows are "two equal neighbours"
 --   first_equal_pair       the first vertex of the earliest such pair; the number of vertices if there is none
 --   IsEqualPair, IsFirstEqualPair, NoEqualPair   the same as facts (joined by the laws of EqualPairs in proofs/)
 --   HasVertices            a boundary whose vertices are those of another, in another order
 --   IsBegunAt, IsOpposite, IsMoved    the same boundary from another vertex on, in opposite order, and moved as a whole
-use Rattle.std.specs.Prelude.{ℕ, ◌+◌, ◌-◌, ◌*◌, ◌/◌, ◌%◌, ◌<◌, ◌≡◌, Bool, false, ◌&&◌, List, eqb, ℤ, pos, negsuc, ◌+ℤ◌, ◌-ℤ◌, length, get_or}
+use Rattle.std.specs.Prelude.{ℕ, ◌+◌, ◌-◌, ◌*◌, ◌/◌, ◌%◌, ◌<◌, ◌≡◌, Bool, ◌&&◌, List, ℤ, pos, ◌+ℤ◌, ◌-ℤ◌, length, get_or}
+use Rattle.std.specs.Ordering.{int_eq}
 use Rattle.lists.specs.ByPlace.{list_of}
 use Rattle.meaning.specs.Counting.{first_below}
+use Rattle.vertices.specs.declared.boundary.Vertex.{Vertex}
 use Rattle.vertices.specs.Steps.{step_code}
-
--- A vertex: "signed .. whole numbers, north before east".
-pub record Vertex : Type 0 where
-  pub north : ℤ
-  pub east : ℤ
 
 -- "pairs": two numbers a vertex.
 abbrev pub numbers_each : ℕ
@@ -52,16 +49,9 @@ boundary_edge numbers i = edge_between (vertex_at numbers i) (vertex_at numbers 
 unfoldable pub boundary_edges : List ℤ → List ℕ
 boundary_edges numbers = list_of (vertex_count numbers) (boundary_edge numbers)
 
--- Whether two whole numbers are equal.
-abbrev pub is_equal : ℤ → ℤ → Bool
-is_equal (pos a) (pos b) = eqb a b
-is_equal (pos a) (negsuc b) = false
-is_equal (negsuc a) (pos b) = false
-is_equal (negsuc a) (negsuc b) = eqb a b
-
 -- Whether two vertices are equal.
 abbrev pub is_same_vertex : Vertex → Vertex → Bool
-is_same_vertex a b = is_equal a.north b.north && is_equal a.east b.east
+is_same_vertex a b = int_eq a.north b.north && int_eq a.east b.east
 
 -- "two equal neighbours": whether vertex i equals the one that follows. For the last vertex that is the first: "the closing pair".
 unfoldable pub is_equal_pair : List ℤ → ℕ → Bool

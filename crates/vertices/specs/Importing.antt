@@ -6,17 +6,14 @@
 --   import_rows                      the rows in their order: 15, 16, 10
 --   import_answer                    the answer that the call must give: the number of edges, or a refusal
 --   imported_area                    the lent bytes at exit
---   answer_of, paper_of              the returned enum as an answer, and as document 01's number, place and count
+--   paper_of                         document 01's number, place and count for what is returned
 --   IsImported                       the contract of `import_vertices`
-use Rattle.std.specs.Prelude.{ℕ, ◌/◌, ◌%◌, ◌≡◌, Bool, ◌||◌, List, [], ◌∷◌, ltb, eqb, ℤ, length}
-use Rattle.std.specs.Prelude.{Option}
+use Rattle.std.specs.Prelude.{ℕ, ◌/◌, ◌%◌, ◌≡◌, Bool, ◌||◌, List, [], ◌∷◌, ltb, eqb, ℤ, length, Option, Result}
 use Rattle.lists.specs.Areas.{written}
 use Rattle.answers.specs.declared.refusals.Refusal.{Refusal}
 use Rattle.answers.specs.declared.refusals.Refusal.TheVariants.{OutputRoom, VertexCount, EqualNeighbours}
-use Rattle.answers.specs.Paper.{Answer, accepted, refused, Paper, answer_paper}
+use Rattle.answers.specs.Paper.{Answer, Paper, answer_paper, answer_from}
 use Rattle.answers.specs.Rows.{row, first_given, answer_by, area_by}
-use Rattle.vertices.specs.declared.importing.Imported.{Imported}
-use Rattle.vertices.specs.declared.importing.Imported.TheVariants.{Edges, Refused}
 use Rattle.vertices.specs.Boundary.{numbers_each, vertex_count, boundary_edges, first_equal_pair}
 
 -- "fewer than 3 .. vertices".
@@ -48,16 +45,11 @@ import_answer numbers room = answer_by (first_given (import_rows numbers room)) 
 unfoldable pub imported_area : List ℤ → List ℕ → List ℕ
 imported_area numbers area = area_by (first_given (import_rows numbers (length area))) (written (boundary_edges numbers) area) area
 
--- The returned enum as an answer.
-abbrev pub answer_of : Imported → Answer ℕ
-answer_of (Edges edges) = accepted edges
-answer_of (Refused refusal) = refused refusal
-
--- Document 01's number, place and count for the returned enum.
-abbrev pub paper_of : Imported → Paper ℕ
-paper_of r = answer_paper 0 (answer_of r)
+-- Document 01's number, place and count for what is returned: the number of edges, or a refusal.
+abbrev pub paper_of : Result ℕ Refusal → Paper ℕ
+paper_of r = answer_paper 0 (answer_from (λ edges. edges) r)
 
 -- The contract of `import_vertices`. It fixes number, place and count of the answer r and the bytes at exit `out`, on every input, accepted or refused.
-pub record IsImported (numbers : List ℤ) (area : List ℕ) (r : Imported) (out : List ℕ) : Type 0 where
+pub record IsImported (numbers : List ℤ) (area : List ℕ) (r : Result ℕ Refusal) (out : List ℕ) : Type 0 where
   pub paper : paper_of r ≡ answer_paper 0 (import_answer numbers (length area))
   pub written : out ≡ imported_area numbers area

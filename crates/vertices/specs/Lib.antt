@@ -5,7 +5,7 @@
 --   Importing       the refusals 15, 16, 10 in their order, and the contract of `import_vertices`
 --   ImportRows      these rows once more, in plain comparisons over an answer's number, place and count
 --   ImportSamples   codes, rows and edges worked out by hand, computed
---   Sizes, Putting  what the contracts of private functions use
+--   Sizes, Putting  what private functions use
 pub mod Steps
 pub mod Boundary
 pub mod Importing

@@ -1,4 +1,4 @@
--- Signs and sizes of steps, for the contracts of private functions of src/steps.rt. The code works out signs and sizes once, and compares sizes only. No public
+-- Signs and sizes of steps, for the contract of a private function of src/steps.rt. The code works out signs and sizes once, and compares sizes only. No public
 -- contract uses these definitions.
 --
 --   is_negative       whether a step is below 0

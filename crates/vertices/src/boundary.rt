@@ -1,54 +1,65 @@
 // A boundary: its vertices one after the other, the last joined to the first. Vertex i has its number north at place 2·i,
 // and its number east right behind it.
-ghost use Rattle.std.specs.Prelude.{◌≡◌};
+ghost use Rattle.std.specs.Prelude.{◌≡◌, ◌≢◌, ◌<◌, ◌-ℤ◌, MatchOption};
 ghost use Rattle.lists.specs.Areas.{written};
-ghost use Rattle.vertices.specs.Boundary.{vertex_at, edge_between, boundary_edges, is_same_vertex, first_equal_pair};
-ghost use Rattle.vertices.specs.Putting.{AreVertices, AreDifferent, CanPutEdges};
+ghost use Rattle.vertices.specs.Boundary.{vertex_count, vertex_at, edge_between, boundary_edges, IsFirstEqualPair, NoEqualPair};
+ghost use Rattle.vertices.specs.Putting.{CanPutEdges};
 
-use crate::steps::{difference, step_code};
+use crate::steps::Steps;
 
 // "pairs of signed 32-bit whole numbers": two numbers a vertex.
 pub const NUMBERS_EACH: usize = 2;
 
-// Whether vertices i and j are equal.
-fn is_same_vertex(numbers: &[i32], i: usize, j: usize) -> bool
-    requires { AreVertices numbers.now i j }
-    ensures { result ≡ is_same_vertex (vertex_at numbers.now i) (vertex_at numbers.now j) }
-{
-    let north = NUMBERS_EACH * i;
-    let other_north = NUMBERS_EACH * j;
-    if numbers[north] != numbers[other_north] {
-        return false;
-    }
-    numbers[north + 1] == numbers[other_north + 1]
+// A vertex: "signed 32-bit whole numbers, north before east".
+#[derive(Clone, Copy, PartialEq, Eq)]
+pub struct Vertex {
+    pub north: i32,
+    pub east: i32,
 }
 
-// The first of the earliest pair of equal neighbours; after the last vertex comes the first. If there is no such pair, the
-// number of vertices.
-pub fn first_equal_pair(numbers: &[i32]) -> usize
-    ensures { result ≡ first_equal_pair numbers.now }
+impl Vertex {
+    // The steps from this vertex to another.
+    fn steps_to(self, to: Vertex) -> Steps
+        ensures north { result.north ≡ to.north -ℤ self.north }
+        ensures east { result.east ≡ to.east -ℤ self.east }
+    {
+        Steps {
+            north: i64::from(to.north) - i64::from(self.north),
+            east: i64::from(to.east) - i64::from(self.east),
+        }
+    }
+
+    // The code of the edge from this vertex to another.
+    fn edge_to(self, to: Vertex) -> u8
+        requires { self ≢ to }
+        ensures { result ≡ edge_between self to }
+    {
+        self.steps_to(to).code()
+    }
+}
+
+// Vertex i.
+fn vertex_at(numbers: &[i32], i: usize) -> Vertex
+    requires { i < vertex_count numbers.now }
+    ensures { result ≡ vertex_at numbers.now i }
+{
+    Vertex {
+        north: numbers[NUMBERS_EACH * i],
+        east: numbers[NUMBERS_EACH * i + 1],
+    }
+}
+
+// The first of the earliest pair of equal neighbours; after the last vertex comes the first.
+pub fn first_equal_pair(numbers: &[i32]) -> Option<usize>
+    ensures { MatchOption result (NoEqualPair numbers.now) (IsFirstEqualPair numbers.now) }
 {
     let count = numbers.len() / NUMBERS_EACH;
-    let mut i = 0;
-    while i < count {
-        if is_same_vertex(numbers, i, (i + 1) % count) {
-            return i;
+    for i in 0..count {
+        if vertex_at(numbers, i) == vertex_at(numbers, (i + 1) % count) {
+            return Some(i);
         }
-        i += 1;
     }
-    i
-}
-
-// The code of the edge from vertex i to vertex j.
-fn edge_between(numbers: &[i32], i: usize, j: usize) -> u8
-    requires { AreDifferent numbers.now i j }
-    ensures { result ≡ edge_between (vertex_at numbers.now i) (vertex_at numbers.now j) }
-{
-    let from = NUMBERS_EACH * i;
-    let to = NUMBERS_EACH * j;
-    let dn = difference(numbers[from], numbers[to]);
-    let de = difference(numbers[from + 1], numbers[to + 1]);
-    step_code(dn, de)
+    None
 }
 
 // Writes the boundary's edges, one byte per vertex, from the area's first byte on.
@@ -57,9 +68,9 @@ pub fn put_edges(numbers: &[i32], edges: &mut [u8])
     ensures { edges.new ≡ written (boundary_edges numbers.now) edges.old }
 {
     let count = numbers.len() / NUMBERS_EACH;
-    let mut i = 0;
-    while i < count {
-        edges[i] = edge_between(numbers, i, (i + 1) % count);
-        i += 1;
+    for i in 0..count {
+        let from = vertex_at(numbers, i);
+        let to = vertex_at(numbers, (i + 1) % count);
+        edges[i] = from.edge_to(to);
     }
 }

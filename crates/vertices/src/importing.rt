@@ -10,35 +10,24 @@ const FEWEST_VERTICES: usize = 3;
 // "more than 4,096 vertices".
 const MOST_VERTICES: usize = 4096;
 
-// The answer of an import: the number of edges, or a refusal.
-#[derive(Clone, Copy)]
-pub enum Imported {
-    Edges(usize),
-    Refused(Refusal),
-}
-
 // Writes the edge bytes of the boundary with these vertices, north before east, and returns how many there are; or refuses
 // with 15, 16 or 10, in this order.
-pub fn import_vertices(numbers: &[i32], edges: &mut [u8]) -> Imported
+pub fn import_vertices(numbers: &[i32], edges: &mut [u8]) -> Result<usize, Refusal>
     ensures { IsImported numbers.now edges.old result edges.new }
 {
     if numbers.len() % NUMBERS_EACH == 1 {
-        return Imported::Refused(Refusal::VertexCount);
+        return Err(Refusal::VertexCount);
     }
     let count = numbers.len() / NUMBERS_EACH;
-    if count < FEWEST_VERTICES {
-        return Imported::Refused(Refusal::VertexCount);
+    if count < FEWEST_VERTICES || MOST_VERTICES < count {
+        return Err(Refusal::VertexCount);
     }
-    if MOST_VERTICES < count {
-        return Imported::Refused(Refusal::VertexCount);
-    }
-    let place = first_equal_pair(numbers);
-    if place < count {
-        return Imported::Refused(Refusal::EqualNeighbours(place));
+    if let Some(place) = first_equal_pair(numbers) {
+        return Err(Refusal::EqualNeighbours(place));
     }
     if edges.len() < count {
-        return Imported::Refused(Refusal::OutputRoom);
+        return Err(Refusal::OutputRoom);
     }
     put_edges(numbers, edges);
-    Imported::Edges(count)
+    Ok(count)
 }

@@ -9,4 +9,4 @@ mod boundary;
 mod importing;
 mod steps;
 
-pub use importing::{Imported, import_vertices};
+pub use importing::import_vertices;

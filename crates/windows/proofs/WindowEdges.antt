@@ -1,7 +1,7 @@
 -- The window that `window` returns. If m edges from i on fit in the whole line, it has m edges: a window that crosses the line's end lies in the join area, every
 -- other in the line. If the join area begins with the line's last m − 1 edges, the line up to there followed by the area's first 2·m − 2 is the whole line. So the
 -- window is the whole line's, whichever part it comes from.
-use Prim.Native.Nat.{ℕ, ◌+◌, ◌-◌, ◌≤◌, ◌<◌}
+use Prim.Native.Nat.{ℕ, ◌+◌, ◌-◌, ◌≤◌, ◌<◌, min}
 use mathlib.Core.Path.{◌≡◌, refl, sym, ap, ◌∙◌}
 use mathlib.Core.Bool.{true, false, ◌&&◌, false≢true}
 use mathlib.Core.Logic.{◌↔◌, ⊎_elim}
@@ -11,6 +11,7 @@ use lib.Dec.{ltb, leb}
 use lib.ListN.{length, get_or, take, drop, length-append, length-drop, take-append-drop}
 use lib.Seq.{length-take-le, take_all, take-nil, take-add, take-append-le, drop-append-le, drop-append-add, drop-nil}
 use borrow.Author.Tests.{lt-ltb, le-leb, lt-leb}
+use Rattle.std.specs.List.{slice_range}
 use Rattle.lists.proofs.Cases.{by_test, le_or_lt}
 use Rattle.lists.proofs.SizesTested.{lt_iff, le_iff, and_iff, test_fails}
 use Rattle.meaning.specs.Meanings.{FitsInLine, IsPastLine, window, window_edge}
@@ -27,6 +28,14 @@ unfolding window
 part_at edges i m fits =
     let size : i + m - i ≡ m = omega arith in
     record { is = ap (λ (n : ℕ). take n (drop i edges)) size ∙ sym (rw (le-leb (i + m) (length edges) fits) refl) }
+
+-- The first m of the edges from i on meet the contract of `part`.
+pub part_of : (edges : List ℕ) (i m : ℕ) {rest part : List ℕ} → i + m ≤ length edges → rest ≡ slice_range edges i (length edges) → part ≡ slice_range rest 0 m
+    → IsPart edges i m part
+part_of edges i m {rest} {part} fits rest_is part_is =
+    let all : rest ≡ drop i edges = rest_is ∙ take_all (length edges - i) (drop i edges) (omega (arith, length-drop i edges)) in
+    let size : m - 0 ≡ i + m - i = omega arith in
+    record { is = part_is ∙ ap (take (m - 0)) all ∙ ap (λ (n : ℕ). take n (drop i edges)) size ∙ (part_at edges i m fits).is }
 
 -- If m edges from i on fit, the window there is the window at i.
 window_at_lem : (m : ℕ) (edges : List ℕ) (i : ℕ) → i + m ≤ length edges → window_at m edges i ≡ window m edges i
@@ -108,16 +117,18 @@ module _ (m : ℕ) (p : Parts) where
       whole_added some long
       ∙ ap (λ (l : ℕ). n + l) (ap length (take_all (m - 1) (drop (m - 1) p.join) (omega (arith, length-drop (m - 1) p.join))) ∙ length-drop (m - 1) p.join)
 
+  -- So it adds m − 1, or as many as it holds there.
+  pub whole_least : 0 < m → m ≤ n → length whole ≡ n + min (m - 1) (length p.join - (m - 1))
+  whole_least some long =
+      ⊎_elim (λ wide. omega (arith, whole_full some long wide)) (λ narrow. omega (arith, whole_part some long (omega arith)))
+      (le_or_lt (m - 1) (length p.join - (m - 1)))
+
   -- the two cases
   by_added : {P : Type 0} → 0 < m → m ≤ n → (m - 1 ≤ length p.join - (m - 1) → length whole ≡ n + (m - 1) → P)
       → (length p.join - (m - 1) ≤ m - 1 → length whole ≡ n + (length p.join - (m - 1)) → P) → P
   by_added some long full part =
       ⊎_elim (λ wide. full wide (whole_full some long wide)) (λ narrow. let le : length p.join - (m - 1) ≤ m - 1 = omega arith in part le (whole_part some long le))
       (le_or_lt (m - 1) (length p.join - (m - 1)))
-
-  -- If the join area has fewer than m bytes, it adds nothing.
-  pub whole_narrow : length p.join < m → length whole ≡ n
-  whole_narrow narrow = ⊎_elim (λ long. omega (arith, whole_part (omega arith) long (omega arith))) (λ short. ap length (whole_short short)) (le_or_lt m n)
 
   -- The line is no longer than the whole line.
   pub line_le_whole : n ≤ length whole

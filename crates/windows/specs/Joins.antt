@@ -3,9 +3,7 @@
 --   can_join       whether the area can be filled: the ring has an edge, a window fits in the line, and the area has at least 2·m − 2 bytes
 --   join_used      how many bytes of the area windows may come from
 --   IsJoinFilled   the contract of `fill_join`
---   IsCopied       the contract of `copy_edges`
 use Rattle.std.specs.Prelude.{ℕ, ◌≡◌, Bool, cond, ◌&&◌, List, ltb, leb, length}
-use Rattle.lists.specs.Areas.{written_at}
 use Rattle.meaning.specs.Closed.{joined_with}
 use Rattle.findings.specs.ClosedRows.{join_bytes}
 
@@ -21,9 +19,3 @@ join_used m n joins = cond (can_join m n joins) (join_bytes m) 0
 pub record IsJoinFilled (line : List ℕ) (m : ℕ) (join : List ℕ) (r : ℕ) (out : List ℕ) : Type 0 where
   pub used_is : r ≡ join_used m (length line) (length join)
   pub filled : out ≡ cond (can_join m (length line) (length join)) (joined_with m line join) join
-
--- From here on: the contract of a private function.
-
--- The contract of `copy_edges`: the area at exit holds the edges from place `at` on; before them and behind them it is as it was.
-pub record IsCopied (edges : List ℕ) (at : ℕ) (join out : List ℕ) : Type 0 where
-  pub is : out ≡ written_at at edges join

@@ -4,6 +4,7 @@
 --
 --   window_at     the window at a place of the line or of the join area
 --   Parts, parts  the two parts that windows come from: the line and the join area
+--   parts_of      the parts that a `LineParts` lends
 --   crosses       whether a window crosses the line's end
 --   window_of     the window at a place, out of the part that applies
 --   whole_line,   the line, followed by the m − 1 edges that the join area adds to it; its length
@@ -13,6 +14,7 @@
 --   IsPart        the contract of `part`
 use Rattle.std.specs.Prelude.{ℕ, ◌+◌, ◌-◌, ◌≤◌, ◌≡◌, Bool, cond, ◌&&◌, List, [], ◌++◌, leb, ltb, length, take, drop}
 use Rattle.meaning.specs.Meanings.{window}
+use Rattle.windows.specs.declared.windows.LineParts.{LineParts}
 
 -- "Its window is the m edges from i." If m edges from i on do not fit, the window is empty.
 abbrev pub window_at : ℕ → List ℕ → ℕ → List ℕ
@@ -26,6 +28,10 @@ pub record Parts : Type 0 where
 -- A line and a join area, as the two parts.
 abbrev pub parts : List ℕ → List ℕ → Parts
 parts line join = record { line = line; join = join }
+
+-- The parts that the code's struct lends.
+abbrev pub parts_of : LineParts → Parts
+parts_of lent = parts lent.line.now lent.join.now
 
 -- Whether the window of m edges at i crosses the end of a line of n edges: it begins in the line, which has room for a window, but not at i.
 abbrev pub crosses : ℕ → ℕ → ℕ → Bool

@@ -1,20 +1,7 @@
 // The join area: the line's last m − 1 edges and its first m − 1, side by side, so that each window that crosses the
 // line's end stands in it in one piece. It is a copy, made before the search: no window is read and no edge compared, so
 // no look is taken.
-ghost use Rattle.std.specs.Prelude.{◌+◌, ◌≤◌, length};
-ghost use Rattle.windows.specs.Joins.{IsCopied, IsJoinFilled};
-
-// Copies the edges into the join area, from place `at` on.
-fn copy_edges(edges: &[u8], join: &mut [u8], at: usize)
-    requires { at + length edges.now ≤ length join.old }
-    ensures { IsCopied edges.now at join.old join.new }
-{
-    let mut q = 0;
-    while q < edges.len() {
-        join[at + q] = edges[q];
-        q += 1;
-    }
-}
+ghost use Rattle.windows.specs.Joins.{IsJoinFilled};
 
 // "The first 2·m − 2 bytes of the join area then hold the line's last m−1 edges and its first m−1" (document 02, ticket
 // 3). Returns how many bytes of the area windows may come from: 2·m − 2. If the ring has no edge, if no window fits in the
@@ -33,7 +20,7 @@ pub fn fill_join(line: &[u8], m: usize, join: &mut [u8]) -> usize
     if join.len() < ends + ends {
         return 0;
     }
-    copy_edges(&line[n - ends..], join, 0);
-    copy_edges(&line[0..ends], join, ends);
+    join[..ends].copy_from_slice(&line[n - ends..]);
+    join[ends..ends + ends].copy_from_slice(&line[..ends]);
     ends + ends
 }

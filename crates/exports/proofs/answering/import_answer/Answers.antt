@@ -1,17 +1,19 @@
 -- `exports::answering::import_answer` meets its contract: by the two cases of the answer, accepted and refused.
 use mathlib.Core.Path.{refl, ap}
 use native.Mathlib.Omega.{arith}
-use Rattle.vertices.specs.declared.importing.Imported.{Imported}
+use Prim.Native.Nat.{ℕ}
+use Rattle.std.specs.Prelude.{Result}
+use Rattle.answers.specs.declared.refusals.Refusal.{Refusal}
 use Rattle.vertices.specs.Importing.{paper_of as import_paper_of}
 use Rattle.exports.proofs.answering.import_answer.Goals as goal
 
 pub refused_answer-requires : goal.refused_answer-requires
-refused_answer-requires c = omega (arith, ap (λ (r : Imported). (import_paper_of r).place) c.in-Refused.is, c.requires)
+refused_answer-requires c = omega (arith, ap (λ (r : Result ℕ Refusal). (import_paper_of r).place) c.in-Err.is, c.requires)
 
 -- Accepted.
-pub returns-in-Edges : goal.returns-in-Edges
-returns-in-Edges c = rw c.in-Edges.is refl
+pub returns-in-Ok : goal.returns-in-Ok
+returns-in-Ok c = rw c.in-Ok.is refl
 
 -- Refused.
-pub returns-in-Refused : goal.returns-in-Refused
-returns-in-Refused c = rw c.in-Refused.is c.refused_answer.ensures
+pub returns-in-Err : goal.returns-in-Err
+returns-in-Err c = rw c.in-Err.is c.refused_answer.ensures

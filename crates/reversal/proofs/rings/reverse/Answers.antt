@@ -1,24 +1,49 @@
--- `reversal::rings::reverse` meets its contract. Before turn q the first q places have the reversed ring's edges, and the others 0 (`ReversedBelow`). The measure
--- is `length ring - q`. The loop ends where the ring ends, or where the array does.
-use mathlib.Core.Logic.{inl, inr}
+-- `reversal::rings::reverse` meets its contract. Before turn q the first q places have the reversed ring's edges, and the others 0 (`ReversedBelow`). The chain gives
+-- the ring's edges from the last on, at most 256 of them, each with its number (`last_first`).
+use mathlib.Core.Path.{ap, ◌∙◌}
 use native.Mathlib.Omega.{arith}
-use borrow.Author.Tests.{ltb-true, ltb-false}
+use Rattle.std.proofs.lemmas.Iterator.{YieldsList-from_take}
+use Rattle.std.proofs.lemmas.Iterator.Adapters.{YieldsList-from_rev_slice}
+use Rattle.std.proofs.lemmas.Iterator.Consumers.{YieldsList-turn, YieldsList-end, YieldsList-at, YieldsList-from_enumerate}
+use Rattle.std.proofs.lemmas.List.{length_push}
 use Rattle.lists.proofs.StoreLoop.{stored_start}
-use Rattle.reversal.proofs.ReversingLoop.{reversing_turn, reversing_end}
+use Rattle.reversal.proofs.ReversingLoop.{turn_is, reversing_turn, reversing_end}
 use Rattle.reversal.proofs.rings.reverse.Goals as goal
 
 pub loop-q-init : goal.loop-q-init
 loop-q-init c = stored_start
 
 pub bounds-codes-q : goal.bounds-codes-q
-bounds-codes-q c = omega (arith, ltb-true)
+bounds-codes-q c =
+    let chain = YieldsList-at c.into_iter-q-iterator.ensures.into_iter_gives
+    (YieldsList-from_enumerate
+    (YieldsList-at c.enumerate-q-items.ensures.source
+    (YieldsList-from_take 256
+    (YieldsList-at c.take.ensures.source (YieldsList-from_rev_slice c.args.ring.now (ap (λ s. s.rest.now) c.rev.ensures.source ∙ c.iter.ensures.rest)))
+    c.take.ensures.count))
+    c.enumerate-q-items.ensures.count) in
+    let turn = turn_is c.args.ring.now (YieldsList-turn chain c.loop-q.yielded _ c.loop-q.yielded_by _ _ (c.in-Some.q, c.in-Some.edge) c.in-Some.is c.next.ensures.steps) in
+    omega (arith, turn)
 
 pub loop-q-preserved : goal.loop-q-preserved
 loop-q-preserved c =
-    reversing_turn _ c.loop-q.invariant c.loop-q-test.true (omega (arith, ltb-true)) c.reversed_code.ensures (omega arith)
+    let chain = YieldsList-at c.into_iter-q-iterator.ensures.into_iter_gives
+    (YieldsList-from_enumerate
+    (YieldsList-at c.enumerate-q-items.ensures.source
+    (YieldsList-from_take 256
+    (YieldsList-at c.take.ensures.source (YieldsList-from_rev_slice c.args.ring.now (ap (λ s. s.rest.now) c.rev.ensures.source ∙ c.iter.ensures.rest)))
+    c.take.ensures.count))
+    c.enumerate-q-items.ensures.count) in
+    let turn = turn_is c.args.ring.now (YieldsList-turn chain c.loop-q.yielded _ c.loop-q.yielded_by _ _ (c.in-Some.q, c.in-Some.edge) c.in-Some.is c.next.ensures.steps) in
+    rw (length_push c.loop-q.yielded (c.in-Some.q, c.in-Some.edge)) (reversing_turn c.args.ring.now c.loop-q.invariant turn c.reversed_code.ensures)
 
-pub returns-else-q-lt-MOST_REVERSED : goal.returns-else-q-lt-MOST_REVERSED
-returns-else-q-lt-MOST_REVERSED c = reversing_end _ c.loop-q.invariant (inr (omega (arith, ltb-false)))
-
-pub returns-after-loop-q : goal.returns-after-loop-q
-returns-after-loop-q c = reversing_end _ c.loop-q.invariant (inl c.loop-q-test.false)
+pub returns : goal.returns
+returns c =
+    let chain = YieldsList-at c.into_iter-q-iterator.ensures.into_iter_gives
+    (YieldsList-from_enumerate
+    (YieldsList-at c.enumerate-q-items.ensures.source
+    (YieldsList-from_take 256
+    (YieldsList-at c.take.ensures.source (YieldsList-from_rev_slice c.args.ring.now (ap (λ s. s.rest.now) c.rev.ensures.source ∙ c.iter.ensures.rest)))
+    c.take.ensures.count))
+    c.enumerate-q-items.ensures.count) in
+    reversing_end c.args.ring.now c.loop-q.invariant (YieldsList-end chain c.loop-q.yielded _ c.loop-q.yielded_by _ _ c.in-None.is c.next.ensures.steps).1

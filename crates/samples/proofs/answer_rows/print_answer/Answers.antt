@@ -7,5 +7,5 @@ use Rattle.samples.proofs.answer_rows.print_answer.Goals as goal
 pub slice_bounds-text-end : goal.slice_bounds-text-end
 slice_bounds-text-end g c = answer_within c.answer-length.ensures
 
-pub slice_bounds-print_text-end : goal.slice_bounds-print_text-end
-slice_bounds-print_text-end g c = sym (length-take-le _ _ (answer_within c.answer-length.ensures))
+pub slice_bounds-write_all-end : goal.slice_bounds-write_all-end
+slice_bounds-write_all-end g c = sym (length-take-le _ _ (answer_within c.answer-length.ensures))

@@ -3,7 +3,7 @@
 use native.Mathlib.Omega.{arith}
 use mathlib.Core.Path.{◌∙◌}
 use Rattle.windows.proofs.WindowEdges.{none_behind, none_short, window_in_line, window_in_join}
-use Rattle.windows.proofs.windows.window.Goals as goal
+use Rattle.windows.proofs.windows.LineParts.window.Goals as goal
 
 -- The place is behind the line.
 pub returns-then-n-i : goal.returns-then-n-i
