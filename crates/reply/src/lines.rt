@@ -9,7 +9,8 @@ const HOLE: u8 = 0x23;
 
 impl Writer<'_> {
     // Puts a line by its form, such as `refused # place #` and LF: each `#` becomes the next number in decimal digits, and every
-    // other byte is put as it is. (No form here has more `#` than there are numbers; one too many would be 0.)
+    // other byte is put as it is. (No form here has more `#` than there are numbers; one too many would be 0. Why this is no format
+    // string of `write!`, `put_number` says.)
     pub fn put_line(&mut self, form: &[u8], numbers: &[usize])
         ensures { HasPut (filled form.now numbers.now) self.old self.new }
     {

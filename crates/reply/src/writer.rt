@@ -24,8 +24,8 @@ impl Writer<'_> {
         }
     }
 
-    // Puts a number in decimal digits without leading zeros. (`write!` says what it has written only where it returns `Ok`, and
-    // no clause of it says that it does.)
+    // Puts a number in decimal digits without leading zeros. (Not by `write!`, which says what it has written only where it returns
+    // `Ok`, and no clause says that it does; `answer` promises the bytes for every input.)
     pub fn put_number(&mut self, number: usize)
         ensures { HasPut (decimal number) self.old self.new }
     {
