@@ -13,7 +13,8 @@ use std::io::Read;
 const MOST_READ: usize = MOST_INPUT + 1;
 
 // Reads standard input to its end, or until `input` is full, and returns the number of bytes read. If a read fails, the rest of the
-// input is unknown: this returns 0, and the empty input is refused by 11 at place 0.
+// input is unknown: this returns 0, and the empty input is refused by 11 at place 0. (A loop, because std reads to an end into a
+// Vec alone, which needs a heap, and `read_exact` does not say how many bytes came.)
 fn read_input(reader: &mut impl Read, input: &mut [u8]) -> usize
     ensures { result ≤ length input.new }
 {

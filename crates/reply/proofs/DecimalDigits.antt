@@ -9,6 +9,8 @@ use native.Mathlib.Nat.{pow-suc}
 use native.Mathlib.Omega.{arith}
 use lib.ListN.{length, length-append}
 use borrow.Author.Tests.{lt-ltb, le-ltb}
+use Rattle.std.specs.Fmt.{decimal as printed}
+use Rattle.std.proofs.lemmas.Fmt.{decimal_from_appends, length-decimal-le_succ}
 use Rattle.lists.proofs.Cases.{le_or_lt}
 use Rattle.reply.specs.Decimal.{digit, digits_within, decimal}
 
@@ -45,6 +47,12 @@ pub decimal_more : (n : ℕ) → 10 ≤ n → decimal n ≡ decimal (n / 10) ++ 
 unfolding decimal
 decimal_more n h =
     within_more n n h ∙ ap (λ (l : List ℕ). l ++ digit (n % 10) ∷ []) (digits_enough n (suc (n / 10)) (n / 10) (omega arith) (omega arith))
+
+-- What the library prints of a number of 64 bits are these digits.
+pub decimal_printed : (n : ℕ) → n < 2 ^ 64 → printed n ≡ decimal n
+unfolding decimal
+decimal_printed n fits =
+    sym (decimal_from_appends digits_within (record { one = within_one; more = within_more }) (suc n) n fits (omega (arith, length-decimal-le_succ n fits)))
 
 -- A number below 10 to the power of c + 1 has at most c + 1 digits.
 pub decimal_length_le : (c n : ℕ) → n < 10 ^ suc c → length (decimal n) ≤ suc c

@@ -24,11 +24,16 @@ use Rattle.request.specs.Fields.{line_field}
 use Rattle.request.specs.Input.{Request}
 use Rattle.reply.specs.Lines.{first_line, last_line, refusal_line}
 use Rattle.reply.specs.Answering.{report_lines, lines_by, request_text}
-use Rattle.reply.specs.Writing.{lines_of_words, counts_of, most_text, most_finding_words, request}
+use Rattle.reply.specs.Writing.{lines_of_words, counts_of, most_text, most_finding_words}
 use Rattle.lists.proofs.Areas.{written_front, written_le}
 use Rattle.reply.proofs.RoomEnough.{refusal_same}
 use Rattle.reply.proofs.WordsOfFindings.{lines_of_findings}
 use Rattle.reply.proofs.TextRoom.{report_lines_le}
+
+-- The request of these numbers and bytes.
+abbrev request : ℕ → ℕ → ℕ → List ℕ → List ℕ → List ℕ → Request
+request cell ring_number allowance ring line book =
+    record { cell = cell; ring_number = ring_number; allowance = allowance; ring = ring; line = line; book = book }
 
 -- What an accepted report gives: the words of the shown findings lie in the lent words, the three pieces are the request's text, and the text fits the array.
 pub record Answered (q : Request) (found hid looks : ℕ) (words : List ℕ) : Type 0 where

@@ -2,15 +2,14 @@
 --
 --   Text, text_in                          a text being written
 --   put_byte, put_bytes                    bytes put one after the other while there is room
---   IsWritten                              the contract of a writer of bytes; it requires no room
---   IsText                                 the contract of a writer of a whole text; that there is room for it is shown once
+--   text_of, HasPut                        the text of a `Writer`; the contract of its methods, which require no room
+--   IsText                                 the contract of a function that writes a whole text; that there is room for it is shown once
 --   hole, filled                           a line's form with its numbers
 --   lines_of_words                         the lines of the words of findings
 --   counts_of                              the counts of a report of three numbers
 --   most_first_line, most_finding_line,    the most bytes of each line and of a text
 --   most_last_line, most_text
 --   most_finding_words                     words for a finding at each edge of the longest line
---   request                                the request of these numbers and bytes
 --   CanAnswer                              the precondition of `answer_request`
 use Rattle.std.specs.Prelude.{ℕ, ◌+◌, ◌*◌, ◌≤◌, ◌≡◌, cond, List, [], ◌∷◌, ◌++◌, ltb, eqb, length, get_or, drop, set}
 use Rattle.meaning.specs.Findings.{words_each}
@@ -18,7 +17,7 @@ use Rattle.lists.specs.Areas.{written}
 use Rattle.lists.specs.Records.{numbers_of_each, records_of}
 use Rattle.outlines.specs.Report.{ReportCounts}
 use Rattle.request.specs.Fields.{line_field}
-use Rattle.request.specs.Input.{Request}
+use Rattle.reply.specs.declared.writer.Writer.{Writer}
 use Rattle.reply.specs.Decimal.{decimal}
 use Rattle.reply.specs.Lines.{numbers_line}
 
@@ -42,11 +41,16 @@ unfoldable pub put_bytes : List ℕ → Text → Text
 put_bytes [] text = text
 put_bytes (byte ∷ bytes) text = put_bytes bytes (put_byte byte text)
 
--- The contract of a writer of these bytes: the area and the next offset at exit (`out`, `next`) are those at entry (`area`, `at`) after the bytes are put.
-pub record IsWritten (bytes area : List ℕ) (at : ℕ) (out : List ℕ) (next : ℕ) : Type 0 where
-  pub is : text_in out next ≡ put_bytes bytes (text_in area at)
+-- The text that a writer is writing.
+abbrev pub text_of : Writer → Text
+text_of writer = text_in writer.area.now writer.next
 
--- The contract of a writer of a whole text, of `long` bytes: the area at exit, `out`, begins with the text, and the bytes after the text keep their values.
+-- The contract of a method of `Writer` that puts these bytes: the text is as it was and the bytes put after it, and the area is the one that was lent.
+pub record HasPut (bytes : List ℕ) (old new : Writer) : Type 0 where
+  pub is : text_of new ≡ put_bytes bytes (text_of old)
+  pub same_area : new.area.ghost_name ≡ old.area.ghost_name
+
+-- The contract of a function that writes a whole text, of `long` bytes: the area at exit, `out`, begins with the text, and the bytes after the text keep their values.
 pub record IsText (text area : List ℕ) (long : ℕ) (out : List ℕ) : Type 0 where
   pub long_is : long ≡ length text
   pub written : out ≡ written text area
@@ -90,11 +94,6 @@ most_text = most_first_line + most_finding_line * line_field.most + most_last_li
 -- Words for a finding at each edge of the longest line.
 abbrev pub most_finding_words : ℕ
 most_finding_words = words_each * line_field.most
-
--- The request of these numbers and bytes.
-abbrev pub request : ℕ → ℕ → ℕ → List ℕ → List ℕ → List ℕ → Request
-request cell ring_number allowance ring line book =
-    record { cell = cell; ring_number = ring_number; allowance = allowance; ring = ring; line = line; book = book }
 
 -- The precondition of `answer_request`: the line has at most 4,096 edges, and there is room for every text.
 pub record CanAnswer (n room : ℕ) : Type 0 where

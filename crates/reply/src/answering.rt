@@ -1,13 +1,14 @@
 // From the bytes of the program's input to its text: reads the request, makes the report, writes its lines.
 ghost use Rattle.std.specs.Prelude.{length};
+ghost use Rattle.request.specs.RequestReading.{request_with};
 ghost use Rattle.reply.specs.Answering.{request_text, IsAnswered};
-ghost use Rattle.reply.specs.Writing.{request, CanAnswer, IsText};
+ghost use Rattle.reply.specs.Writing.{CanAnswer, IsText};
 
-use crate::lines::{put_finding_lines, put_line};
 use crate::refusing::put_refusal;
+use crate::writer::Writer;
 use findings::WORDS_EACH;
 use outlines::{Reported, report};
-use request::{MOST_LINE_BYTES, Requested, read_request};
+use request::{MOST_LINE_BYTES, Parts, read_request};
 
 // Words for a finding at each edge of the longest line. Row 4 never requires more.
 const MOST_FINDING_WORDS: usize = WORDS_EACH * MOST_LINE_BYTES;
@@ -26,18 +27,18 @@ const MOST_LAST_LINE: usize = 22 + (4 + 4 + 7);
 pub const MOST_TEXT: usize = MOST_FIRST_LINE + MOST_FINDING_LINE * MOST_LINE_BYTES + MOST_LAST_LINE;
 
 // Writes the text for a request and returns its length: the lines of the report, or the line of the report's refusal.
-fn answer_request(
-    cell: u32,
-    ring_number: u16,
-    allowance: usize,
-    ring: &[u8],
-    line: &[u8],
-    book: &[u8],
-    text: &mut [u8],
-) -> usize
-    requires { CanAnswer (length line.now) (length text.old) }
-    ensures { IsText (request_text (request cell ring_number allowance ring.now line.now book.now)) text.old result text.new }
+fn answer_request(parts: Parts, text: &mut [u8]) -> usize
+    requires { CanAnswer (length parts.line.now) (length text.old) }
+    ensures { IsText (request_text (request_with parts.entry)) text.old result text.new }
 {
+    let Parts {
+        cell,
+        ring_number,
+        allowance,
+        ring,
+        line,
+        book,
+    } = parts;
     let mut words = [0u32; MOST_FINDING_WORDS];
     match report(cell, ring_number, ring, line, allowance, book, &mut words) {
         Reported::Refused(refusal) => put_refusal(text, refusal),
@@ -46,12 +47,17 @@ fn answer_request(
             hidden,
             looks,
         } => {
-            let to = WORDS_EACH * (found - hidden);
+            let shown = WORDS_EACH * (found - hidden);
             let first = [cell as usize, ring_number as usize, ring.len(), allowance];
-            let findings_at = put_line(text, 0, b"cell # ring # edges # allow #\n", &first);
-            let last_at = put_finding_lines(text, findings_at, &words[..to]);
             let last = [found, hidden, looks];
-            put_line(text, last_at, b"found # hidden # looks #\n", &last)
+            let mut writer = Writer {
+                area: text,
+                next: 0,
+            };
+            writer.put_line(b"cell # ring # edges # allow #\n", &first);
+            writer.put_finding_lines(&words[..shown]);
+            writer.put_line(b"found # hidden # looks #\n", &last);
+            writer.next
         }
     }
 }
@@ -61,22 +67,7 @@ pub fn answer(input: &[u8], text: &mut [u8; MOST_TEXT]) -> usize
     ensures { IsAnswered input.now text.old result text.new }
 {
     match read_request(input) {
-        Requested::Refused(refusal) => put_refusal(text, refusal),
-        Requested::Parts(parts) => {
-            // The kit cuts a slice at local variables only, not at fields.
-            let ring_from = parts.ring_from;
-            let ring_to = parts.ring_to;
-            let line_from = parts.line_from;
-            let line_to = parts.line_to;
-            answer_request(
-                parts.cell,
-                parts.ring_number,
-                parts.allowance,
-                &input[ring_from..ring_to],
-                &input[line_from..line_to],
-                &input[line_to..],
-                text,
-            )
-        }
+        Err(fault) => put_refusal(text, fault),
+        Ok(parts) => answer_request(parts, text),
     }
 }

@@ -5,10 +5,9 @@
 #![tactic(auto)]
 
 mod answering;
-mod bytes;
-mod digits;
 mod lines;
 mod refusing;
+mod writer;
 
 pub use answering::{MOST_TEXT, answer};
 pub use request::MOST_INPUT;

@@ -25,7 +25,7 @@ use Rattle.request.proofs.FieldStands.{field_iff}
 use Rattle.request.proofs.RequestRead.{number_of_field}
 use Rattle.request.proofs.LaidDownRead.{laid, laid_down_read}
 
-module _ (input : List ℕ) (is_bytes : IsBytes input) where
+module _ (input : List ℕ) where
   -- where no field is faulty, the first stands, and none after it is faulty
   first_stands : (kind : FieldKind) (kinds : List FieldKind) (at : ℕ) → first_fault (kind ∷ kinds) input at ≡ None
       → IsFieldAt kind input at × (first_fault kinds input (next_at input at) ≡ None)
@@ -37,12 +37,33 @@ module _ (input : List ℕ) (is_bytes : IsBytes input) where
       go true stands e = ((field_iff kind input at).0 stands, e)
       go false missing e = absurd (let z : ◌≡◌ {A = ℕ} 0 1 = cc in omega arith)
 
+  -- the value of a field has at most the kind's most bytes
+  value_le : {kind : FieldKind} {at : ℕ} → IsFieldAt kind input at → length (value_at input at) ≤ kind.most
+  value_le {kind} {at} f = omega (arith, f.most_le, length-take (next_at input at - (at + head_length)) (drop (at + head_length) input))
+
+  -- The line of a request that is read has at most 4,096 edges.
+  pub line_at_most : {q : Request} → request_of input ≡ accepted q → length q.line ≤ line_field.most
+  unfolding request_of input_fault parts_from
+  line_at_most {q} h = go (ltb most_input (length input)) (first_fault input_fields input 0) refl h
+    where
+      go : (t : Bool) (o : Option ℕ) → first_fault input_fields input 0 ≡ o → request_by input (cond t (Some 0) o) ≡ accepted q → length q.line ≤ line_field.most
+      go true o e h = absurd (accepted_not_refused h refl)
+      go false (Some place) e h = absurd (accepted_not_refused h refl)
+      go false None e h =
+          let cell = first_stands cell_field _ 0 e in
+          let ring_number = first_stands ring_number_field _ _ cell.1 in
+          let allowance = first_stands allowance_field _ _ ring_number.1 in
+          let ring = first_stands ring_field _ _ allowance.1 in
+          let line = first_stands line_field _ _ ring.1 in
+          subst (λ (p : Request). length p.line ≤ line_field.most) (accepted_unique refl h) (value_le line.0)
+
+module _ (input : List ℕ) (is_bytes : IsBytes input) where
   -- the bytes from `at` on are the fields read, laid down, and the book after them
   read_laid : (kinds : List FieldKind) (at : ℕ) → first_fault kinds input at ≡ None → drop at input ≡ laid kinds (parts_from kinds input at)
   unfolding parts_from
   read_laid [] at e = refl
   read_laid (kind ∷ kinds) at e =
-      let first = first_stands kind kinds at e in
+      let first = first_stands input kind kinds at e in
       let long : ℕ = next_at input at - (at + head_length) in
       let ends : field_end at long ≡ next_at input at = omega arith in
       field_then input is_bytes at long (omega arith) (omega (arith, first.0.not_cut))
@@ -62,20 +83,16 @@ module _ (input : List ℕ) (is_bytes : IsBytes input) where
   number_lt : {at tag : ℕ} (count : ℕ) → IsFieldAt (record { tag = tag; least = count; most = count }) input at → number_in (value_at input at) < 256 ^ count
   number_lt {at} count f = rw (number_of_field count f) (number_at_lt input is_bytes count (at + head_length))
 
-  -- the value of a field has at most the kind's most bytes
-  value_le : {kind : FieldKind} {at : ℕ} → IsFieldAt kind input at → length (value_at input at) ≤ kind.most
-  value_le {kind} {at} f = omega (arith, f.most_le, length-take (next_at input at - (at + head_length)) (drop (at + head_length) input))
-
   -- where no field is faulty, the input is its request laid down, and that request can be laid down
   parts_laid_down : length input ≤ most_input → first_fault input_fields input 0 ≡ None
       → (input ≡ laid_down (request_of_parts (parts_from input_fields input 0))) × CanLayDown (request_of_parts (parts_from input_fields input 0))
   unfolding laid_down parts_from
   parts_laid_down short e =
-      let cell = first_stands cell_field _ 0 e in
-      let ring_number = first_stands ring_number_field _ _ cell.1 in
-      let allowance = first_stands allowance_field _ _ ring_number.1 in
-      let ring = first_stands ring_field _ _ allowance.1 in
-      let line = first_stands line_field _ _ ring.1 in
+      let cell = first_stands input cell_field _ 0 e in
+      let ring_number = first_stands input ring_number_field _ _ cell.1 in
+      let allowance = first_stands input allowance_field _ _ ring_number.1 in
+      let ring = first_stands input ring_field _ _ allowance.1 in
+      let line = first_stands input line_field _ _ ring.1 in
       let ring_at : ℕ = next_at input (next_at input (next_at input 0)) in
       let line_at : ℕ = next_at input ring_at in
       let whole : input ≡ laid_down (request_of_parts (parts_from input_fields input 0)) =
@@ -86,8 +103,8 @@ module _ (input : List ℕ) (is_bytes : IsBytes input) where
           cell_lt = number_lt 4 cell.0;
           ring_number_lt = number_lt 2 ring_number.0;
           allowance_lt = number_lt 1 allowance.0;
-          ring_le = value_le ring.0;
-          line_le = value_le line.0;
+          ring_le = value_le input ring.0;
+          line_le = value_le input line.0;
           whole_le = omega (arith, ap length whole);
         },
       )

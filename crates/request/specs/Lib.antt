@@ -1,5 +1,5 @@
 -- Reading the report program's input. Fields, Input and RowEleven state document 01. RequestReading is the contract of `read_request`, Parsing that of the
--- private function that reads one field.
+-- private method that reads one field.
 pub mod Fields
 pub mod Input
 pub mod RowEleven

@@ -6,4 +6,4 @@
 mod field;
 mod reading;
 
-pub use reading::{MOST_INPUT, MOST_LINE_BYTES, Parts, Requested, read_request};
+pub use reading::{MOST_INPUT, MOST_LINE_BYTES, Parts, read_request};

@@ -1,7 +1,7 @@
 // Reads the request that the program's input holds: the five fields in their order, and then the book.
 ghost use Rattle.request.specs.RequestReading.{IsRequestRead};
 
-use crate::field::{FieldKind, ReadTo, past_field};
+use crate::field::FieldKind;
 use answers::Refusal;
 use fields::{HEAD_LENGTH, number_at};
 
@@ -55,51 +55,36 @@ const LINE: FieldKind = FieldKind {
     most: MOST_LINE_BYTES,
 };
 
-// A request by its numbers and its byte offsets in the input. The ring is the bytes from `ring_from` up to `ring_to`, the line
-// those from `line_from` up to `line_to`, and the book all bytes from `line_to` on.
+// The parts of a request: its numbers, and its ring, line and book as they lie in the input.
 #[derive(Clone, Copy)]
-pub struct Parts {
+pub struct Parts<'a> {
     pub cell: u32,
     pub ring_number: u16,
     pub allowance: usize,
-    pub ring_from: usize,
-    pub ring_to: usize,
-    pub line_from: usize,
-    pub line_to: usize,
-}
-
-// What `read_request` returns: the parts of a request, or refusal 11.
-#[derive(Clone, Copy)]
-pub enum Requested {
-    Parts(Parts),
-    Refused(Refusal),
+    pub ring: &'a [u8],
+    pub line: &'a [u8],
+    pub book: &'a [u8],
 }
 
 // "a longer input is refusal 11, place 0, and is tested first". Then the five fields are read in their order. The first that is
-// missing, cut, wrongly tagged or wrongly long gives refusal 11, at the offset where it begins or should begin. `past_field` keeps
-// a fault that was found before, so one test after the last field is enough.
-pub fn read_request(input: &[u8]) -> Requested
+// missing, cut, wrongly tagged or wrongly long gives refusal 11, at the offset where it begins or should begin.
+pub fn read_request(input: &[u8]) -> Result<Parts<'_>, Refusal>
     ensures { IsRequestRead input.now result }
 {
-    let start = ReadTo {
-        next: 0,
-        faulty: MOST_INPUT < input.len(),
-    };
-    let cell = past_field(input, start, CELL);
-    let ring_number = past_field(input, cell, RING_NUMBER);
-    let allowance = past_field(input, ring_number, ALLOWANCE);
-    let ring = past_field(input, allowance, RING);
-    let line = past_field(input, ring, LINE);
-    if line.faulty {
-        return Requested::Refused(Refusal::Input(line.next));
+    if MOST_INPUT < input.len() {
+        return Err(Refusal::Input(0));
     }
-    Requested::Parts(Parts {
+    let cell_end = CELL.end(input, 0)?;
+    let ring_number_end = RING_NUMBER.end(input, cell_end)?;
+    let allowance_end = ALLOWANCE.end(input, ring_number_end)?;
+    let ring_end = RING.end(input, allowance_end)?;
+    let line_end = LINE.end(input, ring_end)?;
+    Ok(Parts {
         cell: number_at(input, HEAD_LENGTH, CELL_BYTES),
-        ring_number: number_at(input, cell.next + HEAD_LENGTH, RING_NUMBER_BYTES) as u16,
-        allowance: number_at(input, ring_number.next + HEAD_LENGTH, ALLOWANCE_BYTES) as usize,
-        ring_from: allowance.next + HEAD_LENGTH,
-        ring_to: ring.next,
-        line_from: ring.next + HEAD_LENGTH,
-        line_to: line.next,
+        ring_number: number_at(input, cell_end + HEAD_LENGTH, RING_NUMBER_BYTES) as u16,
+        allowance: number_at(input, ring_number_end + HEAD_LENGTH, ALLOWANCE_BYTES) as usize,
+        ring: &input[allowance_end + HEAD_LENGTH..ring_end],
+        line: &input[ring_end + HEAD_LENGTH..line_end],
+        book: &input[line_end..],
     })
 }

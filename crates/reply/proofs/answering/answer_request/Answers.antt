@@ -1,23 +1,23 @@
 -- `reply::answering::answer_request` meets its contract. A refusal of the report is one line. Counts give three pieces of text, put one after the other
 -- (`Answered`), and there is room for them.
-use mathlib.Core.Path.{sym}
+use mathlib.Core.Path.{refl, sym}
 use native.Mathlib.Omega.{arith}
 use lib.Seq.{length-take-le}
 use Rattle.lists.specs.Texts.{ascii}
 use Rattle.reply.specs.Lines.{first_line, last_line}
-use Rattle.reply.specs.Writing.{filled}
-use Rattle.reply.proofs.TextWritten.{written_then, written_same, text_stands, text_same}
+use Rattle.reply.specs.Writing.{filled, HasPut}
+use Rattle.reply.proofs.TextWritten.{put_then, put_same, text_stands, text_same, text_ends}
 use Rattle.reply.proofs.RequestAnswered.{Answered, refused_text, counted_text}
 use borrow.Author.Rules.{rules}
 use Rattle.reply.proofs.answering.answer_request.Goals as goal
 
-pub overflow_sub-to : goal.overflow_sub-to
-overflow_sub-to c =
+pub overflow_sub-shown : goal.overflow_sub-shown
+overflow_sub-shown c =
     let counted : Answered _ _ _ _ _ = counted_text c.report.ensures c.requires.line_le (search rules) (omega arith) (omega arith) c.in-Counts.is in
     counted.hidden_le
 
-pub overflow_mul-to : goal.overflow_mul-to
-overflow_mul-to c =
+pub overflow_mul-shown : goal.overflow_mul-shown
+overflow_mul-shown c =
     let counted : Answered _ _ _ _ _ = counted_text c.report.ensures c.requires.line_le (search rules) (omega arith) (omega arith) c.in-Counts.is in
     omega (arith, counted.words_le)
 
@@ -41,6 +41,6 @@ pub returns-in-Counts : goal.returns-in-Counts
 unfolding ascii filled first_line last_line
 returns-in-Counts c =
     let counted : Answered _ _ _ _ _ = counted_text c.report.ensures c.requires.line_le (search rules) (omega arith) (omega arith) c.in-Counts.is in
-    text_stands (omega (arith, counted.length_le, c.requires.room_for))
-    (written_same counted.pieces
-    (written_then c.put_line-findings_at.ensures (written_then c.put_finding_lines-last_at.ensures c.put_line.ensures)))
+    let whole : HasPut _ _ _ = put_then c.put_line.ensures (put_then c.put_finding_lines.ensures c.put_line-in-Counts.ensures) in
+    let same_area = whole.same_area in
+    text_ends (search rules) (text_stands refl (omega (arith, counted.length_le, c.requires.room_for)) (put_same counted.pieces whole))
