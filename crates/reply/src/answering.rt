@@ -6,7 +6,7 @@ ghost use Rattle.reply.specs.Writing.{request, CanAnswer, IsText};
 use crate::lines::{put_finding_lines, put_line};
 use crate::refusing::put_refusal;
 use findings::WORDS_EACH;
-use outlines::{Reported, report};
+use outlines::report;
 use request::{MOST_LINE_BYTES, Requested, read_request};
 
 // Words for a finding at each edge of the longest line. Row 4 never requires more.
@@ -40,17 +40,13 @@ fn answer_request(
 {
     let mut words = [0u32; MOST_FINDING_WORDS];
     match report(cell, ring_number, ring, line, allowance, book, &mut words) {
-        Reported::Refused(refusal) => put_refusal(text, refusal),
-        Reported::Counts {
-            found,
-            hidden,
-            looks,
-        } => {
-            let to = WORDS_EACH * (found - hidden);
+        Err(refusal) => put_refusal(text, refusal),
+        Ok(counts) => {
+            let to = WORDS_EACH * (counts.found - counts.hidden);
             let first = [cell as usize, ring_number as usize, ring.len(), allowance];
             let findings_at = put_line(text, 0, b"cell # ring # edges # allow #\n", &first);
             let last_at = put_finding_lines(text, findings_at, &words[..to]);
-            let last = [found, hidden, looks];
+            let last = [counts.found, counts.hidden, counts.looks];
             put_line(text, last_at, b"found # hidden # looks #\n", &last)
         }
     }

@@ -12,11 +12,11 @@ paper number place = record { number = number; place = place; counts = no_report
 
 -- the number fits
 pub overflow_cast-result : goal.overflow_cast-result
-overflow_cast-result c = omega (arith, c.number_of-number.ensures.is, number_in c.args.refusal)
+overflow_cast-result c = omega (arith, c.number-number.ensures.is, number_in c.args.refusal)
 
 -- the place fits
 pub overflow_cast-result-2 : goal.overflow_cast-result-2
-overflow_cast-result-2 c = omega (arith, c.place_of-place.ensures.is, c.requires)
+overflow_cast-result-2 c = omega (arith, c.place-place.ensures.is, c.requires)
 
 pub returns : goal.returns
-returns c = ap₂ paper c.number_of-number.ensures.is c.place_of-place.ensures.is
+returns c = ap₂ paper c.number-number.ensures.is c.place-place.ensures.is
