@@ -3,7 +3,8 @@
 use Prim.Native.Nat.{ℕ, suc, ◌<◌, ◌^◌}
 use mathlib.Core.Path.{◌≡◌, refl, ap, ◌∙◌}
 use mathlib.Core.List.{List}
-use Rattle.std.specs.Prelude.{Option, None, Some, Result}
+use Rattle.std.specs.Prelude.{Result, Ok, Err, MatchResult, IsOkAnd}
+use Rattle.std.specs.Prelude.{Option, None, Some}
 use native.Mathlib.Omega.{arith}
 use lib.IntN.{ℤ}
 use lib.ListN.{length}
@@ -14,7 +15,7 @@ use Rattle.answers.specs.Paper.{Paper, answer_paper}
 use Rattle.answers.specs.Rows.{first_given, answer_by}
 use Rattle.book.specs.Calls.{paper_of as book_paper_of, IsUnpacked}
 use Rattle.packing.specs.Calls.{IsPacked}
-use Rattle.findings.specs.declared.searching.Searched.{Searched}
+use Rattle.findings.specs.declared.searching.SearchCounts.{SearchCounts}
 use Rattle.findings.specs.Admitting.{admit_rows}
 use Rattle.findings.specs.Searching.{paper_of as search_paper_of, IsSearched}
 use Rattle.findings.specs.ClosedRows.{closed_rows}
@@ -23,10 +24,10 @@ use Rattle.findings.proofs.AdmitRows.{row_places}
 use Rattle.findings.proofs.ClosedAdmitRows.{closed_row_places}
 use Rattle.findings.proofs.RowsOfSearching.{rows_of_search}
 use Rattle.findings.proofs.RowsOfClosedSearching.{rows_of_closed_search}
-use Rattle.outlines.specs.declared.reporting.Reported.{Reported}
+use Rattle.outlines.specs.declared.quick.ReportCounts.{ReportCounts as ReportCountsStruct}
 use Rattle.outlines.specs.Report.{ReportCounts, paper_of as report_paper_of, IsReported}
 use Rattle.outlines.specs.ClosedReport.{IsClosedReported}
-use Rattle.two_way.specs.declared.passes.TwoWay.{TwoWay}
+use Rattle.two_way.specs.declared.passes.TwoWayCounts.{TwoWayCounts as TwoWayCountsStruct}
 use Rattle.two_way.specs.Admitting.{two_way_rows}
 use Rattle.two_way.specs.TwoWay.{no_two_way_counts, two_way_counts, two_way_answer, paper_of as two_way_scan_paper_of, IsScannedTwoWay}
 use Rattle.two_way.proofs.TwoWayAdmitRows.{two_way_row_places}
@@ -34,7 +35,7 @@ use Rattle.vertices.specs.Boundary.{vertex_count}
 use Rattle.vertices.specs.Importing.{import_rows, import_answer, paper_of as import_paper_of, IsImported}
 use Rattle.vertices.proofs.RowsOfImport.{import_row_places}
 use Rattle.exports.specs.declared.answering.Answer.{Answer as AnswerStruct}
-use Rattle.exports.specs.Exported.{paper_of, paper_in_struct, IsExported, IsClosedExported}
+use Rattle.exports.specs.Exported.{paper_of, search_in_struct, paper_in_struct, IsExported, IsClosedExported}
 use Rattle.exports.proofs.BookPlaces.{packed_place_le, unpacked_place_le}
 use Rattle.exports.proofs.ReportPlaces.{report_place_le}
 
@@ -49,12 +50,12 @@ place_lt zeros counts None each = omega arith
 place_lt zeros counts (Some q) each = each q refl
 
 -- A place of `survey` or `scan` fits 32 bits: it is 0.
-pub search_place : {ring line : List ℕ} {k looks : ℕ} {words out : List ℕ} {r : Searched}
+pub search_place : {ring line : List ℕ} {k looks : ℕ} {words out : List ℕ} {r : Result SearchCounts Refusal}
     → IsSearched (admit_rows ring k (length line) (length words)) ring line k looks words r out → (search_paper_of r).place < 2 ^ 32
 search_place h = omega (arith, (rows_of_search h).place_is)
 
 -- A place of `report` fits 32 bits.
-pub report_place : {cell ring_number : ℕ} {ring line : List ℕ} {k : ℕ} {book words out : List ℕ} {r : Reported}
+pub report_place : {cell ring_number : ℕ} {ring line : List ℕ} {k : ℕ} {book words out : List ℕ} {r : Result ReportCountsStruct Refusal}
     → IsReported cell ring_number ring line k book words r out → (report_paper_of r).place < 2 ^ 32
 report_place {cell} {ring_number} {ring} {line} {k} {book} {words} h =
     let n = length line in
@@ -62,12 +63,12 @@ report_place {cell} {ring_number} {ring} {line} {k} {book} {words} h =
     omega (arith, place_is h.paper, report_place_le (admit_rows ring k n room) (row_places ring k n room) ring line k cell ring_number book)
 
 -- A place of `survey_closed` or `scan_closed` fits 32 bits: it is 0.
-pub closed_search_place : {ring line : List ℕ} {k looks : ℕ} {join words joined out : List ℕ} {r : Searched}
+pub closed_search_place : {ring line : List ℕ} {k looks : ℕ} {join words joined out : List ℕ} {r : Result SearchCounts Refusal}
     → IsClosedSearched ring line k looks join words r joined out → (search_paper_of r).place < 2 ^ 32
 closed_search_place h = omega (arith, (rows_of_closed_search h).place_is)
 
 -- A place of `report_closed` fits 32 bits.
-pub closed_report_place : {cell ring_number : ℕ} {ring line : List ℕ} {k : ℕ} {book join words joined out : List ℕ} {r : Reported}
+pub closed_report_place : {cell ring_number : ℕ} {ring line : List ℕ} {k : ℕ} {book join words joined out : List ℕ} {r : Result ReportCountsStruct Refusal}
     → IsClosedReported cell ring_number ring line k book join words r joined out → (report_paper_of r).place < 2 ^ 32
 closed_report_place {cell} {ring_number} {ring} {line} {k} {book} {join} {words} h =
     let n = length line in
@@ -80,7 +81,7 @@ closed_report_place {cell} {ring_number} {ring} {line} {k} {book} {join} {words}
     )
 
 -- A place of `scan_two_way` fits 32 bits: it is 0, or a place of a ring of at most 256 edges.
-pub two_way_place : {ring line : List ℕ} {k : ℕ} {words out : List ℕ} {r : TwoWay} → IsScannedTwoWay ring line k words r out → (two_way_scan_paper_of r).place < 2 ^ 32
+pub two_way_place : {ring line : List ℕ} {k : ℕ} {words out : List ℕ} {r : Result TwoWayCountsStruct Refusal} → IsScannedTwoWay ring line k words r out → (two_way_scan_paper_of r).place < 2 ^ 32
 unfolding two_way_answer
 two_way_place {ring} {line} {k} {words} h =
     let n = length line in
@@ -115,3 +116,12 @@ passed_on held paper written e = record { paper = e ∙ ap (paper_in_struct held
 pub closed_passed_on : {C : Type 0} (held : C → ReportCounts) {p q : Paper C} {words join joined out : List ℕ} {a : AnswerStruct} → p ≡ q → out ≡ words → joined ≡ join
     → paper_of a ≡ paper_in_struct held p → IsClosedExported (paper_in_struct held q) words join a joined out
 closed_passed_on held paper written joined_is e = record { paper = e ∙ ap (paper_in_struct held) paper; written = written; joined_is = joined_is }
+
+-- If found and looks become a report's counts with hidden 0, and a refusal stays, then the report's paper is the search's, as the struct holds it.
+pub nothing_hidden : {Q : SearchCounts → ReportCountsStruct → Type 0} (s : Result SearchCounts Refusal) (r : Result ReportCountsStruct Refusal)
+    → MatchResult s (λ x. IsOkAnd r (Q x)) (λ e. r ≡ Err e)
+    → ((x : SearchCounts) (y : ReportCountsStruct) → Q x y → y ≡ record { found = x.found; hidden = 0; looks = x.looks })
+    → report_paper_of r ≡ paper_in_struct search_in_struct (search_paper_of s)
+nothing_hidden (Ok x) (Ok y) is told = rw (told x y is)
+nothing_hidden (Ok x) (Err e) is told = absurd is
+nothing_hidden (Err e) r is told = rw is

@@ -9,7 +9,7 @@ ghost use Rattle.vertices.specs.Importing.{paper_of as import_paper_of};
 ghost use Rattle.exports.specs.Exported.{paper_of, search_in_struct, one_count_in_struct, paper_in_struct};
 
 use answers::Refusal;
-use outlines::{Reported, Searched};
+use outlines::{ReportCounts, SearchCounts};
 
 // What every exported call but the two-way scan returns. `refusal` is 0 where the call is accepted. A count that a call does
 // not have is 0; pack and unpack return the number of records in `found`, the import of vertices the number of edges.
@@ -39,42 +39,33 @@ pub fn refused_answer(refusal: Refusal) -> Answer
     }
 }
 
-// The answer of survey and scan.
-pub fn search_answer(searched: Searched) -> Answer
-    requires { (search_paper_of searched).place < 2 ^ 32 }
-    ensures { paper_of result ≡ paper_in_struct search_in_struct (search_paper_of searched) }
-{
-    match searched {
-        Searched::Counts { found, looks } => Answer {
-            refusal: 0,
-            place: 0,
-            found: found as u64,
-            hidden: 0,
-            looks: looks as u64,
-        },
-        Searched::Refused(refusal) => refused_answer(refusal),
-    }
-}
-
 // The answer of the report.
-pub fn report_answer(reported: Reported) -> Answer
+pub fn report_answer(reported: Result<ReportCounts, Refusal>) -> Answer
     requires { (report_paper_of reported).place < 2 ^ 32 }
     ensures { paper_of result ≡ report_paper_of reported }
 {
     match reported {
-        Reported::Counts {
-            found,
-            hidden,
-            looks,
-        } => Answer {
+        Ok(counts) => Answer {
             refusal: 0,
             place: 0,
-            found: found as u64,
-            hidden: hidden as u64,
-            looks: looks as u64,
+            found: counts.found as u64,
+            hidden: counts.hidden as u64,
+            looks: counts.looks as u64,
         },
-        Reported::Refused(refusal) => refused_answer(refusal),
+        Err(refusal) => refused_answer(refusal),
     }
+}
+
+// The answer of survey and scan: that of a report which hides nothing.
+pub fn search_answer(searched: Result<SearchCounts, Refusal>) -> Answer
+    requires { (search_paper_of searched).place < 2 ^ 32 }
+    ensures { paper_of result ≡ paper_in_struct search_in_struct (search_paper_of searched) }
+{
+    report_answer(searched.map(|counts| ReportCounts {
+        found: counts.found,
+        hidden: 0,
+        looks: counts.looks,
+    }))
 }
 
 // The answer of pack and unpack.

@@ -4,7 +4,8 @@ ghost use Rattle.two_way.specs.TwoWay.{paper_of as two_way_scan_paper_of};
 ghost use Rattle.exports.specs.Exported.{two_way_paper_of, IsTwoWayExported};
 
 use crate::answering::refused_answer;
-use two_way::{TwoWay, scan_two_way};
+use answers::Refusal;
+use two_way::{TwoWayCounts, scan_two_way};
 
 // What `outlines_scan_two_way` returns: six numbers, in C's layout. `refusal` is 0 where the call is accepted. The forward
 // pass is the quick scan for the ring, the backward pass that for the reversed ring.
@@ -20,12 +21,12 @@ pub struct TwoWayAnswer {
 }
 
 // The answer of the two-way scan.
-fn two_way_answer(scanned: TwoWay) -> TwoWayAnswer
+fn two_way_answer(scanned: Result<TwoWayCounts, Refusal>) -> TwoWayAnswer
     requires { (two_way_scan_paper_of scanned).place < 2 ^ 32 }
     ensures { two_way_paper_of result ≡ two_way_scan_paper_of scanned }
 {
     match scanned {
-        TwoWay::Counts { forward, backward } => TwoWayAnswer {
+        Ok(TwoWayCounts { forward, backward }) => TwoWayAnswer {
             refusal: 0,
             place: 0,
             forward_found: forward.found as u64,
@@ -33,7 +34,7 @@ fn two_way_answer(scanned: TwoWay) -> TwoWayAnswer
             backward_found: backward.found as u64,
             backward_looks: backward.looks as u64,
         },
-        TwoWay::Refused(refusal) => {
+        Err(refusal) => {
             let refused = refused_answer(refusal);
             TwoWayAnswer {
                 refusal: refused.refusal,

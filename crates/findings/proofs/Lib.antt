@@ -2,15 +2,15 @@
 -- them; each stands in a folder with the function's name: marks/is_mark, marks/holds_mark, admitting/admit_ring, admitting/within_limits,
 -- admitting/admit, closed/admit_closed, putting/can_put, putting/put_words, putting/put_finding.
 --
--- The loop that seeks a mark.
-pub mod MarkLoop
+-- Seeking a mark.
+pub mod MarkSought
 -- Rows 1, 12, 2, 3, 4, and on a closed line 10: when each is the first that is given; and that without a mark they are document 01's.
 pub mod LimitRows
 pub mod AdmitRows
 pub mod ClosedAdmitRows
 pub mod RowsUnmarked
--- What a verdict says about the rows; an accepted call is within the limits of a search.
-pub mod VerdictTold
+-- What a `?` returns for a refusal; an accepted call is within the limits of a search.
+pub mod Returned
 pub mod WithinLimits
 -- A finding's words in the lent words.
 pub mod WordsPut

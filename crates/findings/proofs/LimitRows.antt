@@ -3,11 +3,12 @@
 -- holds and no row before it is given. Behind rows 1, 12 and 2 stand the call's own rows (`own`), such as rows 3 and 4, which have other numbers and change
 -- none of this (`ring_row_iff`).
 use Prim.Native.Nat.{ℕ, ◌≤◌, ◌<◌}
-use mathlib.Core.Path.{◌≡◌, refl, sym, ap, ◌∙◌}
+use mathlib.Core.Path.{◌≡◌, refl, sym, ◌∙◌}
 use mathlib.Core.Bool.{Bool, false, ◌&&◌, false≢true}
 use mathlib.Core.Logic.{◌↔◌, ◌⊎◌, inl, inr, ⊎_elim}
 use mathlib.Core.List.{List, ◌++◌}
 use Rattle.std.specs.Prelude.{Option, None, Some}
+use Rattle.std.specs.Prelude.{Ok, Err}
 use native.Mathlib.Omega.{arith}
 use lib.Dec.{leb, ltb}
 use lib.ListN.{length}
@@ -20,9 +21,7 @@ use Rattle.answers.specs.Refusals.{number_of}
 use Rattle.answers.specs.Rows.{row, first_given}
 use Rattle.answers.proofs.FirstRow.{first_append_some}
 use Rattle.answers.proofs.RowsExactly.{FirstExactly, NoneExactly, IsRow, is_row, EachRow, end, row_has, first_has, at_row, past_row, no_row, no_last_row, early_iff}
-use Rattle.findings.specs.declared.admitting.Verdict.{Verdict}
-use Rattle.findings.specs.declared.admitting.Verdict.TheVariants.{Accepted}
-use Rattle.findings.specs.Admitting.{most_ring, most_line, is_row1, is_row12, is_row2, is_row3, ring_rows, limit_rows, IsRingLength, verdict_of, IsVerdict}
+use Rattle.findings.specs.Admitting.{most_ring, most_line, is_row1, is_row12, is_row2, is_row3, ring_rows, limit_rows, IsRingLength, IsVerdict}
 
 -- If the answer to whether the ring holds a mark is false, it holds none.
 pub unmarked : {ring : List ℕ} {marked : Bool} → marked ≡ holds_mark ring → marked ≡ false → HoldsMark ring → ⊥
@@ -35,9 +34,9 @@ pub record IsOwnRow (q : Refusal) : Type 0 where
   pub not_2 : number_of q ≡ 2 → ⊥
 
 -- A verdict that refuses by the first of some rows is the verdict of these rows and any behind them.
-pub refused_early : {first : List (Option Refusal)} (own : List (Option Refusal)) {r : Verdict} {refusal : Refusal} → IsVerdict first r → verdict_of r ≡ Some refusal
-    → IsVerdict (first ++ own) r
-refused_early {first} own is refuses = record { is = refuses ∙ sym (first_append_some first own (sym is.is ∙ refuses)) }
+pub refused_early : {first : List (Option Refusal)} (own : List (Option Refusal)) {refusal : Refusal} → IsVerdict first (Err refusal)
+    → IsVerdict (first ++ own) (Err refusal)
+refused_early {first} own is = record { is = sym (first_append_some first own (sym is.is)) }
 
 -- A row for too little room, in words or bytes, is given exactly when n ≥ m and less is lent than required, and not given exactly when n ≥ m implies enough.
 pub is_room_row : (m n lent required : ℕ) (refusal : Refusal)
@@ -95,8 +94,8 @@ module _ (ring : List ℕ) (k : ℕ) where
   no_ring_iff = (no_row is_row_1 (no_row is_row_12 (no_last_row is_row_2))).exactly
 
   -- If the verdict on the three accepts, none of them is given.
-  pub within_ring : {r : Verdict} → IsVerdict (ring_rows ring k) r → r ≡ Accepted → IsRingLength m × ((HoldsMark ring → ⊥) × (k < m))
-  within_ring is accepts = no_ring_iff.0 (sym is.is ∙ ap verdict_of accepts)
+  pub within_ring : {u : Unit {0}} → IsVerdict (ring_rows ring k) (Ok u) → IsRingLength m × ((HoldsMark ring → ⊥) × (k < m))
+  within_ring is = no_ring_iff.0 (sym is.is)
 
   -- One of the call's own rows is the first exactly when none of the three is given and it is the first of the call's own.
   pub own_row_iff : {own : List (Option Refusal)} {q : Refusal} {P : Type 0} → IsOwnRow q → FirstExactly own q P
@@ -141,5 +140,5 @@ module _ (ring : List ℕ) (k : ℕ) where
     no_limit_iff = no_own_row_iff (no_last_row (is_row_3 n))
 
     -- If the verdict on the four accepts, none of them is given.
-    pub within_limits : {r : Verdict} → IsVerdict (limit_rows ring k n) r → r ≡ Accepted → IsRingLength m × ((HoldsMark ring → ⊥) × ((k < m) × (n ≤ most_line)))
-    within_limits is accepts = no_limit_iff.0 (sym is.is ∙ ap verdict_of accepts)
+    pub within_limits : {u : Unit {0}} → IsVerdict (limit_rows ring k n) (Ok u) → IsRingLength m × ((HoldsMark ring → ⊥) × ((k < m) × (n ≤ most_line)))
+    within_limits is = no_limit_iff.0 (sym is.is)

@@ -10,7 +10,9 @@ use native.Mathlib.Omega.{arith}
 use lib.ListN.{length}
 use Rattle.meaning.specs.Closed.{joined_with}
 use Rattle.answers.specs.declared.refusals.Refusal.TheVariants.{Ring, Allowance, Line, FindingsRoom, OutputRoom, RingMark}
-use Rattle.findings.specs.declared.searching.Searched.{Searched}
+use Rattle.std.specs.Prelude.{Result}
+use Rattle.answers.specs.declared.refusals.Refusal.{Refusal}
+use Rattle.findings.specs.declared.searching.SearchCounts.{SearchCounts}
 use Rattle.findings.specs.Searching.{Counts, paper_of}
 use Rattle.findings.specs.ClosedSearching.{join_at_exit, IsClosedSearched}
 use Rattle.findings.specs.ClosedSearchRows.{ClosedSearchRows}
@@ -20,7 +22,7 @@ use Rattle.findings.proofs.JoinAtExit.{join_short, join_long}
 use Rattle.findings.proofs.ClosedSearchAnswers.{closed_is_search}
 
 -- Every answer that meets the contract of survey or scan on a closed line, whatever its looks, obeys the table `ClosedSearchRows`.
-pub rows_of_closed_search : {ring line : List ℕ} {k expected : ℕ} {join words : List ℕ} {r : Searched} {joined out : List ℕ}
+pub rows_of_closed_search : {ring line : List ℕ} {k expected : ℕ} {join words : List ℕ} {r : Result SearchCounts Refusal} {joined out : List ℕ}
     → IsClosedSearched ring line k expected join words r joined out → ClosedSearchRows ring line k join words (paper_of r) joined out
 unfolding join_at_exit
 rows_of_closed_search {ring} {line} {k} {expected} {join} {words} meets =

@@ -8,7 +8,9 @@ use mathlib.Core.List.{List}
 use native.Mathlib.Omega.{arith}
 use lib.ListN.{length}
 use Rattle.answers.specs.declared.refusals.Refusal.TheVariants.{Ring, Allowance, Line, FindingsRoom, RingMark}
-use Rattle.findings.specs.declared.searching.Searched.{Searched}
+use Rattle.std.specs.Prelude.{Result}
+use Rattle.answers.specs.declared.refusals.Refusal.{Refusal}
+use Rattle.findings.specs.declared.searching.SearchCounts.{SearchCounts}
 use Rattle.findings.specs.Admitting.{admit_rows}
 use Rattle.findings.specs.Searching.{Counts, paper_of, IsSearched}
 use Rattle.findings.specs.SearchRows.{SearchRows}
@@ -16,7 +18,7 @@ use Rattle.findings.proofs.AdmitRows.{row_1_iff, row_12_iff, row_2_iff, row_3_if
 use Rattle.findings.proofs.SearchGives.{search_number_iff, search_accepted_iff, search_number_by, search_place_by, search_no_counts, search_untouched}
 
 -- Every answer that meets the contract of survey or scan, whatever its looks, obeys the table `SearchRows`.
-pub rows_of_search : {ring line : List ℕ} {k expected : ℕ} {words : List ℕ} {r : Searched} {out : List ℕ}
+pub rows_of_search : {ring line : List ℕ} {k expected : ℕ} {words : List ℕ} {r : Result SearchCounts Refusal} {out : List ℕ}
     → IsSearched (admit_rows ring k (length line) (length words)) ring line k expected words r out → SearchRows ring k (length line) words (paper_of r) out
 rows_of_search {ring} {line} {k} {expected} {words} meets =
     let n = length line in

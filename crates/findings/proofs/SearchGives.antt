@@ -6,6 +6,7 @@ use mathlib.Core.Path.{◌≡◌, ap}
 use mathlib.Core.Logic.{◌↔◌, ⊎_elim}
 use mathlib.Core.List.{List}
 use Rattle.std.specs.Prelude.{Option, None, Some}
+use Rattle.std.specs.Prelude.{Result}
 use native.Mathlib.Omega.{arith}
 use lib.ListN.{length}
 use Rattle.lists.specs.Areas.{written}
@@ -16,7 +17,7 @@ use Rattle.answers.specs.Refusals.{number_of, place_of}
 use Rattle.answers.specs.Rows.{first_given, area_by}
 use Rattle.answers.proofs.RefusalNumbers.{HasNoPlace}
 use Rattle.answers.proofs.AnswerByRows.{row_number_iff, accepted_number_iff, accepted_counts, accepted_area, number_by, place_by, refused_counts, refused_area}
-use Rattle.findings.specs.declared.searching.Searched.{Searched}
+use Rattle.findings.specs.declared.searching.SearchCounts.{SearchCounts}
 use Rattle.findings.specs.Searching.{Counts, no_counts, searched, searched_words, paper_of, IsSearched}
 
 -- An accepted search has counted all findings, has taken `looks` looks, and none of its rows is given.
@@ -25,7 +26,7 @@ pub record AcceptedSearch (rows : List (Option Refusal)) (ring line : List ℕ) 
   pub looks_are : counts.looks ≡ looks
   pub none_given : first_given rows ≡ None
 
-module _ {rows : List (Option Refusal)} {ring line : List ℕ} {k expected : ℕ} {words : List ℕ} {r : Searched} {out : List ℕ}
+module _ {rows : List (Option Refusal)} {ring line : List ℕ} {k expected : ℕ} {words : List ℕ} {r : Result SearchCounts Refusal} {out : List ℕ}
     (meets : IsSearched rows ring line k expected words r out) where
   -- the counts of an accepted call
   abbrev counted : Counts

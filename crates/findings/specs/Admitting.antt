@@ -12,17 +12,16 @@
 --   admit_rows              the rows of survey and scan in their order: 1, 12, 2, 3, 4
 --   IsRingLength            row 1 is not given
 --   Admitted                none of these rows is given
---   verdict_of              the refusal that a verdict holds, if it holds one
+--   verdict_of              the refusal that a returned verdict holds, if it holds one
 --   IsVerdict               the contract of `admit_ring`, `admit` and `admit_closed`, for the rows that they test
 use Rattle.std.specs.Prelude.{ℕ, ◌+◌, ◌-◌, ◌*◌, ◌≤◌, ◌<◌, ◌≡◌, Bool, ◌&&◌, ◌||◌, List, [], ◌∷◌, ◌++◌, ltb, leb, eqb, length}
 use Rattle.std.specs.Prelude.{Option, None, Some}
+use Rattle.std.specs.Prelude.{Result, Ok, Err}
 use Rattle.meaning.specs.Meanings.{HoldsMark, holds_mark}
 use Rattle.meaning.specs.Findings.{words_each}
 use Rattle.answers.specs.declared.refusals.Refusal.{Refusal}
 use Rattle.answers.specs.declared.refusals.Refusal.TheVariants.{Ring, Allowance, Line, FindingsRoom, RingMark}
 use Rattle.answers.specs.Rows.{row, first_given}
-use Rattle.findings.specs.declared.admitting.Verdict.{Verdict}
-use Rattle.findings.specs.declared.admitting.Verdict.TheVariants.{Accepted, Refused}
 
 -- "Ring: m edges, 1 to 256."
 abbrev pub most_ring : ℕ
@@ -82,13 +81,13 @@ pub record Admitted (ring : List ℕ) (k n room : ℕ) : Type 0 where
   pub most_line : n ≤ most_line
   pub room_for : length ring ≤ n → room_required (length ring) n ≤ room
 
--- The refusal that a verdict holds; none if the call is accepted.
-abbrev pub verdict_of : Verdict → Option Refusal
-verdict_of Accepted = None
-verdict_of (Refused refusal) = Some refusal
+-- The refusal that a verdict, the returned `Result`, holds; none if the call is accepted.
+abbrev pub verdict_of : Result (Unit {0}) Refusal → Option Refusal
+verdict_of (Ok _) = None
+verdict_of (Err refusal) = Some refusal
 
 -- The contract of `admit_ring`, of `admit`, of `admit_closed` and of the private `within_limits`, each for the rows that it tests: the verdict r holds the
 -- refusal of the first row that is given, and accepts if no row is. `admit` tests `admit_rows`, where n is the line's length and `room` the number of words lent
 -- for findings.
-pub record IsVerdict (rows : List (Option Refusal)) (r : Verdict) : Type 0 where
+pub record IsVerdict (rows : List (Option Refusal)) (r : Result (Unit {0}) Refusal) : Type 0 where
   pub is : verdict_of r ≡ first_given rows

@@ -6,10 +6,11 @@
 --   IsClosedSearched    the contract of survey and scan on a closed line, each with its own looks
 use Rattle.std.specs.Prelude.{ℕ, ◌≡◌, List, length}
 use Rattle.std.specs.Prelude.{Option}
+use Rattle.std.specs.Prelude.{Result}
 use Rattle.meaning.specs.Closed.{closed_line, joined_with}
 use Rattle.answers.specs.declared.refusals.Refusal.{Refusal}
 use Rattle.answers.specs.Rows.{first_given, area_by}
-use Rattle.findings.specs.declared.searching.Searched.{Searched}
+use Rattle.findings.specs.declared.searching.SearchCounts.{SearchCounts}
 use Rattle.findings.specs.Searching.{paper_of, search_paper, searched_words}
 use Rattle.findings.specs.ClosedRows.{closed_rows}
 
@@ -21,7 +22,7 @@ join_at_exit rows m line join = area_by (first_given rows) (joined_with m line j
 -- The contract of survey and scan on a closed line; the looks, `expected`, are the only difference. It fixes number, place and counts of the answer r, the
 -- words at exit `out` and the join area at exit `joined`, on every input, accepted or refused. "For n ≥ m an accepted call's findings and looks are those
 -- that the meanings and rules give for the line followed by its first m−1 edges, also where that is longer than 65,536."
-pub record IsClosedSearched (ring line : List ℕ) (k expected : ℕ) (join words : List ℕ) (r : Searched) (joined out : List ℕ) : Type 0 where
+pub record IsClosedSearched (ring line : List ℕ) (k expected : ℕ) (join words : List ℕ) (r : Result SearchCounts Refusal) (joined out : List ℕ) : Type 0 where
   pub paper : paper_of r ≡ search_paper (closed_rows ring k (length line) (length words) (length join)) ring (closed_line (length ring) line) k expected
   pub written : out ≡ searched_words (closed_rows ring k (length line) (length words) (length join)) ring (closed_line (length ring) line) k words
   pub joined_is : joined ≡ join_at_exit (closed_rows ring k (length line) (length words) (length join)) (length ring) line join

@@ -5,8 +5,11 @@
 --   words_put       the lent words after a finding is put
 --   CanPut          there is room for the finding, and its four numbers are 32-bit words
 --   can_put         the same as a test
+--   word_of         a number as a 32-bit word, if it is one
+--   four_words      the finding's words, if they are 32-bit words
 --   IsFindingPut    the contract of `put_finding`
-use Rattle.std.specs.Prelude.{ℕ, ◌+◌, ◌*◌, ◌≤◌, ◌≡◌, Bool, cond, ◌&&◌, List, leb, length}
+use Rattle.std.specs.Prelude.{ℕ, ◌+◌, ◌*◌, ◌≤◌, ◌^◌, ◌≡◌, Bool, cond, ◌&&◌, List, ltb, leb, length}
+use Rattle.std.specs.Prelude.{Option, None, Some}
 use Rattle.std.proofs.lemmas.List.Edits.{sets}
 use Rattle.lists.specs.Bounds.{IsWords, is_words}
 use Rattle.meaning.specs.Findings.{Finding, finding_words, words_each}
@@ -28,6 +31,14 @@ pub record CanPut (lent before : ℕ) (f : Finding) : Type 0 where
 -- `CanPut` as a test.
 unfoldable pub can_put : ℕ → ℕ → Finding → Bool
 can_put lent before f = leb (words_each * before + words_each) lent && is_words (finding_words f)
+
+-- A number as a 32-bit word, if it is one.
+abbrev pub word_of : ℕ → Option ℕ
+word_of n = cond (ltb n (2 ^ 32)) (Some n) None
+
+-- The finding's words, if its start, rotation, distance and ties are 32-bit words.
+unfoldable pub four_words : Finding → Option (List ℕ)
+four_words f = cond (is_words (finding_words f)) (Some (finding_words f)) None
 
 -- The contract of `put_finding`; `out` are the words at exit. If the finding can be put, its words are put; if not, nothing is written.
 pub record IsFindingPut (words : List ℕ) (before : ℕ) (f : Finding) (out : List ℕ) : Type 0 where

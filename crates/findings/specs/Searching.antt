@@ -6,18 +6,19 @@
 --   searched               the answer that a search must give: its counts, or a refusal
 --   searched_words         the lent words at exit
 --   LineSearched           the contract of the search itself, once the call is accepted
---   answer_of, paper_of    a returned enum as an answer, and as document 01's number, place and counts
+--   counts_of              found and looks of a returned struct
+--   answer_of, paper_of    a returned `Result` as an answer, and as document 01's number, place and counts
 --   search_paper           number, place and counts that a search must give
 --   IsSearched             the contract of survey and scan, each with its own looks
 use Rattle.std.specs.Prelude.{ℕ, ◌≡◌, List, length}
 use Rattle.std.specs.Prelude.{Option}
+use Rattle.std.specs.Prelude.{Result}
 use Rattle.meaning.specs.Findings.{findings, words_of}
 use Rattle.lists.specs.Areas.{written}
 use Rattle.answers.specs.declared.refusals.Refusal.{Refusal}
-use Rattle.answers.specs.Paper.{Answer, accepted, refused, Paper, answer_paper}
+use Rattle.answers.specs.Paper.{Answer, Paper, answer_paper, answer_from}
 use Rattle.answers.specs.Rows.{first_given, answer_by, area_by}
-use Rattle.findings.specs.declared.searching.Searched.{Searched}
-use Rattle.findings.specs.declared.searching.Searched.TheVariants.{Counts as CountsCase, Refused}
+use Rattle.findings.specs.declared.searching.SearchCounts.{SearchCounts}
 
 -- "found and looks"
 pub record Counts : Type 0 where
@@ -42,13 +43,16 @@ pub record LineSearched (ring line : List ℕ) (k expected : ℕ) (words : List 
   pub looks_are : looks ≡ expected
   pub written : out ≡ written (words_of (findings ring line k)) words
 
--- The returned enum as an answer.
-abbrev pub answer_of : Searched → Answer Counts
-answer_of (CountsCase found looks) = accepted (record { found = found; looks = looks })
-answer_of (Refused refusal) = refused refusal
+-- Found and looks of a struct.
+abbrev pub counts_of : SearchCounts → Counts
+counts_of c = record { found = c.found; looks = c.looks }
 
--- Document 01's number, place and counts for the returned enum.
-abbrev pub paper_of : Searched → Paper Counts
+-- The returned `Result` as an answer.
+abbrev pub answer_of : Result SearchCounts Refusal → Answer Counts
+answer_of r = answer_from counts_of r
+
+-- Document 01's number, place and counts for the returned `Result`.
+abbrev pub paper_of : Result SearchCounts Refusal → Paper Counts
 paper_of r = answer_paper no_counts (answer_of r)
 
 -- The number, place and counts that a search with these rows must give if it takes `looks` looks.
@@ -57,6 +61,6 @@ search_paper rows ring line k looks = answer_paper no_counts (searched rows ring
 
 -- The contract of a search with these rows. Survey and scan have the same rows; the looks, `expected`, are the only difference. It fixes number, place and
 -- counts of the answer r and the words at exit `out`, on every input, accepted or refused.
-pub record IsSearched (rows : List (Option Refusal)) (ring line : List ℕ) (k expected : ℕ) (words : List ℕ) (r : Searched) (out : List ℕ) : Type 0 where
+pub record IsSearched (rows : List (Option Refusal)) (ring line : List ℕ) (k expected : ℕ) (words : List ℕ) (r : Result SearchCounts Refusal) (out : List ℕ) : Type 0 where
   pub paper : paper_of r ≡ search_paper rows ring line k expected
   pub written : out ≡ searched_words rows ring line k words

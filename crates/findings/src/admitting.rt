@@ -12,64 +12,44 @@ pub const MOST_LINE: usize = 65536;
 // "a finding becomes four words" (document 02, ticket 1)
 pub const WORDS_EACH: usize = 4;
 
-// Whether a call is accepted; if not, the refusal of the first row that is given.
-#[derive(Clone, Copy)]
-pub enum Verdict {
-    Accepted,
-    Refused(Refusal),
-}
-
-// Tests rows 1, 12, 2, with which every search begins, in this order and returns the first that is given.
-pub fn admit_ring(ring: &[u8], k: usize) -> Verdict
+// Tests rows 1, 12, 2, with which every search begins, in this order and returns the refusal of the first that is given.
+pub fn admit_ring(ring: &[u8], k: usize) -> Result<(), Refusal>
     ensures { IsVerdict (ring_rows ring.now k) result }
 {
     let m = ring.len();
-    if m == 0 {
-        return Verdict::Refused(Refusal::Ring);
-    }
-    if MOST_RING < m {
-        return Verdict::Refused(Refusal::Ring);
+    if m == 0 || MOST_RING < m {
+        return Err(Refusal::Ring);
     }
     // Row 1 is ruled out, so at most 256 edges are read.
-    let marked = holds_mark(ring);
-    if marked {
-        return Verdict::Refused(Refusal::RingMark);
+    if holds_mark(ring) {
+        return Err(Refusal::RingMark);
     }
     if m <= k {
-        return Verdict::Refused(Refusal::Allowance);
+        return Err(Refusal::Allowance);
     }
-    Verdict::Accepted
+    Ok(())
 }
 
-// Tests rows 1, 12, 2, 3 in this order and returns the first that is given. n is the line's length.
-pub fn within_limits(ring: &[u8], k: usize, n: usize) -> Verdict
+// Tests rows 1, 12, 2, 3 in this order and returns the refusal of the first that is given. n is the line's length.
+pub fn within_limits(ring: &[u8], k: usize, n: usize) -> Result<(), Refusal>
     ensures { IsVerdict (limit_rows ring.now k n) result }
 {
-    let of_ring = admit_ring(ring, k);
-    let Verdict::Accepted = of_ring else {
-        return of_ring;
-    };
+    admit_ring(ring, k)?;
     if MOST_LINE < n {
-        return Verdict::Refused(Refusal::Line);
+        return Err(Refusal::Line);
     }
-    Verdict::Accepted
+    Ok(())
 }
 
-// Tests rows 1, 12, 2, 3, 4 in this order and returns the first that is given. n is the line's length, `room` the number
-// of words lent for findings.
-pub fn admit(ring: &[u8], k: usize, n: usize, room: usize) -> Verdict
+// Tests rows 1, 12, 2, 3, 4 in this order and returns the refusal of the first that is given. n is the line's length,
+// `room` the number of words lent for findings.
+pub fn admit(ring: &[u8], k: usize, n: usize, room: usize) -> Result<(), Refusal>
     ensures { IsVerdict (admit_rows ring.now k n room) result }
 {
-    let limits = within_limits(ring, k, n);
-    let Verdict::Accepted = limits else {
-        return limits;
-    };
+    within_limits(ring, k, n)?;
     let m = ring.len();
-    if n < m {
-        return Verdict::Accepted;
+    if m <= n && room < WORDS_EACH * (n - m + 1) {
+        return Err(Refusal::FindingsRoom);
     }
-    if room < WORDS_EACH * (n - m + 1) {
-        return Verdict::Refused(Refusal::FindingsRoom);
-    }
-    Verdict::Accepted
+    Ok(())
 }

@@ -15,8 +15,8 @@ mod marks;
 mod putting;
 mod searching;
 
-pub use admitting::{MOST_LINE, MOST_RING, Verdict, WORDS_EACH, admit, admit_ring};
+pub use admitting::{MOST_LINE, MOST_RING, WORDS_EACH, admit, admit_ring};
 pub use closed::admit_closed;
 pub use marks::is_mark;
 pub use putting::put_finding;
-pub use searching::{Finding, SearchCounts, Searched};
+pub use searching::{Finding, SearchCounts};

@@ -15,12 +15,5 @@ pub fn is_mark(edge: u8) -> bool
 pub fn holds_mark(edges: &[u8]) -> bool
     ensures { SaysHoldsMark edges.now result }
 {
-    let mut q = 0;
-    while q < edges.len() {
-        if is_mark(edges[q]) {
-            return true;
-        }
-        q += 1;
-    }
-    false
+    edges.iter().any(|edge| is_mark(*edge))
 }

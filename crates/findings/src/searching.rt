@@ -1,5 +1,5 @@
-// A finding, and the answer of a search.
-use answers::{LinePlace, Refusal, RingPlace};
+// A finding, and the counts of a search.
+use answers::{LinePlace, RingPlace};
 
 // A finding "carries start, rotation, distance", and ties: how many rotations reach that distance. The distance is a
 // usize, as the allowance k is, because the two are compared. Distance and ties are written as words beside the two
@@ -12,14 +12,7 @@ pub struct Finding {
     pub ties: usize,
 }
 
-// What survey and scan return: "found and looks", or a refusal.
-#[derive(Clone, Copy)]
-pub enum Searched {
-    Counts { found: usize, looks: usize },
-    Refused(Refusal),
-}
-
-// Found and looks of an accepted call.
+// Found and looks of an accepted call: "Survey and scan return found and looks".
 #[derive(Clone, Copy)]
 pub struct SearchCounts {
     pub found: usize,

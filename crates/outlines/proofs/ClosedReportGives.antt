@@ -6,6 +6,7 @@ use Prim.Native.Nat.{ℕ, ◌+◌, ◌-◌, ◌*◌, ◌≤◌, ◌<◌}
 use mathlib.Core.Path.{◌≡◌, sym, ap, ◌∙◌}
 use mathlib.Core.List.{List, [], ◌∷◌, ◌++◌}
 use Rattle.std.specs.Prelude.{Option, None}
+use Rattle.std.specs.Prelude.{Result, Ok}
 use native.Mathlib.Omega.{arith}
 use lib.ListN.{length}
 use Rattle.meaning.specs.Findings.{Finding, IsFinding, findings}
@@ -22,13 +23,12 @@ use Rattle.silences.proofs.AcceptedIsBook.{book_accepted}
 use Rattle.silences.proofs.ExactBook.{exact_read}
 use Rattle.silences.specs.Reading.{read_book, silences_read, book_refusal}
 use Rattle.silences.proofs.BookRows.{book_accepted_iff}
-use Rattle.findings.specs.declared.searching.Searched.{Searched}
+use Rattle.findings.specs.declared.searching.SearchCounts.{SearchCounts}
 use Rattle.findings.specs.ClosedRows.{closed_rows}
 use Rattle.findings.specs.ClosedSearching.{join_at_exit}
 use Rattle.findings.proofs.ClosedAdmitRows.{closed_accepted_edge}
 use Rattle.findings.proofs.ClosedSearchAnswers.{closed_is_search}
-use Rattle.outlines.specs.declared.reporting.Reported.{Reported}
-use Rattle.outlines.specs.declared.reporting.Reported.TheVariants.{Counts as CountsCase}
+use Rattle.outlines.specs.declared.quick.ReportCounts.{ReportCounts as ReportCountsStruct}
 use Rattle.outlines.specs.Report.{shown, hidden, report_rows}
 use Rattle.outlines.specs.LineScan.{LineScanned}
 use Rattle.outlines.specs.ClosedScan.{IsClosedScanned}
@@ -41,18 +41,18 @@ use Rattle.outlines.proofs.ExactBooks.{exact_report_same}
 use Rattle.outlines.proofs.OneSilenceMore.{silence_hides_one_le, idle_silence_same}
 use Rattle.outlines.proofs.ClosedReportAnswers.{closed_is_report}
 
-module _ {cell ring_number : ℕ} {ring line : List ℕ} {k : ℕ} {book join words : List ℕ} {found hid looks : ℕ} {joined out : List ℕ}
-    (meets : IsClosedReported cell ring_number ring line k book join words (CountsCase found hid looks) joined out) where
+module _ {cell ring_number : ℕ} {ring line : List ℕ} {k : ℕ} {book join words : List ℕ} {c : ReportCountsStruct} {joined out : List ℕ}
+    (meets : IsClosedReported cell ring_number ring line k book join words (Ok c) joined out) where
   -- the ring of an accepted report is not empty
   some_edge : 0 < length ring
   some_edge = closed_accepted_edge ring k (length line) (length words) (length join) (report_none_given (closed_is_report meets)).0
 
   -- In an accepted report found, hidden, looks and words are as `LineScanned` says, for the line followed by its first m − 1 edges.
-  pub closed_report_gives : LineScanned cell ring_number ring (closed_line (length ring) line) k book words found hid looks out
+  pub closed_report_gives : LineScanned cell ring_number ring (closed_line (length ring) line) k book words c.found c.hidden c.looks out
   closed_report_gives = report_gives (closed_is_report meets)
 
   -- "found (hidden ones included)": found is the number of shown findings plus hidden.
-  pub closed_report_found_is : found ≡ length (shown (silences_read book) cell ring_number (findings ring (closed_line (length ring) line) k)) + hid
+  pub closed_report_found_is : c.found ≡ length (shown (silences_read book) cell ring_number (findings ring (closed_line (length ring) line) k)) + c.hidden
   closed_report_found_is =
       omega (
         arith,
@@ -63,15 +63,15 @@ module _ {cell ring_number : ℕ} {ring line : List ℕ} {k : ℕ} {book join wo
 
   -- The looks of an accepted report: "The look bound reads with n + m − 1 in place of n". For n ≥ m they are never above 3·m·(n + m − 1) − 2·m·m + m.
   pub closed_report_looks_le : length ring ≤ length line
-      → looks ≤ 3 * length ring * (length line + length ring - 1) - 2 * length ring * length ring + length ring
+      → c.looks ≤ 3 * length ring * (length line + length ring - 1) - 2 * length ring * length ring + length ring
   closed_report_looks_le long = rw (report_looks_are (closed_is_report meets)) (closed_quick_looks_le ring line some_edge long k)
 
   -- The looks of an accepted report are at most 3·m·(n + m − 1).
-  pub closed_report_looks_most : looks ≤ 3 * length ring * (length line + length ring - 1)
+  pub closed_report_looks_most : c.looks ≤ 3 * length ring * (length line + length ring - 1)
   closed_report_looks_most = rw (report_looks_are (closed_is_report meets)) (closed_quick_looks_most ring line some_edge k)
 
   -- An accepted report on a line shorter than the ring takes "no look".
-  pub closed_report_no_looks : length line < length ring → looks ≡ 0
+  pub closed_report_no_looks : length line < length ring → c.looks ≡ 0
   closed_report_no_looks short = report_looks_are (closed_is_report meets) ∙ closed_quick_looks_short ring line short k
 
 -- if the book is accepted, the join area at exit is that of the search
@@ -81,7 +81,7 @@ unfolding join_at_exit
 join_by_search rows book m line join read = ap (λ (o : Option Refusal). area_by o (joined_with m line join) join) (accepted_book_row rows book read)
 
 -- Every answer of `report_closed` with an empty book is the answer of `scan_closed` with hidden 0, and the words and join areas at exit are the same.
-pub closed_empty_book_same : {cell ring_number : ℕ} {ring line : List ℕ} {k : ℕ} {join words : List ℕ} {q : Searched} {r : Reported} {joined joined' out out' : List ℕ}
+pub closed_empty_book_same : {cell ring_number : ℕ} {ring line : List ℕ} {k : ℕ} {join words : List ℕ} {q : Result SearchCounts Refusal} {r : Result ReportCountsStruct Refusal} {joined joined' out out' : List ℕ}
     → IsClosedScanned ring line k join words q joined out → IsClosedReported cell ring_number ring line k [] join words r joined' out'
     → (r ≡ report_of q) × (joined' ≡ joined) × (out' ≡ out)
 closed_empty_book_same {cell} {ring_number} {ring} {line} {k} {join} {words} {r = r} {out' = out'} scanned meets =
@@ -90,7 +90,7 @@ closed_empty_book_same {cell} {ring_number} {ring} {line} {k} {join} {words} {r 
     (same.0, meets.joined_is ∙ join_by_search rows [] (length ring) line join empty_book_read ∙ sym scanned.joined_is, same.1)
 
 -- Two reports on a closed line whose books are accepted leave the same join area.
-joined_alike : {cell ring_number : ℕ} {ring line : List ℕ} {k : ℕ} {book book' join words : List ℕ} {ss ts : List Silence} {r r' : Reported} {joined joined' out out' : List ℕ}
+joined_alike : {cell ring_number : ℕ} {ring line : List ℕ} {k : ℕ} {book book' join words : List ℕ} {ss ts : List Silence} {r r' : Result ReportCountsStruct Refusal} {joined joined' out out' : List ℕ}
     → read_book book ≡ accepted ss → read_book book' ≡ accepted ts → IsClosedReported cell ring_number ring line k book join words r joined out
     → IsClosedReported cell ring_number ring line k book' join words r' joined' out' → joined ≡ joined'
 joined_alike {ring = ring} {line = line} {k = k} {book = book} {book' = book'} {join = join} {words = words} {ss = ss} {ts = ts} is is' p p' =
@@ -109,7 +109,7 @@ module _ (cell ring_number : ℕ) (s : Silence) (xs ys : List Silence) (ring lin
 
   -- "A silence that names no finding hides nothing", nor does one whose ceiling is too low: without it the report on the closed line is the same, its words and
   -- its join area too.
-  pub closed_idle_silence_same : {book book' join words : List ℕ} {r r' : Reported} {joined joined' out out' : List ℕ}
+  pub closed_idle_silence_same : {book book' join words : List ℕ} {r r' : Result ReportCountsStruct Refusal} {joined joined' out out' : List ℕ}
       → read_book book ≡ accepted (xs ++ s ∷ ys) → read_book book' ≡ accepted (xs ++ ys)
       → IsClosedReported cell ring_number ring line k book join words r joined out → IsClosedReported cell ring_number ring line k book' join words r' joined' out'
       → ((f : Finding) → IsClosedFinding ring line k f → s.address ≡ address cell ring_number f.start → f.distance ≤ s.ceiling → ⊥) → (r ≡ r') × (joined ≡ joined') × (out ≡ out')
@@ -125,7 +125,7 @@ module _ (cell ring_number : ℕ) (s : Silence) (xs ys : List Silence) (ring lin
 
 -- A report on a closed line by a book of tag 21 alone, of at most 1,000 records, is the report by the same addresses with ceiling 0 under tag 22.
 pub closed_exact_same : (cell ring_number : ℕ) (ring line : List ℕ) (k : ℕ) {book join words : List ℕ} {ss : List Silence}
-    → IsBook ss book → LaidDown OnlyTag21 ss book → length ss ≤ most_silences → {r r' : Reported} {joined joined' out out' : List ℕ}
+    → IsBook ss book → LaidDown OnlyTag21 ss book → length ss ≤ most_silences → {r r' : Result ReportCountsStruct Refusal} {joined joined' out out' : List ℕ}
     → IsClosedReported cell ring_number ring line k book join words r joined out
     → IsClosedReported cell ring_number ring line k (layout (with_ceilings 0 ss)) join words r' joined' out' → (r ≡ r') × (joined ≡ joined') × (out ≡ out')
 closed_exact_same cell ring_number ring line k {book} {join} {words} {ss} b laid few {r} {r'} {out = out} {out' = out'} p p' =

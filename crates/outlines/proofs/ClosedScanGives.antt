@@ -10,7 +10,9 @@ use Rattle.meaning.specs.Findings.{findings}
 use Rattle.meaning.specs.Looks.{quick_looks}
 use Rattle.meaning.specs.Closed.{closed_line}
 use Rattle.meaning.proofs.ClosedLooks.{closed_quick_looks_le, closed_quick_looks_most, closed_quick_looks_short}
-use Rattle.findings.specs.declared.searching.Searched.{Searched}
+use Rattle.std.specs.Prelude.{Result}
+use Rattle.answers.specs.declared.refusals.Refusal.{Refusal}
+use Rattle.findings.specs.declared.searching.SearchCounts.{SearchCounts}
 use Rattle.findings.specs.Searching.{paper_of}
 use Rattle.findings.specs.ClosedSearchRows.{ClosedSearchRows}
 use Rattle.findings.proofs.ClosedAdmitRows.{closed_accepted_edge}
@@ -19,7 +21,7 @@ use Rattle.findings.proofs.ClosedSearchAnswers.{closed_is_search}
 use Rattle.findings.proofs.RowsOfClosedSearching.{rows_of_closed_search}
 use Rattle.outlines.specs.ClosedScan.{IsClosedScanned}
 
-module _ (ring line : List ℕ) (k : ℕ) (join words : List ℕ) (r : Searched) (joined out : List ℕ) (meets : IsClosedScanned ring line k join words r joined out) where
+module _ (ring line : List ℕ) (k : ℕ) (join words : List ℕ) (r : Result SearchCounts Refusal) (joined out : List ℕ) (meets : IsClosedScanned ring line k join words r joined out) where
   -- Every answer of `scan_closed` obeys rows 1, 12, 2, 3, 4 and 10 of the table, and leaves the join area as the table says.
   pub closed_scan_rows : ClosedSearchRows ring line k join words (paper_of r) joined out
   closed_scan_rows = rows_of_closed_search meets

@@ -4,6 +4,7 @@ use Prim.Native.Nat.{ℕ}
 use mathlib.Core.Path.{◌≡◌, refl, sym, ap, subst, ◌∙◌}
 use mathlib.Core.List.{List, [], ◌∷◌}
 use Rattle.std.specs.Prelude.{Option, None, Some}
+use Rattle.std.specs.Prelude.{Result, Ok, Err}
 use lib.ListN.{length}
 use Rattle.lists.specs.Areas.{written}
 use Rattle.meaning.specs.Findings.{Finding, findings, words_of}
@@ -15,13 +16,11 @@ use Rattle.silences.specs.Silences.{hides}
 use Rattle.silences.specs.Samples.{empty_book}
 use Rattle.silences.specs.Reading.{book_refusal, silences_read}
 use Rattle.silences.proofs.BookRows.{book_accepted_iff}
-use Rattle.findings.specs.declared.searching.Searched.{Searched}
-use Rattle.findings.specs.declared.searching.Searched.TheVariants.{Counts as ScanCase, Refused as ScanRefused}
+use Rattle.findings.specs.declared.searching.SearchCounts.{SearchCounts}
 use Rattle.findings.specs.Searching.{LineSearched, IsSearched}
 use Rattle.findings.proofs.OneAnswer.{search_unique}
 use Rattle.findings.proofs.SearchAnswers.{refused_search, accepted_search}
-use Rattle.outlines.specs.declared.reporting.Reported.{Reported}
-use Rattle.outlines.specs.declared.reporting.Reported.TheVariants.{Counts as CountsCase, Refused}
+use Rattle.outlines.specs.declared.quick.ReportCounts.{ReportCounts as ReportCountsStruct}
 use Rattle.outlines.specs.Report.{taken_by, shown, hidden, report_refusal, ReportCounts, no_report_counts, report_counts, report_answer, reported_words, IsReportedBy}
 use Rattle.outlines.specs.LineScan.{LineScanned}
 use Rattle.outlines.proofs.FirstOfReport.{accepted_book_row}
@@ -65,8 +64,8 @@ module _ (cell ring_number : ℕ) where
     }
 
     -- if a report with an empty book is refused, returning this refusal and leaving the words meets the contract of a scan
-    refused_scan : {rows : List (Option Refusal)} {refusal : Refusal} {out : List ℕ} → IsReportedBy rows cell ring_number ring line k [] words (Refused refusal) out
-        → IsSearched rows ring line k (quick_looks ring line k) words (ScanRefused refusal) out
+    refused_scan : {rows : List (Option Refusal)} {refusal : Refusal} {out : List ℕ} → IsReportedBy rows cell ring_number ring line k [] words (Err refusal) out
+        → IsSearched rows ring line k (quick_looks ring line k) words (Err refusal) out
     unfolding report_answer reported_words
     refused_scan {rows} {refusal} {out} meets =
         let row : Option Refusal = report_refusal rows [] in
@@ -74,22 +73,22 @@ module _ (cell ring_number : ℕ) where
         let is : row ≡ Some refusal = (row_place_iff no_report_counts counts row meets.paper refusal).0 (refl, refl) in
         let untouched : out ≡ words =
         refused_area no_report_counts counts row meets.paper (written (words_of (shown (silences_read []) cell ring_number (findings ring line k))) words) words meets.written (number_in refusal).0 in
-        subst (IsSearched rows ring line k (quick_looks ring line k) words (ScanRefused refusal)) (sym untouched)
+        subst (IsSearched rows ring line k (quick_looks ring line k) words (Err refusal)) (sym untouched)
         (refused_search (sym is ∙ accepted_book_row rows [] empty_book_read))
 
 -- A scan's answer as a report's answer, with hidden 0.
-abbrev pub report_of : Searched → Reported
-report_of (ScanCase found looks) = CountsCase found 0 looks
-report_of (ScanRefused refusal) = Refused refusal
+abbrev pub report_of : Result SearchCounts Refusal → Result ReportCountsStruct Refusal
+report_of (Ok c) = Ok (record { found = c.found; hidden = 0; looks = c.looks })
+report_of (Err refusal) = Err refusal
 
-module _ (cell ring_number : ℕ) {rows : List (Option Refusal)} {ring line : List ℕ} {k : ℕ} {words : List ℕ} {q : Searched} {out : List ℕ}
+module _ (cell ring_number : ℕ) {rows : List (Option Refusal)} {ring line : List ℕ} {k : ℕ} {words : List ℕ} {q : Result SearchCounts Refusal} {out : List ℕ}
     (scanned : IsSearched rows ring line k (quick_looks ring line k) words q out) where
   -- Every answer of a report with an empty book is the scan's answer with hidden 0, and the words at exit are the same.
-  pub empty_book_same : (r : Reported) (out' : List ℕ) → IsReportedBy rows cell ring_number ring line k [] words r out' → (r ≡ report_of q) × (out' ≡ out)
-  empty_book_same (CountsCase found hid looks) out' meets =
+  pub empty_book_same : (r : Result ReportCountsStruct Refusal) (out' : List ℕ) → IsReportedBy rows cell ring_number ring line k [] words r out' → (r ≡ report_of q) × (out' ≡ out)
+  empty_book_same (Ok c) out' meets =
       let done = report_gives meets in
       let same = search_unique (accepted_search (sym (report_none_given meets).0) (empty_book_searched cell ring_number done)) scanned in
-      (ap (λ (h : ℕ). CountsCase found h looks) (done.hidden_is ∙ hidden_none cell ring_number (findings ring line k)) ∙ ap report_of same.0, same.1)
-  empty_book_same (Refused refusal) out' meets =
+      (ap (λ (h : ℕ). Ok (record { found = c.found; hidden = h; looks = c.looks })) (done.hidden_is ∙ hidden_none cell ring_number (findings ring line k)) ∙ ap report_of same.0, same.1)
+  empty_book_same (Err refusal) out' meets =
       let same = search_unique (refused_scan cell ring_number meets) scanned in
       (ap report_of same.0, same.1)

@@ -20,7 +20,8 @@ use Rattle.answers.specs.Rows.{first_given}
 use Rattle.silences.specs.Silences.{Address, address, Silence, covers, hides}
 use Rattle.silences.specs.Reading.{read_book}
 use Rattle.silences.proofs.HidesIff.{covers_iff}
-use Rattle.outlines.specs.declared.reporting.Reported.{Reported}
+use Rattle.std.specs.Prelude.{Result}
+use Rattle.outlines.specs.declared.quick.ReportCounts.{ReportCounts as ReportCountsStruct}
 use Rattle.outlines.specs.Report.{is_hidden, taken_by, hidden, IsReportedBy}
 use Rattle.outlines.proofs.SilencesAlike.{HidesAlike, hidden_same, reports_same}
 
@@ -102,7 +103,7 @@ module _ (cell ring_number : ℕ) (s : Silence) (xs ys : List Silence) where
 
     module _ (rows : List (Option Refusal)) (some_edge : first_given rows ≡ None → 0 < length ring) (book book' words : List ℕ)
         (is : read_book book ≡ accepted (xs ++ s ∷ ys)) (is' : read_book book' ≡ accepted (xs ++ ys))
-        (r r' : Reported) (out out' : List ℕ) (p : IsReportedBy rows cell ring_number ring line k book words r out)
+        (r r' : Result ReportCountsStruct Refusal) (out out' : List ℕ) (p : IsReportedBy rows cell ring_number ring line k book words r out)
         (p' : IsReportedBy rows cell ring_number ring line k book' words r' out') where
       -- "A silence that names no finding hides nothing", nor does one whose ceiling is below the distance of the finding that it names: without it the report
       -- is the same.

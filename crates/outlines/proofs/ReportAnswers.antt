@@ -4,6 +4,7 @@ use Prim.Native.Nat.{ℕ}
 use mathlib.Core.Path.{◌≡◌, sym, ap, subst, ◌∙◌}
 use mathlib.Core.List.{List}
 use Rattle.std.specs.Prelude.{Option, None, Some}
+use Rattle.std.specs.Prelude.{Ok, Err}
 use Rattle.lists.specs.Areas.{written}
 use Rattle.meaning.specs.Findings.{findings, words_of}
 use Rattle.answers.specs.declared.refusals.Refusal.{Refusal}
@@ -14,7 +15,7 @@ use Rattle.silences.proofs.BookRows.{book_refused_iff, book_accepted_iff}
 use Rattle.std.specs.Prelude.{Result, Ok, Err}
 use Rattle.book.specs.Calls.{IsRead}
 use Rattle.book.proofs.AcceptedBook.{has_records, has_refusal, read_answer_is}
-use Rattle.outlines.specs.declared.reporting.Reported.TheVariants.{Counts as CountsCase, Refused}
+use Rattle.outlines.specs.declared.quick.ReportCounts.{ReportCounts as ReportCountsStruct}
 use Rattle.outlines.specs.Report.{shown, report_refusal, no_report_counts, report_counts, report_answer, reported_words, IsReportedBy}
 use Rattle.outlines.specs.LineScan.{LineScanned}
 use Rattle.outlines.proofs.FirstOfReport.{early_given, late_given, none_row_iff}
@@ -32,7 +33,7 @@ read_refused {book} {r} {refusal} meets e =
 
 module _ {rows : List (Option Refusal)} {cell ring_number : ℕ} {ring line : List ℕ} {k : ℕ} {book words : List ℕ} where
   -- If a row is given, returning the first one's refusal and leaving the words meets the contract of a report.
-  pub report_refused : {refusal : Refusal} → report_refusal rows book ≡ Some refusal → IsReportedBy rows cell ring_number ring line k book words (Refused refusal) words
+  pub report_refused : {refusal : Refusal} → report_refusal rows book ≡ Some refusal → IsReportedBy rows cell ring_number ring line k book words (Err refusal) words
   unfolding report_answer reported_words
   report_refused e = record {
     paper = sym (ap (λ (o : Option Refusal). answer_paper no_report_counts (answer_by o (report_counts ring line k cell ring_number (silences_read book)))) e);
@@ -40,17 +41,17 @@ module _ {rows : List (Option Refusal)} {cell ring_number : ℕ} {ring line : Li
   }
 
   -- If one of the search's rows is given, returning the first one's refusal and leaving the words meets the contract of a report.
-  pub report_refused_row : {refusal : Refusal} → Some refusal ≡ first_given rows → IsReportedBy rows cell ring_number ring line k book words (Refused refusal) words
+  pub report_refused_row : {refusal : Refusal} → Some refusal ≡ first_given rows → IsReportedBy rows cell ring_number ring line k book words (Err refusal) words
   report_refused_row e = report_refused (early_given rows book (sym e))
 
   -- If none of the search's rows is given and the book has a refusal, returning this and leaving the words meets the contract of a report.
   pub report_refused_book : {refusal : Refusal} → None ≡ first_given rows → book_refusal book ≡ Some refusal
-      → IsReportedBy rows cell ring_number ring line k book words (Refused refusal) words
+      → IsReportedBy rows cell ring_number ring line k book words (Err refusal) words
   report_refused_book no_row e = report_refused (late_given rows book (sym no_row) e)
 
   -- If no row is given and the line is scanned with the book, returning found, hidden and looks meets the contract of a report.
-  pub report_accepted : {found hid looks : ℕ} {out : List ℕ} → None ≡ first_given rows → book_refusal book ≡ None
-      → LineScanned cell ring_number ring line k book words found hid looks out → IsReportedBy rows cell ring_number ring line k book words (CountsCase found hid looks) out
+  pub report_accepted : {c : ReportCountsStruct} {out : List ℕ} → None ≡ first_given rows → book_refusal book ≡ None
+      → LineScanned cell ring_number ring line k book words c.found c.hidden c.looks out → IsReportedBy rows cell ring_number ring line k book words (Ok c) out
   unfolding report_answer reported_words
   report_accepted none_given read done =
       let no_row = (none_row_iff rows book).1 (sym none_given, read) in

@@ -25,7 +25,8 @@ use Rattle.silences.specs.Faults.{IsFieldFault, IsOrderFault}
 use Rattle.silences.specs.Reading.{silences_read}
 use Rattle.silences.proofs.BookRows.{refusal_5_iff, refusal_6_iff, refusal_7_iff, refusal_has}
 use Rattle.silences.proofs.AcceptedIsBook.{no_refusal_iff}
-use Rattle.outlines.specs.declared.reporting.Reported.{Reported}
+use Rattle.std.specs.Prelude.{Result}
+use Rattle.outlines.specs.declared.quick.ReportCounts.{ReportCounts as ReportCountsStruct}
 use Rattle.outlines.specs.Report.{shown, report_refusal, ReportCounts, no_report_counts, report_counts, report_answer, reported_words, paper_of, IsReportedBy}
 use Rattle.outlines.proofs.FirstOfReport.{is_book_refusal, NotOfBook, early_row_iff, late_row_iff, none_row_iff, report_row_has}
 
@@ -39,7 +40,7 @@ place_by_row : (o : Option Refusal) (counts : ReportCounts) {p : Paper ReportCou
 place_by_row None counts paper each = λ _ _. ap (λ (x : Paper ReportCounts). x.place) paper
 place_by_row (Some q) counts paper each = rw paper (each q refl)
 
-module _ {rows : List (Option Refusal)} {cell ring_number : ℕ} {ring line : List ℕ} {k : ℕ} {book words : List ℕ} {r : Reported} {out : List ℕ}
+module _ {rows : List (Option Refusal)} {cell ring_number : ℕ} {ring line : List ℕ} {k : ℕ} {book words : List ℕ} {r : Result ReportCountsStruct Refusal} {out : List ℕ}
     (meets : IsReportedBy rows cell ring_number ring line k book words r out) where
   -- the counts of an accepted report
   abbrev counted : ReportCounts

@@ -18,7 +18,8 @@ use Rattle.findings.specs.ClosedRows.{closed_rows}
 use Rattle.findings.specs.ClosedSearching.{join_at_exit}
 use Rattle.findings.proofs.ClosedAdmitRows.{closed_row_1_iff, closed_row_12_iff, closed_row_2_iff, closed_row_3_iff, closed_row_4_iff, closed_row_10_iff, closed_no_row_iff, closed_row_has, closed_row_numbers, closed_row_places}
 use Rattle.findings.proofs.JoinAtExit.{join_short, join_long}
-use Rattle.outlines.specs.declared.reporting.Reported.{Reported}
+use Rattle.std.specs.Prelude.{Result}
+use Rattle.outlines.specs.declared.quick.ReportCounts.{ReportCounts as ReportCountsStruct}
 use Rattle.outlines.specs.Report.{report_rows, ReportCounts, paper_of}
 use Rattle.outlines.specs.ClosedReport.{IsClosedReported}
 use Rattle.outlines.specs.ClosedReportRows.{ClosedReportRows}
@@ -35,7 +36,7 @@ abbrev InTable : ℕ → Type 0
 InTable number = (number ≤ 7) ⊎ ((number ≡ 10) ⊎ (number ≡ 12))
 
 -- Every answer that meets the contract of `report_closed`, for a book of bytes, obeys the table `ClosedReportRows`.
-pub closed_report_rows : {cell ring_number : ℕ} {ring line : List ℕ} {k : ℕ} {book join words : List ℕ} {r : Reported} {joined out : List ℕ} → IsBytes book
+pub closed_report_rows : {cell ring_number : ℕ} {ring line : List ℕ} {k : ℕ} {book join words : List ℕ} {r : Result ReportCountsStruct Refusal} {joined out : List ℕ} → IsBytes book
     → IsClosedReported cell ring_number ring line k book join words r joined out → ClosedReportRows ring line k book join words (paper_of r) joined out
 unfolding join_at_exit
 closed_report_rows {cell} {ring_number} {ring} {line} {k} {book} {join} {words} bytes meets =

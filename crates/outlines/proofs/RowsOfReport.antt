@@ -14,7 +14,8 @@ use Rattle.answers.specs.declared.refusals.Refusal.{Refusal}
 use Rattle.answers.specs.declared.refusals.Refusal.TheVariants.{Ring, Allowance, Line, FindingsRoom, RingMark}
 use Rattle.findings.specs.Admitting.{admit_rows}
 use Rattle.findings.proofs.AdmitRows.{row_1_iff, row_12_iff, row_2_iff, row_3_iff, row_4_iff, no_row_iff, by_row, row_numbers, row_places}
-use Rattle.outlines.specs.declared.reporting.Reported.{Reported}
+use Rattle.std.specs.Prelude.{Result}
+use Rattle.outlines.specs.declared.quick.ReportCounts.{ReportCounts as ReportCountsStruct}
 use Rattle.outlines.specs.Report.{ReportCounts, paper_of, IsReported}
 use Rattle.outlines.specs.ReportRows.{ReportRows}
 use Rattle.outlines.proofs.FirstOfReport.{is_book_refusal, NotOfBook}
@@ -30,7 +31,7 @@ abbrev InTable : ℕ → Type 0
 InTable number = (number ≤ 7) ⊎ (number ≡ 12)
 
 -- Every answer that meets the contract of `report`, for a book of bytes, obeys the table `ReportRows`.
-pub report_rows_lem : {cell ring_number : ℕ} {ring line : List ℕ} {k : ℕ} {book words : List ℕ} {r : Reported} {out : List ℕ} → IsBytes book
+pub report_rows_lem : {cell ring_number : ℕ} {ring line : List ℕ} {k : ℕ} {book words : List ℕ} {r : Result ReportCountsStruct Refusal} {out : List ℕ} → IsBytes book
     → IsReported cell ring_number ring line k book words r out → ReportRows ring k (length line) book words (paper_of r) out
 report_rows_lem {cell} {ring_number} {ring} {line} {k} {book} {words} bytes meets =
     let n = length line in

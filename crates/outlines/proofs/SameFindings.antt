@@ -8,7 +8,8 @@ use lib.ListN.{length}
 use Rattle.meaning.specs.Findings.{findings}
 use Rattle.answers.specs.declared.refusals.Refusal.{Refusal}
 use Rattle.answers.specs.Paper.{Paper, answer_paper}
-use Rattle.findings.specs.declared.searching.Searched.{Searched}
+use Rattle.std.specs.Prelude.{Result}
+use Rattle.findings.specs.declared.searching.SearchCounts.{SearchCounts}
 use Rattle.answers.specs.Rows.{first_given, answer_by}
 use Rattle.findings.specs.Searching.{Counts, no_counts, searched, paper_of, IsSearched}
 use Rattle.findings.proofs.ClosedSearchAnswers.{closed_is_search}
@@ -30,7 +31,7 @@ row_same None found looks looks' = record { number_is = refl; place_is = refl; f
 row_same (Some refusal) found looks looks' = record { number_is = refl; place_is = refl; found_is = refl }
 
 -- Two searches that differ only in their looks give the same number, place and found, and the same words.
-pub search_same : {rows : List (Option Refusal)} {ring line : List ℕ} {k looks looks' : ℕ} {words : List ℕ} {r r' : Searched} {out out' : List ℕ}
+pub search_same : {rows : List (Option Refusal)} {ring line : List ℕ} {k looks looks' : ℕ} {words : List ℕ} {r r' : Result SearchCounts Refusal} {out out' : List ℕ}
     → IsSearched rows ring line k looks words r out → IsSearched rows ring line k looks' words r' out' → SameButLooks (paper_of r) (paper_of r') × (out ≡ out')
 unfolding searched
 search_same {rows} {ring} {line} {k} {looks} {looks'} p p' = (
@@ -39,12 +40,12 @@ search_same {rows} {ring} {line} {k} {looks} {looks'} p p' = (
 )
 
 -- Survey and scan give the same number, place and found, and the same words, on every input.
-pub survey_scan_same : (ring line : List ℕ) (k : ℕ) (words : List ℕ) (surveyed scanned : Searched) (out out' : List ℕ)
+pub survey_scan_same : (ring line : List ℕ) (k : ℕ) (words : List ℕ) (surveyed scanned : Result SearchCounts Refusal) (out out' : List ℕ)
     → IsSurveyed ring line k words surveyed out → IsScanned ring line k words scanned out' → SameButLooks (paper_of surveyed) (paper_of scanned) × (out ≡ out')
 survey_scan_same ring line k words surveyed scanned out out' p p' = search_same p p'
 
 -- On a closed line, survey and scan give the same number, place and found, the same join area, and the same words, on every input.
-pub closed_survey_scan_same : (ring line : List ℕ) (k : ℕ) (join words : List ℕ) (surveyed scanned : Searched) (joined joined' out out' : List ℕ)
+pub closed_survey_scan_same : (ring line : List ℕ) (k : ℕ) (join words : List ℕ) (surveyed scanned : Result SearchCounts Refusal) (joined joined' out out' : List ℕ)
     → IsClosedSurveyed ring line k join words surveyed joined out → IsClosedScanned ring line k join words scanned joined' out'
     → SameButLooks (paper_of surveyed) (paper_of scanned) × (joined ≡ joined') × (out ≡ out')
 closed_survey_scan_same ring line k join words surveyed scanned joined joined' out out' p p' =

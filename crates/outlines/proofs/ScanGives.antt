@@ -9,7 +9,9 @@ use lib.ListN.{length}
 use Rattle.meaning.specs.Findings.{findings}
 use Rattle.meaning.specs.Looks.{quick_looks}
 use Rattle.meaning.proofs.LookBound.{quick_looks_le, quick_looks_most, quick_looks_short}
-use Rattle.findings.specs.declared.searching.Searched.{Searched}
+use Rattle.std.specs.Prelude.{Result}
+use Rattle.answers.specs.declared.refusals.Refusal.{Refusal}
+use Rattle.findings.specs.declared.searching.SearchCounts.{SearchCounts}
 use Rattle.findings.specs.Searching.{paper_of}
 use Rattle.findings.specs.SearchRows.{SearchRows}
 use Rattle.findings.proofs.AdmitRows.{accepted_edge}
@@ -17,7 +19,7 @@ use Rattle.findings.proofs.RowsOfSearching.{rows_of_search}
 use Rattle.findings.proofs.SearchGives.{accepted_gives, looks_of_search}
 use Rattle.outlines.specs.Scan.{IsScanned}
 
-module _ (ring line : List ℕ) (k : ℕ) (words : List ℕ) (r : Searched) (out : List ℕ) (meets : IsScanned ring line k words r out) where
+module _ (ring line : List ℕ) (k : ℕ) (words : List ℕ) (r : Result SearchCounts Refusal) (out : List ℕ) (meets : IsScanned ring line k words r out) where
   -- Every answer of `scan` obeys rows 1 to 4 and 12 of the table.
   pub scan_rows : SearchRows ring k (length line) words (paper_of r) out
   scan_rows = rows_of_search meets

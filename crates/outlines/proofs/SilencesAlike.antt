@@ -15,7 +15,8 @@ use Rattle.answers.specs.Rows.{first_given, answer_by, area_by}
 use Rattle.silences.specs.Silences.{Silence}
 use Rattle.silences.specs.Reading.{read_book, silences_read}
 use Rattle.silences.proofs.BookRows.{book_accepted_iff}
-use Rattle.outlines.specs.declared.reporting.Reported.{Reported}
+use Rattle.std.specs.Prelude.{Result}
+use Rattle.outlines.specs.declared.quick.ReportCounts.{ReportCounts as ReportCountsStruct}
 use Rattle.outlines.specs.Report.{is_hidden, is_shown, shown, hidden, report_refusal, no_report_counts, report_counts, report_answer, reported_words, IsReportedBy}
 use Rattle.outlines.proofs.TakenByTest.{taken_same}
 use Rattle.outlines.proofs.FirstOfReport.{accepted_book_row}
@@ -56,7 +57,7 @@ module _ (ss ts : List Silence) (cell ring_number : ℕ) where
             accepted_same (shown_same (findings ring line k) alike_in_list) (hidden_same (findings ring line k) alike_in_list)
 
     -- Two reports that differ only in their books give the same answer and leave the same words, if both books are accepted and hide the same findings.
-    pub reports_same : (r r' : Reported) (out out' : List ℕ) → IsReportedBy rows cell ring_number ring line k book words r out
+    pub reports_same : (r r' : Result ReportCountsStruct Refusal) (out out' : List ℕ) → IsReportedBy rows cell ring_number ring line k book words r out
         → IsReportedBy rows cell ring_number ring line k book' words r' out' → (r ≡ r') × (out ≡ out')
     unfolding report_answer reported_words
     reports_same r r' out out' p p' = (

@@ -11,7 +11,8 @@
 --   report_counts                    the counts of a report, given the silences of its book
 --   report_answer                    the answer that a report must give: its counts, or a refusal
 --   reported_words                   the lent words at exit
---   answer_of, paper_of              a returned enum as an answer, and as document 01's number, place and counts
+--   counts_of                        found, hidden and looks of a returned struct
+--   answer_of, paper_of              a returned `Result` as an answer, and as document 01's number, place and counts
 --   IsReportedBy                     the contract of a report, for its rows of a search
 --   IsReported                       the contract of `report`
 use Rattle.std.specs.Prelude.{ℕ, ◌≡◌, Bool, not, cond, List, [], ◌∷◌, ◌++◌, length}
@@ -20,13 +21,13 @@ use Rattle.lists.specs.Areas.{written}
 use Rattle.meaning.specs.Findings.{Finding, findings, words_of}
 use Rattle.meaning.specs.Looks.{quick_looks}
 use Rattle.answers.specs.declared.refusals.Refusal.{Refusal}
-use Rattle.answers.specs.Paper.{Answer, accepted, refused, Paper, answer_paper}
+use Rattle.answers.specs.Paper.{Answer, Paper, answer_paper, answer_from}
 use Rattle.answers.specs.Rows.{first_given, answer_by, area_by}
 use Rattle.silences.specs.Silences.{address, Silence, hides}
 use Rattle.silences.specs.Reading.{book_rows, silences_read}
 use Rattle.findings.specs.Admitting.{admit_rows}
-use Rattle.outlines.specs.declared.reporting.Reported.{Reported}
-use Rattle.outlines.specs.declared.reporting.Reported.TheVariants.{Counts as CountsCase, Refused}
+use Rattle.std.specs.Prelude.{Result}
+use Rattle.outlines.specs.declared.quick.ReportCounts.{ReportCounts as ReportCountsStruct}
 
 -- A finding is hidden exactly when one of the silences has the report's cell and ring number and the finding's start, and the finding's distance is at most its
 -- ceiling: "It hides a finding at its address only up to that distance, and demand 2 reads so" (document 02, ticket 4).
@@ -86,22 +87,25 @@ unfoldable pub reported_words : List (Option Refusal) → List ℕ → List ℕ 
 reported_words rows ring line k cell ring_number book words =
     area_by (report_refusal rows book) (written (words_of (shown (silences_read book) cell ring_number (findings ring line k))) words) words
 
--- The returned enum as an answer.
-abbrev pub answer_of : Reported → Answer ReportCounts
-answer_of (CountsCase found hid looks) = accepted (record { found = found; hidden = hid; looks = looks })
-answer_of (Refused refusal) = refused refusal
+-- Found, hidden and looks of a struct.
+abbrev pub counts_of : ReportCountsStruct → ReportCounts
+counts_of c = record { found = c.found; hidden = c.hidden; looks = c.looks }
 
--- Document 01's number, place and counts for the returned enum.
-abbrev pub paper_of : Reported → Paper ReportCounts
+-- The returned `Result` as an answer.
+abbrev pub answer_of : Result ReportCountsStruct Refusal → Answer ReportCounts
+answer_of r = answer_from counts_of r
+
+-- Document 01's number, place and counts for the returned `Result`.
+abbrev pub paper_of : Result ReportCountsStruct Refusal → Paper ReportCounts
 paper_of r = answer_paper no_report_counts (answer_of r)
 
 -- The contract of a report, for its rows of a search. It fixes number, place and counts of the answer r and the words at exit `out`, on every input, accepted
 -- or refused.
-pub record IsReportedBy (rows : List (Option Refusal)) (cell ring_number : ℕ) (ring line : List ℕ) (k : ℕ) (book words : List ℕ) (r : Reported) (out : List ℕ) : Type 0 where
+pub record IsReportedBy (rows : List (Option Refusal)) (cell ring_number : ℕ) (ring line : List ℕ) (k : ℕ) (book words : List ℕ) (r : Result ReportCountsStruct Refusal) (out : List ℕ) : Type 0 where
   pub paper : paper_of r ≡ answer_paper no_report_counts (report_answer rows ring line k cell ring_number book)
   pub written : out ≡ reported_words rows ring line k cell ring_number book words
 
 -- The contract of `report`: its rows of a search are those of survey and scan.
-abbrev pub IsReported : ℕ → ℕ → List ℕ → List ℕ → ℕ → List ℕ → List ℕ → Reported → List ℕ → Type 0
+abbrev pub IsReported : ℕ → ℕ → List ℕ → List ℕ → ℕ → List ℕ → List ℕ → Result ReportCountsStruct Refusal → List ℕ → Type 0
 IsReported cell ring_number ring line k book words r out =
     IsReportedBy (admit_rows ring k (length line) (length words)) cell ring_number ring line k book words r out

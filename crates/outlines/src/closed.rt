@@ -4,11 +4,13 @@
 ghost use Rattle.outlines.specs.ClosedScan.{IsClosedScanned};
 ghost use Rattle.outlines.specs.ClosedReport.{IsClosedReported};
 
-use crate::quick::scan_line;
-use crate::reporting::Reported;
+use crate::quick::{ReportCounts, scan_line};
+use answers::Refusal;
 use book::read;
-use findings::{Searched, Verdict, admit_closed};
+use findings::{SearchCounts, admit_closed};
 use windows::fill_join;
+
+// (Not one function each with scan and report of an open line: those have no join area, and row 4 asks for other words.)
 
 // The quick scan in closed mode.
 pub fn scan_closed(
@@ -17,20 +19,16 @@ pub fn scan_closed(
     k: usize,
     join: &mut [u8],
     words: &mut [u32],
-) -> Searched
+) -> Result<SearchCounts, Refusal>
     ensures { IsClosedScanned ring.now line.now k join.old words.old result join.new words.new }
 {
-    match admit_closed(ring, k, line.len(), words.len(), join.len()) {
-        Verdict::Refused(refusal) => Searched::Refused(refusal),
-        Verdict::Accepted => {
-            let used = fill_join(line, ring.len(), join);
-            let counted = scan_line(0, 0, ring, line, &join[..used], k, b"", words);
-            Searched::Counts {
-                found: counted.found,
-                looks: counted.looks,
-            }
-        }
-    }
+    admit_closed(ring, k, line.len(), words.len(), join.len())?;
+    let used = fill_join(line, ring.len(), join);
+    let counted = scan_line(0, 0, ring, line, &join[..used], k, b"", words);
+    Ok(SearchCounts {
+        found: counted.found,
+        looks: counted.looks,
+    })
 }
 
 // The report in closed mode, with refusals in the order 1, 12, 2, 3, 4, 10, 5, 6, 7.
@@ -43,31 +41,11 @@ pub fn report_closed(
     book: &[u8],
     join: &mut [u8],
     words: &mut [u32],
-) -> Reported
+) -> Result<ReportCounts, Refusal>
     ensures { IsClosedReported cell ring_number ring.now line.now k book.now join.old words.old result join.new words.new }
 {
-    match admit_closed(ring, k, line.len(), words.len(), join.len()) {
-        Verdict::Refused(refusal) => Reported::Refused(refusal),
-        Verdict::Accepted => match read(book) {
-            Err(refusal) => Reported::Refused(refusal),
-            Ok(_) => {
-                let used = fill_join(line, ring.len(), join);
-                let counted = scan_line(
-                    cell,
-                    ring_number,
-                    ring,
-                    line,
-                    &join[..used],
-                    k,
-                    book,
-                    words,
-                );
-                Reported::Counts {
-                    found: counted.found,
-                    hidden: counted.hidden,
-                    looks: counted.looks,
-                }
-            }
-        },
-    }
+    admit_closed(ring, k, line.len(), words.len(), join.len())?;
+    read(book)?;
+    let used = fill_join(line, ring.len(), join);
+    Ok(scan_line(cell, ring_number, ring, line, &join[..used], k, book, words))
 }

@@ -13,7 +13,7 @@ mod quick;
 mod reporting;
 
 pub use closed::{report_closed, scan_closed};
-pub use findings::Searched;
-pub use quick::scan;
-pub use reporting::{Reported, report};
+pub use findings::SearchCounts;
+pub use quick::{ReportCounts, scan};
+pub use reporting::report;
 pub use survey::{survey, survey_closed};

@@ -6,17 +6,17 @@ ghost use Rattle.outlines.specs.Scan.{IsScanned};
 ghost use Rattle.outlines.specs.LineScan.{CanScan, CanScanLine, LineScanned};
 
 use crate::asking::{BookAsked, ask, put_shown};
-use answers::LinePlace;
-use findings::{Searched, Verdict, admit};
+use answers::{LinePlace, Refusal};
+use findings::{SearchCounts, admit};
 use occurrences::{EdgeVectors, KEPT_WORDS, SLOTS};
 use silences::field_at;
 use sweep::{Sweep, Swept, sweep_on};
 use tally::{DOUBLED, MOST_COUNTS, Tally, double};
 use windows::whole_length;
 
-// "found (hidden ones included), hidden, looks" for one line.
+// "found (hidden ones included), hidden, looks" of an accepted report.
 #[derive(Clone, Copy)]
-pub struct LineCounts {
+pub struct ReportCounts {
     pub found: usize,
     pub hidden: usize,
     pub looks: usize,
@@ -37,7 +37,7 @@ fn scan_windows<'a>(
     book: &[u8],
     tally: &mut Tally,
     words: &mut [u32],
-) -> LineCounts
+) -> ReportCounts
     requires { CanScan ring.now doubled.now vectors.now (parts line.now join.now) k book.now tally.old.counts words.old }
     ensures { LineScanned cell ring_number ring.now (whole_line (length ring.now) (parts line.now join.now)) k book.now words.old result.found result.hidden result.looks words.new }
 {
@@ -68,7 +68,7 @@ fn scan_windows<'a>(
         }
     }
     let found = asked.shown + asked.hidden;
-    LineCounts {
+    ReportCounts {
         found,
         hidden: asked.hidden,
         looks: at.looks,
@@ -86,7 +86,7 @@ pub fn scan_line<'a>(
     k: usize,
     book: &[u8],
     words: &mut [u32],
-) -> LineCounts
+) -> ReportCounts
     requires { CanScanLine ring.now (parts line.now join.now) k book.now words.old }
     ensures { LineScanned cell ring_number ring.now (whole_line (length ring.now) (parts line.now join.now)) k book.now words.old result.found result.hidden result.looks words.new }
 {
@@ -117,17 +117,13 @@ pub fn scan_line<'a>(
 
 // The quick scan of an open line: no window crosses its end, so an empty part of it is lent as the join area. With an
 // empty book all findings are shown, whatever the cell and the ring number, so both are 0 here.
-pub fn scan(ring: &[u8], line: &[u8], k: usize, words: &mut [u32]) -> Searched
+pub fn scan(ring: &[u8], line: &[u8], k: usize, words: &mut [u32]) -> Result<SearchCounts, Refusal>
     ensures { IsScanned ring.now line.now k words.old result words.new }
 {
-    match admit(ring, k, line.len(), words.len()) {
-        Verdict::Refused(refusal) => Searched::Refused(refusal),
-        Verdict::Accepted => {
-            let counted = scan_line(0, 0, ring, line, &line[..0], k, b"", words);
-            Searched::Counts {
-                found: counted.found,
-                looks: counted.looks,
-            }
-        }
-    }
+    admit(ring, k, line.len(), words.len())?;
+    let counted = scan_line(0, 0, ring, line, &line[..0], k, b"", words);
+    Ok(SearchCounts {
+        found: counted.found,
+        looks: counted.looks,
+    })
 }

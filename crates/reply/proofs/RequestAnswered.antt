@@ -4,6 +4,7 @@ use Prim.Native.Nat.{ℕ, ◌+◌, ◌-◌, ◌*◌, ◌^◌, ◌≤◌, ◌<◌
 use mathlib.Core.Path.{◌≡◌, refl, sym, ap, ap₂, ◌∙◌}
 use mathlib.Core.List.{List, ◌++◌}
 use Rattle.std.specs.Prelude.{Option}
+use Rattle.std.specs.Prelude.{Result, Ok, Err}
 use native.Mathlib.Omega.{arith}
 use lib.ListN.{length, take}
 use Rattle.meaning.specs.Findings.{Finding, findings, words_each, words_of}
@@ -13,8 +14,7 @@ use Rattle.answers.proofs.AnswerByRows.{row_place_iff}
 use Rattle.silences.specs.Reading.{silences_read}
 use Rattle.findings.specs.Admitting.{admit_rows}
 use Rattle.findings.proofs.AdmitRows.{no_row_iff}
-use Rattle.outlines.specs.declared.reporting.Reported.{Reported}
-use Rattle.outlines.specs.declared.reporting.Reported.TheVariants.{Counts as CountsCase, Refused}
+use Rattle.outlines.specs.declared.quick.ReportCounts.{ReportCounts as ReportCountsStruct}
 use Rattle.outlines.specs.Report.{shown, hidden, report_refusal, ReportCounts, no_report_counts, report_counts, report_answer, paper_of, IsReported}
 use Rattle.outlines.specs.LineScan.{LineScanned}
 use Rattle.outlines.proofs.ReportGives.{report_none_given, report_gives}
@@ -51,10 +51,10 @@ unfolding request_text
 text_by_lem q room line_le enough e =
     ap (lines_by q) (sym (refusal_same q.ring q.allowance (length q.line) room q.book (λ some_edge fits. omega arith)) ∙ e)
 
-module _ {cell ring_number k : ℕ} {ring line book words out : List ℕ} {r : Reported} (meets : IsReported cell ring_number ring line k book words r out)
+module _ {cell ring_number k : ℕ} {ring line book words out : List ℕ} {r : Result ReportCountsStruct Refusal} (meets : IsReported cell ring_number ring line k book words r out)
     (line_le : length line ≤ line_field.most) (enough : most_finding_words ≤ length words) where
   -- The line of the report's refusal is the request's text.
-  pub refused_text : (refusal : Refusal) → r ≡ Refused refusal → refusal_line refusal ≡ request_text (request cell ring_number k ring line book)
+  pub refused_text : (refusal : Refusal) → r ≡ Err refusal → refusal_line refusal ≡ request_text (request cell ring_number k ring line book)
   unfolding report_answer
   refused_text refusal e =
       sym
@@ -63,12 +63,15 @@ module _ {cell ring_number k : ℕ} {ring line book words out : List ℕ} {r : R
       (sym (ap paper_of e) ∙ meets.paper) refusal).0 (refl, refl)))
 
   -- An accepted report's counts and words give the request's text, in three pieces.
-  pub counted_text : {found hid looks : ℕ} → cell < 2 ^ 32 → ring_number < 2 ^ 16 → r ≡ CountsCase found hid looks
-      → Answered (request cell ring_number k ring line book) found hid looks out
+  pub counted_text : {c : ReportCountsStruct} → cell < 2 ^ 32 → ring_number < 2 ^ 16 → r ≡ Ok c
+      → Answered (request cell ring_number k ring line book) c.found c.hidden c.looks out
   unfolding report_lines
-  counted_text {found} {hid} {looks} cell_lt ring_number_lt e =
+  counted_text {c} cell_lt ring_number_lt e =
+      let found : ℕ = c.found in
+      let hid : ℕ = c.hidden in
+      let looks : ℕ = c.looks in
       let q : Request = request cell ring_number k ring line book in
-      let is : IsReported cell ring_number ring line k book words (CountsCase found hid looks) out = rw e at meets in
+      let is : IsReported cell ring_number ring line k book words (Ok c) out = rw e at meets in
       let given : LineScanned cell ring_number ring line k book words found hid looks out = report_gives is in
       let none_given = report_none_given is in
       let all : List Finding = findings ring line k in
@@ -86,7 +89,7 @@ module _ {cell ring_number k : ℕ} {ring line book words out : List ℕ} {r : R
         hidden_le = omega arith;
         words_le = omega (arith, written_le (words_of seen) words given.words_are);
         pieces =
-            ap₂ (λ (lines : List ℕ) (c : ReportCounts). first_line cell ring_number (length ring) k ++ (lines ++ last_line c))
+            ap₂ (λ (lines : List ℕ) (last : ReportCounts). first_line cell ring_number (length ring) k ++ (lines ++ last_line last))
             (ap lines_of_words front ∙ lines_of_findings seen) counts
             ∙ sym text;
         length_le = rw text (report_lines_le q (length words) ((no_row_iff ring k (length line) (length words)).0 none_given.0) line_le (silences_read book) cell_lt ring_number_lt);

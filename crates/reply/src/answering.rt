@@ -7,7 +7,7 @@ ghost use Rattle.reply.specs.Writing.{CanAnswer, IsText};
 use crate::refusing::put_refusal;
 use crate::writer::Writer;
 use findings::WORDS_EACH;
-use outlines::{Reported, report};
+use outlines::report;
 use request::{MOST_LINE_BYTES, Parts, read_request};
 
 // Words for a finding at each edge of the longest line. Row 4 never requires more.
@@ -41,15 +41,11 @@ fn answer_request(parts: Parts, text: &mut [u8]) -> usize
     } = parts;
     let mut words = [0u32; MOST_FINDING_WORDS];
     match report(cell, ring_number, ring, line, allowance, book, &mut words) {
-        Reported::Refused(refusal) => put_refusal(text, refusal),
-        Reported::Counts {
-            found,
-            hidden,
-            looks,
-        } => {
-            let shown = WORDS_EACH * (found - hidden);
+        Err(refusal) => put_refusal(text, refusal),
+        Ok(counts) => {
+            let shown = WORDS_EACH * (counts.found - counts.hidden);
             let first = [cell as usize, ring_number as usize, ring.len(), allowance];
-            let last = [found, hidden, looks];
+            let last = [counts.found, counts.hidden, counts.looks];
             let mut writer = Writer {
                 area: text,
                 next: 0,

@@ -6,7 +6,9 @@ use mathlib.Core.List.{List}
 use lib.ListN.{length}
 use Rattle.meaning.specs.Findings.{findings}
 use Rattle.meaning.proofs.SurveyLooks.{survey_looks_is, survey_looks_short}
-use Rattle.findings.specs.declared.searching.Searched.{Searched}
+use Rattle.std.specs.Prelude.{Result}
+use Rattle.answers.specs.declared.refusals.Refusal.{Refusal}
+use Rattle.findings.specs.declared.searching.SearchCounts.{SearchCounts}
 use Rattle.findings.specs.Searching.{paper_of}
 use Rattle.findings.specs.SearchRows.{SearchRows}
 use Rattle.findings.proofs.AdmitRows.{accepted_edge}
@@ -14,7 +16,7 @@ use Rattle.findings.proofs.RowsOfSearching.{rows_of_search}
 use Rattle.findings.proofs.SearchGives.{accepted_gives, looks_of_search}
 use Rattle.survey.specs.Survey.{IsSurveyed}
 
-module _ (ring line : List ℕ) (k : ℕ) (words : List ℕ) (r : Searched) (out : List ℕ) (meets : IsSurveyed ring line k words r out) where
+module _ (ring line : List ℕ) (k : ℕ) (words : List ℕ) (r : Result SearchCounts Refusal) (out : List ℕ) (meets : IsSurveyed ring line k words r out) where
   -- Every answer of `survey` obeys rows 1 to 4 and 12 of the table.
   pub survey_rows : SearchRows ring k (length line) words (paper_of r) out
   survey_rows = rows_of_search meets

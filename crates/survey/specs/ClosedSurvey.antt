@@ -5,11 +5,13 @@
 use Rattle.std.specs.Prelude.{ℕ, List, length}
 use Rattle.meaning.specs.Closed.{closed_line}
 use Rattle.meaning.specs.Looks.{survey_looks}
-use Rattle.findings.specs.declared.searching.Searched.{Searched}
+use Rattle.std.specs.Prelude.{Result}
+use Rattle.answers.specs.declared.refusals.Refusal.{Refusal}
+use Rattle.findings.specs.declared.searching.SearchCounts.{SearchCounts}
 use Rattle.findings.specs.ClosedSearching.{IsClosedSearched}
 
 -- The contract of `survey_closed`, for ring, line, allowance, join area and lent words, the answer r, the join area at exit `joined` and the words at exit
 -- `out`: it is a search on a closed line with the survey's looks.
-abbrev pub IsClosedSurveyed : List ℕ → List ℕ → ℕ → List ℕ → List ℕ → Searched → List ℕ → List ℕ → Type 0
+abbrev pub IsClosedSurveyed : List ℕ → List ℕ → ℕ → List ℕ → List ℕ → Result SearchCounts Refusal → List ℕ → List ℕ → Type 0
 IsClosedSurveyed ring line k join words r joined out =
     IsClosedSearched ring line k (survey_looks ring (closed_line (length ring) line)) join words r joined out

@@ -16,13 +16,15 @@ use Rattle.windows.specs.Windows.{Parts, whole_line, Joined}
 use Rattle.tally.specs.Marks.{past_mark}
 use Rattle.tally.specs.Counts.{most_counts, IsDoubled, IsLeast}
 use Rattle.tally.specs.Tallied.{Tallied, CanTally}
-use Rattle.findings.specs.declared.searching.Searched.{Searched}
+use Rattle.std.specs.Prelude.{Result}
+use Rattle.answers.specs.declared.refusals.Refusal.{Refusal}
+use Rattle.findings.specs.declared.searching.SearchCounts.{SearchCounts}
 use Rattle.findings.specs.Admitting.{admit_rows}
 use Rattle.findings.specs.Limits.{most_places, CanSearch}
 use Rattle.findings.specs.Searching.{LineSearched, IsSearched}
 
 -- The contract of `survey`, for ring, line, allowance and lent words, the answer r and the words at exit: it is a search with the survey's looks.
-abbrev pub IsSurveyed : List ℕ → List ℕ → ℕ → List ℕ → Searched → List ℕ → Type 0
+abbrev pub IsSurveyed : List ℕ → List ℕ → ℕ → List ℕ → Result SearchCounts Refusal → List ℕ → Type 0
 IsSurveyed ring line k words r out = IsSearched (admit_rows ring k (length line) (length words)) ring line k (survey_looks ring line) words r out
 
 -- From here on: preconditions and contracts of private functions.

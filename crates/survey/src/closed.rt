@@ -2,29 +2,23 @@
 ghost use Rattle.survey.specs.ClosedSurvey.{IsClosedSurveyed};
 
 use crate::plain::survey_line;
-use findings::{Searched, Verdict, admit_closed};
+use answers::Refusal;
+use findings::{SearchCounts, admit_closed};
 use windows::fill_join;
 
 // The plain survey in closed mode: "edges continue from the beginning after the last". The join area is written once no
 // refusal is left to be given. Only its first 2·m − 2 bytes, or none for n < m, are lent to the survey.
+// (Not one function with the open survey: that has no join area, and row 4 asks for other words.)
 pub fn survey_closed(
     ring: &[u8],
     line: &[u8],
     k: usize,
     join: &mut [u8],
     words: &mut [u32],
-) -> Searched
+) -> Result<SearchCounts, Refusal>
     ensures { IsClosedSurveyed ring.now line.now k join.old words.old result join.new words.new }
 {
-    match admit_closed(ring, k, line.len(), words.len(), join.len()) {
-        Verdict::Refused(refusal) => Searched::Refused(refusal),
-        Verdict::Accepted => {
-            let used = fill_join(line, ring.len(), join);
-            let counted = survey_line(ring, line, &join[..used], k, words);
-            Searched::Counts {
-                found: counted.found,
-                looks: counted.looks,
-            }
-        }
-    }
+    admit_closed(ring, k, line.len(), words.len(), join.len())?;
+    let used = fill_join(line, ring.len(), join);
+    Ok(survey_line(ring, line, &join[..used], k, words))
 }

@@ -3,8 +3,8 @@ ghost use Rattle.std.specs.Prelude.{◌≡◌, length};
 ghost use Rattle.windows.specs.Windows.{parts, whole_line};
 ghost use Rattle.survey.specs.Survey.{is_found, CanVerifyOn, IsVerifiedOn, CanSurveyLine, CanSurvey, LineSurveyed, IsSurveyed};
 
-use answers::LinePlace;
-use findings::{SearchCounts, Searched, Verdict, admit, put_finding};
+use answers::{LinePlace, Refusal};
+use findings::{SearchCounts, admit, put_finding};
 use moves::{Reached, move_tally};
 use tally::{DOUBLED, MOST_COUNTS, Tally, double};
 use windows::{whole_length, window};
@@ -113,17 +113,14 @@ pub fn survey_line<'a>(
 // The plain survey of an open line: no window crosses its end, so an empty part of it is lent as the join area. Every
 // start is verified, also those that a quick scan would skip. So is every place whose window holds a mark, because its
 // tally leads to the next one's.
-pub fn survey(ring: &[u8], line: &[u8], k: usize, words: &mut [u32]) -> Searched
+pub fn survey(
+    ring: &[u8],
+    line: &[u8],
+    k: usize,
+    words: &mut [u32],
+) -> Result<SearchCounts, Refusal>
     ensures { IsSurveyed ring.now line.now k words.old result words.new }
 {
-    match admit(ring, k, line.len(), words.len()) {
-        Verdict::Refused(refusal) => Searched::Refused(refusal),
-        Verdict::Accepted => {
-            let counted = survey_line(ring, line, &line[..0], k, words);
-            Searched::Counts {
-                found: counted.found,
-                looks: counted.looks,
-            }
-        }
-    }
+    admit(ring, k, line.len(), words.len())?;
+    Ok(survey_line(ring, line, &line[..0], k, words))
 }

@@ -5,6 +5,7 @@ use Prim.Native.Nat.{ℕ, ◌-◌, ◌*◌, ◌≤◌}
 use mathlib.Core.Path.{◌≡◌, refl, sym, ap, subst, ◌∙◌}
 use mathlib.Core.List.{List, [], ◌++◌, append-nil}
 use Rattle.std.specs.Prelude.{None}
+use Rattle.std.specs.Prelude.{Result, Ok, Err}
 use native.Mathlib.Omega.{arith}
 use lib.ListN.{length, take, drop, length-drop}
 use lib.Seq.{take_all, drop-length}
@@ -15,15 +16,12 @@ use Rattle.answers.specs.Paper.{accepted}
 use Rattle.answers.specs.Rows.{first_given}
 use Rattle.reversal.specs.Reversing.{reversed_ring, IsReversed}
 use Rattle.reversal.proofs.ReversedFirst.{reversed_room, reversed_first}
-use Rattle.findings.specs.declared.searching.Searched.{Searched}
-use Rattle.findings.specs.declared.searching.Searched.TheVariants.{Counts as SearchedCounts, Refused as SearchedRefused}
 use Rattle.findings.specs.declared.searching.SearchCounts.{SearchCounts}
 use Rattle.findings.specs.Admitting.{admit_rows}
 use Rattle.findings.specs.Searching.{Counts}
 use Rattle.findings.proofs.SearchGives.{accepted_words}
 use Rattle.outlines.specs.Scan.{IsScanned}
-use Rattle.two_way.specs.declared.passes.TwoWay.TheVariants.{Counts as CountsCase}
-use Rattle.two_way.specs.TwoWay.{counts_of}
+use Rattle.findings.specs.Searching.{counts_of}
 use Rattle.two_way.specs.Passes.{CanScanBackward, IsScannedBackward}
 use Rattle.two_way.proofs.PassesAccepted.{never_refused, forward_found_le, forward_words_le, backward_accepted, pass_is_scan}
 
@@ -50,7 +48,7 @@ module _ (ring line : List ℕ) (k : ℕ) (words : List ℕ) (forward : SearchCo
     lent_is = take_all (length words - behind) (drop behind words) (omega (arith, length-drop behind words))
 
     -- so it is a scan for the reversed ring with these words
-    as_scan : {s : Searched} {part : List ℕ} → IsScanned (take (length ring) back) line k (take (length words - behind) (drop behind words)) s part
+    as_scan : {s : Result SearchCounts Refusal} {part : List ℕ} → IsScanned (take (length ring) back) line k (take (length words - behind) (drop behind words)) s part
         → IsScanned (reversed_ring ring) line k (drop behind words) s part
     as_scan {s} {part} scanned =
         subst (λ (lent : List ℕ). IsScanned (reversed_ring ring) line k lent s part) lent_is
@@ -64,13 +62,13 @@ module _ (ring line : List ℕ) (k : ℕ) (words : List ℕ) (forward : SearchCo
 
     -- The scan does not refuse.
     pub backward_not_refused : {refusal : Refusal} {part : List ℕ}
-        → IsScanned (take (length ring) back) line k (take (length words - behind) (drop behind words)) (SearchedRefused refusal) part → ⊥
+        → IsScanned (take (length ring) back) line k (take (length words - behind) (drop behind words)) (Err refusal) part → ⊥
     backward_not_refused scanned = never_refused none_given (as_scan scanned)
 
     -- With its counts, and its words put back behind the forward ones, the contract of `scan_backward` is met.
-    pub scanned_backward : {found looks : ℕ} {part : List ℕ}
-        → IsScanned (take (length ring) back) line k (take (length words - behind) (drop behind words)) (SearchedCounts found looks) part
-        → IsScannedBackward ring line k words forward (CountsCase forward (record { found = found; looks = looks }))
+    pub scanned_backward : {backward : SearchCounts} {part : List ℕ}
+        → IsScanned (take (length ring) back) line k (take (length words - behind) (drop behind words)) (Ok backward) part
+        → IsScannedBackward ring line k words forward (Ok (record { forward = forward; backward = backward }))
         (take behind words ++ (part ++ drop (length words - behind) (drop behind words)))
     unfolding written_at
     scanned_backward {part = part} scanned =

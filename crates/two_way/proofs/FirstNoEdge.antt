@@ -3,15 +3,23 @@
 -- has none (`first_no_edge_lem`).
 use Prim.Native.Nat.{ℕ, ◌≤◌, ◌<◌}
 use mathlib.Core.Path.{◌≡◌, sym, ◌∙◌}
-use mathlib.Core.Bool.{true, false, false≢true}
+use mathlib.Core.Bool.{Bool, true, false, cond, not, false≢true}
 use mathlib.Core.List.{List}
 use mathlib.Core.Logic.{◌↔◌}
 use native.Mathlib.Omega.{arith}
+use lib.Dec.{ltb}
 use lib.ListN.{length, get_or}
+use Rattle.std.specs.Prelude.{Option, None, Some}
+use Rattle.std.specs.List.{position_or_len}
+use Rattle.std.proofs.lemmas.List.Sums.{position_or_len_is}
 use Rattle.lists.proofs.SizesTested.{lt_iff, not_iff, test_fails}
-use Rattle.meaning.specs.EdgeCodes.{edge_codes}
+use Rattle.meaning.specs.EdgeCodes.{edge_codes, is_edge}
 use Rattle.meaning.proofs.First.{first_below_lem, first_by}
-use Rattle.two_way.specs.Admitting.{is_no_edge, first_no_edge, IsFirstNoEdge}
+use Rattle.two_way.specs.Admitting.{is_no_edge, first_no_edge, IsFirstNoEdge, SaysFirstNoEdge}
+
+-- Whether a code is no edge's.
+abbrev pub not_edge : ℕ → Bool
+not_edge code = not (is_edge code)
 
 module _ (ring : List ℕ) where
   -- The test passes at a place exactly when its code is above 247.
@@ -45,3 +53,12 @@ module _ (ring : List ℕ) where
   unfolding first_no_edge
   first_no_edge_by {q} is =
       first_by (record { place_le = omega (arith, is.in_ring); fails = λ r l. edge_fails r (is.edges_before r l) }) (λ _. (no_edge_iff q).1 is.no_edge)
+
+  -- `position` asks the codes one after the other, so it finds the first place.
+  pub position_says : {r : Option ℕ} → r ≡ cond (ltb (position_or_len not_edge ring) (length ring)) (Some (position_or_len not_edge ring)) None → SaysFirstNoEdge ring r
+  unfolding first_no_edge
+  position_says is =
+      let first = first_below_lem {p = is_no_edge ring} {n = length ring} in
+      let same : position_or_len not_edge ring ≡ first_no_edge ring =
+      position_or_len_is not_edge ring (first_no_edge ring) 0 first.none_before.place_le first.none_before.fails first.passes in
+      record { is = rw same at is }

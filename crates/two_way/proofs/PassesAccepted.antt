@@ -5,6 +5,7 @@ use mathlib.Core.Path.{◌≡◌, refl, ap, ap₂, ◌∙◌}
 use mathlib.Core.Logic.{⊎_elim}
 use mathlib.Core.List.{List}
 use Rattle.std.specs.Prelude.{Option, None}
+use Rattle.std.specs.Prelude.{Result, Ok, Err}
 use native.Mathlib.Omega.{arith}
 use lib.ListN.{length}
 use Rattle.lists.proofs.Areas.{written_length}
@@ -17,8 +18,7 @@ use Rattle.answers.specs.Rows.{first_given}
 use Rattle.answers.proofs.OneAnswer.{number_in}
 use Rattle.reversal.specs.Reversing.{reversed_ring}
 use Rattle.reversal.proofs.RingTwice.{reversed_length, reversed_unmarked}
-use Rattle.findings.specs.declared.searching.Searched.{Searched}
-use Rattle.findings.specs.declared.searching.Searched.TheVariants.{Counts as CountsCase, Refused}
+use Rattle.findings.specs.declared.searching.SearchCounts.{SearchCounts}
 use Rattle.findings.specs.Admitting.{room_required, admit_rows}
 use Rattle.findings.specs.Searching.{paper_of, IsSearched}
 use Rattle.findings.proofs.AdmitRows.{no_row_iff}
@@ -30,7 +30,7 @@ use Rattle.two_way.specs.Passes.{CanScanBackward}
 
 -- A search does not refuse if none of its rows is given.
 pub never_refused : {rows : List (Option Refusal)} {ring line : List ℕ} {k expected : ℕ} {words : List ℕ} {refusal : Refusal} {out : List ℕ} → first_given rows ≡ None
-    → IsSearched rows ring line k expected words (Refused refusal) out → ⊥
+    → IsSearched rows ring line k expected words (Err refusal) out → ⊥
 never_refused {refusal = refusal} none_given meets = omega (arith, (search_accepted_iff meets).1 none_given, (number_in refusal).0)
 
 module _ (ring line : List ℕ) (k room : ℕ) (admitted : TwoWayAdmitted ring k (length line) room) where
@@ -81,19 +81,19 @@ module _ (ring line : List ℕ) (k room : ℕ) (admitted : TwoWayAdmitted ring k
 
 -- The forward scan of an admitted call does not refuse.
 pub forward_not_refused : {ring line : List ℕ} {k : ℕ} {words : List ℕ} {refusal : Refusal} {out : List ℕ} → TwoWayAdmitted ring k (length line) (length words)
-    → IsScanned ring line k words (Refused refusal) out → ⊥
+    → IsScanned ring line k words (Err refusal) out → ⊥
 forward_not_refused {ring} {line} {k} {words} admitted meets = never_refused (forward_accepted ring line k (length words) admitted) meets
 
 -- An accepted scan for a ring has found and looks of the pass for that ring.
-pub pass_is_scan : {ring line : List ℕ} {k : ℕ} {words : List ℕ} {s : Searched} {out : List ℕ} → IsScanned ring line k words s out → (paper_of s).number ≡ 0
+pub pass_is_scan : {ring line : List ℕ} {k : ℕ} {words : List ℕ} {s : Result SearchCounts Refusal} {out : List ℕ} → IsScanned ring line k words s out → (paper_of s).number ≡ 0
     → (paper_of s).counts ≡ pass_counts ring line k
 pass_is_scan meets zero_is =
     let gives = accepted_gives meets zero_is in
     ap₂ (λ (f l : ℕ). record { found = f; looks = l }) gives.found_is gives.looks_are
 
 -- After the forward scan of an admitted call, the backward scan can be made.
-pub can_scan_backward : {ring line : List ℕ} {k : ℕ} {words : List ℕ} {found looks : ℕ} {mid : List ℕ} → TwoWayAdmitted ring k (length line) (length words)
-    → IsScanned ring line k words (CountsCase found looks) mid → CanScanBackward ring line k mid (record { found = found; looks = looks })
+pub can_scan_backward : {ring line : List ℕ} {k : ℕ} {words : List ℕ} {forward : SearchCounts} {mid : List ℕ} → TwoWayAdmitted ring k (length line) (length words)
+    → IsScanned ring line k words (Ok forward) mid → CanScanBackward ring line k mid forward
 can_scan_backward {ring} {line} {k} {words} {mid = mid} admitted meets =
     let fits : length (words_of (findings ring line k)) ≤ length words = omega (arith, words_length (findings ring line k), forward_words_le ring line k (length words) admitted) in
     let same : length mid ≡ length words =

@@ -6,6 +6,7 @@ use mathlib.Core.Logic.Iff
 use mathlib.Core.Logic.{◌↔◌, ◌⊎◌, inl}
 use mathlib.Core.List.{List}
 use Rattle.std.specs.Prelude.{Some}
+use Rattle.std.specs.Prelude.{Result}
 use native.Mathlib.Omega.{arith}
 use lib.ListN.{length}
 use Rattle.lists.specs.Areas.{written}
@@ -16,14 +17,14 @@ use Rattle.answers.specs.Refusals.{number_of}
 use Rattle.answers.specs.Rows.{first_given}
 use Rattle.answers.proofs.RefusalNumbers.{HasNoPlace}
 use Rattle.answers.proofs.AnswerByRows.{row_number_iff, row_place_iff, accepted_number_iff, number_by, place_unless, refused_counts, refused_area}
-use Rattle.two_way.specs.declared.passes.TwoWay.{TwoWay}
+use Rattle.two_way.specs.declared.passes.TwoWayCounts.{TwoWayCounts as TwoWayCountsStruct}
 use Rattle.two_way.specs.Admitting.{two_way_rows}
 use Rattle.two_way.specs.TwoWay.{TwoWayCounts, no_two_way_counts, two_way_counts, two_way_findings, two_way_answer, two_way_words, paper_of, IsScannedTwoWay}
 use Rattle.two_way.specs.TwoWayRows.{TwoWayRows}
 use Rattle.two_way.proofs.TwoWayAdmitRows.{two_way_1_iff, two_way_12_iff, two_way_2_iff, two_way_14_iff, two_way_3_iff, two_way_4_iff, two_way_none_iff, two_way_row_numbers, two_way_row_places}
 
 -- Every answer that meets the contract of `scan_two_way` obeys the table `TwoWayRows`.
-pub rows_of_two_way : {ring line : List ℕ} {k : ℕ} {words : List ℕ} {r : TwoWay} {out : List ℕ} → IsScannedTwoWay ring line k words r out
+pub rows_of_two_way : {ring line : List ℕ} {k : ℕ} {words : List ℕ} {r : Result TwoWayCountsStruct Refusal} {out : List ℕ} → IsScannedTwoWay ring line k words r out
     → TwoWayRows ring k (length line) words (paper_of r) out
 unfolding two_way_answer two_way_words
 rows_of_two_way {ring} {line} {k} {words} {r} meets =

@@ -6,6 +6,11 @@ use mathlib.Core.Logic.Iff
 use mathlib.Core.Logic.{◌↔◌, ◌⊎◌, inl, inr}
 use mathlib.Core.List.{List, [], ◌∷◌}
 use Rattle.std.specs.Prelude.{Option, None, Some}
+use Rattle.std.specs.Prelude.{Ok}
+use borrow.Author.Tests.{ltb-true, ltb-false}
+use lib.Dec.{ltb}
+use mathlib.Core.Bool.{Bool, true, false, cond}
+use Rattle.std.proofs.lemmas.Option.{cond_some, none-some}
 use native.Mathlib.Omega.{arith}
 use lib.ListN.{length}
 use Rattle.lists.proofs.SizesTested.{lt_iff}
@@ -15,30 +20,36 @@ use Rattle.answers.specs.declared.refusals.Refusal.TheVariants.{Ring, Allowance,
 use Rattle.answers.specs.Refusals.{number_of, place_of}
 use Rattle.answers.specs.Rows.{row, first_given}
 use Rattle.answers.proofs.RowsExactly.{IsRow, is_row, first_place_iff, EachRow, end, row_has, at_row, at_fault, past_row, no_row, no_last_row}
-use Rattle.findings.specs.declared.admitting.Verdict.{Verdict}
-use Rattle.findings.specs.declared.admitting.Verdict.TheVariants.{Accepted}
 use Rattle.findings.specs.Admitting.{most_ring, most_line, is_row3, ring_rows, IsRingLength, IsVerdict}
 use Rattle.findings.proofs.LimitRows.{IsOwnRow, within_ring, is_room_row, is_row_3, ring_1_iff, ring_12_iff, ring_2_iff, own_row_iff, no_own_row_iff, ring_row_iff, by_ring}
 use Rattle.two_way.specs.Admitting.{two_way_room, first_no_edge, row14, is_two_way_row4, two_way_rows, IsFirstNoEdge, AllEdges, TwoWayAdmitted, SaysFirstNoEdge}
 use Rattle.two_way.proofs.FirstNoEdge.{first_edges, first_no_edge_lem, first_no_edge_by}
 
-module _ {ring : List ℕ} {place : ℕ} (first : SaysFirstNoEdge ring place) where
-  -- What `first_no_edge` returns is the first place without an edge code, if it is a place of the ring.
-  pub first_given_lem : place < length ring → IsFirstNoEdge ring place
-  first_given_lem below =
-      let given : first_no_edge ring < length ring = omega (arith, first.is) in
-      subst (IsFirstNoEdge ring) (sym first.is) (record { in_ring = given; no_edge = first_no_edge_lem ring given; edges_before = first_edges ring })
+module _ {ring : List ℕ} where
+  -- If the first place without an edge code is a place of the ring, it is "the first such ring place".
+  first_given_lem : first_no_edge ring < length ring → IsFirstNoEdge ring (first_no_edge ring)
+  first_given_lem given = record { in_ring = given; no_edge = first_no_edge_lem ring given; edges_before = first_edges ring }
 
-  -- If it is not, all codes are edges.
-  none_first : length ring ≤ place → AllEdges ring
-  none_first past = record { each = λ q l. first_edges ring q (omega (arith, first.is)) }
+  -- The place that `first_no_edge` returns is the first without an edge code.
+  pub first_told : {place : ℕ} → SaysFirstNoEdge ring (Some place) → IsFirstNoEdge ring place
+  first_told {place} says =
+      let is = cond_some (ltb (first_no_edge ring) (length ring)) (first_no_edge ring) place (sym says.is) in
+      subst (IsFirstNoEdge ring) is.1 (first_given_lem (ltb-true (first_no_edge ring) (length ring) is.0))
+
+  -- If it returns none, all codes are edges.
+  none_first : SaysFirstNoEdge ring None → AllEdges ring
+  none_first says = go (ltb (first_no_edge ring) (length ring)) refl says.is
+    where
+      go : (t : Bool) → ltb (first_no_edge ring) (length ring) ≡ t → None ≡ cond t (Some (first_no_edge ring)) None → AllEdges ring
+      go true _ none = absurd (none-some (first_no_edge ring) none)
+      go false past _ = record { each = λ q l. first_edges ring q (omega (arith, ltb-false (first_no_edge ring) (length ring) past)) }
 
 -- If the verdict on rows 1, 12 and 2 accepts, and no place is without an edge code, then none of rows 1, 12, 2 and 14 is given. P is what follows for rows 3 and 4.
-pub with_edges : {ring : List ℕ} {k place : ℕ} {r : Verdict} {P : Type 0} → IsVerdict (ring_rows ring k) r → r ≡ Accepted → SaysFirstNoEdge ring place
-    → length ring ≤ place → P → IsRingLength (length ring) × ((HoldsMark ring → ⊥) × ((k < length ring) × (AllEdges ring × P)))
-with_edges {ring} {k} verdict accepts first past p =
-    let within = within_ring ring k verdict accepts in
-    (within.0, (within.1.0, (within.1.1, (none_first first past, p))))
+pub with_edges : {ring : List ℕ} {k : ℕ} {u : Unit {0}} {P : Type 0} → IsVerdict (ring_rows ring k) (Ok u) → SaysFirstNoEdge ring None
+    → P → IsRingLength (length ring) × ((HoldsMark ring → ⊥) × ((k < length ring) × (AllEdges ring × P)))
+with_edges {ring} {k} verdict first p =
+    let within = within_ring ring k verdict in
+    (within.0, (within.1.0, (within.1.1, (none_first first, p))))
 
 -- The row's place is the first without an edge code: row 14 is given exactly when that is a place of the ring, and not given exactly when all codes are edges.
 pub is_row_14 : (ring : List ℕ) → IsRow (row14 ring) (RingCode (first_no_edge ring)) (first_no_edge ring < length ring) (AllEdges ring)
@@ -48,7 +59,7 @@ is_row_14 ring =
 
 -- Row 14 is given with this place exactly when it is "the first such ring place".
 pub row_14_at_iff : (ring : List ℕ) (place : ℕ) → (row14 ring ≡ Some (RingCode place)) ↔ IsFirstNoEdge ring place
-row_14_at_iff ring = first_place_iff RingCode (λ p. refl) (first_given_lem (record { is = refl })) (λ p first. (first_no_edge_by ring first, first.in_ring))
+row_14_at_iff ring = first_place_iff RingCode (λ p. refl) first_given_lem (λ p first. (first_no_edge_by ring first, first.in_ring))
 
 module _ (ring : List ℕ) (k n room : ℕ) where
   abbrev m : ℕ

@@ -6,6 +6,7 @@ use mathlib.Core.Path.{◌≡◌, refl, sym, ap, subst, ◌∙◌}
 use mathlib.Core.Logic.{⊎_elim}
 use mathlib.Core.List.{List, ◌++◌}
 use Rattle.std.specs.Prelude.{Option, None}
+use Rattle.std.specs.Prelude.{Result}
 use native.Mathlib.Omega.{arith}
 use lib.ListN.{length}
 use Rattle.lists.specs.Areas.{written}
@@ -19,16 +20,16 @@ use Rattle.answers.specs.Rows.{first_given}
 use Rattle.answers.proofs.AnswerByRows.{accepted_number_iff, accepted_counts, accepted_area, refused_counts}
 use Rattle.reversal.specs.Reversing.{reversed_ring}
 use Rattle.reversal.proofs.RingTwice.{reversed_length}
-use Rattle.findings.specs.declared.searching.Searched.{Searched}
+use Rattle.findings.specs.declared.searching.SearchCounts.{SearchCounts}
 use Rattle.findings.specs.Searching.{paper_of as scan_paper_of}
 use Rattle.outlines.specs.Scan.{IsScanned}
-use Rattle.two_way.specs.declared.passes.TwoWay.{TwoWay}
+use Rattle.two_way.specs.declared.passes.TwoWayCounts.{TwoWayCounts as TwoWayCountsStruct}
 use Rattle.two_way.specs.Admitting.{two_way_rows}
 use Rattle.two_way.specs.TwoWay.{TwoWayCounts, no_two_way_counts, two_way_counts, two_way_findings, two_way_answer, two_way_words, paper_of, IsScannedTwoWay}
 use Rattle.two_way.proofs.TwoWayAdmitRows.{two_way_no_row_iff}
 use Rattle.two_way.proofs.PassesAccepted.{pass_is_scan}
 
-module _ (ring line : List ℕ) (k : ℕ) (words : List ℕ) (r : TwoWay) (out : List ℕ) (meets : IsScannedTwoWay ring line k words r out) where
+module _ (ring line : List ℕ) (k : ℕ) (words : List ℕ) (r : Result TwoWayCountsStruct Refusal) (out : List ℕ) (meets : IsScannedTwoWay ring line k words r out) where
   -- the call's rows
   abbrev rows : List (Option Refusal)
   rows = two_way_rows ring k (length line) (length words)
@@ -44,12 +45,12 @@ module _ (ring line : List ℕ) (k : ℕ) (words : List ℕ) (r : TwoWay) (out :
   two_way_counts_are zero_is = accepted_counts no_two_way_counts (two_way_counts ring line k) (first_given rows) meets.paper (none_given zero_is)
 
   -- The forward pass has the found and looks of every accepted scan for the ring, whatever words that scan is lent.
-  pub forward_is_scan : {words' : List ℕ} {s : Searched} {out' : List ℕ} → (paper_of r).number ≡ 0 → IsScanned ring line k words' s out'
+  pub forward_is_scan : {words' : List ℕ} {s : Result SearchCounts Refusal} {out' : List ℕ} → (paper_of r).number ≡ 0 → IsScanned ring line k words' s out'
       → (scan_paper_of s).number ≡ 0 → (paper_of r).counts.forward ≡ (scan_paper_of s).counts
   forward_is_scan zero_is scan accepted = ap (λ (c : TwoWayCounts). c.forward) (two_way_counts_are zero_is) ∙ sym (pass_is_scan scan accepted)
 
   -- The backward pass has the found and looks of every accepted scan for the reversed ring.
-  pub backward_is_scan : {words' : List ℕ} {s : Searched} {out' : List ℕ} → (paper_of r).number ≡ 0 → IsScanned (reversed_ring ring) line k words' s out'
+  pub backward_is_scan : {words' : List ℕ} {s : Result SearchCounts Refusal} {out' : List ℕ} → (paper_of r).number ≡ 0 → IsScanned (reversed_ring ring) line k words' s out'
       → (scan_paper_of s).number ≡ 0 → (paper_of r).counts.backward ≡ (scan_paper_of s).counts
   backward_is_scan zero_is scan accepted = ap (λ (c : TwoWayCounts). c.backward) (two_way_counts_are zero_is) ∙ sym (pass_is_scan scan accepted)
 

@@ -5,14 +5,15 @@
 --   passes, two_way_room     two passes; the words that row 4 requires
 --   is_no_edge               whether a ring place has no edge code
 --   first_no_edge            the first ring place that has none; the ring's length if there is none
+--   first_place              the same place, if there is one
 --   row14, is_two_way_row4   row 14; the test whether row 4 is given
 --   two_way_rows             the rows in their order: 1, 12, 2, 14, 3, 4
 --   IsFirstNoEdge            this place is the first that has no edge code: "place the first such ring place"
 --   AllEdges                 row 14 is not given
 --   TwoWayAdmitted           none of these rows is given
 --   SaysFirstNoEdge          the contract of the private `first_no_edge`
-use Rattle.std.specs.Prelude.{ℕ, ◌+◌, ◌-◌, ◌*◌, ◌≤◌, ◌<◌, ◌≡◌, Bool, not, ◌&&◌, List, [], ◌∷◌, ◌++◌, ltb, leb, length, get_or}
-use Rattle.std.specs.Prelude.{Option}
+use Rattle.std.specs.Prelude.{ℕ, ◌+◌, ◌-◌, ◌*◌, ◌≤◌, ◌<◌, ◌≡◌, Bool, cond, not, ◌&&◌, List, [], ◌∷◌, ◌++◌, ltb, leb, length, get_or}
+use Rattle.std.specs.Prelude.{Option, None, Some}
 use Rattle.meaning.specs.Counting.{first_below}
 use Rattle.meaning.specs.Meanings.{HoldsMark}
 use Rattle.meaning.specs.Findings.{words_each}
@@ -72,6 +73,10 @@ pub record TwoWayAdmitted (ring : List ℕ) (k n room : ℕ) : Type 0 where
   pub most_line : n ≤ most_line
   pub room_for : length ring ≤ n → two_way_room (length ring) n ≤ room
 
+-- The first place of the ring that has no edge code, if one has none.
+abbrev pub first_place : List ℕ → Option ℕ
+first_place ring = cond (ltb (first_no_edge ring) (length ring)) (Some (first_no_edge ring)) None
+
 -- The contract of `first_no_edge`, which returns r.
-pub record SaysFirstNoEdge (ring : List ℕ) (r : ℕ) : Type 0 where
-  pub is : r ≡ first_no_edge ring
+pub record SaysFirstNoEdge (ring : List ℕ) (r : Option ℕ) : Type 0 where
+  pub is : r ≡ first_place ring

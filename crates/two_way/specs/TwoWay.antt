@@ -7,19 +7,20 @@
 --   two_way_findings                  the forward findings, then the backward ones
 --   two_way_answer                    the answer that the scan must give: its counts, or a refusal
 --   two_way_words                     the lent words at exit
---   answer_of, paper_of               the returned enum as an answer, and as document 01's number, place and counts
+--   both_counts_of                    found and looks of each pass, of the returned struct
+--   answer_of, paper_of               the returned `Result` as an answer, and as document 01's number, place and counts
 --   IsScannedTwoWay                   the contract of `scan_two_way`
 use Rattle.std.specs.Prelude.{ℕ, ◌≡◌, List, ◌++◌, length}
+use Rattle.std.specs.Prelude.{Result}
 use Rattle.lists.specs.Areas.{written}
 use Rattle.meaning.specs.Findings.{Finding, findings, words_of}
 use Rattle.meaning.specs.Looks.{quick_looks}
-use Rattle.answers.specs.Paper.{Answer, accepted, refused, Paper, answer_paper}
+use Rattle.answers.specs.declared.refusals.Refusal.{Refusal}
+use Rattle.answers.specs.Paper.{Answer, Paper, answer_paper, answer_from}
 use Rattle.answers.specs.Rows.{first_given, answer_by, area_by}
 use Rattle.reversal.specs.Reversing.{reversed_ring}
-use Rattle.findings.specs.declared.searching.SearchCounts.{SearchCounts}
-use Rattle.findings.specs.Searching.{Counts, no_counts}
-use Rattle.two_way.specs.declared.passes.TwoWay.{TwoWay}
-use Rattle.two_way.specs.declared.passes.TwoWay.TheVariants.{Counts as CountsCase, Refused}
+use Rattle.findings.specs.Searching.{Counts, no_counts, counts_of}
+use Rattle.two_way.specs.declared.passes.TwoWayCounts.{TwoWayCounts as TwoWayCountsStruct}
 use Rattle.two_way.specs.Admitting.{two_way_rows}
 
 -- "Each pass has its own found, looks".
@@ -52,20 +53,19 @@ unfoldable pub two_way_words : List ℕ → List ℕ → ℕ → List ℕ → Li
 two_way_words ring line k words =
     area_by (first_given (two_way_rows ring k (length line) (length words))) (written (words_of (two_way_findings ring line k)) words) words
 
--- Found and looks of a struct.
-abbrev pub counts_of : SearchCounts → Counts
-counts_of c = record { found = c.found; looks = c.looks }
+-- Found and looks of each pass, of a struct.
+abbrev pub both_counts_of : TwoWayCountsStruct → TwoWayCounts
+both_counts_of c = record { forward = counts_of c.forward; backward = counts_of c.backward }
 
--- The returned enum as an answer.
-abbrev pub answer_of : TwoWay → Answer TwoWayCounts
-answer_of (CountsCase forward backward) = accepted (record { forward = counts_of forward; backward = counts_of backward })
-answer_of (Refused refusal) = refused refusal
+-- The returned `Result` as an answer.
+abbrev pub answer_of : Result TwoWayCountsStruct Refusal → Answer TwoWayCounts
+answer_of r = answer_from both_counts_of r
 
--- Document 01's number, place and counts for the returned enum.
-abbrev pub paper_of : TwoWay → Paper TwoWayCounts
+-- Document 01's number, place and counts for the returned `Result`.
+abbrev pub paper_of : Result TwoWayCountsStruct Refusal → Paper TwoWayCounts
 paper_of r = answer_paper no_two_way_counts (answer_of r)
 
 -- The contract of `scan_two_way`. It fixes number, place and counts of the answer r and the words at exit `out`, on every input, accepted or refused.
-pub record IsScannedTwoWay (ring line : List ℕ) (k : ℕ) (words : List ℕ) (r : TwoWay) (out : List ℕ) : Type 0 where
+pub record IsScannedTwoWay (ring line : List ℕ) (k : ℕ) (words : List ℕ) (r : Result TwoWayCountsStruct Refusal) (out : List ℕ) : Type 0 where
   pub paper : paper_of r ≡ answer_paper no_two_way_counts (two_way_answer ring line k (length words))
   pub written : out ≡ two_way_words ring line k words

@@ -8,4 +8,4 @@
 mod admitting;
 mod passes;
 
-pub use passes::{TwoWay, scan_two_way};
+pub use passes::{TwoWayCounts, scan_two_way};

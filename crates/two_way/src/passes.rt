@@ -4,18 +4,15 @@ ghost use Rattle.two_way.specs.Passes.{CanScanBackward, IsScannedBackward};
 
 use crate::admitting::admit_two_way;
 use answers::Refusal;
-use findings::{SearchCounts, Verdict, WORDS_EACH};
-use outlines::{Searched, scan};
+use findings::{SearchCounts, WORDS_EACH};
+use outlines::scan;
 use reversal::{MOST_REVERSED, reverse};
 
-// The answer of a two-way scan: found and looks of each pass, or a refusal.
+// Found and looks of each pass of an accepted call.
 #[derive(Clone, Copy)]
-pub enum TwoWay {
-    Counts {
-        forward: SearchCounts,
-        backward: SearchCounts,
-    },
-    Refused(Refusal),
+pub struct TwoWayCounts {
+    pub forward: SearchCounts,
+    pub backward: SearchCounts,
 }
 
 // Scans the line for the reversed ring. It lends the words behind the forward findings, so that the backward ones follow
@@ -26,34 +23,28 @@ fn scan_backward(
     k: usize,
     words: &mut [u32],
     forward: SearchCounts,
-) -> TwoWay
+) -> Result<TwoWayCounts, Refusal>
     requires { CanScanBackward ring.now line.now k words.old forward }
     ensures { IsScannedBackward ring.now line.now k words.old forward result words.new }
 {
-    let mut backward = [0u8; MOST_REVERSED];
-    reverse(ring, &mut backward);
+    let mut reversed = [0u8; MOST_REVERSED];
+    reverse(ring, &mut reversed);
     let behind = WORDS_EACH * forward.found;
-    match scan(&backward[..ring.len()], line, k, &mut words[behind..]) {
-        Searched::Refused(refusal) => TwoWay::Refused(refusal),
-        Searched::Counts { found, looks } => TwoWay::Counts {
-            forward,
-            backward: SearchCounts { found, looks },
-        },
-    }
+    let backward = scan(&reversed[..ring.len()], line, k, &mut words[behind..])?;
+    Ok(TwoWayCounts { forward, backward })
 }
 
 // The quick scan of an open line, forward and backward. Each of the two scans admits its own ring once more; neither
 // refuses.
-pub fn scan_two_way(ring: &[u8], line: &[u8], k: usize, words: &mut [u32]) -> TwoWay
+pub fn scan_two_way(
+    ring: &[u8],
+    line: &[u8],
+    k: usize,
+    words: &mut [u32],
+) -> Result<TwoWayCounts, Refusal>
     ensures { IsScannedTwoWay ring.now line.now k words.old result words.new }
 {
-    match admit_two_way(ring, k, line.len(), words.len()) {
-        Verdict::Refused(refusal) => TwoWay::Refused(refusal),
-        Verdict::Accepted => match scan(ring, line, k, words) {
-            Searched::Refused(refusal) => TwoWay::Refused(refusal),
-            Searched::Counts { found, looks } => {
-                scan_backward(ring, line, k, words, SearchCounts { found, looks })
-            }
-        },
-    }
+    admit_two_way(ring, k, line.len(), words.len())?;
+    let forward = scan(ring, line, k, words)?;
+    scan_backward(ring, line, k, words, forward)
 }

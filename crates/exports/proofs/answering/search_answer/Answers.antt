@@ -1,17 +1,15 @@
--- `exports::answering::search_answer` meets its contract: by the two cases of the answer, accepted and refused.
-use mathlib.Core.Path.{refl, ap}
+-- `exports::answering::search_answer` meets its contract: a report's answer with hidden 0 has the paper of the search, as the struct holds it (`nothing_hidden`).
+use Rattle.std.proofs.Common.{rules}
+use mathlib.Core.Path.{ap, ◌∙◌}
 use native.Mathlib.Omega.{arith}
-use Rattle.findings.specs.declared.searching.Searched.{Searched}
-use Rattle.findings.specs.Searching.{paper_of as search_paper_of}
+use Rattle.answers.specs.Paper.{Paper}
+use Rattle.outlines.specs.Report.{ReportCounts}
+use Rattle.exports.proofs.PassedOn.{nothing_hidden}
 use Rattle.exports.proofs.answering.search_answer.Goals as goal
 
-pub refused_answer-requires : goal.refused_answer-requires
-refused_answer-requires c = omega (arith, ap (λ (r : Searched). (search_paper_of r).place) c.in-Refused.is, c.requires)
+pub report_answer-requires : goal.report_answer-requires
+report_answer-requires c =
+    omega (arith, ap (λ (p : Paper ReportCounts). p.place) (nothing_hidden c.args.searched c.map.result c.map.ensures.cases (λ x y q. search rules)), c.requires)
 
--- Accepted.
-pub returns-in-Counts : goal.returns-in-Counts
-returns-in-Counts c = rw c.in-Counts.is refl
-
--- Refused.
-pub returns-in-Refused : goal.returns-in-Refused
-returns-in-Refused c = rw c.in-Refused.is c.refused_answer.ensures
+pub returns : goal.returns
+returns c = c.report_answer.ensures ∙ nothing_hidden c.args.searched c.map.result c.map.ensures.cases (λ x y q. search rules)

@@ -1,17 +1,18 @@
--- `findings::putting::put_finding` meets its contract: its two ends are the two cases of the test (`PutCases`).
-use mathlib.Core.Path.{◌∙◌, sym}
-use Rattle.findings.proofs.PutCases.{can_put_iff, put_yes, put_no}
+-- `findings::putting::put_finding` meets its contract: its ends are the cases of the test (`PutCases`).
+use native.Mathlib.Omega.{arith}
+use Rattle.findings.proofs.PutCases.{put_yes, put_no, words_told, none_told}
 use Rattle.findings.proofs.putting.put_finding.Goals as goal
 
-pub put_words-requires : goal.put_words-requires
-put_words-requires c =
-    (can_put_iff _ _ _).0 (sym c.can_put.ensures ∙ c.if-can_put.true)
-
 -- The finding can be put.
-pub returns-then-can_put : goal.returns-then-can_put
-returns-then-can_put c =
-    put_yes _ _ _ _ (sym c.can_put.ensures ∙ c.if-can_put.true) c.put_words.ensures
+pub returns-in-Some : goal.returns-in-Some
+returns-in-Some c =
+    let told = words_told _ c.in-Some.ensures in
+    put_yes _ _ _ (record { room = omega arith; words = told.0 }) told.1 c.copy_from_slice.ensures.after
 
--- The finding cannot be put.
-pub returns-else-can_put : goal.returns-else-can_put
-returns-else-can_put c = put_no _ _ _ (sym c.can_put.ensures ∙ c.if-can_put.false)
+-- One of its numbers is no 32-bit word.
+pub returns-in_default : goal.returns-in_default
+returns-in_default c = put_no _ _ _ (λ can. none_told _ c.in_default.ensures can.words)
+
+-- There is no room.
+pub returns-else-before-words : goal.returns-else-before-words
+returns-else-before-words c = put_no _ _ _ (λ can. omega (arith, can.room))

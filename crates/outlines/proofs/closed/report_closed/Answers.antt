@@ -4,7 +4,7 @@ use mathlib.Core.Path.{refl, sym}
 use lib.Seq.{length-take-le}
 use Rattle.windows.proofs.JoinFilled.{used_le}
 use Rattle.windows.proofs.LentParts.{closed_lent, closed_joined}
-use Rattle.findings.proofs.VerdictTold.{told_accepted, told_none, told_refused}
+use Rattle.findings.proofs.Returned.{returned}
 use Rattle.findings.proofs.ClosedAdmitRows.{closed_no_row_iff}
 use Rattle.outlines.proofs.LentScan.{can_scan_line, searched_scanned}
 use Rattle.outlines.proofs.ReportAnswers.{read_accepted, read_refused}
@@ -15,31 +15,25 @@ use Rattle.outlines.proofs.closed.report_closed.Goals as goal
 pub slice_bounds-scan_line-end : goal.slice_bounds-scan_line-end
 slice_bounds-scan_line-end c = used_le c.fill_join-used.ensures
 
-pub slice_bounds-scan_line-end-in-Ok : goal.slice_bounds-scan_line-end-in-Ok
-slice_bounds-scan_line-end-in-Ok c = sym (length-take-le _ _ (used_le c.fill_join-used.ensures))
+pub slice_bounds-scan_line-end-2 : goal.slice_bounds-scan_line-end-2
+slice_bounds-scan_line-end-2 c = sym (length-take-le _ _ (used_le c.fill_join-used.ensures))
 
-pub scan_line-counted-requires : goal.scan_line-counted-requires
-scan_line-counted-requires c =
-    let none_given = told_none c.admit_closed.ensures c.in-Accepted.is in
-    can_scan_line (closed_lent ((closed_no_row_iff _ _ _ _ _).0 none_given) c.fill_join-used.ensures)
-    (read_accepted c.read.ensures c.in-Ok.is) refl
+pub scan_line-requires : goal.scan_line-requires
+scan_line-requires c =
+    can_scan_line (closed_lent ((closed_no_row_iff _ _ _ _ _).0 (sym c.in_ok-admit_closed.ensures.is)) c.fill_join-used.ensures)
+    (read_accepted c.read.ensures c.in_default.is) refl
 
 -- One of the search's rows is given.
-pub returns-in-Refused : goal.returns-in-Refused
-returns-in-Refused c =
-    closed_report_refused_row (told_refused c.admit_closed.ensures c.in-Refused.is)
+pub returns-in_err-admit_closed : goal.returns-in_err-admit_closed
+returns-in_err-admit_closed c = rw (returned c.from_residual.ensures.1) (closed_report_refused_row c.in_err-admit_closed.ensures.is)
 
 -- One of the book's rows is given.
-pub returns-in-Err : goal.returns-in-Err
-returns-in-Err c =
-    closed_report_refused_book (told_accepted c.admit_closed.ensures c.in-Accepted.is)
-    (read_refused c.read.ensures c.in-Err.is)
+pub returns-in-Refused : goal.returns-in-Refused
+returns-in-Refused c = closed_report_refused_book c.in_ok-admit_closed.ensures.is (read_refused c.read.ensures c.in-Refused.is)
 
 -- Accepted.
-pub returns-in-Ok : goal.returns-in-Ok
-returns-in-Ok c =
-    let admit = c.admit_closed in
-    let no-refusal = c.in-Accepted.is in
-    let admitted = (closed_no_row_iff _ _ _ _ _).0 (told_none admit.ensures no-refusal) in
-    closed_report_accepted (told_accepted admit.ensures no-refusal) (read_accepted c.read.ensures c.in-Ok.is)
-    (searched_scanned (closed_lent admitted c.fill_join-used.ensures) c.scan_line-counted.ensures) (closed_joined admitted c.fill_join-used.ensures)
+pub returns : goal.returns
+returns c =
+    let admitted = (closed_no_row_iff _ _ _ _ _).0 (sym c.in_ok-admit_closed.ensures.is) in
+    closed_report_accepted c.in_ok-admit_closed.ensures.is (read_accepted c.read.ensures c.in_default.is)
+    (searched_scanned (closed_lent admitted c.fill_join-used.ensures) c.scan_line.ensures) (closed_joined admitted c.fill_join-used.ensures)

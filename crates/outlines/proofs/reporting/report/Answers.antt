@@ -1,33 +1,28 @@
 -- `outlines::reporting::report` meets its contract: one of the search's rows is given; none of them is, and the book is refused; or the line is scanned with the
 -- book (`ReportAnswers`).
-use mathlib.Core.Path.{refl}
+use mathlib.Core.Path.{refl, sym}
 use Rattle.windows.proofs.LentParts.{open_lent}
-use Rattle.findings.proofs.VerdictTold.{told_accepted, told_none, told_refused}
+use Rattle.findings.proofs.Returned.{returned}
 use Rattle.findings.proofs.AdmitRows.{no_row_iff}
 use Rattle.outlines.proofs.LentScan.{can_scan_line, searched_scanned}
 use Rattle.outlines.proofs.ReportAnswers.{read_accepted, read_refused, report_refused_row, report_refused_book, report_accepted}
 use Rattle.outlines.proofs.reporting.report.Goals as goal
 
-pub scan_line-counted-requires : goal.scan_line-counted-requires
-scan_line-counted-requires c =
-    can_scan_line (open_lent ((no_row_iff _ _ _ _).0 (told_none c.admit.ensures c.in-Accepted.is)))
-    (read_accepted c.read.ensures c.in-Ok.is) refl
+pub scan_line-requires : goal.scan_line-requires
+scan_line-requires c =
+    can_scan_line (open_lent ((no_row_iff _ _ _ _).0 (sym c.in_ok-admit.ensures.is)))
+    (read_accepted c.read.ensures c.in_default.is) refl
 
 -- One of the search's rows is given.
-pub returns-in-Refused : goal.returns-in-Refused
-returns-in-Refused c =
-    report_refused_row (told_refused c.admit.ensures c.in-Refused.is)
+pub returns-in_err-admit : goal.returns-in_err-admit
+returns-in_err-admit c = rw (returned c.from_residual.ensures.1) (report_refused_row c.in_err-admit.ensures.is)
 
 -- One of the book's rows is given.
-pub returns-in-Err : goal.returns-in-Err
-returns-in-Err c =
-    report_refused_book (told_accepted c.admit.ensures c.in-Accepted.is)
-    (read_refused c.read.ensures c.in-Err.is)
+pub returns-in-Refused : goal.returns-in-Refused
+returns-in-Refused c = report_refused_book c.in_ok-admit.ensures.is (read_refused c.read.ensures c.in-Refused.is)
 
 -- Accepted.
-pub returns-in-Ok : goal.returns-in-Ok
-returns-in-Ok c =
-    let admit = c.admit in
-    let no-refusal = c.in-Accepted.is in
-    report_accepted (told_accepted admit.ensures no-refusal) (read_accepted c.read.ensures c.in-Ok.is)
-    (searched_scanned (open_lent ((no_row_iff _ _ _ _).0 (told_none admit.ensures no-refusal))) c.scan_line-counted.ensures)
+pub returns : goal.returns
+returns c =
+    report_accepted c.in_ok-admit.ensures.is (read_accepted c.read.ensures c.in_default.is)
+    (searched_scanned (open_lent ((no_row_iff _ _ _ _).0 (sym c.in_ok-admit.ensures.is))) c.scan_line.ensures)

@@ -13,34 +13,34 @@ use Rattle.reply.proofs.answering.answer_request.Goals as goal
 
 pub overflow_sub-shown : goal.overflow_sub-shown
 overflow_sub-shown c =
-    let counted : Answered _ _ _ _ _ = counted_text c.report.ensures c.requires.line_le (search rules) (omega arith) (omega arith) c.in-Counts.is in
+    let counted : Answered _ _ _ _ _ = counted_text c.report.ensures c.requires.line_le (search rules) (omega arith) (omega arith) c.in-Ok.is in
     counted.hidden_le
 
 pub overflow_mul-shown : goal.overflow_mul-shown
 overflow_mul-shown c =
-    let counted : Answered _ _ _ _ _ = counted_text c.report.ensures c.requires.line_le (search rules) (omega arith) (omega arith) c.in-Counts.is in
+    let counted : Answered _ _ _ _ _ = counted_text c.report.ensures c.requires.line_le (search rules) (omega arith) (omega arith) c.in-Ok.is in
     omega (arith, counted.words_le)
 
 pub slice_bounds-words-end : goal.slice_bounds-words-end
 slice_bounds-words-end c =
-    let counted : Answered _ _ _ _ _ = counted_text c.report.ensures c.requires.line_le (search rules) (omega arith) (omega arith) c.in-Counts.is in
+    let counted : Answered _ _ _ _ _ = counted_text c.report.ensures c.requires.line_le (search rules) (omega arith) (omega arith) c.in-Ok.is in
     counted.words_le
 
 pub slice_bounds-put_finding_lines-end : goal.slice_bounds-put_finding_lines-end
 slice_bounds-put_finding_lines-end c =
-    let counted : Answered _ _ _ _ _ = counted_text c.report.ensures c.requires.line_le (search rules) (omega arith) (omega arith) c.in-Counts.is in
+    let counted : Answered _ _ _ _ _ = counted_text c.report.ensures c.requires.line_le (search rules) (omega arith) (omega arith) c.in-Ok.is in
     sym (length-take-le _ _ counted.words_le)
 
 -- a refusal of the report
-pub returns-in-Refused : goal.returns-in-Refused
-returns-in-Refused c =
-    text_same (refused_text c.report.ensures c.requires.line_le (search rules) _ c.in-Refused.is) c.put_refusal.ensures
+pub returns-in-Err : goal.returns-in-Err
+returns-in-Err c =
+    text_same (refused_text c.report.ensures c.requires.line_le (search rules) _ c.in-Err.is) c.put_refusal.ensures
 
 -- counts of the report
-pub returns-in-Counts : goal.returns-in-Counts
+pub returns-in-Ok : goal.returns-in-Ok
 unfolding ascii filled first_line last_line
-returns-in-Counts c =
-    let counted : Answered _ _ _ _ _ = counted_text c.report.ensures c.requires.line_le (search rules) (omega arith) (omega arith) c.in-Counts.is in
-    let whole : HasPut _ _ _ = put_then c.put_line.ensures (put_then c.put_finding_lines.ensures c.put_line-in-Counts.ensures) in
+returns-in-Ok c =
+    let counted : Answered _ _ _ _ _ = counted_text c.report.ensures c.requires.line_le (search rules) (omega arith) (omega arith) c.in-Ok.is in
+    let whole : HasPut _ _ _ = put_then c.put_line.ensures (put_then c.put_finding_lines.ensures c.put_line-in-Ok.ensures) in
     let same_area = whole.same_area in
     text_ends (search rules) (text_stands refl (omega (arith, counted.length_le, c.requires.room_for)) (put_same counted.pieces whole))

@@ -4,7 +4,7 @@ use mathlib.Core.Path.{refl, sym}
 use lib.Seq.{length-take-le}
 use Rattle.windows.proofs.JoinFilled.{used_le}
 use Rattle.windows.proofs.LentParts.{closed_lent, closed_joined}
-use Rattle.findings.proofs.VerdictTold.{told_accepted, told_none, told_refused}
+use Rattle.findings.proofs.Returned.{returned}
 use Rattle.findings.proofs.ClosedAdmitRows.{closed_no_row_iff}
 use Rattle.findings.proofs.ClosedSearchAnswers.{refused_closed_search, accepted_closed_search}
 use Rattle.survey.proofs.LentSurvey.{can_survey_line, searched_surveyed}
@@ -14,24 +14,20 @@ use Rattle.survey.proofs.closed.survey_closed.Goals as goal
 pub slice_bounds-survey_line-end : goal.slice_bounds-survey_line-end
 slice_bounds-survey_line-end c = used_le c.fill_join-used.ensures
 
-pub slice_bounds-survey_line-end-in-Accepted : goal.slice_bounds-survey_line-end-in-Accepted
-slice_bounds-survey_line-end-in-Accepted c = sym (length-take-le _ _ (used_le c.fill_join-used.ensures))
+pub slice_bounds-survey_line-end-2 : goal.slice_bounds-survey_line-end-2
+slice_bounds-survey_line-end-2 c = sym (length-take-le _ _ (used_le c.fill_join-used.ensures))
 
-pub survey_line-counted-requires : goal.survey_line-counted-requires
-survey_line-counted-requires c =
-    let none_given = told_none c.admit_closed.ensures c.in-Accepted.is in
-    can_survey_line (closed_lent ((closed_no_row_iff _ _ _ _ _).0 none_given) c.fill_join-used.ensures) refl
+pub survey_line-requires : goal.survey_line-requires
+survey_line-requires c =
+    can_survey_line (closed_lent ((closed_no_row_iff _ _ _ _ _).0 (sym c.in_ok-admit_closed.ensures.is)) c.fill_join-used.ensures) refl
 
 -- Refused.
-pub returns-in-Refused : goal.returns-in-Refused
-returns-in-Refused c =
-    refused_closed_search (told_refused c.admit_closed.ensures c.in-Refused.is)
+pub returns-in_err-admit_closed : goal.returns-in_err-admit_closed
+returns-in_err-admit_closed c = rw (returned c.from_residual.ensures.1) (refused_closed_search c.in_err-admit_closed.ensures.is)
 
 -- Accepted.
-pub returns-in-Accepted : goal.returns-in-Accepted
-returns-in-Accepted c =
-    let admit = c.admit_closed in
-    let accepted = c.in-Accepted.is in
-    let admitted = (closed_no_row_iff _ _ _ _ _).0 (told_none admit.ensures accepted) in
-    accepted_closed_search (told_accepted admit.ensures accepted) (searched_surveyed (closed_lent admitted c.fill_join-used.ensures) c.survey_line-counted.ensures)
+pub returns : goal.returns
+returns c =
+    let admitted = (closed_no_row_iff _ _ _ _ _).0 (sym c.in_ok-admit_closed.ensures.is) in
+    accepted_closed_search c.in_ok-admit_closed.ensures.is (searched_surveyed (closed_lent admitted c.fill_join-used.ensures) c.survey_line.ensures)
     (closed_joined admitted c.fill_join-used.ensures)

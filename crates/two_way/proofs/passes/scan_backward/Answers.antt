@@ -10,8 +10,8 @@ pub overflow_mul-behind : goal.overflow_mul-behind
 overflow_mul-behind c =
     omega (arith, found_le _ _ _ _ _ c.requires)
 
-pub slice_bounds-backward-end : goal.slice_bounds-backward-end
-slice_bounds-backward-end c =
+pub slice_bounds-reversed-end : goal.slice_bounds-reversed-end
+slice_bounds-reversed-end c =
     ring_le _ _ _ _ _ c.requires _ c.reverse.ensures
 
 pub slice_bounds-scan-end : goal.slice_bounds-scan-end
@@ -31,11 +31,9 @@ slice_bounds-scan-start c =
     behind_le _ _ _ _ _ c.requires
 
 -- Refused: never.
-pub returns-in-Refused : goal.returns-in-Refused
-returns-in-Refused c =
-    absurd (backward_not_refused _ _ _ _ _ c.requires _ c.reverse.ensures (rw c.in-Refused.is at c.scan.ensures))
+pub returns-in_err-backward : goal.returns-in_err-backward
+returns-in_err-backward c = absurd (backward_not_refused _ _ _ _ _ c.requires _ c.reverse.ensures c.in_err-backward.ensures)
 
 -- Accepted.
-pub returns-in-Counts : goal.returns-in-Counts
-returns-in-Counts c =
-    scanned_backward _ _ _ _ _ c.requires _ c.reverse.ensures (rw c.in-Counts.is at c.scan.ensures)
+pub returns : goal.returns
+returns c = scanned_backward _ _ _ _ _ c.requires _ c.reverse.ensures c.in_ok-backward.ensures
