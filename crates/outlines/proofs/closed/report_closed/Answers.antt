@@ -21,19 +21,19 @@ slice_bounds-scan_line-end-2 c = sym (length-take-le _ _ (used_le c.fill_join-us
 pub scan_line-requires : goal.scan_line-requires
 scan_line-requires c =
     can_scan_line (closed_lent ((closed_no_row_iff _ _ _ _ _).0 (sym c.in_ok-admit_closed.ensures.is)) c.fill_join-used.ensures)
-    (read_accepted c.read.ensures c.in_default.is) refl
+    (read_accepted c.in_ok-read.ensures refl) refl
 
 -- One of the search's rows is given.
 pub returns-in_err-admit_closed : goal.returns-in_err-admit_closed
 returns-in_err-admit_closed c = rw (returned c.from_residual.ensures.1) (closed_report_refused_row c.in_err-admit_closed.ensures.is)
 
 -- One of the book's rows is given.
-pub returns-in-Refused : goal.returns-in-Refused
-returns-in-Refused c = closed_report_refused_book c.in_ok-admit_closed.ensures.is (read_refused c.read.ensures c.in-Refused.is)
+pub returns-in_err-read : goal.returns-in_err-read
+returns-in_err-read c = rw (returned c.from_residual-in_err-read.ensures.1) (closed_report_refused_book c.in_ok-admit_closed.ensures.is (read_refused c.in_err-read.ensures refl))
 
 -- Accepted.
 pub returns : goal.returns
 returns c =
     let admitted = (closed_no_row_iff _ _ _ _ _).0 (sym c.in_ok-admit_closed.ensures.is) in
-    closed_report_accepted c.in_ok-admit_closed.ensures.is (read_accepted c.read.ensures c.in_default.is)
+    closed_report_accepted c.in_ok-admit_closed.ensures.is (read_accepted c.in_ok-read.ensures refl)
     (searched_scanned (closed_lent admitted c.fill_join-used.ensures) c.scan_line.ensures) (closed_joined admitted c.fill_join-used.ensures)

@@ -11,18 +11,18 @@ use Rattle.outlines.proofs.reporting.report.Goals as goal
 pub scan_line-requires : goal.scan_line-requires
 scan_line-requires c =
     can_scan_line (open_lent ((no_row_iff _ _ _ _).0 (sym c.in_ok-admit.ensures.is)))
-    (read_accepted c.read.ensures c.in_default.is) refl
+    (read_accepted c.in_ok-read.ensures refl) refl
 
 -- One of the search's rows is given.
 pub returns-in_err-admit : goal.returns-in_err-admit
 returns-in_err-admit c = rw (returned c.from_residual.ensures.1) (report_refused_row c.in_err-admit.ensures.is)
 
 -- One of the book's rows is given.
-pub returns-in-Refused : goal.returns-in-Refused
-returns-in-Refused c = report_refused_book c.in_ok-admit.ensures.is (read_refused c.read.ensures c.in-Refused.is)
+pub returns-in_err-read : goal.returns-in_err-read
+returns-in_err-read c = rw (returned c.from_residual-in_err-read.ensures.1) (report_refused_book c.in_ok-admit.ensures.is (read_refused c.in_err-read.ensures refl))
 
 -- Accepted.
 pub returns : goal.returns
 returns c =
-    report_accepted c.in_ok-admit.ensures.is (read_accepted c.read.ensures c.in_default.is)
+    report_accepted c.in_ok-admit.ensures.is (read_accepted c.in_ok-read.ensures refl)
     (searched_scanned (open_lent ((no_row_iff _ _ _ _).0 (sym c.in_ok-admit.ensures.is))) c.scan_line.ensures)
