@@ -33,7 +33,8 @@ pub fn seek_on(book: &[u8], held: Option<Field>, address: Address) -> Option<Fie
 }
 
 // Whether `sought` hides a finding with this address and this distance: it is a field, its address is the finding's,
-// and the distance is at most its ceiling.
+// and the distance is at most its ceiling. (A `match`, because a proof can cite nothing of the closure that
+// `is_some_and` would take.)
 pub fn hides(sought: Option<Field>, address: Address, distance: usize) -> bool
     ensures { IsHidingAsked sought address distance result }
 {

@@ -26,7 +26,8 @@ fn put_record(words: &mut [u32], to: usize, field: Field)
 }
 
 // Writes the words of all records. The book is accepted and there is room, so nothing is refused after a write, and the
-// fields end where the book ends.
+// fields end where the book ends. (`to` is counted beside `at`, since only the walk from field to field says how many
+// records there are.)
 fn put_records(book: &[u8], words: &mut [u32])
     requires { (book_refusal book.now ≡ None) × (record_words * length (silences_read book.now) ≤ length words.old) }
     ensures { words.new ≡ area_at_exit words_of_silences (read_book book.now) words.old }
