@@ -113,7 +113,7 @@ pub record Occurrences (ring : List ℕ) (table : EdgeVectors) : Type 0 where
   pub slots_are : table.slots ≡ slots_for ring
   pub kept_are : table.kept ≡ kept_for ring
 
--- No place counts yet: every part lacks every code, and every word is 0.
+-- What `clear` writes. No place counts yet: every part lacks every code, and every word is 0.
 pub record IsCleared (table : EdgeVectors) : Type 0 where
   pub slots_are : table.slots ≡ no_slots
   pub kept_are : table.kept ≡ replicate kept_count 0

@@ -11,7 +11,8 @@ ghost use Rattle.occurrences.specs.Storing.{no_slot, kept_count, Occurrences, Is
 use crate::widths::{BYTE_CODES, KEPT_WORDS, LAST_PART, SLOTS};
 use vectors::{VECTOR_BITS, VECTOR_WORDS, WORD_BITS};
 
-// The place of the empty word, and so the slot of a code that a part lacks.
+// The place of the empty word, and so the slot of a code that a part lacks. It is a number and no Option, so that a slot
+// is one byte and reading a vector tests none.
 const EMPTY: u8 = 192;
 
 // The same for the last part: its words stand one place further on, so 191 leads to the empty word.

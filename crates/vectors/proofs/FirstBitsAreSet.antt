@@ -1,14 +1,14 @@
 -- The vector whose first m bits are set. The lowest m − 64·w bits of word w are set, at most all of them; so bit j of word w is set exactly when 64·w + j is
--- below m. The code makes such a word as `(1 << s) - 1`, or as all ones if 64 bits or more are left.
-use mathlib.Core.Path.{◌≡◌, refl, sym, ◌∙◌}
+-- below m.
+use mathlib.Core.Path.{◌≡◌, refl, ◌∙◌}
 use mathlib.Core.List.{List}
 use mathlib.Core.Logic.{dite}
 use Prim.Native.Nat.{ℕ, ◌+◌, ◌-◌, ◌*◌, ◌/◌, ◌%◌, ◌^◌, ◌≤◌, ◌<◌, min}
-use native.Mathlib.Nat.{mod-lt, one-mul, lt_of_lt_of_le}
+use native.Mathlib.Nat.{mod-lt, lt_of_lt_of_le}
 use native.Mathlib.Decide.{dec_lt}
 use native.Mathlib.Omega.{arith}
 use lib.ListN.{length}
-use lib.Pow.{shl_exact, pow_mono, ones_lt}
+use lib.Pow.{pow_mono, ones_lt}
 use Rattle.vectors.specs.Bits.{word_bits, Vector, bit, first_word, first_bits, FirstBits}
 use Rattle.vectors.specs.Rotating.{WithinBits}
 use Rattle.vectors.proofs.WordBits.{bit_ones, bit_ones_past}
@@ -55,15 +55,3 @@ first_bits_within m ws first = record { rest = first.rest }
 pub first_word_left : (m w left : ℕ) → left ≡ m - word_bits * w → 2 ^ min word_bits left - 1 ≡ first_word m w
 unfolding first_word
 first_word_left m w left is = rw is refl
-
--- For s below 64, `1 << s` is 2^s: the shift loses nothing.
-pub shl_one : (s : ℕ) → s < word_bits → 1 * 2 ^ s % 2 ^ word_bits ≡ 2 ^ s
-shl_one s h = shl_exact {a = 1} 1 s word_bits (omega arith) (omega arith) ∙ one-mul (2 ^ s)
-
--- For a count below 64, `(1 << count) - 1` is the word with its lowest `count` bits set.
-pub low_bits_some : (count : ℕ) → count < word_bits → 1 * 2 ^ count % 2 ^ word_bits - 1 ≡ 2 ^ min word_bits count - 1
-low_bits_some count h = let e : min word_bits count ≡ count = omega arith in rw (e, shl_one count h) refl
-
--- For a count of 64 or more, the word with every bit set is the word with its lowest `count` bits set.
-pub low_bits_full : (count : ℕ) → word_bits ≤ count → 2 ^ word_bits - 1 ≡ 2 ^ min word_bits count - 1
-low_bits_full count h = let e : min word_bits count ≡ word_bits = omega arith in sym (rw e refl)
