@@ -18,11 +18,8 @@ pub struct RingPlace(pub usize);
 #[derive(Clone, Copy)]
 pub struct LinePlace(pub usize);
 
-// The largest place that a usize holds.
-const LAST_PLACE: usize = 18446744073709551615;
-
 // (a + b) mod m, and 0 if m is 0. Both numbers are reduced mod m first, and added only where the sum stays below m, so
-// nothing overflows.
+// nothing overflows. (A sum in 128 bits would need a division that the compiler takes from its library.)
 fn sum_around(a: usize, b: usize, m: usize) -> usize
     ensures { result ≡ around m (a + b) }
 {
@@ -38,10 +35,8 @@ fn sum_around(a: usize, b: usize, m: usize) -> usize
 pub fn to_ring(place: LinePlace, start: LinePlace, rotation: RingPlace, m: usize) -> RingPlace
     ensures { IsRingPlace place start rotation m result }
 {
-    if place.0 < start.0 {
-        return RingPlace(sum_around(rotation.0, 0, m));
-    }
-    RingPlace(sum_around(rotation.0, place.0 - start.0, m))
+    let along = place.0.saturating_sub(start.0);
+    RingPlace(sum_around(rotation.0, along, m))
 }
 
 // The line place over a ring place, for the window at `start` under `rotation`.
@@ -49,12 +44,8 @@ pub fn to_line(place: RingPlace, start: LinePlace, rotation: RingPlace, m: usize
     ensures { IsLinePlace place start rotation m result }
 {
     if m == 0 {
-        return LinePlace(start.0);
+        return start;
     }
     let along = sum_around(place.0, m - rotation.0 % m, m);
-    if along <= LAST_PLACE - start.0 {
-        LinePlace(start.0 + along)
-    } else {
-        LinePlace(LAST_PLACE)
-    }
+    LinePlace(start.0.saturating_add(along))
 }
