@@ -48,15 +48,16 @@ fn answer_request(parts: Parts, text: &mut [u8]) -> usize
             looks,
         } => {
             let shown = WORDS_EACH * (found - hidden);
-            let first = [cell as usize, ring_number as usize, ring.len(), allowance];
-            let last = [found, hidden, looks];
             let mut writer = Writer {
                 area: text,
                 next: 0,
             };
-            writer.put_line(b"cell # ring # edges # allow #\n", &first);
+            writer.put_line(
+                b"cell # ring # edges # allow #\n",
+                &[cell as usize, ring_number as usize, ring.len(), allowance],
+            );
             writer.put_finding_lines(&words[..shown]);
-            writer.put_line(b"found # hidden # looks #\n", &last);
+            writer.put_line(b"found # hidden # looks #\n", &[found, hidden, looks]);
             writer.next
         }
     }
