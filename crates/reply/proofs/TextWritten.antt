@@ -1,4 +1,4 @@
--- A text written piece by piece. Putting some bytes and then more bytes puts both, one after the other, and requires no room (`put_then`). A whole text for which
+-- A text written piece by piece. Putting some bytes and then more bytes puts both, one after the other, and requires no room (`written_then`). A whole text for which
 -- there is room stands at the area's beginning (`text_stands`), because with room no byte is left out (`put_bytes_sets`).
 use Prim.Native.Nat.{ℕ, suc, ◌+◌, ◌≤◌, ◌<◌}
 use mathlib.Core.Path.{◌≡◌, refl, sym, ap, ◌∙◌}
@@ -30,15 +30,15 @@ unfolding put_bytes put_byte
 byte_left_out byte area at full = simp (le-ltb at (length area) full)
 
 -- Putting `a` and then `b` puts `a ++ b`.
-pub put_then : {a b : List ℕ} {first mid last : Writer} → HasPut a first mid → HasPut b mid last → HasPut (a ++ b) first last
-put_then {a} {b} {first} one two = record {
+pub written_then : {a b : List ℕ} {first mid last : Writer} → HasPut a first mid → HasPut b mid last → HasPut (a ++ b) first last
+written_then {a} {b} {first} one two = record {
   is = two.is ∙ ap (put_bytes b) one.is ∙ sym (put_bytes_append a b (text_of first));
   same_area = two.same_area ∙ one.same_area;
 }
 
 -- Putting some bytes puts equal bytes.
-pub put_same : {a b : List ℕ} {first last : Writer} → a ≡ b → HasPut a first last → HasPut b first last
-put_same e has_put = rw e at has_put
+pub written_same : {a b : List ℕ} {first last : Writer} → a ≡ b → HasPut a first last → HasPut b first last
+written_same e has_put = rw e at has_put
 
 -- with room for all, each byte is stored behind the one before it
 put_bytes_sets : (bytes area : List ℕ) (at : ℕ) → at + length bytes ≤ length area → put_bytes bytes (text_in area at) ≡ text_in (sets area at bytes) (at + length bytes)

@@ -44,15 +44,16 @@ fn answer_request(parts: Parts, text: &mut [u8]) -> usize
         Err(refusal) => put_refusal(text, refusal),
         Ok(counts) => {
             let shown = WORDS_EACH * (counts.found - counts.hidden);
-            let first = [cell as usize, ring_number as usize, ring.len(), allowance];
-            let last = [counts.found, counts.hidden, counts.looks];
             let mut writer = Writer {
                 area: text,
                 next: 0,
             };
-            writer.put_line(b"cell # ring # edges # allow #\n", &first);
+            writer.put_line(
+                b"cell # ring # edges # allow #\n",
+                &[cell as usize, ring_number as usize, ring.len(), allowance],
+            );
             writer.put_finding_lines(&words[..shown]);
-            writer.put_line(b"found # hidden # looks #\n", &last);
+            writer.put_line(b"found # hidden # looks #\n", &[counts.found, counts.hidden, counts.looks]);
             writer.next
         }
     }

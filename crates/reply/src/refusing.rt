@@ -11,11 +11,10 @@ pub fn put_refusal(text: &mut [u8], refusal: Refusal) -> usize
     requires { most_text ≤ length text.old }
     ensures { IsText (refusal_line refusal) text.old result text.new }
 {
-    let numbers = [refusal.number(), refusal.place()];
     let mut writer = Writer {
         area: text,
         next: 0,
     };
-    writer.put_line(b"refused # place #\n", &numbers);
+    writer.put_line(b"refused # place #\n", &[refusal.number(), refusal.place()]);
     writer.next
 }

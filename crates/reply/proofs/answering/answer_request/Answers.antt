@@ -6,7 +6,7 @@ use lib.Seq.{length-take-le}
 use Rattle.lists.specs.Texts.{ascii}
 use Rattle.reply.specs.Lines.{first_line, last_line}
 use Rattle.reply.specs.Writing.{filled, HasPut}
-use Rattle.reply.proofs.TextWritten.{put_then, put_same, text_stands, text_same, text_ends}
+use Rattle.reply.proofs.TextWritten.{written_then, written_same, text_stands, text_same, text_ends}
 use Rattle.reply.proofs.RequestAnswered.{Answered, refused_text, counted_text}
 use borrow.Author.Rules.{rules}
 use Rattle.reply.proofs.answering.answer_request.Goals as goal
@@ -41,6 +41,6 @@ pub returns-in-Ok : goal.returns-in-Ok
 unfolding ascii filled first_line last_line
 returns-in-Ok c =
     let counted : Answered _ _ _ _ _ = counted_text c.report.ensures c.requires.line_le (search rules) (omega arith) (omega arith) c.in-Ok.is in
-    let whole : HasPut _ _ _ = put_then c.put_line.ensures (put_then c.put_finding_lines.ensures c.put_line-in-Ok.ensures) in
+    let whole : HasPut _ _ _ = written_then c.put_line.ensures (written_then c.put_finding_lines.ensures c.put_line-in-Ok.ensures) in
     let same_area = whole.same_area in
-    text_ends (search rules) (text_stands refl (omega (arith, counted.length_le, c.requires.room_for)) (put_same counted.pieces whole))
+    text_ends (search rules) (text_stands refl (omega (arith, counted.length_le, c.requires.room_for)) (written_same counted.pieces whole))

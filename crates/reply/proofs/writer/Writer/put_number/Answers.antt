@@ -5,7 +5,7 @@ use native.Mathlib.Omega.{arith}
 use lib.ListN.{drop_of_length-le}
 use lib.Seq.{drop-cons}
 use Rattle.reply.proofs.DecimalDigits.{decimal_printed}
-use Rattle.reply.proofs.TextWritten.{put_same}
+use Rattle.reply.proofs.TextWritten.{written_same}
 use Rattle.reply.proofs.PutLoop.{put_start, put_turn, put_end}
 use Rattle.reply.proofs.writer.Writer.put_number.Goals as goal
 
@@ -18,5 +18,5 @@ loop-digit-preserved c =
 
 pub returns : goal.returns
 returns c =
-    put_same (c.as_bytes-digits.ensures.value ∙ c.format.ensures.text ∙ decimal_printed c.args.number (omega arith))
+    written_same (c.as_bytes-digits.ensures.value ∙ c.format.ensures.text ∙ decimal_printed c.args.number (omega arith))
     (put_end c.loop-digit.invariant (drop_of_length-le c.as_bytes-digits.result.now c.loop-digit-test.false))
