@@ -4,7 +4,6 @@
 --   Paper           number, place and counts, as the document's table and sentences give them
 --   answer_paper    the paper of an answer
 --   answer_from     a returned `Result` as an answer
---   refusal_of      the refusal that a returned `Result` holds, if it holds one
 --
 -- Each call has its own counts (found and looks; found, hidden and looks; records). Here they are the parameter C.
 use Rattle.std.specs.Prelude.{ℕ}
