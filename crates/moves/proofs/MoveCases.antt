@@ -1,17 +1,15 @@
 -- Whether counts can be moved. The test `can_move` is a conjunction of comparisons, and the record `CanMove` states the same (`can_move_iff`). So counts that pass
 -- meet the precondition of `move_along`, and the two returns of `move_counts` are the two cases of its contract.
-use Prim.Native.Nat.{ℕ, ◌+◌, ◌-◌, ◌≤◌}
+use Prim.Native.Nat.{ℕ, ◌+◌}
 use mathlib.Core.Path.{◌≡◌, refl, sym}
 use mathlib.Core.Bool.{Bool, true, false}
 use mathlib.Core.List.{List}
 use mathlib.Core.Logic.{◌↔◌}
-use native.Mathlib.Omega.{arith}
-use lib.Dec.{leb}
 use lib.ListN.{length}
 use Rattle.findings.specs.Limits.{most_places}
 use Rattle.windows.specs.Windows.{Parts, whole_line, IsWholeLength}
-use Rattle.tally.specs.Counts.{most_counts, HasCounts}
-use Rattle.lists.proofs.SizesTested.{lt_iff, le_iff, and_iff, test_same}
+use Rattle.tally.specs.Counts.{most_counts}
+use Rattle.lists.proofs.SizesTested.{lt_iff, le_iff, and_iff}
 use Rattle.moves.specs.declared.steps.Reached.{Reached}
 use Rattle.moves.specs.Moves.{can_move, CanMove, IsMovedOn, IsMoved}
 

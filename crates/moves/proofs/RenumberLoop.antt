@@ -1,6 +1,6 @@
 -- `renumber` turns the first m counts by one: the last count comes to rotation 0, and every other one to the next rotation. So each count comes from the rotation
 -- before it (`earlier`). The counts from m on are not touched.
-use Prim.Native.Nat.{ℕ, ◌+◌, ◌-◌, ◌≤◌, ◌<◌}
+use Prim.Native.Nat.{ℕ, ◌-◌}
 use mathlib.Core.Path.{◌≡◌, sym, ap, ◌∙◌}
 use mathlib.Core.List.{List, ◌++◌}
 use mathlib.Core.Logic.{dite}

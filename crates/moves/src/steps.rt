@@ -16,7 +16,9 @@ use windows::window;
 fn changed(count: u16, lost: u8, won: u8) -> u16
     ensures { result ≡ changed_count count lost won }
 {
-    count.wrapping_sub(u16::from(lost)).wrapping_add(u16::from(won))
+    count
+        .wrapping_sub(u16::from(lost))
+        .wrapping_add(u16::from(won))
 }
 
 // Compares the leaving and the entering edge with every ring edge and changes the counts. Rotation r has the ring's

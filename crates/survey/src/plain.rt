@@ -76,6 +76,7 @@ fn survey_starts<'a>(
     let mut looks: usize = 0;
     let mut past: usize = 0;
     let mut i = 0;
+    // A turn goes on past the place that it reached, so this is no `for`.
     while i + m <= n {
         let reached = verify_on(tally, ring, doubled, line, join, k, LinePlace(i));
         looks += reached.looks;

@@ -5,17 +5,15 @@ use mathlib.Core.Path.{◌≡◌, refl, sym}
 use mathlib.Core.Bool.{Bool, true, false}
 use mathlib.Core.List.{List}
 use mathlib.Core.Logic.{◌↔◌}
-use lib.Dec.{leb}
 use lib.ListN.{length}
 use Rattle.occurrences.specs.declared.table.EdgeVectors.{EdgeVectors}
 use Rattle.windows.specs.Windows.{Parts, whole_line, IsWholeLength}
 use Rattle.tally.specs.Counts.{most_counts}
-use Rattle.lists.proofs.SizesTested.{lt_iff, le_iff, and_iff, test_same}
+use Rattle.lists.proofs.SizesTested.{lt_iff, le_iff, and_iff}
 use Rattle.findings.specs.Limits.{most_places}
 use Rattle.sweep.specs.declared.sweeping.Sweep.{Sweep}
 use Rattle.sweep.specs.declared.sweeping.Swept.{Swept}
 use Rattle.sweep.specs.declared.sweeping.Swept.TheVariants.{Ended}
-use Rattle.sweep.specs.Reads.{CanReadWindows}
 use Rattle.sweep.specs.Sweeps.{most_looks, can_sweep, CanSweep, IsSweptTo, IsSweptBy}
 
 -- The test `can_sweep` passes exactly when the sweep can go on.

@@ -2,7 +2,6 @@
 -- those so far are at most 2^62, a window takes at most 256, there are at most 2^32 windows, and one verification takes at most 65,536.
 use Prim.Native.Nat.{ℕ, ◌+◌, ◌-◌, ◌*◌, ◌≤◌, ◌<◌}
 use mathlib.Core.Path.{◌≡◌, refl, ap}
-use mathlib.Core.Bool.{true, false}
 use mathlib.Core.List.{List}
 use native.Mathlib.Omega.{arith}
 use lib.ListN.{length}
@@ -13,12 +12,13 @@ use Rattle.windows.specs.Windows.{Parts, whole_line}
 use Rattle.tally.specs.Counts.{most_counts, TallyResult, IsFindingAt}
 use Rattle.findings.specs.Limits.{most_places}
 use Rattle.tally.specs.declared.counts.Least.{Least}
-use Rattle.std.specs.Prelude.{Some}
+use Rattle.std.specs.Prelude.{None, Some}
+use Rattle.answers.specs.declared.places.LinePlace.{LinePlace}
 use Rattle.sweep.specs.declared.sweeping.Sweep.{Sweep}
 use Rattle.sweep.specs.declared.sweeping.Swept.TheVariants.{Ended, NoFinding, Found}
 use Rattle.sweep.specs.declared.sweeping.WindowsRead.{WindowsRead}
 use Rattle.sweep.specs.Reads.{windows_by}
-use Rattle.sweep.specs.Sweeps.{sweep_by, most_looks, CanSweep, IsTalliedBy, IsSweptTo}
+use Rattle.sweep.specs.Sweeps.{swept_after, sweep_by, most_looks, CanSweep, IsTalliedBy, IsSweptTo}
 use Rattle.sweep.proofs.WindowTurns.{WindowsGo, windows_within}
 use Rattle.sweep.proofs.TallyWays.{most_tally, tally_looks_lem}
 
@@ -44,12 +44,12 @@ module _ (ring doubled : List ℕ) (table : EdgeVectors) (p : Parts) (k : ℕ) (
 
   module _ (read : WindowsRead) (read_is : read ≡ windows_by ring table p k at.start.0) where
     -- If there is no candidate, the answer is `Ended`, and the counts stay as they were.
-    pub way_ended : read.candidate ≡ false
+    pub way_ended : read.next ≡ None
         → IsSweptTo ring doubled table p k at old old (Ended (record { start = read.start; last = at.last; looks = at.looks + read.looks }))
-    unfolding sweep_by
+    unfolding sweep_by swept_after
     way_ended none = record { is = rw (← read_is, none) refl }
 
-    module _ (stopped : read.candidate ≡ true) (new : List ℕ) (z : Least) (tallied : IsTalliedBy ring doubled p read.start.0 at.last old new z) where
+    module _ {after : LinePlace} (stopped : read.next ≡ Some after) (new : List ℕ) (z : Least) (tallied : IsTalliedBy ring doubled p read.start.0 at.last old new z) where
       -- With the looks of the candidate's verification added, the sum is at most 2^62 + 256·2^32 + 65,536.
       pub sweep_all_looks_le : CanSweep m (length (whole_line m p)) at.start.0 at.looks
           → at.looks + read.looks + z.looks ≤ most_looks + most_counts * most_places + most_tally
@@ -62,14 +62,14 @@ module _ (ring doubled : List ℕ) (table : EdgeVectors) (p : Parts) (k : ℕ) (
           )
 
       abbrev next : Sweep
-      next = record { start = read.next; last = Some read.start; looks = at.looks + read.looks + z.looks }
+      next = record { start = after; last = Some read.start; looks = at.looks + read.looks + z.looks }
 
       -- If the candidate's least count is above k, the answer is `NoFinding`.
       pub way_none : k < z.least → IsSweptTo ring doubled table p k at old new (NoFinding next)
-      unfolding sweep_by
+      unfolding sweep_by swept_after
       way_none far = record { is = rw (← read_is, stopped, ← tallied.is, lt-ltb k z.least far) refl }
 
       -- If the candidate's least count is at most k, the answer is `Found`, with the finding that `finding_at` returns.
       pub way_found : (f : FindingStruct) → z.least ≤ k → IsFindingAt m new read.start z.least f → IsSweptTo ring doubled table p k at old new (Found next f)
-      unfolding sweep_by
+      unfolding sweep_by swept_after
       way_found f near found = record { is = rw (← read_is, stopped, ← tallied.is, le-ltb k z.least near, ← found.is) refl }

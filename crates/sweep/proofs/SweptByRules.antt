@@ -18,13 +18,14 @@ use Rattle.windows.specs.Windows.{Parts, whole_line, Joined}
 use Rattle.tally.specs.Counts.{finding_with, TallyResult}
 use Rattle.tally.specs.Tallied.{Verified}
 use Rattle.tally.proofs.TallyFinding.{least_no, least_yes}
-use Rattle.std.specs.Prelude.{Some}
+use Rattle.std.specs.Prelude.{Option, None, Some}
+use Rattle.answers.specs.declared.places.LinePlace.{LinePlace}
 use Rattle.sweep.specs.declared.sweeping.Sweep.{Sweep}
 use Rattle.sweep.specs.declared.sweeping.Swept.{Swept}
 use Rattle.sweep.specs.declared.sweeping.Swept.TheVariants.{Ended, NoFinding, Found}
 use Rattle.sweep.specs.declared.sweeping.WindowsRead.{WindowsRead}
 use Rattle.sweep.specs.Reads.{windows_by, CanReadWindows}
-use Rattle.sweep.specs.Sweeps.{tally_by, SweepResult, sweep_by, can_sweep, IsSweptBy}
+use Rattle.sweep.specs.Sweeps.{tally_by, SweepResult, swept_after, sweep_by, can_sweep, IsSweptBy}
 use Rattle.sweep.specs.VerifyingRules.{last_start, TalliedBefore}
 use Rattle.sweep.specs.SweepRules.{state_of, found_of, has_ended, IsCandidateRead, IsWindowsRead, CanSweepOn, IsSweptOn}
 use Rattle.sweep.proofs.SweepCases.{can_sweep_iff}
@@ -62,7 +63,7 @@ module _ (ring doubled : List ℕ) (table : EdgeVectors) (p : Parts) (k : ℕ) (
   tallied_here = before_later ring line old at.start.0 i (last_start at.last) (stopped_from_le ring line k at.start.0 reads.stopped_to) can.before
 
   -- The case that no window fits in the line any more.
-  ended : read.candidate ≡ false → IsSweptOn ring line k at (Ended (record { start = read.start; last = at.last; looks = at.looks + read.looks })) old
+  ended : read.next ≡ None → IsSweptOn ring line k at (Ended (record { start = read.start; last = at.last; looks = at.looks + read.looks })) old
   ended out =
       let e = reads.ended out in
       record {
@@ -71,16 +72,16 @@ module _ (ring doubled : List ℕ) (table : EdgeVectors) (p : Parts) (k : ℕ) (
         stopped_to = reads.stopped_to;
         ended = λ _. record {
           past = e.0;
-          next_is = ap (λ (x : ℕ). record { start = read.start; last = at.last; looks = at.looks + x }) e.2;
+          next_is = ap (λ (x : ℕ). record { start = read.start; last = at.last; looks = at.looks + x }) e.1;
           before = tallied_here;
           size = can.size;
         };
         candidate = λ t. absurd (true≢false t);
       }
 
-  module _ (stopped : read.candidate ≡ true) where
-    read_is : IsCandidateRead ring line k reads.looks read
-    read_is = reads.candidate_is stopped
+  module _ (following : LinePlace) (stopped : read.next ≡ Some following) where
+    read_is : IsCandidateRead ring line k reads.looks read following
+    read_is = reads.candidate_is following stopped
 
     abbrev tally : TallyResult
     tally = tally_by ring doubled p i at.last old
@@ -91,7 +92,7 @@ module _ (ring doubled : List ℕ) (table : EdgeVectors) (p : Parts) (k : ℕ) (
         (record { can_tally = record { size = can.size; some_edge = can_read.some_edge; most = can_read.most }; twice = can.twice; in_line = read_is.in_line; most_line = can_read.most_line; before = tallied_here })
 
     abbrev next : Sweep
-    next = record { start = read.next; last = Some read.start; looks = at.looks + read.looks + tally.looks }
+    next = record { start = following; last = Some read.start; looks = at.looks + read.looks + tally.looks }
 
     -- What holds after the candidate is verified, finding or not.
     after : (r : Swept) → state_of r ≡ next → has_ended r ≡ false → found_of r ≡ found_at ring line k i → IsSweptOn ring line k at r tally.counts
@@ -129,15 +130,16 @@ module _ (ring doubled : List ℕ) (table : EdgeVectors) (p : Parts) (k : ℕ) (
   abbrev SweptOn : SweepResult → Type 0
   SweptOn s = IsSweptOn ring line k at s.swept s.counts
 
+  by_next : (next : Option LinePlace) → read.next ≡ next → SweptOn (swept_after ring doubled p k at old read next)
+  unfolding swept_after
+  by_next None out = ended out
+  by_next (Some following) stopped =
+      let least : ℕ = (tally following stopped).least in
+      by_test SweptOn (ltb k least) (λ far. none following stopped (ltb-true k least far)) (λ near. found following stopped (ltb-false k least near))
+
   sweep_by_rules : SweptOn (sweep_by ring doubled table p k at old)
   unfolding sweep_by
-  sweep_by_rules =
-      by_test SweptOn read.candidate
-      (λ stopped.
-      by_test SweptOn (ltb k (tally stopped).least)
-      (λ far. none stopped (ltb-true k (tally stopped).least far))
-      (λ near. found stopped (ltb-false k (tally stopped).least near)))
-      ended
+  sweep_by_rules = by_next read.next refl
 
   -- The test whether the sweep can go on passes.
   can_be : can_sweep m (length line) at.start.0 at.looks ≡ true

@@ -18,6 +18,7 @@ use Rattle.windows.specs.Windows.{Parts, window_of, whole_line, IsWindow}
 use Rattle.windows.proofs.WindowEdges.{fitting_length, some_fits}
 use Rattle.tally.specs.Counts.{most_counts}
 use Rattle.sweep.specs.declared.reading.WindowRead.{WindowRead}
+use Rattle.std.specs.Prelude.{Some}
 use Rattle.sweep.specs.declared.sweeping.WindowsRead.{WindowsRead}
 use Rattle.sweep.specs.Reads.{unread_from, unread, read_by, none_left, windows_on, windows_by, CanReadWindows}
 use Rattle.sweep.proofs.ReadTurns.{read_sum, read_some}
@@ -94,7 +95,7 @@ module _ {ring : List ℕ} {table : EdgeVectors} {p : Parts} {k from i looks : �
 
     -- If the window was not stopped it is the candidate, and returning there meets the contract.
     pub windows_stop : r.stopped_at ≡ None
-        → record { start = record { 0 = i }; next = record { 0 = i + 1 }; looks = looks + r.looks; candidate = true } ≡ windows_by ring table p k from
+        → record { start = record { 0 = i }; looks = looks + r.looks; next = Some (record { 0 = i + 1 }) } ≡ windows_by ring table p k from
     unfolding windows_on
     windows_stop goes_on = rw (add-zero i) at (rw ((fits_line_iff ring line i).1 in_line, is_read, goes_on) at from_here)
 

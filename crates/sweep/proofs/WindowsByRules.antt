@@ -3,7 +3,7 @@
 -- stopped, and the next one starts later; or it is the candidate; or it does not fit in the line.
 use Prim.Native.Nat.{ℕ, zero, suc, ◌+◌, ◌-◌, ◌≤◌}
 use mathlib.Core.Path.{◌≡◌, refl, sym, ap, ap₂, ◌∙◌}
-use mathlib.Core.Bool.{true, false, true≢false}
+use mathlib.Core.Bool.{true, false}
 use mathlib.Core.List.{List}
 use Rattle.std.specs.Option.{is_some}
 use native.Mathlib.Omega.{arith}
@@ -19,6 +19,10 @@ use Rattle.windows.proofs.WindowEdges.{fitting_window, fitting_length}
 use Rattle.sweep.specs.declared.reading.WindowRead.{WindowRead}
 use Rattle.sweep.specs.Reads.{unread, read_by, none_left, windows_on, windows_by}
 use Rattle.sweep.specs.ReadingRules.{OwnVectors, IsWindowRead}
+use Rattle.std.specs.Prelude.{Option, Some}
+use Rattle.std.specs.Option.{unwrap_or}
+use Rattle.std.proofs.lemmas.Option.{none-some}
+use Rattle.answers.specs.declared.places.LinePlace.{LinePlace}
 use Rattle.sweep.specs.SweepRules.{swept_start, StoppedTo, none_stopped, one_stopped, IsWindowsRead}
 use Rattle.sweep.proofs.ReadByRules.{read_by_rules}
 
@@ -40,7 +44,7 @@ module _ (ring : List ℕ) (table : EdgeVectors) (p : Parts) (k from : ℕ) (own
   module _ (i looks : ℕ) (h : StoppedTo ring line k from i looks) where
     -- The case that no window fits in the line at i.
     ended : IsPastLine ring line i → IsWindowsRead ring line k from (none_left i looks)
-    ended past = record { looks = looks; stopped_to = h; candidate_is = λ e. absurd (true≢false (sym e)); ended = λ _. (past, refl, refl) }
+    ended past = record { looks = looks; stopped_to = h; candidate_is = λ next e. absurd (none-some next e); ended = λ _. (past, refl) }
 
     module _ (in_line : FitsInLine ring line i) where
       alone : window_of m p i ≡ window m line i
@@ -68,12 +72,12 @@ module _ (ring : List ℕ) (table : EdgeVectors) (p : Parts) (k from : ℕ) (own
 
       -- The case that it is the candidate.
       stops_here : is_some (read i).stopped_at ≡ false
-          → IsWindowsRead ring line k from (record { start = record { 0 = i }; next = record { 0 = i + unread (read i) + 1 }; looks = looks + (read i).looks; candidate = true })
+          → IsWindowsRead ring line k from (record { start = record { 0 = i }; looks = looks + (read i).looks; next = Some (record { 0 = i + unread (read i) + 1 }) })
       stops_here goes_on = record {
         looks = looks;
         stopped_to = h;
-        candidate_is = λ _. record { in_line = in_line; not_stopped = sym stops_are ∙ goes_on; next_is = next_is; looks_are = omega (arith, reads_are) };
-        ended = λ e. absurd (true≢false e);
+        candidate_is = λ next e. record { in_line = in_line; not_stopped = sym stops_are ∙ goes_on; next_is = sym (ap (λ (o : Option LinePlace). (unwrap_or o next).0) e) ∙ next_is; looks_are = omega (arith, reads_are) };
+        ended = λ e. absurd (none-some _ (sym e));
       }
 
   -- Reading windows from a start i before which every window was stopped follows the rules.

@@ -60,9 +60,9 @@ read_with table window k words = read_on table window k words (length window) (f
 abbrev pub read_by : EdgeVectors → List ℕ → ℕ → WindowRead
 read_by table window k = read_with table window k (word_count (length window))
 
--- The result if no window fits in the line at place i: no candidate, and both places are i.
+-- The result if no window fits in the line at place i: no candidate, and so no window after it.
 abbrev pub none_left : ℕ → ℕ → WindowsRead
-none_left i looks = record { start = record { 0 = i }; next = record { 0 = i }; looks = looks; candidate = false }
+none_left i looks = record { start = record { 0 = i }; looks = looks; next = None }
 
 -- The result of reading at most `left` windows from start i on, up to the next candidate, with the looks so far. Rule 1: "While a window fits in the line". Rule 3:
 -- "With j edges read, the next window starts m − j + 1 further on." Rule 4: "A window with all m edges read and at most k breaks is a candidate." All edges of a
@@ -71,7 +71,7 @@ unfoldable pub windows_on : List ℕ → EdgeVectors → Parts → ℕ → ℕ �
 windows_on ring table p k zero i looks = none_left i looks
 windows_on ring table p k (suc left) i looks =
     let read : WindowRead = read_by table (window_of (length ring) p i) k in
-    let found : WindowsRead = record { start = record { 0 = i }; next = record { 0 = i + unread read + 1 }; looks = looks + read.looks; candidate = true } in
+    let found : WindowsRead = record { start = record { 0 = i }; looks = looks + read.looks; next = Some (record { 0 = i + unread read + 1 }) } in
     let later : WindowsRead = windows_on ring table p k left (i + unread read + 1) (looks + read.looks) in
     let tried : WindowsRead = cond (is_some read.stopped_at) later found in
     let none : WindowsRead = none_left i looks in

@@ -13,7 +13,8 @@
 --   stopped_state                   the sweep after a run of stopped windows
 --   IsSweptOn                       the sweep to the next candidate
 use Rattle.std.specs.Prelude.{ℕ, ◌+◌, ◌-◌, ◌≡◌, Bool, true, false, List, [], ◌∷◌, length}
-use Rattle.std.specs.Prelude.{Some}
+use Rattle.std.specs.Prelude.{None, Some}
+use Rattle.answers.specs.declared.places.LinePlace.{LinePlace}
 use Rattle.meaning.specs.Meanings.{FitsInLine, IsPastLine, holds_mark}
 use Rattle.meaning.specs.Findings.{Finding, found_at}
 use Rattle.meaning.specs.Rules.{is_stopped, read_window}
@@ -58,20 +59,20 @@ pub data StoppedTo (ring line : List ℕ) (k from : ℕ) : ℕ → ℕ → Type 
   one_stopped : {i looks : ℕ} → StoppedTo ring line k from i looks → FitsInLine ring line i → is_stopped k (read_window ring line k i) ≡ true
       → StoppedTo ring line k from (swept_start ring line k i) (looks + (read_window ring line k i).read)
 
--- Rule 4: "A window with all m edges read and at most k breaks is a candidate." The window at r's start is one; r has the next start and the looks. All edges of a
--- window that was not stopped are read. `looks` are those of the windows before it.
-pub record IsCandidateRead (ring line : List ℕ) (k looks : ℕ) (r : WindowsRead) : Type 0 where
+-- Rule 4: "A window with all m edges read and at most k breaks is a candidate." The window at r's start is one; `next` is the next start, and r has the looks. All edges of
+-- a window that was not stopped are read. `looks` are those of the windows before it.
+pub record IsCandidateRead (ring line : List ℕ) (k looks : ℕ) (r : WindowsRead) (next : LinePlace) : Type 0 where
   pub in_line : FitsInLine ring line r.start.0
   pub not_stopped : is_stopped k (read_window ring line k r.start.0) ≡ false
-  pub next_is : r.next.0 ≡ swept_start ring line k r.start.0
+  pub next_is : next.0 ≡ swept_start ring line k r.start.0
   pub looks_are : r.looks ≡ looks + (read_window ring line k r.start.0).read
 
 -- From start `from` on every window is stopped, up to r's start. There the window is a candidate, or no window fits in the line any more.
 pub record IsWindowsRead (ring line : List ℕ) (k from : ℕ) (r : WindowsRead) : Type 0 where
   pub looks : ℕ
   pub stopped_to : StoppedTo ring line k from r.start.0 looks
-  pub candidate_is : r.candidate ≡ true → IsCandidateRead ring line k looks r
-  pub ended : r.candidate ≡ false → IsPastLine ring line r.start.0 × (r.next.0 ≡ r.start.0) × (r.looks ≡ looks)
+  pub candidate_is : (next : LinePlace) → r.next ≡ Some next → IsCandidateRead ring line k looks r next
+  pub ended : r.next ≡ None → IsPastLine ring line r.start.0 × (r.looks ≡ looks)
 
 -- The sweep can go on by the rules: ring, line, start and looks are within the limits, the ring holds no mark, there are 256 counts, the ring's own vectors and double
 -- are lent, and the counts are the tally of the last verified start, if there is one. The allowance may have any value.

@@ -4,7 +4,8 @@
 --
 --   moved_to                  the tally moved a number of steps
 --   tally_by                  a start verified: counted afresh, or the tally moved (rule 5)
---   SweepResult, sweep_by     the result of a sweep; the sweep to the next candidate, which is verified (rule 4)
+--   SweepResult               the result of a sweep
+--   swept_after, sweep_by     the sweep to the next candidate, which is verified (rule 4): once the windows are read, and whole
 --   most_looks                2^62, more looks than any sweep takes
 --   can_sweep, CanSweep       whether the sweep can go on: the test, and the same as facts
 --   IsSweptBy                 the contract of `sweep_on`
@@ -45,19 +46,23 @@ pub record SweepResult : Type 0 where
   pub swept : Swept
   pub counts : List ℕ
 
--- The sweep from `at` to the next candidate. Rule 4: "Each candidate is verified, and reported if it is a finding." It is a finding if its least count is at most k.
-unfoldable pub sweep_by : List ℕ → List ℕ → EdgeVectors → Parts → ℕ → Sweep → List ℕ → SweepResult
-sweep_by ring doubled table p k at old =
-    let read : WindowsRead = windows_by ring table p k at.start.0 in
-    let looks : ℕ = at.looks + read.looks in
+-- A sweep from `at` that read windows up to the next candidate. Rule 4: "Each candidate is verified, and reported if it is a finding." It is a finding if its least
+-- count is at most k. `read` is how far the windows were read, and the last argument its `next`: with none there was no candidate any more.
+unfoldable pub swept_after : List ℕ → List ℕ → Parts → ℕ → Sweep → List ℕ → WindowsRead → Option LinePlace → SweepResult
+swept_after ring doubled p k at old read None =
+    record { swept = Ended (record { start = read.start; last = at.last; looks = at.looks + read.looks }); counts = old }
+swept_after ring doubled p k at old read (Some after) =
     let tally : TallyResult = tally_by ring doubled p read.start.0 at.last old in
-    let next : Sweep = record { start = read.next; last = Some read.start; looks = looks + tally.looks } in
+    let next : Sweep = record { start = after; last = Some read.start; looks = at.looks + read.looks + tally.looks } in
     let finding : FindingStruct = finding_with (length ring) tally.counts read.start tally.least in
-    let ended : SweepResult = record { swept = Ended (record { start = read.start; last = at.last; looks = looks }); counts = old } in
     let none : SweepResult = record { swept = NoFinding next; counts = tally.counts } in
     let found : SweepResult = record { swept = Found next finding; counts = tally.counts } in
-    let verified : SweepResult = cond (ltb k tally.least) none found in
-    cond read.candidate verified ended
+    cond (ltb k tally.least) none found
+
+-- The sweep from `at` to the next candidate.
+unfoldable pub sweep_by : List ℕ → List ℕ → EdgeVectors → Parts → ℕ → Sweep → List ℕ → SweepResult
+sweep_by ring doubled table p k at old =
+    let read : WindowsRead = windows_by ring table p k at.start.0 in swept_after ring doubled p k at old read read.next
 
 -- More looks than any sweep takes: 2^62.
 abbrev pub most_looks : ℕ

@@ -36,15 +36,14 @@ pub enum Swept {
     Found(Sweep, Finding),
 }
 
-// How far windows were read: the candidate's start, the start of the window after it, and the looks of all windows up to
-// and including the candidate. If there is no candidate, both places are where the next window would start; none fits in
-// the line there.
+// How far windows were read: the candidate's start, the looks of all windows up to and including the candidate, and the
+// start of the window after it. If there is no candidate, there is no such window, and `start` is where the next window
+// would start; none fits in the line there.
 #[derive(Clone, Copy)]
 pub struct WindowsRead {
     pub start: LinePlace,
-    pub next: LinePlace,
     pub looks: usize,
-    pub candidate: bool,
+    pub next: Option<LinePlace>,
 }
 
 // Rules 1 to 3, window after window, to the next candidate. The next window starts past the edge at which reading
@@ -64,15 +63,15 @@ fn read_windows<'a>(
     let m = ring.len();
     let mut i = from.0;
     let mut looks: usize = 0;
+    // A turn goes on past the edge at which reading stopped, so this is no `for`.
     loop {
         // Whether a window fits is asked once, by `window`: it returns an empty part if none does.
         let edges = window(line, join, LinePlace(i), m);
         if edges.len() == 0 {
             return WindowsRead {
                 start: LinePlace(i),
-                next: LinePlace(i),
                 looks,
-                candidate: false,
+                next: None,
             };
         }
         let read = read_window(edges, vectors, k);
@@ -81,9 +80,8 @@ fn read_windows<'a>(
             None => {
                 return WindowsRead {
                     start: LinePlace(i),
-                    next: LinePlace(i + 1),
                     looks,
-                    candidate: true,
+                    next: Some(LinePlace(i + 1)),
                 };
             }
             Some(left) => i += left + 1,
@@ -109,11 +107,10 @@ fn to_candidate<'a>(
     let read = read_windows(ring, vectors, line, join, k, at.start);
     let start = read.start;
     let looks = at.looks + read.looks;
-    if !read.candidate {
+    let Some(after) = read.next else {
         return Swept::Ended(Sweep { start, last, looks });
-    }
+    };
     let verified = verify(tally, ring, doubled, line, join, start, last);
-    let after = read.next;
     let next = Sweep {
         start: after,
         last: Some(start),

@@ -5,11 +5,10 @@ use mathlib.Core.Path.{◌≡◌, refl}
 use mathlib.Core.Bool.{Bool, true, false}
 use mathlib.Core.List.{List}
 use mathlib.Core.Logic.{◌↔◌}
-use lib.Dec.{leb}
 use lib.ListN.{length}
 use Rattle.tally.specs.declared.afresh.Fresh.{Fresh}
-use Rattle.tally.specs.Counts.{most_counts, can_count, counted_to, counted_past, HasCounts, CanCount, IsCountedAfresh, IsCounted}
-use Rattle.lists.proofs.SizesTested.{lt_iff, le_iff, and_iff, test_same}
+use Rattle.tally.specs.Counts.{most_counts, can_count, counted_to, counted_past, CanCount, IsCountedAfresh, IsCounted}
+use Rattle.lists.proofs.SizesTested.{lt_iff, le_iff, and_iff}
 
 -- The test `can_count` passes exactly when the window can be counted.
 pub can_count_iff : (m room long : ℕ) → (can_count m room long ≡ true) ↔ CanCount m room long

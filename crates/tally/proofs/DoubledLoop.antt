@@ -5,11 +5,10 @@ use mathlib.Core.Path.{◌≡◌, refl, sym, ap, ◌∙◌}
 use mathlib.Core.List.{List, ◌++◌}
 use mathlib.Core.Logic.{dite}
 use native.Mathlib.Nat.{mod-eq_of_lt, add-mod_left}
-use native.Mathlib.Decide.{dec_lt, ℕ_discrete}
+use native.Mathlib.Decide.{dec_lt}
 use native.Mathlib.Omega.{arith}
 use lib.Dec.{ltb}
-use lib.ListN.{length, drop, get_or, set, length-set, replicate, length-replicate, get_or-replicate}
-use lib.Seq.{get_or-set_same, get_or-set_other}
+use lib.ListN.{length, drop, get_or, replicate, length-replicate, get_or-replicate}
 use borrow.Author.Tests.{ltb-true, ltb-false, lt-ltb, le-leb, lt-leb}
 use borrow.Rule.Slice.PartMut.{put_mid, post_of}
 use Rattle.std.proofs.Common.{rules}
@@ -51,7 +50,7 @@ module _ (ring : List ℕ) where
           first = λ s l. search (rules, places);
           second = λ s l. search (rules, places);
           past = λ s l below.
-          get_or-append_right ring (ring ++ tail) m s 0 refl (omega arith) ∙ get_or-append_right ring tail m (s - m) 0 refl (omega arith)
+              get_or-append_right ring (ring ++ tail) m s 0 refl (omega arith) ∙ get_or-append_right ring tail m (s - m) 0 refl (omega arith)
               ∙ get_or-drop (2 * m - m) behind (s - m - m) 0
               ∙ get_or-drop m zeros (2 * m - m + (s - m - m)) 0
               ∙ get_or-replicate (2 * most_counts) (m + (2 * m - m + (s - m - m))) 0 0 (omega arith);

@@ -58,7 +58,7 @@ run_differs : (doubled window : List ℕ) (q n r : ℕ) → count (differs_over 
 run_differs doubled window q n r =
     let there : (ℕ → Bool) = differs_there doubled window r in
     count_same (differs_over doubled (between q (q + n) window) q r) (λ x. there (q + x)) 0 n
-        (λ x _ l. ap (λ (e : ℕ). unequal e (get_or doubled (q + x + r) 0)) (get_or-between window q (q + n) x 0 (omega arith)))
+    (λ x _ l. ap (λ (e : ℕ). unequal e (get_or doubled (q + x + r) 0)) (get_or-between window q (q + n) x 0 (omega arith)))
     ∙ count_shift (λ x. there (q + x)) there q (λ x. refl) 0 n
     ∙ ap (λ (a : ℕ). count there a n) (add-zero q)
 

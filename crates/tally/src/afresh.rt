@@ -150,6 +150,7 @@ fn count_part(
     let mut looks: usize = 0;
     let mut past_here = past;
     let mut q = from;
+    // A turn goes on by as many edges as it counted, four or one, so this is no `for`.
     while q < end {
         let counted = count_some(&mut part, doubled, window, q, end, past_here);
         looks += counted.looks;
@@ -184,6 +185,7 @@ fn count_edges(counts: &mut [u16; MOST_COUNTS], doubled: &[u8], window: &[u8]) -
     let mut looks: usize = 0;
     let mut past: usize = 0;
     let mut q = 0;
+    // A turn goes on by the edges of a part, so this is no `for`.
     while q < m {
         let counted = count_part(counts, doubled, window, q, past);
         looks += counted.looks;

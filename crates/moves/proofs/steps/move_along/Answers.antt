@@ -31,9 +31,11 @@ returns-then-reached-below c =
     _ _ _ _ c.window-here.ensures c.window-next.ensures c.step-stepped.ensures c.past_mark.ensures c.if-reached-below.true
 
 pub loop-i-preserved : goal.loop-i-preserved
-loop-i-preserved c =
-    (refl, moving_turn _ _ _ _ _ _ c.requires _ _ _ _ _ c.loop-i.invariant.1 c.loop-i-test.true
-    _ _ _ _ c.window-here.ensures c.window-next.ensures c.step-stepped.ensures c.past_mark.ensures c.if-reached-below.false)
+loop-i-preserved c = (
+  refl,
+  moving_turn _ _ _ _ _ _ c.requires _ _ _ _ _ c.loop-i.invariant.1 c.loop-i-test.true
+      _ _ _ _ c.window-here.ensures c.window-next.ensures c.step-stepped.ensures c.past_mark.ensures c.if-reached-below.false,
+)
 
 -- All steps are taken.
 pub returns : goal.returns

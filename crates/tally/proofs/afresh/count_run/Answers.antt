@@ -1,5 +1,5 @@
 -- `tally::afresh::count_run` meets its contract: the edges are asked one by one whether they are marks, and then they are compared (`SomeCounted`).
-use Prim.Native.Nat.{ℕ, ◌+◌}
+use Prim.Native.Nat.{◌+◌}
 use mathlib.Core.Path.{◌≡◌, ap, ◌∙◌}
 use native.Mathlib.Omega.{arith}
 use Rattle.std.proofs.lemmas.List.Edits.{get_or-between, length-between}
