@@ -1,5 +1,6 @@
 -- What an exported call needs to pass its call's answer on. For each call: the place of any answer that meets its contract fits 32 bits. For all that return the struct of
--- five numbers: the struct that holds the call's answer, with the lent area as the call left it, meets the exported contract (`passed_on`).
+-- five numbers: the struct that holds the call's answer, with the lent area as the call left it, meets the exported contract (`passed_on`). A search is
+-- passed on as a report that hides nothing (`nothing_hidden`).
 use Prim.Native.Nat.{ℕ, suc, ◌<◌, ◌^◌}
 use mathlib.Core.Path.{◌≡◌, refl, ap, ◌∙◌}
 use mathlib.Core.List.{List}

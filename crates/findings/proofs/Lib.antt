@@ -1,6 +1,6 @@
 -- The laws of this crate, one module for each idea, in the order in which they build on each other. The proofs that the functions meet their contracts cite
 -- them; each stands in a folder with the function's name: marks/is_mark, marks/holds_mark, admitting/admit_ring, admitting/within_limits,
--- admitting/admit, closed/admit_closed, putting/can_put, putting/put_words, putting/put_finding.
+-- admitting/admit, closed/admit_closed, putting/four_words, putting/put_finding. (putting/word needs none.)
 --
 -- Seeking a mark.
 pub mod MarkSought
