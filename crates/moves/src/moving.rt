@@ -1,12 +1,12 @@
 // Rule 5: "the tally of one count per rotation is kept and moved along the line."
 ghost use Rattle.std.specs.Prelude.{◌≡◌};
-ghost use Rattle.windows.specs.Windows.{parts};
+ghost use Rattle.windows.specs.Windows.{parts_of};
 ghost use Rattle.moves.specs.Moves.{can_move, IsMoved};
 
 use crate::steps::{Reached, move_along};
 use answers::LinePlace;
 use tally::{MOST_COUNTS, Tally};
-use windows::whole_length;
+use windows::LineParts;
 
 // 2^32: a whole line that counts are moved along has at most this many places.
 pub const MOST_PLACES: usize = 1 << 32;
@@ -33,17 +33,16 @@ fn can_move(m: usize, room: usize, n: usize, from: LinePlace, steps: usize) -> b
 fn move_counts<'a>(
     counts: &mut [u16; MOST_COUNTS],
     ring: &[u8],
-    line: &'a [u8],
-    join: &'a [u8],
+    parts: LineParts<'a>,
     from: LinePlace,
     steps: usize,
     below: usize,
 ) -> Reached
-    ensures { IsMoved ring.now (parts line.now join.now) from.0 steps below counts.old counts.new result }
+    ensures { IsMoved ring.now (parts_of parts.entry) from.0 steps below counts.old counts.new result }
 {
     let all = &counts[..];
     let m = ring.len();
-    if !can_move(m, all.len(), whole_length(line, join, m), from, steps) {
+    if !can_move(m, all.len(), parts.whole_length(m), from, steps) {
         return Reached {
             start: from,
             least: 0,
@@ -51,20 +50,19 @@ fn move_counts<'a>(
             past: 0,
         };
     }
-    move_along(counts, ring, line, join, from, steps, below)
+    move_along(counts, ring, parts, from, steps, below)
 }
 
 // Moves a lent tally along the line, as `move_counts` moves its counts.
 pub fn move_tally<'a>(
     tally: &mut Tally,
     ring: &[u8],
-    line: &'a [u8],
-    join: &'a [u8],
+    parts: LineParts<'a>,
     from: LinePlace,
     steps: usize,
     below: usize,
 ) -> Reached
-    ensures { IsMoved ring.now (parts line.now join.now) from.0 steps below tally.old.counts tally.new.counts result }
+    ensures { IsMoved ring.now (parts_of parts.entry) from.0 steps below tally.old.counts tally.new.counts result }
 {
-    move_counts(&mut tally.counts, ring, line, join, from, steps, below)
+    move_counts(&mut tally.counts, ring, parts, from, steps, below)
 }

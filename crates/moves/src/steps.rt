@@ -3,13 +3,13 @@
 ghost use Rattle.std.specs.Prelude.{◌≡◌, length, get_or};
 ghost use Rattle.meaning.specs.Looks.{step_looks};
 ghost use Rattle.lists.specs.ByPlace.{StoredFirst};
-ghost use Rattle.windows.specs.Windows.{parts, whole_length};
+ghost use Rattle.windows.specs.Windows.{parts_of, whole_line};
 ghost use Rattle.tally.specs.Counts.{HasCounts, IsLeast};
 ghost use Rattle.moves.specs.Moves.{changed_count, changed_at, earlier, IsStepped, CanMove, IsMovedOn};
 
 use answers::LinePlace;
 use tally::{Least, MOST_COUNTS, differing, past_mark};
-use windows::window;
+use windows::LineParts;
 
 // count − lost + won, mod 2^16: `lost` is 1 if the leaving edge differs, `won` is 1 if the entering edge does. Counts
 // that are a tally never wrap; other counts may.
@@ -82,14 +82,13 @@ pub struct Reached {
 pub fn move_along<'a>(
     counts: &mut [u16; MOST_COUNTS],
     ring: &[u8],
-    line: &'a [u8],
-    join: &'a [u8],
+    parts: LineParts<'a>,
     from: LinePlace,
     steps: usize,
     below: usize,
 ) -> Reached
-    requires { CanMove (length ring.now) (length counts.old) (whole_length (length ring.now) line.now join.now) from.0 steps }
-    ensures { IsMovedOn ring.now (parts line.now join.now) from.0 steps below counts.old counts.new result }
+    requires { CanMove (length ring.now) (length counts.old) (length (whole_line (length ring.now) (parts_of parts))) from.0 steps }
+    ensures { IsMovedOn ring.now (parts_of parts.entry) from.0 steps below counts.old counts.new result }
 {
     let m = ring.len();
     let mut reached = Reached {
@@ -99,8 +98,8 @@ pub fn move_along<'a>(
         past: 0,
     };
     for i in from.0..from.0 + steps {
-        let here = window(line, join, LinePlace(i), m);
-        let next = window(line, join, LinePlace(i + 1), m);
+        let here = parts.window(LinePlace(i), m);
+        let next = parts.window(LinePlace(i + 1), m);
         let entering = next[m - 1];
         let stepped = step(counts, ring, here[0], entering);
         reached = Reached {

@@ -8,7 +8,7 @@ use crate::quick::{ReportCounts, scan_line};
 use answers::Refusal;
 use book::read;
 use findings::{SearchCounts, admit_closed};
-use windows::fill_join;
+use windows::{LineParts, fill_join};
 
 // (Not one function each with scan and report of an open line: those have no join area, and row 4 asks for other words.)
 
@@ -24,7 +24,8 @@ pub fn scan_closed(
 {
     admit_closed(ring, k, line.len(), words.len(), join.len())?;
     let used = fill_join(line, ring.len(), join);
-    let counted = scan_line(0, 0, ring, line, &join[..used], k, b"", words);
+    let lent = &join[..used];
+    let counted = scan_line(0, 0, ring, LineParts { line, join: lent }, k, b"", words);
     Ok(SearchCounts {
         found: counted.found,
         looks: counted.looks,
@@ -47,5 +48,6 @@ pub fn report_closed(
     admit_closed(ring, k, line.len(), words.len(), join.len())?;
     read(book)?;
     let used = fill_join(line, ring.len(), join);
-    Ok(scan_line(cell, ring_number, ring, line, &join[..used], k, book, words))
+    let lent = &join[..used];
+    Ok(scan_line(cell, ring_number, ring, LineParts { line, join: lent }, k, book, words))
 }

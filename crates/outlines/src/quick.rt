@@ -1,7 +1,7 @@
 // The quick scan, rules 1 to 5. A silence book is asked for each finding before its words are written: the report lends
 // its own book, and the scan an empty one, which hides no finding.
 ghost use Rattle.std.specs.Prelude.{length};
-ghost use Rattle.windows.specs.Windows.{parts, whole_line};
+ghost use Rattle.windows.specs.Windows.{parts_of, whole_line};
 ghost use Rattle.outlines.specs.Scan.{IsScanned};
 ghost use Rattle.outlines.specs.LineScan.{CanScan, CanScanLine, LineScanned};
 
@@ -12,7 +12,7 @@ use occurrences::{EdgeVectors, KEPT_WORDS, SLOTS};
 use silences::field_at;
 use sweep::{Sweep, Swept, sweep_on};
 use tally::{DOUBLED, MOST_COUNTS, Tally, double};
-use windows::whole_length;
+use windows::LineParts;
 
 // "found (hidden ones included), hidden, looks" of an accepted report.
 #[derive(Clone, Copy)]
@@ -31,18 +31,17 @@ fn scan_windows<'a>(
     ring: &[u8],
     doubled: &[u8],
     vectors: &EdgeVectors,
-    line: &'a [u8],
-    join: &'a [u8],
+    parts: LineParts<'a>,
     k: usize,
     book: &[u8],
     tally: &mut Tally,
     words: &mut [u32],
 ) -> ReportCounts
-    requires { CanScan ring.now doubled.now vectors.now (parts line.now join.now) k book.now tally.old.counts words.old }
-    ensures { LineScanned cell ring_number ring.now (whole_line (length ring.now) (parts line.now join.now)) k book.now words.old result.found result.hidden result.looks words.new }
+    requires { CanScan ring.now doubled.now vectors.now (parts_of parts) k book.now tally.old.counts words.old }
+    ensures { LineScanned cell ring_number ring.now (whole_line (length ring.now) (parts_of parts.entry)) k book.now words.old result.found result.hidden result.looks words.new }
 {
     let m = ring.len();
-    let n = whole_length(line, join, m);
+    let n = parts.whole_length(m);
     let mut at = Sweep {
         start: LinePlace(0),
         last: None,
@@ -55,7 +54,7 @@ fn scan_windows<'a>(
         held,
     };
     while at.start.0 + m <= n {
-        match sweep_on(at, ring, doubled, vectors, line, join, k, tally) {
+        match sweep_on(at, ring, doubled, vectors, parts, k, tally) {
             Swept::Ended(next) | Swept::NoFinding(next) => {
                 at = next;
             }
@@ -81,14 +80,13 @@ pub fn scan_line<'a>(
     cell: u32,
     ring_number: u16,
     ring: &[u8],
-    line: &'a [u8],
-    join: &'a [u8],
+    parts: LineParts<'a>,
     k: usize,
     book: &[u8],
     words: &mut [u32],
 ) -> ReportCounts
-    requires { CanScanLine ring.now (parts line.now join.now) k book.now words.old }
-    ensures { LineScanned cell ring_number ring.now (whole_line (length ring.now) (parts line.now join.now)) k book.now words.old result.found result.hidden result.looks words.new }
+    requires { CanScanLine ring.now (parts_of parts) k book.now words.old }
+    ensures { LineScanned cell ring_number ring.now (whole_line (length ring.now) (parts_of parts.entry)) k book.now words.old result.found result.hidden result.looks words.new }
 {
     let mut vectors = EdgeVectors {
         slots: [0; SLOTS],
@@ -106,8 +104,7 @@ pub fn scan_line<'a>(
         ring,
         &doubled,
         &vectors,
-        line,
-        join,
+        parts,
         k,
         book,
         &mut tally,
@@ -121,7 +118,8 @@ pub fn scan(ring: &[u8], line: &[u8], k: usize, words: &mut [u32]) -> Result<Sea
     ensures { IsScanned ring.now line.now k words.old result words.new }
 {
     admit(ring, k, line.len(), words.len())?;
-    let counted = scan_line(0, 0, ring, line, &line[..0], k, b"", words);
+    let none = &line[..0];
+    let counted = scan_line(0, 0, ring, LineParts { line, join: none }, k, b"", words);
     Ok(SearchCounts {
         found: counted.found,
         looks: counted.looks,

@@ -5,6 +5,7 @@ use crate::quick::{ReportCounts, scan_line};
 use answers::Refusal;
 use book::read;
 use findings::admit;
+use windows::LineParts;
 
 // The report, with refusals in the order "report 1 to 7" and 12 after 1. The book is read for every line, also for one
 // that has no start.
@@ -21,5 +22,6 @@ pub fn report(
 {
     admit(ring, k, line.len(), words.len())?;
     read(book)?;
-    Ok(scan_line(cell, ring_number, ring, line, &line[..0], k, book, words))
+    let none = &line[..0];
+    Ok(scan_line(cell, ring_number, ring, LineParts { line, join: none }, k, book, words))
 }

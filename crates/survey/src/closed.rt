@@ -4,7 +4,7 @@ ghost use Rattle.survey.specs.ClosedSurvey.{IsClosedSurveyed};
 use crate::plain::survey_line;
 use answers::Refusal;
 use findings::{SearchCounts, admit_closed};
-use windows::fill_join;
+use windows::{LineParts, fill_join};
 
 // The plain survey in closed mode: "edges continue from the beginning after the last". The join area is written once no
 // refusal is left to be given. Only its first 2·m − 2 bytes, or none for n < m, are lent to the survey.
@@ -20,5 +20,6 @@ pub fn survey_closed(
 {
     admit_closed(ring, k, line.len(), words.len(), join.len())?;
     let used = fill_join(line, ring.len(), join);
-    Ok(survey_line(ring, line, &join[..used], k, words))
+    let lent = &join[..used];
+    Ok(survey_line(ring, LineParts { line, join: lent }, k, words))
 }

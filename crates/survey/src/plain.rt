@@ -1,13 +1,13 @@
 // The plain survey: every start is verified, the first afresh and each next by one step.
 ghost use Rattle.std.specs.Prelude.{◌≡◌, length};
-ghost use Rattle.windows.specs.Windows.{parts, whole_line};
+ghost use Rattle.windows.specs.Windows.{parts_of, whole_line};
 ghost use Rattle.survey.specs.Survey.{is_found, CanVerifyOn, IsVerifiedOn, CanSurveyLine, CanSurvey, LineSurveyed, IsSurveyed};
 
 use answers::{LinePlace, Refusal};
 use findings::{SearchCounts, admit, put_finding};
 use moves::{Reached, move_tally};
 use tally::{DOUBLED, MOST_COUNTS, Tally, double};
-use windows::{whole_length, window};
+use windows::LineParts;
 
 // Counts place 0 afresh; for a later place it moves the tally of the place before, a step for each, to the next place
 // whose least count is at most k or to the last window. Rule 5's test 2·s > m is not made here: "each next by one step, at
@@ -16,17 +16,16 @@ fn verify_on<'a>(
     tally: &mut Tally,
     ring: &[u8],
     doubled: &[u8],
-    line: &'a [u8],
-    join: &'a [u8],
+    parts: LineParts<'a>,
     k: usize,
     start: LinePlace,
 ) -> Reached
-    requires { CanVerifyOn ring.now doubled.now (parts line.now join.now) k start.0 tally.old.counts }
-    ensures { IsVerifiedOn ring.now (whole_line (length ring.now) (parts line.now join.now)) k start.0 tally.new.counts result }
+    requires { CanVerifyOn ring.now doubled.now (parts_of parts) k start.0 tally.old.counts }
+    ensures { IsVerifiedOn ring.now (whole_line (length ring.now) (parts_of parts.entry)) k start.0 tally.new.counts result }
 {
     let m = ring.len();
     if start.0 == 0 {
-        let first = tally.count_afresh(doubled, window(line, join, start, m));
+        let first = tally.count_afresh(doubled, parts.window(start, m));
         Reached {
             start,
             least: first.least,
@@ -38,10 +37,9 @@ fn verify_on<'a>(
         move_tally(
             tally,
             ring,
-            line,
-            join,
+            parts,
             LinePlace(from),
-            whole_length(line, join, m) - m - from,
+            parts.whole_length(m) - m - from,
             k + 1,
         )
     }
@@ -61,24 +59,23 @@ fn is_finding(least: usize, k: usize, past: usize, start: LinePlace) -> bool
 fn survey_starts<'a>(
     ring: &[u8],
     doubled: &[u8],
-    line: &'a [u8],
-    join: &'a [u8],
+    parts: LineParts<'a>,
     k: usize,
     tally: &mut Tally,
     words: &mut [u32],
 ) -> SearchCounts
-    requires { CanSurvey ring.now doubled.now (parts line.now join.now) k tally.old.counts words.old }
-    ensures { LineSurveyed ring.now (whole_line (length ring.now) (parts line.now join.now)) k words.old result.found result.looks words.new }
+    requires { CanSurvey ring.now doubled.now (parts_of parts) k tally.old.counts words.old }
+    ensures { LineSurveyed ring.now (whole_line (length ring.now) (parts_of parts.entry)) k words.old result.found result.looks words.new }
 {
     let m = ring.len();
-    let n = whole_length(line, join, m);
+    let n = parts.whole_length(m);
     let mut found: usize = 0;
     let mut looks: usize = 0;
     let mut past: usize = 0;
     let mut i = 0;
     // A turn goes on past the place that it reached, so this is no `for`.
     while i + m <= n {
-        let reached = verify_on(tally, ring, doubled, line, join, k, LinePlace(i));
+        let reached = verify_on(tally, ring, doubled, parts, k, LinePlace(i));
         looks += reached.looks;
         past = past.max(reached.past);
         let start = reached.start;
@@ -95,20 +92,19 @@ fn survey_starts<'a>(
 // Makes the ring's double and the tally, once for each call, and surveys the line. Making them reads no line edge.
 pub fn survey_line<'a>(
     ring: &[u8],
-    line: &'a [u8],
-    join: &'a [u8],
+    parts: LineParts<'a>,
     k: usize,
     words: &mut [u32],
 ) -> SearchCounts
-    requires { CanSurveyLine ring.now (parts line.now join.now) k words.old }
-    ensures { LineSurveyed ring.now (whole_line (length ring.now) (parts line.now join.now)) k words.old result.found result.looks words.new }
+    requires { CanSurveyLine ring.now (parts_of parts) k words.old }
+    ensures { LineSurveyed ring.now (whole_line (length ring.now) (parts_of parts.entry)) k words.old result.found result.looks words.new }
 {
     let mut doubled = [0u8; DOUBLED];
     double(ring, &mut doubled);
     let mut tally = Tally {
         counts: [0; MOST_COUNTS],
     };
-    survey_starts(ring, &doubled, line, join, k, &mut tally, words)
+    survey_starts(ring, &doubled, parts, k, &mut tally, words)
 }
 
 // The plain survey of an open line: no window crosses its end, so an empty part of it is lent as the join area. Every
@@ -123,5 +119,6 @@ pub fn survey(
     ensures { IsSurveyed ring.now line.now k words.old result words.new }
 {
     admit(ring, k, line.len(), words.len())?;
-    Ok(survey_line(ring, line, &line[..0], k, words))
+    let none = &line[..0];
+    Ok(survey_line(ring, LineParts { line, join: none }, k, words))
 }

@@ -1,7 +1,7 @@
 // The sweep goes from candidate to candidate. Its state is small and is passed by value; the tally and the ring's vectors
 // are lent beside it.
 ghost use Rattle.std.specs.Prelude.{◌≡◌, length};
-ghost use Rattle.windows.specs.Windows.{parts, whole_length};
+ghost use Rattle.windows.specs.Windows.{parts_of, whole_line};
 ghost use Rattle.sweep.specs.Reads.{CanReadWindows, windows_by};
 ghost use Rattle.sweep.specs.Sweeps.{can_sweep, CanSweep, IsSweptTo, IsSweptBy};
 
@@ -12,7 +12,7 @@ use findings::Finding;
 use moves::MOST_PLACES;
 use occurrences::EdgeVectors;
 use tally::{MOST_COUNTS, Tally};
-use windows::{whole_length, window};
+use windows::LineParts;
 
 // More looks than any sweep takes. As long as the looks so far are at most this, those of the next windows can be added
 // without overflow.
@@ -52,13 +52,12 @@ pub struct WindowsRead {
 fn read_windows<'a>(
     ring: &[u8],
     vectors: &EdgeVectors,
-    line: &'a [u8],
-    join: &'a [u8],
+    parts: LineParts<'a>,
     k: usize,
     from: LinePlace,
 ) -> WindowsRead
-    requires { CanReadWindows (length ring.now) (whole_length (length ring.now) line.now join.now) from.0 }
-    ensures { result ≡ windows_by ring.now vectors.now (parts line.now join.now) k from.0 }
+    requires { CanReadWindows (length ring.now) (length (whole_line (length ring.now) (parts_of parts))) from.0 }
+    ensures { result ≡ windows_by ring.now vectors.now (parts_of parts.entry) k from.0 }
 {
     let m = ring.len();
     let mut i = from.0;
@@ -66,7 +65,7 @@ fn read_windows<'a>(
     // A turn goes on past the edge at which reading stopped, so this is no `for`.
     loop {
         // Whether a window fits is asked once, by `window`: it returns an empty part if none does.
-        let edges = window(line, join, LinePlace(i), m);
+        let edges = parts.window(LinePlace(i), m);
         if edges.len() == 0 {
             return WindowsRead {
                 start: LinePlace(i),
@@ -95,22 +94,21 @@ fn to_candidate<'a>(
     ring: &[u8],
     doubled: &[u8],
     vectors: &EdgeVectors,
-    line: &'a [u8],
-    join: &'a [u8],
+    parts: LineParts<'a>,
     k: usize,
     tally: &mut Tally,
 ) -> Swept
-    requires { CanSweep (length ring.now) (whole_length (length ring.now) line.now join.now) at.start.0 at.looks }
-    ensures { IsSweptTo ring.now doubled.now vectors.now (parts line.now join.now) k at tally.old.counts tally.new.counts result }
+    requires { CanSweep (length ring.now) (length (whole_line (length ring.now) (parts_of parts))) at.start.0 at.looks }
+    ensures { IsSweptTo ring.now doubled.now vectors.now (parts_of parts.entry) k at tally.old.counts tally.new.counts result }
 {
     let last = at.last;
-    let read = read_windows(ring, vectors, line, join, k, at.start);
+    let read = read_windows(ring, vectors, parts, k, at.start);
     let start = read.start;
     let looks = at.looks + read.looks;
     let Some(after) = read.next else {
         return Swept::Ended(Sweep { start, last, looks });
     };
-    let verified = verify(tally, ring, doubled, line, join, start, last);
+    let verified = verify(tally, ring, doubled, parts, start, last);
     let next = Sweep {
         start: after,
         last: Some(start),
@@ -138,16 +136,15 @@ pub fn sweep_on<'a>(
     ring: &[u8],
     doubled: &[u8],
     vectors: &EdgeVectors,
-    line: &'a [u8],
-    join: &'a [u8],
+    parts: LineParts<'a>,
     k: usize,
     tally: &mut Tally,
 ) -> Swept
-    ensures { IsSweptBy ring.now doubled.now vectors.now (parts line.now join.now) k at tally.old.counts tally.new.counts result }
+    ensures { IsSweptBy ring.now doubled.now vectors.now (parts_of parts.entry) k at tally.old.counts tally.new.counts result }
 {
     let m = ring.len();
-    if !can_sweep(m, whole_length(line, join, m), at.start, at.looks) {
+    if !can_sweep(m, parts.whole_length(m), at.start, at.looks) {
         return Swept::Ended(at);
     }
-    to_candidate(at, ring, doubled, vectors, line, join, k, tally)
+    to_candidate(at, ring, doubled, vectors, parts, k, tally)
 }

@@ -1,26 +1,25 @@
 // Rule 5: the tally is kept, and moved along the line from one verified start to the next.
 ghost use Rattle.std.specs.Prelude.{◌≤◌};
 ghost use Rattle.findings.specs.Limits.{most_places};
-ghost use Rattle.windows.specs.Windows.{parts};
+ghost use Rattle.windows.specs.Windows.{parts_of};
 ghost use Rattle.sweep.specs.Sweeps.{IsCountedTo, IsTalliedBy};
 
 use answers::LinePlace;
 use moves::move_tally;
 use tally::{Least, Tally};
-use windows::window;
+use windows::LineParts;
 
 // Counts the window at a start afresh. Which of its edges are marks is of no use here: a candidate's window holds none.
 fn verify_afresh<'a>(
     tally: &mut Tally,
     doubled: &[u8],
-    line: &'a [u8],
-    join: &'a [u8],
+    parts: LineParts<'a>,
     start: LinePlace,
     m: usize,
 ) -> Least
-    ensures { IsCountedTo m doubled.now (parts line.now join.now) start.0 tally.old.counts tally.new.counts result }
+    ensures { IsCountedTo m doubled.now (parts_of parts.entry) start.0 tally.old.counts tally.new.counts result }
 {
-    let fresh = tally.count_afresh(doubled, window(line, join, start, m));
+    let fresh = tally.count_afresh(doubled, parts.window(start, m));
     Least {
         least: fresh.least,
         looks: fresh.looks,
@@ -34,27 +33,26 @@ pub fn verify<'a>(
     tally: &mut Tally,
     ring: &[u8],
     doubled: &[u8],
-    line: &'a [u8],
-    join: &'a [u8],
+    parts: LineParts<'a>,
     start: LinePlace,
     last: Option<LinePlace>,
 ) -> Least
     requires { start.0 ≤ most_places }
-    ensures { IsTalliedBy ring.now doubled.now (parts line.now join.now) start.0 last tally.old.counts tally.new.counts result }
+    ensures { IsTalliedBy ring.now doubled.now (parts_of parts.entry) start.0 last tally.old.counts tally.new.counts result }
 {
     let m = ring.len();
     match last {
-        None => verify_afresh(tally, doubled, line, join, start, m),
+        None => verify_afresh(tally, doubled, parts, start, m),
         Some(from) => {
             if start.0 <= from.0 {
-                return verify_afresh(tally, doubled, line, join, start, m);
+                return verify_afresh(tally, doubled, parts, start, m);
             }
             let s = start.0 - from.0;
             if m < 2 * s {
-                verify_afresh(tally, doubled, line, join, start, m)
+                verify_afresh(tally, doubled, parts, start, m)
             } else {
                 // The bound is 0, and no least count is below 0, so the tally moves all s steps.
-                let reached = move_tally(tally, ring, line, join, from, s, 0);
+                let reached = move_tally(tally, ring, parts, from, s, 0);
                 Least {
                     least: reached.least,
                     looks: reached.looks,

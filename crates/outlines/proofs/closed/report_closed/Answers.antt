@@ -12,11 +12,11 @@ use Rattle.outlines.proofs.ClosedReportAnswers.{closed_report_refused_row, close
 use Rattle.outlines.proofs.closed.report_closed.Goals as goal
 
 -- The used part is within the join area.
-pub slice_bounds-scan_line-end : goal.slice_bounds-scan_line-end
-slice_bounds-scan_line-end c = used_le c.fill_join-used.ensures
+pub slice_bounds-lent-end : goal.slice_bounds-lent-end
+slice_bounds-lent-end c = used_le c.fill_join-used.ensures
 
-pub slice_bounds-scan_line-end-2 : goal.slice_bounds-scan_line-end-2
-slice_bounds-scan_line-end-2 c = sym (length-take-le _ _ (used_le c.fill_join-used.ensures))
+pub slice_bounds-lent-end-2 : goal.slice_bounds-lent-end-2
+slice_bounds-lent-end-2 c = sym (length-take-le _ _ (used_le c.fill_join-used.ensures))
 
 pub scan_line-requires : goal.scan_line-requires
 scan_line-requires c =

@@ -12,11 +12,11 @@ use Rattle.outlines.proofs.EmptyBookIsScan.{empty_book_read, empty_book_searched
 use Rattle.outlines.proofs.closed.scan_closed.Goals as goal
 
 -- The used part is within the join area.
-pub slice_bounds-scan_line-end : goal.slice_bounds-scan_line-end
-slice_bounds-scan_line-end c = used_le c.fill_join-used.ensures
+pub slice_bounds-lent-end : goal.slice_bounds-lent-end
+slice_bounds-lent-end c = used_le c.fill_join-used.ensures
 
-pub slice_bounds-scan_line-end-2 : goal.slice_bounds-scan_line-end-2
-slice_bounds-scan_line-end-2 c = sym (length-take-le _ _ (used_le c.fill_join-used.ensures))
+pub slice_bounds-lent-end-2 : goal.slice_bounds-lent-end-2
+slice_bounds-lent-end-2 c = sym (length-take-le _ _ (used_le c.fill_join-used.ensures))
 
 pub scan_line-counted-requires : goal.scan_line-counted-requires
 scan_line-counted-requires c =

@@ -11,11 +11,11 @@ use Rattle.survey.proofs.LentSurvey.{can_survey_line, searched_surveyed}
 use Rattle.survey.proofs.closed.survey_closed.Goals as goal
 
 -- The used part is within the join area.
-pub slice_bounds-survey_line-end : goal.slice_bounds-survey_line-end
-slice_bounds-survey_line-end c = used_le c.fill_join-used.ensures
+pub slice_bounds-lent-end : goal.slice_bounds-lent-end
+slice_bounds-lent-end c = used_le c.fill_join-used.ensures
 
-pub slice_bounds-survey_line-end-2 : goal.slice_bounds-survey_line-end-2
-slice_bounds-survey_line-end-2 c = sym (length-take-le _ _ (used_le c.fill_join-used.ensures))
+pub slice_bounds-lent-end-2 : goal.slice_bounds-lent-end-2
+slice_bounds-lent-end-2 c = sym (length-take-le _ _ (used_le c.fill_join-used.ensures))
 
 pub survey_line-requires : goal.survey_line-requires
 survey_line-requires c =

@@ -2,12 +2,12 @@
 -- line there (`none_is_past`); else it passes a window that is stopped, or ends at the candidate. The measure is n + 1 - i.
 use Prim.Native.Nat.{◌+◌, ◌-◌}
 use lib.ListN.{length}
-use Rattle.windows.specs.Windows.{parts, whole_length}
+use Rattle.windows.specs.Windows.{parts_of, whole_line}
 use Rattle.sweep.proofs.WindowTurns.{StillWindows}
 use Rattle.sweep.proofs.sweeping.read_windows.Given as goal
 
 abbrev pub invariant-loop-edges : goal.invariant-loop-edges
-invariant-loop-edges l = StillWindows l.ring l.vectors (parts l.line l.join) l.k l.initial.i l.i l.looks
+invariant-loop-edges l = StillWindows l.ring l.vectors (parts_of l.parts) l.k l.initial.i l.i l.looks
 
 abbrev pub decreases-loop-edges : goal.decreases-loop-edges
-decreases-loop-edges l = whole_length (length l.ring) l.line l.join + 1 - l.i
+decreases-loop-edges l = length (whole_line (length l.ring) (parts_of l.parts)) + 1 - l.i
