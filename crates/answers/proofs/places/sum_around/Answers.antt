@@ -1,21 +1,11 @@
 -- `answers::places::sum_around` meets its contract: each return cites the law of `around` for its case. No subtraction goes below 0, because what is
 -- subtracted from m is a number mod m.
-use native.Mathlib.Nat.{mod-lt}
 use native.Mathlib.Omega.{arith}
 use Rattle.answers.proofs.AroundRing.{around_none, around_sum_lt, around_sum_ge}
 use Rattle.answers.proofs.places.sum_around.Goals as goal
 
 pub returns-then-m-eq0 : goal.returns-then-m-eq0
 returns-then-m-eq0 c = around_none _ _ c.if-m-eq0.true
-
-pub overflow_sub-m : goal.overflow_sub-m
-overflow_sub-m c = omega (arith, mod-lt c.args.b {m = c.args.m} (omega arith))
-
-pub overflow_add-result : goal.overflow_add-result
-overflow_add-result c = omega (arith, mod-lt c.args.b {m = c.args.m} (omega arith))
-
-pub overflow_sub-result : goal.overflow_sub-result
-overflow_sub-result c = omega (arith, mod-lt c.args.b {m = c.args.m} (omega arith))
 
 pub returns-then-x-m : goal.returns-then-x-m
 returns-then-x-m c = around_sum_lt _ _ _ (omega arith) (omega arith)

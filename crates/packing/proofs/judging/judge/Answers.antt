@@ -1,20 +1,11 @@
 -- `packing::judging::judge` meets its contract. The loop's invariant is `JudgedTo`: the records before the words left are passed. Each return is one case of the
 -- next record, or that none is left.
-use mathlib.Core.Path.{sym, ap, ◌∙◌}
+use mathlib.Core.Path.{sym}
 use mathlib.Core.Logic.{inl, inr}
 use native.Mathlib.Omega.{arith}
-use Rattle.std.specs.Iterator.Adapters.{enumerate_source, enumerate_count}
-use Rattle.std.specs.Slice.Iter.{chunks_exact_rest, chunks_exact_size}
-use Rattle.packing.proofs.JudgeLoop.{judge_start, judge_too_large, judge_not_above, judge_turn, judge_end}
+use Rattle.packing.proofs.JudgeLoop.{judge_too_large, judge_not_above, judge_turn, judge_end}
 use Rattle.packing.proofs.judging.judge.Goals as goal
 use Rattle.packing.proofs.judging.judge.Goals.{then-record-gt-MOST_RING_NUMBER-via-then-record-gt-MOST_RING_NUMBER, then-record-gt-MOST_RING_NUMBER-via-else-record-gt-MOST_RING_NUMBER+then-record-gt-MOST_CEILING}
-
-pub loop-i-init : goal.loop-i-init
-loop-i-init c =
-    let same = c.into_iter-i-iterator.ensures.into_iter_gives in
-    let source = ap enumerate_source same ∙ c.enumerate-i-items.ensures.source in
-    judge_start (ap enumerate_count same ∙ c.enumerate-i-items.ensures.count) (ap chunks_exact_size source ∙ c.chunks_exact.ensures.size)
-    (ap chunks_exact_rest source ∙ c.chunks_exact.ensures.rest)
 
 -- row 9 at this record, by its ring number or its ceiling
 pub returns-then-record-gt-MOST_RING_NUMBER : goal.returns-then-record-gt-MOST_RING_NUMBER

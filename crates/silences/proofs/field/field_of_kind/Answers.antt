@@ -11,9 +11,6 @@ use Rattle.silences.proofs.field.field_of_kind.Goals as goal
 pub overflow_add-long : goal.overflow_add-long
 overflow_add-long c = omega (arith, kind_length_le _ _ c.requires.kind_is)
 
-pub overflow_sub-book : goal.overflow_sub-book
-overflow_sub-book c = omega (arith, c.requires.within)
-
 pub overflow_add-long-2 : goal.overflow_add-long-2
 overflow_add-long-2 c = omega (arith, kind_length_le _ _ c.requires.kind_is)
 
@@ -22,30 +19,15 @@ pub returns-then-book-at : goal.returns-then-book-at
 returns-then-book-at c =
     sym (field_is_faulty _ _ (λ kind t. omega (arith, c.if-book-at.true, c.requires.within, t.within, ap value_length (kind_unique t.kind_is c.requires.kind_is))))
 
-pub overflow_add-at : goal.overflow_add-at
-overflow_add-at c = omega (arith, c.if-book-at.false)
-
 -- another length
 pub returns-then-number_at-long : goal.returns-then-number_at-long
 returns-then-number_at-long c =
     sym (field_is_faulty _ _ (λ kind t.
     c.if-number_at-long.true (number_read c.number_at.ensures (omega arith) (omega (arith, c.if-book-at.false)) ∙ t.long_is ∙ ap value_length (kind_unique t.kind_is c.requires.kind_is))))
 
-pub overflow_add-value : goal.overflow_add-value
-overflow_add-value c = omega (arith, c.if-book-at.false)
-
-pub address_at-address-requires : goal.address_at-address-requires
-address_at-address-requires c = omega (arith, c.if-book-at.false)
-
-pub overflow_add-value-2 : goal.overflow_add-value-2
-overflow_add-value-2 c = omega (arith, c.if-book-at.false)
-
 pub overflow_cast-ceiling : goal.overflow_cast-ceiling
 overflow_cast-ceiling c =
     omega (arith, kind_ceiling_lt _ _ c.requires.kind_is _ c.number_at-ceiling.ensures.lt)
-
-pub overflow_add-result : goal.overflow_add-result
-overflow_add-result c = omega (arith, c.if-book-at.false)
 
 -- a whole field
 pub returns : goal.returns

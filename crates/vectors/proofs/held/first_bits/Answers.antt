@@ -3,13 +3,10 @@ use mathlib.Core.Path.{◌∙◌}
 use native.Mathlib.Omega.{arith}
 use lib.ListN.{length-replicate}
 use Prim.Native.Nat.{ℕ}
-use Rattle.lists.proofs.StoreLoop.{stored_start, stored_turn, stored_end, stored_all}
+use Rattle.lists.proofs.StoreLoop.{stored_turn, stored_end, stored_all}
 use Rattle.vectors.specs.Bits.{first_bits}
 use Rattle.vectors.proofs.FirstBitsAreSet.{first_word_left}
 use Rattle.vectors.proofs.held.first_bits.Goals as goal
-
-pub loop-word-init : goal.loop-word-init
-loop-word-init g c = (omega arith, stored_start)
 
 pub loop-word-preserved : goal.loop-word-preserved
 loop-word-preserved g c = (

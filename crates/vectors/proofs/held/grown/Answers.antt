@@ -1,12 +1,9 @@
 -- `vectors::held::grown` meets its contract. Turn w stores the definition's word w.
 use mathlib.Core.Path.{refl}
 use native.Mathlib.Omega.{arith}
-use Rattle.lists.proofs.StoreLoop.{stored_start, stored_turn, stored_end, stored_all}
+use Rattle.lists.proofs.StoreLoop.{stored_turn, stored_end, stored_all}
 use Rattle.vectors.specs.ByValue.{grown_word, grown_words}
 use Rattle.vectors.proofs.held.grown.Goals as goal
-
-pub loop-w-init : goal.loop-w-init
-loop-w-init g c = stored_start
 
 pub loop-w-preserved : goal.loop-w-preserved
 unfolding grown_word

@@ -25,9 +25,6 @@ pub returns-then-edges-count : goal.returns-then-edges-count
 returns-then-edges-count c =
     refused_room _ _ (right_count c.if-numbers-eq1.false c.if-count-lt-FEWEST_VERTICES.false c.if-count-gt-MOST_VERTICES.false) c.in_default.ensures c.if-edges-count.true
 
-pub put_edges-requires : goal.put_edges-requires
-put_edges-requires c = record { no_pair = c.in_default.ensures; room = c.if-edges-count.false }
-
 -- All edges written.
 pub returns : goal.returns
 returns c =
