@@ -25,7 +25,7 @@ def copies(tree, check):
     giver = sorted(check.givers)[0]
     marks = check.functions["is_mark"][0].path
     uncut = next(f for f in check.all if "line" in f.line_names and not f.cuts and not f.reads)
-    copy = check.functions["copy_edges"][0]
+    copy = check.functions["fill_join"][0]
 
     def with_text(path, text):
         return {**tree, path: text}
@@ -90,10 +90,13 @@ def copies(tree, check):
     yield "the line under the book's name in a public function", with_text(public.path, re.sub(r"\bline\b", "book", tree[public.path])), "has no line"
     yield "the line cut in another function", at_start_of(uncut, "let part = &line[1..];"), NO_ROW
     yield "an edge stored into the join area in another function", in_public("join[0] = line[0];"), "something is stored into the line's edges"
-    yield "a copy that changes the edge", with_text(copy.path, tree[copy.path].replace("= edges[q];", "= edges[q] + 1;")), NO_LOOK
-    yield "a copy of something else", with_text(copy.path, tree[copy.path].replace("= edges[q];", "= 0;")), "something is stored into the line's edges"
-    yield "a copy into the line", with_text(copy.path, tree[copy.path].replace("join[at + q] =", "edges[at + q] =")), "something is stored into the line's edges"
-    yield "a copy that compares the edge", with_text(copy.path, tree[copy.path].replace("= edges[q];", "= edges[q];\n        same = edges[q] == 7;")), NO_LOOK
+    yield "a part copied into the join area in another function", in_public("join[..1].copy_from_slice(&line[..1]);"), "something is stored into the line's edges"
+    yield "a copy of something else", with_text(copy.path, tree[copy.path].replace("&line[n - ends..]", "&ring[..ends]")), "no part of the line"
+    yield "a copy into the line", with_text(copy.path, tree[copy.path].replace("join[..ends].copy_from_slice(&line[", "line[..ends].copy_from_slice(&join[")), "something is stored into the line's edges"
+    yield "a place stored in the filled area", with_text(copy.path, tree[copy.path].replace("join[..ends].copy", "join[0] = 7;\n    join[..ends].copy")), "something is stored into the line's edges"
+    yield "an item of the line compared without a look", in_public("for edge in line.iter() {\nlet same = *edge == 7;\n}"), NO_LOOK
+    yield "an item of the line asked only for a mark", in_public("for edge in line.iter() {\nlet marked = is_mark(*edge);\n}"), NOT_COUNTED
+    yield "the struct of the line passed on to a function outside these crates", in_public("let sum = checksum(line);"), NOT_FOLLOWED
     moved = re.sub(r"\b%s\[([^\]]*)\]" % reader.reads[0].split("[")[0], lambda m: m[0].replace("[", ", ").replace("]", ")").replace(m[0].split("[")[0], "edge_at(" + m[0].split("[")[0], 1), tree[reader.path])
     yield "a read moved out of its function", with_text(reader.path, moved + "fn edge_at(edges: &[u8], place: usize) -> u8 {\n    edges[place]\n}\n"), NO_ROW
     yield "no row for a read", without_row(r"\| `%s` \(" % reader.name), NO_ROW
