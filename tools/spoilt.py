@@ -21,11 +21,12 @@ def copies(tree, check):
     file = next(path for path in sorted(tree) if path != page and LOOK.search(tree[path]))
     adder = next(path for path in sorted(tree) if ADDED.search(tree[path]))
     public = next(f for f in check.all if f.public and "line" in f.line_names and f.name not in set().union(*(g.called() for g in check.all)))
-    reader = next(f for f in check.all if f.reads and f.uses)
+    reader = next(f for f in check.all if f.uses and any("[" in read for read in f.reads))
     giver = sorted(check.givers)[0]
     marks = check.functions["is_mark"][0].path
     uncut = next(f for f in check.all if "line" in f.line_names and not f.cuts and not f.reads)
     copy = check.functions["fill_join"][0]
+    structed = next(f for f in check.all if "parts" in f.struct_names)
 
     def with_text(path, text):
         return {**tree, path: text}
@@ -96,7 +97,7 @@ def copies(tree, check):
     yield "a place stored in the filled area", with_text(copy.path, tree[copy.path].replace("join[..ends].copy", "join[0] = 7;\n    join[..ends].copy")), "something is stored into the line's edges"
     yield "an item of the line compared without a look", in_public("for edge in line.iter() {\nlet same = *edge == 7;\n}"), NO_LOOK
     yield "an item of the line asked only for a mark", in_public("for edge in line.iter() {\nlet marked = is_mark(*edge);\n}"), NOT_COUNTED
-    yield "the struct of the line passed on to a function outside these crates", in_public("let sum = checksum(line);"), NOT_FOLLOWED
+    yield "the struct of the line passed on to a function outside these crates", at_start_of(structed, "let sum = checksum(parts);"), NOT_FOLLOWED
     moved = re.sub(r"\b%s\[([^\]]*)\]" % reader.reads[0].split("[")[0], lambda m: m[0].replace("[", ", ").replace("]", ")").replace(m[0].split("[")[0], "edge_at(" + m[0].split("[")[0], 1), tree[reader.path])
     yield "a read moved out of its function", with_text(reader.path, moved + "fn edge_at(edges: &[u8], place: usize) -> u8 {\n    edges[place]\n}\n"), NO_ROW
     yield "no row for a read", without_row(r"\| `%s` \(" % reader.name), NO_ROW
