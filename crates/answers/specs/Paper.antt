@@ -7,7 +7,6 @@
 --
 -- Each call has its own counts (found and looks; found, hidden and looks; records). Here they are the parameter C.
 use Rattle.std.specs.Prelude.{ℕ}
-use Rattle.std.specs.Prelude.{Option, Some, None}
 use Rattle.std.specs.Prelude.{Result, Ok, Err}
 use Rattle.answers.specs.declared.refusals.Refusal.{Refusal}
 use Rattle.answers.specs.Refusals.{number_of, place_of}
