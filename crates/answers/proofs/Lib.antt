@@ -11,6 +11,7 @@
 --   OneAnswer        number and place determine the refusal; the paper determines the answer
 --   RefusalNumbers   from a paper's number and place to the refusal
 --   AnswerByRows     from a paper's number and place to the first row that is given
+--   Returned         what a `?` on a refusal returns
 pub mod AroundRing
 pub mod Conversions
 pub mod PlacesUndo
@@ -22,3 +23,4 @@ pub mod RowsExactly
 pub mod OneAnswer
 pub mod RefusalNumbers
 pub mod AnswerByRows
+pub mod Returned

@@ -10,7 +10,6 @@
 
 -- answers, and what is known of an accepted book
 pub mod OneAnswer
-pub mod Returned
 pub mod AcceptedBook
 -- seeking: its equation, what it finds in an accepted book, and rising addresses
 pub mod SeekFrom

@@ -1,6 +1,6 @@
 -- What an exported call needs to pass its call's answer on. For each call: the place of any answer that meets its contract fits 32 bits. For all that return the struct of
--- five numbers: the struct that holds the call's answer, with the lent area as the call left it, meets the exported contract (`passed_on`). A search is
--- passed on as a report that hides nothing (`nothing_hidden`).
+-- five numbers: the struct that holds the call's answer, with the lent area as the call left it, meets the exported contract (`passed_on`). A search, and a call
+-- that counts one thing, are passed on as a report that hides nothing (`nothing_hidden`).
 use Prim.Native.Nat.{ℕ, suc, ◌<◌, ◌^◌}
 use mathlib.Core.Path.{◌≡◌, refl, ap, ◌∙◌}
 use mathlib.Core.List.{List}
@@ -12,7 +12,7 @@ use lib.ListN.{length}
 use Rattle.meaning.specs.Closed.{closed_line}
 use Rattle.answers.specs.declared.refusals.Refusal.{Refusal}
 use Rattle.answers.specs.Refusals.{place_of}
-use Rattle.answers.specs.Paper.{Paper, answer_paper}
+use Rattle.answers.specs.Paper.{Paper, answer_paper, answer_from}
 use Rattle.answers.specs.Rows.{first_given, answer_by}
 use Rattle.book.specs.Calls.{paper_of as book_paper_of, IsUnpacked}
 use Rattle.packing.specs.Calls.{IsPacked}
@@ -26,7 +26,7 @@ use Rattle.findings.proofs.ClosedAdmitRows.{closed_row_places}
 use Rattle.findings.proofs.RowsOfSearching.{rows_of_search}
 use Rattle.findings.proofs.RowsOfClosedSearching.{rows_of_closed_search}
 use Rattle.outlines.specs.declared.quick.ReportCounts.{ReportCounts as ReportCountsStruct}
-use Rattle.outlines.specs.Report.{ReportCounts, paper_of as report_paper_of, IsReported}
+use Rattle.outlines.specs.Report.{ReportCounts, no_report_counts, counts_of, paper_of as report_paper_of, IsReported}
 use Rattle.outlines.specs.ClosedReport.{IsClosedReported}
 use Rattle.two_way.specs.declared.passes.TwoWayCounts.{TwoWayCounts as TwoWayCountsStruct}
 use Rattle.two_way.specs.Admitting.{two_way_rows}
@@ -36,7 +36,7 @@ use Rattle.vertices.specs.Boundary.{vertex_count}
 use Rattle.vertices.specs.Importing.{import_rows, import_answer, paper_of as import_paper_of, IsImported}
 use Rattle.vertices.proofs.RowsOfImport.{import_row_places}
 use Rattle.exports.specs.declared.answering.Answer.{Answer as AnswerStruct}
-use Rattle.exports.specs.Exported.{paper_of, search_in_struct, paper_in_struct, IsExported, IsClosedExported}
+use Rattle.exports.specs.Exported.{paper_of, paper_in_struct, IsExported, IsClosedExported}
 use Rattle.exports.proofs.BookPlaces.{packed_place_le, unpacked_place_le}
 use Rattle.exports.proofs.ReportPlaces.{report_place_le}
 
@@ -118,11 +118,12 @@ pub closed_passed_on : {C : Type 0} (held : C → ReportCounts) {p q : Paper C} 
     → paper_of a ≡ paper_in_struct held p → IsClosedExported (paper_in_struct held q) words join a joined out
 closed_passed_on held paper written joined_is e = record { paper = e ∙ ap (paper_in_struct held) paper; written = written; joined_is = joined_is }
 
--- If found and looks become a report's counts with hidden 0, and a refusal stays, then the report's paper is the search's, as the struct holds it.
-pub nothing_hidden : {Q : SearchCounts → ReportCountsStruct → Type 0} (s : Result SearchCounts Refusal) (r : Result ReportCountsStruct Refusal)
-    → MatchResult s (λ x. IsOkAnd r (Q x)) (λ e. r ≡ Err e)
-    → ((x : SearchCounts) (y : ReportCountsStruct) → Q x y → y ≡ record { found = x.found; hidden = 0; looks = x.looks })
-    → report_paper_of r ≡ paper_in_struct search_in_struct (search_paper_of s)
-nothing_hidden (Ok x) (Ok y) is told = rw (told x y is)
-nothing_hidden (Ok x) (Err e) is told = absurd is
-nothing_hidden (Err e) r is told = rw is
+-- If a call's counts become a report's counts as the struct holds them, zeros become zeros, and a refusal stays, then the report's paper is the call's, as the
+-- struct holds it. (`Q` is what the conversion says of the call's value and of what it becomes.)
+pub nothing_hidden : {X C : Type 0} (zeros : C) (counts : X → C) (held : C → ReportCounts) {Q : X → ReportCountsStruct → Type 0} (s : Result X Refusal)
+    (r : Result ReportCountsStruct Refusal) → MatchResult s (λ x. IsOkAnd r (Q x)) (λ e. r ≡ Err e)
+    → ((x : X) (y : ReportCountsStruct) → Q x y → counts_of y ≡ held (counts x)) → no_report_counts ≡ held zeros
+    → report_paper_of r ≡ paper_in_struct held (answer_paper zeros (answer_from counts s))
+nothing_hidden zeros counts held (Ok x) (Ok y) is told none = rw (told x y is)
+nothing_hidden zeros counts held (Ok x) (Err e) is told none = absurd is
+nothing_hidden zeros counts held (Err e) r is told none = rw (is, none) refl

@@ -2,10 +2,9 @@
 ghost use Rattle.std.specs.Prelude.{◌≡◌, ◌<◌, ◌^◌};
 ghost use Rattle.answers.specs.Refusals.{place_of};
 ghost use Rattle.answers.specs.Paper.{answer_paper, refused};
-ghost use Rattle.book.specs.Calls.{paper_of as book_paper_of};
+ghost use Rattle.book.specs.Calls.{paper_of as count_paper_of};
 ghost use Rattle.findings.specs.Searching.{paper_of as search_paper_of};
 ghost use Rattle.outlines.specs.Report.{no_report_counts, paper_of as report_paper_of};
-ghost use Rattle.vertices.specs.Importing.{paper_of as import_paper_of};
 ghost use Rattle.exports.specs.Exported.{paper_of, search_in_struct, one_count_in_struct, paper_in_struct};
 
 use answers::Refusal;
@@ -68,36 +67,15 @@ pub fn search_answer(searched: Result<SearchCounts, Refusal>) -> Answer
     }))
 }
 
-// The answer of pack and unpack.
-pub fn book_answer(answer: Result<usize, Refusal>) -> Answer
-    requires { (book_paper_of answer).place < 2 ^ 32 }
-    ensures { paper_of result ≡ paper_in_struct one_count_in_struct (book_paper_of answer) }
+// The answer of a call that counts one thing, pack and unpack their records, the import of vertices its edges: that of a
+// report which hides nothing and takes no look.
+pub fn count_answer(counted: Result<usize, Refusal>) -> Answer
+    requires { (count_paper_of counted).place < 2 ^ 32 }
+    ensures { paper_of result ≡ paper_in_struct one_count_in_struct (count_paper_of counted) }
 {
-    match answer {
-        Ok(records) => Answer {
-            refusal: 0,
-            place: 0,
-            found: records as u64,
-            hidden: 0,
-            looks: 0,
-        },
-        Err(refusal) => refused_answer(refusal),
-    }
-}
-
-// The answer of the import of vertices.
-pub fn import_answer(imported: Result<usize, Refusal>) -> Answer
-    requires { (import_paper_of imported).place < 2 ^ 32 }
-    ensures { paper_of result ≡ paper_in_struct one_count_in_struct (import_paper_of imported) }
-{
-    match imported {
-        Ok(edges) => Answer {
-            refusal: 0,
-            place: 0,
-            found: edges as u64,
-            hidden: 0,
-            looks: 0,
-        },
-        Err(refusal) => refused_answer(refusal),
-    }
+    report_answer(counted.map(|found| ReportCounts {
+        found,
+        hidden: 0,
+        looks: 0,
+    }))
 }

@@ -1,7 +1,7 @@
 // Pack and unpack, for C.
 ghost use Rattle.exports.specs.Exported.{IsPackExported, IsUnpackExported};
 
-use crate::answering::{Answer, book_answer};
+use crate::answering::{Answer, count_answer};
 use book::unpack;
 use packing::pack;
 
@@ -10,7 +10,7 @@ use packing::pack;
 pub extern "C" fn outlines_pack(words: &[u32], bytes: &mut [u8]) -> Answer
     ensures { IsPackExported words.now bytes.old result bytes.new }
 {
-    book_answer(pack(words, bytes))
+    count_answer(pack(words, bytes))
 }
 
 // `book::unpack` for C.
@@ -18,5 +18,5 @@ pub extern "C" fn outlines_pack(words: &[u32], bytes: &mut [u8]) -> Answer
 pub extern "C" fn outlines_unpack(book: &[u8], words: &mut [u32]) -> Answer
     ensures { IsUnpackExported book.now words.old result words.new }
 {
-    book_answer(unpack(book, words))
+    count_answer(unpack(book, words))
 }

@@ -1,7 +1,7 @@
 // The import of a boundary from its vertices, for C.
 ghost use Rattle.exports.specs.Exported.{IsImportExported};
 
-use crate::answering::{Answer, import_answer};
+use crate::answering::{Answer, count_answer};
 use vertices::import_vertices;
 
 // `vertices::import_vertices` for C.
@@ -9,5 +9,5 @@ use vertices::import_vertices;
 pub extern "C" fn outlines_import_vertices(numbers: &[i32], edges: &mut [u8]) -> Answer
     ensures { IsImportExported numbers.now edges.old result edges.new }
 {
-    import_answer(import_vertices(numbers, edges))
+    count_answer(import_vertices(numbers, edges))
 }

@@ -10,7 +10,6 @@ pub mod AdmitRows
 pub mod ClosedAdmitRows
 pub mod RowsUnmarked
 -- What a `?` returns for a refusal; an accepted call is within the limits of a search.
-pub mod Returned
 pub mod WithinLimits
 -- A finding's words in the lent words.
 pub mod WordsPut

@@ -10,6 +10,33 @@ use book::{hides, seek_on};
 use findings::{Finding, put_finding};
 use silences::{Address, Field};
 
+// Whom a report is for: a cell, and one of its rings by its number.
+#[derive(Clone, Copy)]
+pub struct Subject {
+    pub cell: u32,
+    pub ring_number: u16,
+}
+
+// Whom a scan is for. With an empty book all findings are shown, whatever the cell and the ring number, so both are 0.
+pub const NOBODY: Subject = Subject {
+    cell: 0,
+    ring_number: 0,
+};
+
+impl Subject {
+    // The address of a start: cell, ring number and start.
+    fn address_of(self, start: LinePlace) -> Address
+        requires { start.0 < 2 ^ 32 }
+        ensures { address_of result ≡ address self.cell self.ring_number start.0 }
+    {
+        Address {
+            cell: self.cell,
+            ring_number: self.ring_number,
+            start: start.0 as u32,
+        }
+    }
+}
+
 // How many findings were shown so far, how many were hidden, and the field that the book gave for the last finding (at
 // first the book's first field). Starts rise, so no field before that one is read again.
 #[derive(Clone, Copy)]
@@ -19,31 +46,13 @@ pub struct BookAsked {
     pub held: Option<Field>,
 }
 
-// The address of a start: cell, ring number and start.
-fn address_of(cell: u32, ring_number: u16, start: LinePlace) -> Address
-    requires { start.0 < 2 ^ 32 }
-    ensures { address_of result ≡ address cell ring_number start.0 }
-{
-    Address {
-        cell,
-        ring_number,
-        start: start.0 as u32,
-    }
-}
-
 // Counts one finding more: as hidden if the field sought from the held one on hides it, else as shown. No word is
 // written.
-pub fn ask(
-    cell: u32,
-    ring_number: u16,
-    book: &[u8],
-    asked: BookAsked,
-    finding: Finding,
-) -> BookAsked
+pub fn ask(subject: Subject, book: &[u8], asked: BookAsked, finding: Finding) -> BookAsked
     requires { CanAsk asked (finding_of finding) }
-    ensures { IsHiddenOrShown cell ring_number book.now asked (finding_of finding) result }
+    ensures { IsHiddenOrShown subject.cell subject.ring_number book.now asked (finding_of finding) result }
 {
-    let address = address_of(cell, ring_number, finding.start);
+    let address = subject.address_of(finding.start);
     let held = seek_on(book, asked.held, address);
     if hides(held, address, finding.distance) {
         BookAsked {

@@ -2,7 +2,7 @@
 use native.Mathlib.Omega.{arith}
 use Rattle.book.proofs.AcceptedBook.{read_answer_is, records_le}
 use Rattle.book.proofs.UnpackCases.{unpack_refused, unpack_no_room, unpack_room, unpack_written}
-use Rattle.book.proofs.Returned.{returned}
+use Rattle.answers.proofs.Returned.{returned}
 use Rattle.book.proofs.unpacking.unpack.Goals as goal
 
 -- what reading refuses

@@ -3,7 +3,7 @@
 use mathlib.Core.Path.{sym}
 use native.Mathlib.Omega.{arith}
 use Rattle.findings.specs.Admitting.{admit_rows}
-use Rattle.findings.proofs.Returned.{returned}
+use Rattle.answers.proofs.Returned.{returned}
 use Rattle.findings.proofs.LimitRows.{within_limits, refused_early}
 use Rattle.findings.proofs.AdmitRows.{row_4_iff, none_iff}
 use Rattle.findings.proofs.admitting.admit.Goals as goal

@@ -3,7 +3,7 @@
 use mathlib.Core.Path.{sym}
 use native.Mathlib.Omega.{arith}
 use Rattle.findings.specs.Admitting.{limit_rows}
-use Rattle.findings.proofs.Returned.{returned}
+use Rattle.answers.proofs.Returned.{returned}
 use Rattle.findings.proofs.LimitRows.{within_ring, refused_early, limit_3_iff, no_limit_iff}
 use Rattle.findings.proofs.admitting.within_limits.Goals as goal
 

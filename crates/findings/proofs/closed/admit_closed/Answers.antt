@@ -3,7 +3,7 @@
 use mathlib.Core.Path.{sym}
 use native.Mathlib.Omega.{arith}
 use Rattle.findings.specs.ClosedRows.{closed_rows}
-use Rattle.findings.proofs.Returned.{returned}
+use Rattle.answers.proofs.Returned.{returned}
 use Rattle.findings.proofs.LimitRows.{within_limits, refused_early}
 use Rattle.findings.proofs.ClosedAdmitRows.{closed_row_4_iff, closed_row_10_iff, closed_none_iff}
 use Rattle.findings.proofs.closed.admit_closed.Goals as goal

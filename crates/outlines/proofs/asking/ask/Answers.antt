@@ -7,12 +7,12 @@ use Rattle.outlines.proofs.asking.ask.Goals as goal
 pub returns-then-hides : goal.returns-then-hides
 returns-then-hides c =
     let args = c.args in
-    ask_hidden args.asked args.cell args.ring_number (finding_of args.finding) c.seek_on-held.ensures c.hides.ensures
+    ask_hidden args.asked args.subject.cell args.subject.ring_number (finding_of args.finding) c.seek_on-held.ensures c.hides.ensures
     (cc c.address_of-address.ensures) c.if-hides.true
 
 -- Shown.
 pub returns-else-hides : goal.returns-else-hides
 returns-else-hides c =
     let args = c.args in
-    ask_shown args.asked args.cell args.ring_number (finding_of args.finding) c.seek_on-held.ensures c.hides.ensures
+    ask_shown args.asked args.subject.cell args.subject.ring_number (finding_of args.finding) c.seek_on-held.ensures c.hides.ensures
     (cc c.address_of-address.ensures) c.if-hides.false

@@ -2,7 +2,7 @@
 -- book (`ReportAnswers`).
 use mathlib.Core.Path.{refl, sym}
 use Rattle.windows.proofs.LentParts.{open_lent}
-use Rattle.findings.proofs.Returned.{returned}
+use Rattle.answers.proofs.Returned.{returned}
 use Rattle.findings.proofs.AdmitRows.{no_row_iff}
 use Rattle.outlines.proofs.LentScan.{can_scan_line, searched_scanned}
 use Rattle.outlines.proofs.ReportAnswers.{read_accepted, read_refused, report_refused_row, report_refused_book, report_accepted}

@@ -1,7 +1,7 @@
 -- `packing::packing::pack` meets its contract: each return is one case of PackCases.
 use mathlib.Core.Logic.{inl, inr, ⊎_elim}
 use native.Mathlib.Omega.{arith}
-use Rattle.book.proofs.Returned.{returned}
+use Rattle.answers.proofs.Returned.{returned}
 use Rattle.packing.proofs.PackCases.{pack_word_count, pack_refused, pack_no_room, pack_can, pack_written}
 use Rattle.packing.proofs.packing.pack.Goals as goal
 

@@ -2,7 +2,7 @@
 -- contract (`SearchAnswers` of crates/findings).
 use mathlib.Core.Path.{refl, sym}
 use Rattle.windows.proofs.LentParts.{open_lent}
-use Rattle.findings.proofs.Returned.{returned}
+use Rattle.answers.proofs.Returned.{returned}
 use Rattle.findings.proofs.AdmitRows.{no_row_iff}
 use Rattle.findings.proofs.SearchAnswers.{refused_search, accepted_search}
 use Rattle.survey.proofs.LentSurvey.{can_survey_line, searched_surveyed}

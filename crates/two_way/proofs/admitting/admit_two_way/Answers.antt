@@ -2,7 +2,7 @@
 -- returned and the comparisons passed so far decide which of rows 14, 3, 4 is the first, or that none is given (`TwoWayAdmitRows`).
 use mathlib.Core.Path.{sym}
 use native.Mathlib.Omega.{arith}
-use Rattle.findings.proofs.Returned.{returned}
+use Rattle.answers.proofs.Returned.{returned}
 use Rattle.findings.proofs.LimitRows.{within_ring, refused_early}
 use Rattle.two_way.specs.Admitting.{two_way_rows}
 use Rattle.two_way.proofs.TwoWayAdmitRows.{first_told, with_edges, two_way_14_iff, two_way_3_iff, two_way_4_iff, two_way_none_iff}

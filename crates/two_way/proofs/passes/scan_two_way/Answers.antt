@@ -1,7 +1,7 @@
 -- `two_way::passes::scan_two_way` meets its contract: a row is given and the call is refused; or none is, the forward scan does not refuse, and with the backward
 -- scan behind it the contract is met (`TwoWayAnswers`).
 use mathlib.Core.Path.{sym}
-use Rattle.findings.proofs.Returned.{returned}
+use Rattle.answers.proofs.Returned.{returned}
 use Rattle.two_way.proofs.TwoWayAdmitRows.{two_way_no_row_iff}
 use Rattle.two_way.proofs.PassesAccepted.{forward_not_refused, can_scan_backward}
 use Rattle.two_way.proofs.TwoWayAnswers.{refused_two_way, passes_two_way}

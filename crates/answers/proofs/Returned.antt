@@ -1,4 +1,4 @@
--- What a `?` returns for a refusal: this refusal.
+-- What a `?` on a refusal returns: this refusal.
 use mathlib.Core.Path.{◌≡◌}
 use Rattle.std.specs.Prelude.{Result, Err, IsErrAnd}
 use Rattle.std.proofs.lemmas.Result.{err_from_is_err_and}
