@@ -10,7 +10,7 @@ use answers::{LinePlace, Refusal};
 use findings::{SearchCounts, admit};
 use occurrences::{EdgeVectors, KEPT_WORDS, SLOTS};
 use silences::field_at;
-use sweep::{Sweep, Swept, sweep_on};
+use sweep::{RingTables, Sweep, Swept, sweep_on};
 use tally::{DOUBLED, MOST_COUNTS, Tally, double};
 use windows::LineParts;
 
@@ -28,19 +28,17 @@ pub struct ReportCounts {
 fn scan_windows<'a>(
     cell: u32,
     ring_number: u16,
-    ring: &[u8],
-    doubled: &[u8],
-    vectors: &EdgeVectors,
+    tables: RingTables<'a>,
     parts: LineParts<'a>,
     k: usize,
     book: &[u8],
     tally: &mut Tally,
     words: &mut [u32],
 ) -> ReportCounts
-    requires { CanScan ring.now doubled.now vectors.now (parts_of parts) k book.now tally.old.counts words.old }
-    ensures { LineScanned cell ring_number ring.now (whole_line (length ring.now) (parts_of parts.entry)) k book.now words.old result.found result.hidden result.looks words.new }
+    requires { CanScan tables.ring.now tables.doubled.now tables.vectors.now (parts_of parts) k book.now tally.old.counts words.old }
+    ensures { LineScanned cell ring_number tables.entry.ring.now (whole_line (length tables.entry.ring.now) (parts_of parts.entry)) k book.now words.old result.found result.hidden result.looks words.new }
 {
-    let m = ring.len();
+    let m = tables.ring.len();
     let n = parts.whole_length(m);
     let mut at = Sweep {
         start: LinePlace(0),
@@ -54,7 +52,7 @@ fn scan_windows<'a>(
         held,
     };
     while at.start.0 + m <= n {
-        match sweep_on(at, ring, doubled, vectors, parts, k, tally) {
+        match sweep_on(at, tables, parts, k, tally) {
             Swept::Ended(next) | Swept::NoFinding(next) => {
                 at = next;
             }
@@ -101,9 +99,11 @@ pub fn scan_line<'a>(
     scan_windows(
         cell,
         ring_number,
-        ring,
-        &doubled,
-        &vectors,
+        RingTables {
+            ring,
+            doubled: &doubled,
+            vectors: &vectors,
+        },
         parts,
         k,
         book,
