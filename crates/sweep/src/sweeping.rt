@@ -65,7 +65,7 @@ fn read_windows<'a>(
     loop {
         // Whether a window fits is asked once, by `window`: it returns an empty part if none does.
         let edges = parts.window(LinePlace(i), m);
-        if edges.len() == 0 {
+        if edges.is_empty() {
             return WindowsRead {
                 start: LinePlace(i),
                 looks,

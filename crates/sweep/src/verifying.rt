@@ -42,22 +42,14 @@ pub fn verify<'a>(
 {
     let m = tables.ring.len();
     match last {
-        None => verify_afresh(tally, tables.doubled, parts, start, m),
-        Some(from) => {
-            if start.0 <= from.0 {
-                return verify_afresh(tally, tables.doubled, parts, start, m);
-            }
-            let s = start.0 - from.0;
-            if m < 2 * s {
-                verify_afresh(tally, tables.doubled, parts, start, m)
-            } else {
-                // The bound is 0, and no least count is below 0, so the tally moves all s steps.
-                let reached = move_tally(tally, tables.ring, parts, from, s, 0);
-                Least {
-                    least: reached.least,
-                    looks: reached.looks,
-                }
+        Some(from) if from.0 < start.0 && 2 * (start.0 - from.0) <= m => {
+            // The bound is 0, and no least count is below 0, so the tally moves all s steps.
+            let reached = move_tally(tally, tables.ring, parts, from, start.0 - from.0, 0);
+            Least {
+                least: reached.least,
+                looks: reached.looks,
             }
         }
+        _ => verify_afresh(tally, tables.doubled, parts, start, m),
     }
 }
