@@ -10,7 +10,7 @@ use answers::{LinePlace, Refusal};
 use findings::{SearchCounts, admit};
 use occurrences::{EdgeVectors, KEPT_WORDS, SLOTS};
 use silences::field_at;
-use sweep::{Sweep, Swept, sweep_on};
+use sweep::{RingTables, Sweep, Swept, sweep_on};
 use tally::{DOUBLED, MOST_COUNTS, Tally, double};
 use windows::LineParts;
 
@@ -27,19 +27,17 @@ pub struct ReportCounts {
 // it.)
 fn scan_windows<'a>(
     subject: Subject,
-    ring: &[u8],
-    doubled: &[u8],
-    vectors: &EdgeVectors,
+    tables: RingTables<'a>,
     parts: LineParts<'a>,
     k: usize,
     book: &[u8],
     tally: &mut Tally,
     words: &mut [u32],
 ) -> ReportCounts
-    requires { CanScan ring.now doubled.now vectors.now (parts_of parts) k book.now tally.old.counts words.old }
-    ensures { LineScanned subject.cell subject.ring_number ring.now (whole_line (length ring.now) (parts_of parts.entry)) k book.now words.old result.found result.hidden result.looks words.new }
+    requires { CanScan tables.ring.now tables.doubled.now tables.vectors.now (parts_of parts) k book.now tally.old.counts words.old }
+    ensures { LineScanned subject.cell subject.ring_number tables.entry.ring.now (whole_line (length tables.entry.ring.now) (parts_of parts.entry)) k book.now words.old result.found result.hidden result.looks words.new }
 {
-    let m = ring.len();
+    let m = tables.ring.len();
     let n = parts.whole_length(m);
     let mut at = Sweep {
         start: LinePlace(0),
@@ -52,8 +50,9 @@ fn scan_windows<'a>(
         hidden: 0,
         held,
     };
+    // A turn goes on past the candidate that it reached, so this is no `for`.
     while at.start.0 + m <= n {
-        match sweep_on(at, ring, doubled, vectors, parts, k, tally) {
+        match sweep_on(at, tables, parts, k, tally) {
             Swept::Ended(next) | Swept::NoFinding(next) => {
                 at = next;
             }
@@ -97,7 +96,17 @@ pub fn scan_line<'a>(
         counts: [0; MOST_COUNTS],
     };
     scan_windows(
-        subject, ring, &doubled, &vectors, parts, k, book, &mut tally, words,
+        subject,
+        RingTables {
+            ring,
+            doubled: &doubled,
+            vectors: &vectors,
+        },
+        parts,
+        k,
+        book,
+        &mut tally,
+        words,
     )
 }
 

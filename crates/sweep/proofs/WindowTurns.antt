@@ -2,13 +2,15 @@
 -- looks, and each starts past the one before.
 use Prim.Native.Nat.{ℕ, zero, suc, ◌+◌, ◌-◌, ◌*◌, ◌≤◌, ◌<◌}
 use mathlib.Core.Path.{◌≡◌, refl, sym, ap, ◌∙◌}
-use mathlib.Core.Bool.{true}
+use mathlib.Core.Bool.{Bool, false}
 use mathlib.Core.List.{List}
 use Rattle.std.specs.Prelude.{None, Some}
 use Rattle.std.specs.Option.{is_some}
 use native.Mathlib.Nat.{add-zero}
 use native.Mathlib.Omega.{arith}
+use lib.Dec.{eqb}
 use lib.ListN.{length}
+use borrow.Author.Tests.{eqb-false}
 use Rattle.lists.proofs.Cases.{by_test}
 use Rattle.meaning.specs.Meanings.{FitsInLine, IsPastLine, fits_in_line}
 use Rattle.meaning.proofs.Starts.{fits_line_iff, past_line_iff}
@@ -66,12 +68,12 @@ module _ {ring : List ℕ} {table : EdgeVectors} {p : Parts} {k from i looks : �
   pub windows_end : IsPastLine ring line i → none_left i looks ≡ windows_by ring table p k from
   windows_end past = sym (windows_none ring table p k known.left i looks past) ∙ known.still
 
-  -- If `window` returned an edge, a window fits in the whole line at i, and it has m edges.
-  pub windows_fit : {edges : List ℕ} → IsWindow p i m edges → 0 < length edges → FitsInLine ring line i
-  windows_fit handed edge = some_fits known.can.some_edge handed edge
+  -- If the window that `window` returned is not empty, it fits in the whole line at i, and it has m edges.
+  pub windows_fit : {edges : List ℕ} {none : Bool} → IsWindow p i m edges → none ≡ eqb (length edges) 0 → none ≡ false → FitsInLine ring line i
+  windows_fit {edges} handed none_is some = some_fits known.can.some_edge handed (omega (arith, eqb-false (length edges) 0 (sym none_is ∙ some)))
 
-  pub windows_size : {edges : List ℕ} → IsWindow p i m edges → 0 < length edges → length edges ≡ m
-  windows_size handed edge = fitting_length known.can.some_edge handed (windows_fit handed edge)
+  pub windows_size : {edges : List ℕ} {none : Bool} → IsWindow p i m edges → none ≡ eqb (length edges) 0 → none ≡ false → length edges ≡ m
+  windows_size handed none_is some = fitting_length known.can.some_edge handed (windows_fit handed none_is some)
 
   module _ (in_line : FitsInLine ring line i) {edges : List ℕ} (handed : IsWindow p i m edges) {r : WindowRead} (reads : r ≡ read_by table edges k) where
     is_read : read_by table (window_of m p i) k ≡ r

@@ -9,7 +9,7 @@
 --   none_left                         the result if no window fits in the line any more
 --   windows_on, windows_by            window after window, to the next candidate: at most a given number of them; all from a given start
 --   CanReadWindows                    the precondition of `read_windows`
-use Rattle.std.specs.Prelude.{ℕ, zero, suc, ◌+◌, ◌-◌, ◌≤◌, ◌<◌, true, false, cond, List, length, get_or}
+use Rattle.std.specs.Prelude.{ℕ, zero, suc, ◌+◌, ◌-◌, ◌≤◌, ◌<◌, cond, List, length, get_or}
 use Rattle.std.specs.Prelude.{Option, None, Some}
 use Rattle.std.specs.Option.{is_some}
 use Rattle.meaning.specs.Meanings.{fits_in_line, is_mark}

@@ -8,6 +8,8 @@
 
 mod reading;
 mod sweeping;
+mod tables;
 mod verifying;
 
 pub use sweeping::{Sweep, Swept, sweep_on};
+pub use tables::RingTables;

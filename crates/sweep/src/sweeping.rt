@@ -1,4 +1,4 @@
-// The sweep goes from candidate to candidate. Its state is small and is passed by value; the tally and the ring's vectors
+// The sweep goes from candidate to candidate. Its state is small and is passed by value; the tally and the ring's tables
 // are lent beside it.
 ghost use Rattle.std.specs.Prelude.{◌≡◌, length};
 ghost use Rattle.windows.specs.Windows.{parts_of, whole_line};
@@ -6,11 +6,11 @@ ghost use Rattle.sweep.specs.Reads.{CanReadWindows, windows_by};
 ghost use Rattle.sweep.specs.Sweeps.{can_sweep, CanSweep, IsSweptTo, IsSweptBy};
 
 use crate::reading::read_window;
+use crate::tables::RingTables;
 use crate::verifying::verify;
 use answers::LinePlace;
 use findings::Finding;
 use moves::MOST_PLACES;
-use occurrences::EdgeVectors;
 use tally::{MOST_COUNTS, Tally};
 use windows::LineParts;
 
@@ -50,30 +50,29 @@ pub struct WindowsRead {
 // stopped: at break k + 1 every start up to there differs in more than k places, and at a mark no place up to there is a
 // start. Most windows are stopped after a few reads, so nothing else is done between them.
 fn read_windows<'a>(
-    ring: &[u8],
-    vectors: &EdgeVectors,
+    tables: RingTables<'a>,
     parts: LineParts<'a>,
     k: usize,
     from: LinePlace,
 ) -> WindowsRead
-    requires { CanReadWindows (length ring.now) (length (whole_line (length ring.now) (parts_of parts))) from.0 }
-    ensures { result ≡ windows_by ring.now vectors.now (parts_of parts.entry) k from.0 }
+    requires { CanReadWindows (length tables.ring.now) (length (whole_line (length tables.ring.now) (parts_of parts))) from.0 }
+    ensures { result ≡ windows_by tables.entry.ring.now tables.entry.vectors.now (parts_of parts.entry) k from.0 }
 {
-    let m = ring.len();
+    let m = tables.ring.len();
     let mut i = from.0;
     let mut looks: usize = 0;
     // A turn goes on past the edge at which reading stopped, so this is no `for`.
     loop {
         // Whether a window fits is asked once, by `window`: it returns an empty part if none does.
         let edges = parts.window(LinePlace(i), m);
-        if edges.len() == 0 {
+        if edges.is_empty() {
             return WindowsRead {
                 start: LinePlace(i),
                 looks,
                 next: None,
             };
         }
-        let read = read_window(edges, vectors, k);
+        let read = read_window(edges, tables.vectors, k);
         looks += read.looks;
         match read.stopped_at {
             None => {
@@ -91,24 +90,22 @@ fn read_windows<'a>(
 // Sweeps to the next candidate and verifies it (rule 4).
 fn to_candidate<'a>(
     at: Sweep,
-    ring: &[u8],
-    doubled: &[u8],
-    vectors: &EdgeVectors,
+    tables: RingTables<'a>,
     parts: LineParts<'a>,
     k: usize,
     tally: &mut Tally,
 ) -> Swept
-    requires { CanSweep (length ring.now) (length (whole_line (length ring.now) (parts_of parts))) at.start.0 at.looks }
-    ensures { IsSweptTo ring.now doubled.now vectors.now (parts_of parts.entry) k at tally.old.counts tally.new.counts result }
+    requires { CanSweep (length tables.ring.now) (length (whole_line (length tables.ring.now) (parts_of parts))) at.start.0 at.looks }
+    ensures { IsSweptTo tables.entry.ring.now tables.entry.doubled.now tables.entry.vectors.now (parts_of parts.entry) k at tally.old.counts tally.new.counts result }
 {
     let last = at.last;
-    let read = read_windows(ring, vectors, parts, k, at.start);
+    let read = read_windows(tables, parts, k, at.start);
     let start = read.start;
     let looks = at.looks + read.looks;
     let Some(after) = read.next else {
         return Swept::Ended(Sweep { start, last, looks });
     };
-    let verified = verify(tally, ring, doubled, parts, start, last);
+    let verified = verify(tally, tables, parts, start, last);
     let next = Sweep {
         start: after,
         last: Some(start),
@@ -118,7 +115,7 @@ fn to_candidate<'a>(
     if k < least {
         return Swept::NoFinding(next);
     }
-    Swept::Found(next, tally.finding_at(ring.len(), start, least))
+    Swept::Found(next, tally.finding_at(tables.ring.len(), start, least))
 }
 
 // Whether a sweep can go on from `start` with `taken` looks so far: m is 1 to 256, n is below 2^32, the start is at most
@@ -133,18 +130,16 @@ fn can_sweep(m: usize, n: usize, start: LinePlace, taken: usize) -> bool
 // Sweeps to the next candidate, on every input. A sweep that cannot go on ends where it is, and no count changes.
 pub fn sweep_on<'a>(
     at: Sweep,
-    ring: &[u8],
-    doubled: &[u8],
-    vectors: &EdgeVectors,
+    tables: RingTables<'a>,
     parts: LineParts<'a>,
     k: usize,
     tally: &mut Tally,
 ) -> Swept
-    ensures { IsSweptBy ring.now doubled.now vectors.now (parts_of parts.entry) k at tally.old.counts tally.new.counts result }
+    ensures { IsSweptBy tables.entry.ring.now tables.entry.doubled.now tables.entry.vectors.now (parts_of parts.entry) k at tally.old.counts tally.new.counts result }
 {
-    let m = ring.len();
+    let m = tables.ring.len();
     if !can_sweep(m, parts.whole_length(m), at.start, at.looks) {
         return Swept::Ended(at);
     }
-    to_candidate(at, ring, doubled, vectors, parts, k, tally)
+    to_candidate(at, tables, parts, k, tally)
 }

@@ -4,6 +4,7 @@ ghost use Rattle.findings.specs.Limits.{most_places};
 ghost use Rattle.windows.specs.Windows.{parts_of};
 ghost use Rattle.sweep.specs.Sweeps.{IsCountedTo, IsTalliedBy};
 
+use crate::tables::RingTables;
 use answers::LinePlace;
 use moves::move_tally;
 use tally::{Least, Tally};
@@ -31,33 +32,24 @@ fn verify_afresh<'a>(
 // last verified one is counted afresh here.
 pub fn verify<'a>(
     tally: &mut Tally,
-    ring: &[u8],
-    doubled: &[u8],
+    tables: RingTables<'a>,
     parts: LineParts<'a>,
     start: LinePlace,
     last: Option<LinePlace>,
 ) -> Least
     requires { start.0 ≤ most_places }
-    ensures { IsTalliedBy ring.now doubled.now (parts_of parts.entry) start.0 last tally.old.counts tally.new.counts result }
+    ensures { IsTalliedBy tables.entry.ring.now tables.entry.doubled.now (parts_of parts.entry) start.0 last tally.old.counts tally.new.counts result }
 {
-    let m = ring.len();
+    let m = tables.ring.len();
     match last {
-        None => verify_afresh(tally, doubled, parts, start, m),
-        Some(from) => {
-            if start.0 <= from.0 {
-                return verify_afresh(tally, doubled, parts, start, m);
-            }
-            let s = start.0 - from.0;
-            if m < 2 * s {
-                verify_afresh(tally, doubled, parts, start, m)
-            } else {
-                // The bound is 0, and no least count is below 0, so the tally moves all s steps.
-                let reached = move_tally(tally, ring, parts, from, s, 0);
-                Least {
-                    least: reached.least,
-                    looks: reached.looks,
-                }
+        Some(from) if from.0 < start.0 && 2 * (start.0 - from.0) <= m => {
+            // The bound is 0, and no least count is below 0, so the tally moves all s steps.
+            let reached = move_tally(tally, tables.ring, parts, from, start.0 - from.0, 0);
+            Least {
+                least: reached.least,
+                looks: reached.looks,
             }
         }
+        _ => verify_afresh(tally, tables.doubled, parts, start, m),
     }
 }

@@ -7,8 +7,7 @@
 --   parts_of      the parts that a `LineParts` lends
 --   crosses       whether a window crosses the line's end
 --   window_of     the window at a place, out of the part that applies
---   whole_line,   the line, followed by the m − 1 edges that the join area adds to it; its length
---   whole_length
+--   whole_line    the line, followed by the m − 1 edges that the join area adds to it
 --   Joined        the join area begins with the line's last m − 1 edges
 --   IsWindow, IsWholeLength   the contracts of `window` and `whole_length`
 --   IsPart        the contract of `part`
@@ -48,10 +47,6 @@ window_of m p i =
 -- holds. The line alone for m = 0, or if no window fits in it.
 unfoldable pub whole_line : ℕ → Parts → List ℕ
 whole_line m p = cond (ltb 0 m && leb m (length p.line)) (p.line ++ take (m - 1) (drop (m - 1) p.join)) p.line
-
--- The length of the whole line.
-abbrev pub whole_length : ℕ → List ℕ → List ℕ → ℕ
-whole_length m line join = length (whole_line m (parts line join))
 
 -- The join area is right: if some window may cross, the area's first m − 1 edges are the line's last m − 1.
 pub record Joined (m : ℕ) (p : Parts) : Type 0 where

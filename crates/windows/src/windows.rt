@@ -1,7 +1,7 @@
 // The two parts that windows come from, and a window of them. The search gets all line edges from here; only `fill_join`
 // copies some out of the line itself. A window that crosses the line's end comes from the join area, where the line's last
 // edges and its first ones stand side by side; every other from the line.
-ghost use Rattle.windows.specs.Windows.{parts, parts_of, IsWindow, IsWholeLength, IsPart};
+ghost use Rattle.windows.specs.Windows.{parts_of, IsWindow, IsWholeLength, IsPart};
 
 use answers::LinePlace;
 
@@ -16,7 +16,8 @@ pub struct LineParts<'a> {
 impl<'a> LineParts<'a> {
     // "Windows that cross come from a lent join area, the others from the line itself, and the caller gets the part that
     // applies" (document 02, ticket 3). Nearly every window lies in the line, so that is tested before the join area is
-    // looked at.
+    // looked at. The answer is no Option: it is the part that applies, and where no window fits that part is empty, so that
+    // a reader takes no look at it.
     pub fn window(self, start: LinePlace, m: usize) -> &'a [u8]
         ensures { IsWindow (parts_of self.entry) start.0 m result.now }
     {
@@ -61,18 +62,4 @@ fn part(edges: &[u8], i: usize, m: usize) -> &[u8]
         return &edges[..0];
     };
     part
-}
-
-// `LineParts::window`, for a line and a join area that are lent one by one.
-pub fn window<'a>(line: &'a [u8], join: &'a [u8], start: LinePlace, m: usize) -> &'a [u8]
-    ensures { IsWindow (parts line.now join.now) start.0 m result.now }
-{
-    LineParts { line, join }.window(start, m)
-}
-
-// `LineParts::whole_length`, for a line and a join area that are lent one by one.
-pub fn whole_length(line: &[u8], join: &[u8], m: usize) -> usize
-    ensures { IsWholeLength m (parts line.now join.now) result }
-{
-    LineParts { line, join }.whole_length(m)
 }

@@ -7,7 +7,7 @@ use Rattle.sweep.proofs.WindowTurns.{StillWindows}
 use Rattle.sweep.proofs.sweeping.read_windows.Given as goal
 
 abbrev pub invariant-loop-edges : goal.invariant-loop-edges
-invariant-loop-edges l = StillWindows l.ring l.vectors (parts_of l.parts) l.k l.initial.i l.i l.looks
+invariant-loop-edges l = StillWindows l.tables.ring.now l.tables.vectors.now (parts_of l.parts) l.k l.initial.i l.i l.looks
 
 abbrev pub decreases-loop-edges : goal.decreases-loop-edges
-decreases-loop-edges l = length (whole_line (length l.ring) (parts_of l.parts)) + 1 - l.i
+decreases-loop-edges l = length (whole_line (length l.tables.ring.now) (parts_of l.parts)) + 1 - l.i

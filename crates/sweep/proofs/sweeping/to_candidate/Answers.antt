@@ -9,7 +9,7 @@ read_windows-read-requires c = c.requires.can_read
 
 pub overflow_add-looks : goal.overflow_add-looks
 overflow_add-looks c =
-    omega (arith, sweep_looks_le _ c.args.vectors.now (parts_of c.args.parts) c.args.k c.args.at c.requires _ c.read_windows-read.ensures)
+    omega (arith, sweep_looks_le _ c.args.tables.vectors.now (parts_of c.args.parts) c.args.k c.args.at c.requires _ c.read_windows-read.ensures)
 
 -- No candidate.
 pub returns-in_default : goal.returns-in_default
@@ -17,7 +17,7 @@ returns-in_default c = way_ended _ _ _ _ _ _ _ _ c.read_windows-read.ensures c.i
 
 pub verify-verified-requires : goal.verify-verified-requires
 verify-verified-requires c =
-    sweep_start_le _ c.args.vectors.now (parts_of c.args.parts) c.args.k c.args.at c.requires _ c.read_windows-read.ensures
+    sweep_start_le _ c.args.tables.vectors.now (parts_of c.args.parts) c.args.k c.args.at c.requires _ c.read_windows-read.ensures
 
 pub overflow_add-next : goal.overflow_add-next
 overflow_add-next c =
