@@ -14,7 +14,7 @@ pub fn section(text: &[u8], number: usize) -> &[u8] {
 
 // The number whose decimal digits are in a text; the largest usize if it would be larger. A comma between digits is
 // ignored, as is all else that is no digit, so this is no `parse`.
-pub fn decimal(text: &[u8]) -> usize {
+fn decimal(text: &[u8]) -> usize {
     text.iter()
         .filter_map(|byte| char::from(*byte).to_digit(10))
         .fold(0usize, |value, digit| {
