@@ -4,10 +4,9 @@
 ghost use Rattle.std.specs.Prelude.{◌<◌};
 
 use crate::area;
-use crate::table::{Row, count_numbers, fill_numbers, next, whole};
+use crate::table::{Number, Row, count_numbers, fill_numbers};
 use outlines::Subject;
 use silences::{CEILING_BYTES, MOST_SILENCES, PACKED_LENGTH, RECORD_WORDS};
-use std::str::Split;
 
 // The most records of tag 22 that a row gives: 1,001, one more than can be packed.
 const ROW_RECORDS: usize = MOST_SILENCES + 1;
@@ -15,7 +14,13 @@ const ROW_RECORDS: usize = MOST_SILENCES + 1;
 // The most words that a row gives.
 pub const MOST_ROW_WORDS: usize = RECORD_WORDS * ROW_RECORDS;
 
-// The bytes of a field under tag 21.
+// The bytes of the book of these records. If a row gives no fault, its offset is this: a book that has a byte there is
+// longer than any that a row asks for.
+const MOST_ROW_BOOK: usize = PACKED_LENGTH * ROW_RECORDS;
+
+// The words of a record under tag 21, and the bytes of its field.
+const EXACT_WORDS: usize = 3;
+
 const EXACT_LENGTH: usize = PACKED_LENGTH - CEILING_BYTES;
 
 // The tag that a book's fields have: 21, without a ceiling, or 22.
@@ -31,9 +36,9 @@ fn rising_record(start: u32) -> [u32; RECORD_WORDS] {
 }
 
 // Fills the words that a field gives into the front of an area of zeros, and returns them: the numbers in it, four for each
-// record. A field `*` gives 1,001 rising records, with the starts 0, 1, 2 and so on.
-pub fn words<'a>(field: &str, area: &'a mut [u32; MOST_ROW_WORDS]) -> &'a [u32] {
-    if field == "*" {
+// record. A field that `*` begins gives 1,001 rising records, with the starts 0, 1, 2 and so on.
+pub fn words<'a>(field: &[u8], area: &'a mut [u32; MOST_ROW_WORDS]) -> &'a [u32] {
+    if field.starts_with(b"*") {
         let (records, _) = area.as_chunks_mut::<RECORD_WORDS>();
         for (record, start) in records.iter_mut().zip(0u32..) {
             *record = rising_record(start);
@@ -56,14 +61,11 @@ impl Tag {
         }
     }
 
-    // The record that the next numbers of a list give; past the last number, 0.
-    fn next_record(self, numbers: &mut Split<'_, char>) -> [u32; RECORD_WORDS] {
-        let cell = next(numbers);
-        let ring_number = next(numbers);
-        let start = next(numbers);
+    // The words that a list gives for a record.
+    fn words(self) -> usize {
         match self {
-            Tag::Exact => [cell, ring_number, start, 0],
-            Tag::Ceiling => [cell, ring_number, start, next(numbers)],
+            Tag::Exact => EXACT_WORDS,
+            Tag::Ceiling => RECORD_WORDS,
         }
     }
 
@@ -84,15 +86,17 @@ impl Tag {
         ]
     }
 
-    // Fills a book with the fields of the records that a list gives; the last may be cut. An empty list and `*` give rising
-    // records.
-    fn lay_out(self, list: &str, book: &mut [u8]) {
-        let mut numbers = list.split(' ');
+    // Fills a book with the fields of the records that a list gives; the last may be cut. Past the last number, the words
+    // are 0. With no list the records rise.
+    fn lay_out(self, list: Option<&[u8]>, book: &mut [u8]) {
+        let mut numbers = list.unwrap_or(&[]).split(|byte| *byte == b' ');
         for (field, start) in book.chunks_mut(self.length()).zip(0u32..) {
-            let record = match list {
-                "" | "*" => rising_record(start),
-                _ => self.next_record(&mut numbers),
-            };
+            let mut record = rising_record(start);
+            if list.is_some() {
+                for word in record.iter_mut().take(self.words()) {
+                    *word = numbers.next().map_or(0, |text| u32::of(text));
+                }
+            }
             for (byte, laid) in field.iter_mut().zip(self.laid_out(record)) {
                 *byte = laid;
             }
@@ -100,14 +104,15 @@ impl Tag {
     }
 }
 
-// Fills all of a book of zeros: `#` begins its bytes, `-` silences under tag 21; else they are under tag 22.
-fn fill(list: &str, book: &mut [u8]) {
-    if let Some(bytes) = list.strip_prefix('#') {
-        fill_numbers(bytes, book);
-    } else if let Some(exact) = list.strip_prefix('-') {
-        Tag::Exact.lay_out(exact, book);
-    } else {
-        Tag::Ceiling.lay_out(list, book);
+// Fills all of a book of zeros: `#` begins its bytes, `-` silences under tag 21; else they are under tag 22. `-` alone
+// and a field that `*` begins give rising records. Each mark is part of the first number, where it is ignored.
+fn fill(field: &[u8], book: &mut [u8]) {
+    match field {
+        [b'#', ..] => fill_numbers(field, book),
+        [b'-'] => Tag::Exact.lay_out(None, book),
+        [b'-', ..] => Tag::Exact.lay_out(Some(field), book),
+        [b'*', ..] => Tag::Ceiling.lay_out(None, book),
+        _ => Tag::Ceiling.lay_out(Some(field), book),
     }
 }
 
@@ -117,10 +122,9 @@ pub fn book<'a>(row: Row<'_>, at: usize, area: &'a mut [u8]) -> &'a [u8]
 {
     let book = area::lend(area, row.number(at + 1).unwrap_or(0));
     fill(row.field(at), book);
-    if let Some(offset) = row.number(at + 2)
-        && let Some(byte) = book.get_mut(offset)
-    {
-        *byte = whole(row.field(at + 3));
+    let fault = row.number(at + 2).unwrap_or(MOST_ROW_BOOK);
+    if let Some(byte) = book.get_mut(fault) {
+        *byte = u8::of(row.field(at + 3));
     }
     book
 }
@@ -140,8 +144,8 @@ impl<'a> Silenced<'a> {
     {
         Silenced {
             subject: Subject {
-                cell: whole(row.field(at)),
-                ring_number: whole(row.field(at + 1)),
+                cell: u32::of(row.field(at)),
+                ring_number: u16::of(row.field(at + 1)),
             },
             book: book(row, at + 2, area),
         }

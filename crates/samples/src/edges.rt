@@ -2,7 +2,7 @@
 // codes; `*` and three numbers: the first code, the last code and how many edges. The codes then rise by one from the
 // first to the last and begin again at 0.
 use crate::area;
-use crate::table::{Row, count_numbers, decimal, fill_numbers, next};
+use crate::table::{Row, count_numbers, fill_numbers, nth_number};
 
 // What each search is given: ring, line and allowance, and the row for the rest.
 #[derive(Clone, Copy)]
@@ -34,24 +34,26 @@ fn fill_rising(first: u8, last: u8, edges: &mut [u8]) {
     }
 }
 
-// Fills the edges that a field gives into the front of an area of zeros, and returns them.
-pub fn of_field<'a>(field: &str, area: &'a mut [u8]) -> &'a [u8] {
-    if let Some(codes) = field.strip_prefix('#') {
-        let edges = area::lend(area, count_numbers(codes));
-        fill_numbers(codes, edges);
-        return edges;
+// Fills the edges that a field gives into the front of an area of zeros, and returns them. The mark that begins a list is
+// part of its first number, where it is ignored.
+pub fn of_field<'a>(field: &[u8], area: &'a mut [u8]) -> &'a [u8] {
+    match field {
+        [b'*', ..] => {
+            let edges = area::lend(area, nth_number(field, 2));
+            fill_rising(nth_number(field, 0), nth_number(field, 1), edges);
+            edges
+        }
+        [b'#', ..] => {
+            let edges = area::lend(area, count_numbers(field));
+            fill_numbers(field, edges);
+            edges
+        }
+        _ => {
+            let edges = area::lend(area, field.len());
+            for (edge, letter) in edges.iter_mut().zip(field) {
+                *edge = *letter;
+            }
+            edges
+        }
     }
-    if let Some(rising) = field.strip_prefix('*') {
-        let mut numbers = rising.split(' ');
-        let first = next(&mut numbers);
-        let last = next(&mut numbers);
-        let edges = area::lend(area, decimal(numbers.next().unwrap_or("")));
-        fill_rising(first, last, edges);
-        return edges;
-    }
-    let edges = area::lend(area, field.len());
-    for (edge, letter) in edges.iter_mut().zip(field.bytes()) {
-        *edge = letter;
-    }
-    edges
 }

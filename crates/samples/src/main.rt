@@ -23,8 +23,8 @@ mod vertex_rows;
 use area::TEXT_BYTES;
 use calls::Call;
 use calls::Search::{Report, Scan, Survey};
-use std::io::{ErrorKind, Read};
-use std::{io, str};
+use std::io;
+use std::io::Read;
 use table::Row;
 
 // Runs one row through a call.
@@ -45,30 +45,34 @@ fn run_row(rt: &impl Print, call: Call, row: Row<'_>) -> io::Result<()> {
     }
 }
 
-// Runs every row of a section through one call. The section's first line is a heading.
-fn run(rt: &impl Print, call: Call, text: &str, number: usize) -> io::Result<()> {
-    for line in table::section(text, number).lines().skip(1) {
+// Runs every row of a section through one call. The section's first line is a heading, and what stands behind its last
+// newline is no row.
+fn run(rt: &impl Print, call: Call, text: &[u8], number: usize) -> io::Result<()> {
+    let mut lines = table::section(text, number).split(|byte| *byte == b'\n');
+    lines.next_back();
+    for line in lines.skip(1) {
         let row = Row(line);
-        let name = row.field(0);
-        print!(rt; "{call} {name}:")?;
+        print!(rt; "{call} ")?;
+        rt.write_all(row.field(0))?;
+        print!(rt; ":")?;
         run_row(rt, call, row)?;
     }
     Ok(())
 }
 
-// Reads the input to its end, and returns it as text. An input that is longer than the area is an error.
-fn read_text<'a>(reader: &mut impl Read, area: &'a mut [u8]) -> io::Result<&'a str> {
+// Reads the input until the area is full or the input ends, and returns what was read.
+fn read_text<'a>(reader: impl Read + Drop, area: &'a mut [u8]) -> io::Result<&'a [u8]> {
     let room = area.len();
     let mut rest: &mut [u8] = &mut *area;
-    io::copy(reader, &mut rest)?;
+    io::copy(&mut reader.take(room as u64), &mut rest)?;
     let got = room.saturating_sub(rest.len());
-    str::from_utf8(&area[..got]).map_err(|_| io::Error::from(ErrorKind::InvalidData))
+    Ok(&area[..got])
 }
 
 // Reads the table of rows and runs each of its fourteen sections through its calls.
 fn main(rt: HostRuntime) -> io::Result<()> {
     let mut input: [u8; TEXT_BYTES] = area::filled(0);
-    let text = read_text(&mut rt.stdin(), &mut input)?;
+    let text = read_text(rt.stdin(), &mut input)?;
     run(&rt, Call::Pack, text, 1)?;
     run(&rt, Call::Read, text, 2)?;
     run(&rt, Call::Unpack, text, 2)?;

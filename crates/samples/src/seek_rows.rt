@@ -3,18 +3,17 @@
 // byte offset just past it.
 use crate::area::AREA_BYTES;
 use crate::printing::print_number;
-use crate::table::{Row, next};
+use crate::table::{Row, nth_number};
 use crate::{area, books};
 use silences::{Address, Field};
 use std::io;
 
 // The address that a field gives: cell, ring number, start.
-fn address_of(field: &str) -> Address {
-    let mut numbers = field.split(' ');
+fn address_of(field: &[u8]) -> Address {
     Address {
-        cell: next(&mut numbers),
-        ring_number: next(&mut numbers),
-        start: next(&mut numbers),
+        cell: nth_number(field, 0),
+        ring_number: nth_number(field, 1),
+        start: nth_number(field, 2),
     }
 }
 

@@ -14,24 +14,24 @@ use vertices::import_vertices;
 // The numbers of a vertex: north and east.
 const NUMBERS_EACH: usize = 2;
 
-// The vertices that a field `*` gives: two more than a boundary may have. No row gives more.
+// The vertices that a field that `*` begins gives: two more than a boundary may have. No row gives more.
 const ROW_VERTICES: usize = 4098;
 
 const MOST_ROW_NUMBERS: usize = NUMBERS_EACH * ROW_VERTICES;
 
 // How many numbers a field gives.
-fn number_count(field: &str) -> usize {
-    if field == "*" {
+fn number_count(field: &[u8]) -> usize {
+    if field.starts_with(b"*") {
         MOST_ROW_NUMBERS
     } else {
         count_numbers(field)
     }
 }
 
-// Fills the numbers that a field gives into the front of `numbers`, which are 0. Of the vertices that a field `*` gives,
-// vertex i has north i and east i times i.
-fn fill_numbers(field: &str, numbers: &mut [i32]) {
-    if field != "*" {
+// Fills the numbers that a field gives into the front of `numbers`, which are 0. Of the vertices that a field gives which
+// `*` begins, vertex i has north i and east i times i.
+fn fill_numbers(field: &[u8], numbers: &mut [i32]) {
+    if !field.starts_with(b"*") {
         table::fill_numbers(field, numbers);
         return;
     }
@@ -43,7 +43,7 @@ fn fill_numbers(field: &str, numbers: &mut [i32]) {
 }
 
 // Imports the first `count` numbers that a field gives.
-fn import(field: &str, count: usize, edges: &mut [u8]) -> Result<usize, Refusal> {
+fn import(field: &[u8], count: usize, edges: &mut [u8]) -> Result<usize, Refusal> {
     let mut area = [0i32; MOST_ROW_NUMBERS];
     let numbers = area::lend(&mut area, count);
     fill_numbers(field, numbers);
@@ -61,7 +61,7 @@ pub fn import_row(rt: &impl Print, row: Row<'_>) -> io::Result<()> {
 }
 
 // Imports the vertices that a field gives into the front of an area, and returns their edges.
-fn edges_of<'a>(field: &str, area: &'a mut [u8]) -> &'a [u8] {
+fn edges_of<'a>(field: &[u8], area: &'a mut [u8]) -> &'a [u8] {
     let count = import(field, number_count(field), area).unwrap_or(0);
     area::lend(area, count)
 }
