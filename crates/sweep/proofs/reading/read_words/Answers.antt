@@ -7,14 +7,14 @@ use Rattle.sweep.proofs.reading.read_words.Goals as goal
 
 -- A mark, or break k + 1.
 pub returns-then-stops_at : goal.returns-then-stops_at
-returns-then-stops_at g c =
+returns-then-stops_at c =
     let came = c.in-Some.ensures.steps.1 in
     to_read_stops c.loop-left.invariant.2 _ _ c.in-Some.left came.0 (omega arith) c.vector_of.ensures c.grown-next.ensures
     (sym c.no_bit.ensures ∙ c.if-no_bit.true) c.stops_at.ensures c.if-stops_at.true
 
 -- A break before break k + 1.
 pub loop-left-preserved-then-no_bit : goal.loop-left-preserved-then-no_bit
-loop-left-preserved-then-no_bit g c =
+loop-left-preserved-then-no_bit c =
     let came = c.in-Some.ensures.steps.1 in
     let full = c.first_bits-full.ensures in (
       full,
@@ -26,7 +26,7 @@ loop-left-preserved-then-no_bit g c =
 
 -- No break: the stretch has grown.
 pub loop-left-preserved : goal.loop-left-preserved
-loop-left-preserved g c =
+loop-left-preserved c =
     let came = c.in-Some.ensures.steps.1 in (
       c.first_bits-full.ensures,
       omega arith,
@@ -34,4 +34,4 @@ loop-left-preserved g c =
     )
 
 pub returns : goal.returns
-returns g c = to_read_none c.loop-left.invariant.2 c.in-None.ensures.steps.1.0
+returns c = to_read_none c.loop-left.invariant.2 c.in-None.ensures.steps.1.0
