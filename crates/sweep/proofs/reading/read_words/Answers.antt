@@ -1,9 +1,20 @@
 -- `sweep::reading::read_words` meets its contract: the loop keeps `StillToRead`. A turn grows the held vector, or sets every bit again at a break, or stops at
 -- break k + 1 or at a mark.
-use mathlib.Core.Path.{sym, ◌∙◌}
+use mathlib.Core.Path.{refl, sym, ◌∙◌}
 use native.Mathlib.Omega.{arith}
-use Rattle.sweep.proofs.ReadTurns.{to_read_none, to_read_stops, to_read_empties, to_read_grows}
+use Rattle.sweep.proofs.ReadTurns.{to_read_all, to_read_none, to_read_stops, to_read_empties, to_read_grows}
 use Rattle.sweep.proofs.reading.read_words.Goals as goal
+
+pub loop-left-init : goal.loop-left-init
+loop-left-init c =
+    rw (
+      c.into_iter-left-iterator.ensures.into_iter_gives,
+      c.rev-left-items.ensures.source,
+      c.enumerate.ensures.source,
+      c.enumerate.ensures.count,
+      c.iter.ensures.rest,
+      c.first_bits-full.ensures,
+    ) (refl, refl, to_read_all _ _ _ _)
 
 -- A mark, or break k + 1.
 pub returns-then-stops_at : goal.returns-then-stops_at
