@@ -71,7 +71,7 @@ module _ (ring : List ℕ) (table : EdgeVectors) (is : Occurrences ring table) w
     word_is : word_of table code (word_count (length ring)) w ≡ part_word ring (counted_places ring) w code
     unfolding word_of
     word_is = dite (dec_lt word_bits (length ring))
-        (λ many. rw (lt-leb (word_count (length ring)) 1 (omega arith), le-leb w last_part part) (parted_read ring (counted_places ring) (omega arith) table code is_code
+        (λ many. rw (lt-leb (word_count (length ring)) 1 (omega arith)) (parted_read ring (counted_places ring) (omega arith) table code is_code
         (is.slots_are ∙ sym (slots_for_parts ring many)) (is.kept_are ∙ sym (kept_for_parts ring many)) w part))
         (λ few. rw (le-leb (word_count (length ring)) 1 (omega (arith, few))) (whole_read ring (counted_places ring) (omega arith) table code is_code
         (omega (arith, few)) (is.kept_are ∙ sym (kept_for_one ring (omega (arith, few)))) w))

@@ -96,7 +96,7 @@ module _ (ring : List ℕ) (table : EdgeVectors) where
       let kept_all : table.kept ≡ whole_of ring n = rw (sym all) known.kept_are in
       record {
         each = table_of_bits ring table (word_count (length ring)) (λ q l. known.codes q (omega arith))
-            (λ code is_code. whole_bit ring n (omega arith) table code is_code (omega arith) kept_all (word_count (length ring)) (omega arith) (omega arith));
+            (λ code is_code. whole_bit ring n (omega arith) table code is_code (omega arith) kept_all (word_count (length ring)) (omega arith));
         slots_are = known.slots_are ∙ slots_for_one ring most;
         kept_are = kept_all ∙ kept_for_one ring most;
       }
@@ -127,7 +127,7 @@ module _ (ring : List ℕ) (table : EdgeVectors) where
       let kept_all : table.kept ≡ kept_of ring n = rw (sym all) known.kept_are in
       record {
         each = table_of_bits ring table (word_count (length ring)) (λ q l. known.codes q (omega arith))
-            (λ code is_code. parted_bit ring n (omega arith) table code is_code slots_all kept_all (word_count (length ring)) (omega arith) (omega arith));
+            (λ code is_code. parted_bit ring n (omega arith) table code is_code slots_all kept_all (word_count (length ring)) (omega arith));
         slots_are = slots_all ∙ slots_for_parts ring many;
         kept_are = kept_all ∙ kept_for_parts ring many;
       }

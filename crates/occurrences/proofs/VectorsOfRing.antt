@@ -57,8 +57,8 @@ grown_by_edge m count code ring table occurs held new whole some most few of_rin
     let words : Vector occurs = rw is_occurs (read_vector table code count (kept_words ring table code of_ring)) in
     let edge : Occurs ring code occurs = rw (is_occurs, few, whole) (vector_occurs ring table code of_ring (omega arith)) in
     let inside : WithinBits m occurs = record { rest = λ i h. edge.rest i (omega arith) } in
-    let turn : Grown m occurs held new = rw is_new (grown_words_is m count occurs held some few is_held_lem words inside) in
+    let turn : Grown m occurs held new = rw is_new (grown_words_is m count occurs held some most few is_held_lem words inside) in
     record {
-      vector = rw is_new (grown_held m count occurs held some few is_held_lem words inside);
+      vector = rw is_new (grown_held m count occurs held some most few is_held_lem words inside);
       each = λ r h. turn.each r h ∙ rw (edge.each r (omega arith)) refl;
     }

@@ -1,8 +1,8 @@
 -- What is read off the two arrays of a ring. Bit q of the vector of an edge code is set exactly when place q has the code: the word that is read for the code and a part
 -- has the part's bits. Where vectors have one word it stands at the code, and where they have several a slot leads to it.
 use mathlib.Core.Path.{◌≡◌, refl, sym, ◌∙◌}
-use mathlib.Core.Bool.{cond, false}
-use mathlib.Core.List.{List}
+use mathlib.Core.Bool.{false}
+use mathlib.Core.List.{List, [], ◌∷◌}
 use mathlib.Core.Logic.{dite}
 use Prim.Native.Nat.{ℕ, ◌+◌, ◌*◌, ◌/◌, ◌%◌, ◌^◌, ◌≤◌, ◌<◌}
 use native.Mathlib.Nat.{mod-lt}
@@ -11,10 +11,11 @@ use native.Mathlib.Omega.{arith}
 use lib.ListN.{get_or}
 use lib.Dec.{ltb, leb, eqb}
 use borrow.Author.Tests.{lt-ltb, le-ltb, le-leb, lt-leb, ne_eqb}
+use Rattle.lists.specs.ByPlace.{list_of}
 use Rattle.lists.proofs.Cases.{by_test}
 use Rattle.lists.proofs.ByPlace.{list_of_at}
 use Rattle.vectors.specs.Bits.{word_bits, Vector, is_set}
-use Rattle.vectors.specs.ByValue.{vector_bits}
+use Rattle.vectors.specs.ByValue.{vector_words, vector_bits}
 use Rattle.vectors.proofs.WordBits.{bit_zero}
 use Rattle.vectors.proofs.WordByWord.{vector_of_is_set, vector_of_is_set_past, vector_of_vector}
 use Rattle.occurrences.specs.declared.table.EdgeVectors.{EdgeVectors}
@@ -28,29 +29,39 @@ use Rattle.occurrences.proofs.ArraysOfRing.{slots_of, kept_of, whole_of}
 -- The words of a vector that is read are machine words, if the kept ones are.
 pub read_vector : (table : EdgeVectors) (code count : ℕ) → Vector table.kept → Vector (vector_at table code count)
 unfolding vector_at word_of whole_word slot_word
-read_vector table code count vector = vector_of_vector count _ (λ w h. by_test (λ (x : ℕ). x < 2 ^ word_bits) (ltb code byte_codes)
+read_vector table code count vector = vector_of_vector vector_words _ (λ w h. by_test (λ (x : ℕ). x < 2 ^ word_bits) (ltb code byte_codes)
     (λ _. by_test (λ (x : ℕ). x < 2 ^ word_bits) (leb count 1)
     (λ _. by_test (λ (x : ℕ). x < 2 ^ word_bits) (eqb w 0) (λ _. vector.word_lt code) (λ _. omega arith))
-    (λ _. by_test (λ (x : ℕ). x < 2 ^ word_bits) (leb w last_part) (λ _. vector.word_lt _) (λ _. omega arith)))
+    (λ _. vector.word_lt _))
     (λ _. omega arith))
+
+module _ (table : EdgeVectors) (code count : ℕ) (is_code : code < byte_codes) where
+  -- Where vectors have one word: the word at the code, written out with three zeros, is the vector.
+  pub whole_words : count ≤ 1 → get_or table.kept code 0 ∷ 0 ∷ 0 ∷ 0 ∷ [] ≡ vector_at table code count
+  unfolding vector_at list_of word_of whole_word
+  whole_words few = rw (lt-ltb code byte_codes is_code, le-leb count 1 few) refl
+
+  -- Where they have several: the words of the four parts, written out, are the vector.
+  pub parted_words : 1 < count → slot_word table code 0 ∷ slot_word table code 1 ∷ slot_word table code 2 ∷ slot_word table code 3 ∷ [] ≡ vector_at table code count
+  unfolding vector_at list_of word_of
+  parted_words many = rw (lt-ltb code byte_codes is_code, lt-leb count 1 many) refl
 
 -- For a number above 255 no bit is set.
 pub no_code_bit : (table : EdgeVectors) (code count q : ℕ) → byte_codes ≤ code → is_set (vector_at table code count) q ≡ false
 unfolding vector_at
-no_code_bit table code count q above = dite (dec_lt q (word_bits * count))
-    (λ h. vector_of_is_set count _ q h ∙ rw (le-ltb code byte_codes above, bit_zero (q % word_bits)) refl)
-    (λ past. vector_of_is_set_past count _ q (omega (arith, past)))
+no_code_bit table code count q above = dite (dec_lt q vector_bits)
+    (λ h. vector_of_is_set vector_words _ q h ∙ rw (le-ltb code byte_codes above, bit_zero (q % word_bits)) refl)
+    (λ past. vector_of_is_set_past vector_words _ q (omega (arith, past)))
 
 module _ (ring : List ℕ) (n : ℕ) (most : n ≤ vector_bits) (table : EdgeVectors) (code : ℕ) (is_code : code < byte_codes) where
   -- If the word that is read for a code and each part has the part's bits, bit q is set exactly when place q has the code.
-  bits_of_parts : (count : ℕ) → n ≤ word_bits * count → ((w : ℕ) → w < count → word_of table code count w ≡ part_word ring n w code) → (q : ℕ)
-      → is_set (vector_at table code count) q ≡ has_code ring n code q
+  bits_of_parts : (count : ℕ) → ((w : ℕ) → w ≤ last_part → word_of table code count w ≡ part_word ring n w code) → (q : ℕ) → is_set (vector_at table code count) q ≡ has_code ring n code q
   unfolding vector_at
-  bits_of_parts count room words q = dite (dec_lt q (word_bits * count))
+  bits_of_parts count words q = dite (dec_lt q vector_bits)
       (λ h. let place : word_bits * (q / word_bits) + q % word_bits ≡ q = omega arith in
-      vector_of_is_set count _ q h ∙ rw (lt-ltb code byte_codes is_code, words (q / word_bits) (omega (arith, h)))
+      vector_of_is_set vector_words _ q (omega arith) ∙ rw (lt-ltb code byte_codes is_code, words (q / word_bits) (omega arith))
       (part_bit ring n (q / word_bits) code (q % word_bits) (mod-lt q (omega arith)) ∙ rw place refl))
-      (λ past. vector_of_is_set_past count _ q (omega (arith, past)) ∙ sym (has_code_past ring n code q (omega (arith, past))))
+      (λ past. vector_of_is_set_past vector_words _ q (omega (arith, past)) ∙ sym (has_code_past ring n code q (omega (arith, past))))
 
   module _ (one : n ≤ word_bits) (kept_are : table.kept ≡ whole_of ring n) where
     -- Where vectors have one word, the word of part 0 stands at the code, and the other parts have no place.
@@ -61,9 +72,9 @@ module _ (ring : List ℕ) (n : ℕ) (most : n ≤ vector_bits) (table : EdgeVec
         (λ later. rw (ne_eqb w 0 later) (sym (part_none ring n w code (λ q l h. has_code_past ring n code q (omega (arith, later))))))
 
     -- Bit q is set exactly when place q has the code, where vectors have one word.
-    pub whole_bit : (count : ℕ) → count ≤ 1 → n ≤ word_bits * count → (q : ℕ) → is_set (vector_at table code count) q ≡ has_code ring n code q
+    pub whole_bit : (count : ℕ) → count ≤ 1 → (q : ℕ) → is_set (vector_at table code count) q ≡ has_code ring n code q
     unfolding word_of
-    whole_bit count few room = bits_of_parts count room (λ w h. rw (le-leb count 1 few) (whole_read w))
+    whole_bit count few = bits_of_parts count (λ w h. rw (le-leb count 1 few) (whole_read w))
 
   module _ (slots_are : table.slots ≡ slots_of ring n) where
     -- At code + 256·w stands the slot of code and part w.
@@ -81,13 +92,7 @@ module _ (ring : List ℕ) (n : ℕ) (most : n ≤ vector_bits) (table : EdgeVec
       parted_read w h = rw (slot_there w (code + w * byte_codes) h refl, kept_are)
           (list_of_at kept_count (kept_word ring n) (word_place w (slot_of ring n w code)) (word_place_slot_lt ring n w code h) ∙ kept_reads ring n w code h)
 
-      -- A word past the last part has no bit, as none of the places there counts.
-      word_there : (w : ℕ) → cond (leb w last_part) (slot_word table code w) 0 ≡ part_word ring n w code
-      word_there w = dite (dec_lt last_part w)
-          (λ past. rw (lt-leb w last_part past) (sym (part_none ring n w code (λ q l h. has_code_past ring n code q (omega (arith, past))))))
-          (λ h. rw (le-leb w last_part (omega (arith, h))) (parted_read w (omega (arith, h))))
-
       -- Bit q is set exactly when place q has the code, where vectors have several words.
-      pub parted_bit : (count : ℕ) → 1 < count → n ≤ word_bits * count → (q : ℕ) → is_set (vector_at table code count) q ≡ has_code ring n code q
+      pub parted_bit : (count : ℕ) → 1 < count → (q : ℕ) → is_set (vector_at table code count) q ≡ has_code ring n code q
       unfolding word_of
-      parted_bit count many room = bits_of_parts count room (λ w h. rw (lt-leb count 1 many) (word_there w))
+      parted_bit count many = bits_of_parts count (λ w h. rw (lt-leb count 1 many) (parted_read w h))

@@ -5,7 +5,7 @@
 --     EdgeVectors, empty_word, word_place, whole_word, slot_word, word_of     how the vectors of all codes are stored: slots and kept words
 --     vector_at, OccurrenceTable     the vector of a code; one for each code, 0 to 255
 -- `vector_of` returns `vector_at`.
-use Rattle.std.specs.Prelude.{◌≡◌, false, cond, List, ℕ, ◌+◌, ◌-◌, ◌*◌, ◌≤◌, ◌<◌, length, get_or, ltb, leb, eqb}
+use Rattle.std.specs.Prelude.{◌≡◌, false, cond, List, ℕ, suc, ◌+◌, ◌-◌, ◌*◌, ◌≤◌, ◌<◌, length, get_or, ltb, leb, eqb}
 use Rattle.lists.specs.ByPlace.{list_of}
 use Rattle.vectors.specs.Bits.{word_bits, is_set}
 use Rattle.vectors.specs.ByValue.{vector_words}
@@ -43,16 +43,16 @@ whole_word table code w = cond (eqb w 0) (get_or table.kept code 0) 0
 unfoldable pub slot_word : EdgeVectors → ℕ → ℕ → ℕ
 slot_word table code w = get_or table.kept (word_place w (get_or table.slots (code + w * byte_codes) 0)) 0
 
--- The word of an edge code in part w, where vectors have `count` words. A count of 0 is taken as 1. A ring has no place past its last part, and a word there is 0.
+-- The word of an edge code in part w, where vectors have `count` words. A count of 0 is taken as 1.
 unfoldable pub word_of : EdgeVectors → ℕ → ℕ → ℕ → ℕ
 word_of table code count w =
     let whole : ℕ = whole_word table code w in
-    let parted : ℕ = cond (leb w last_part) (slot_word table code w) 0 in
+    let parted : ℕ = slot_word table code w in
     cond (leb count 1) whole parted
 
--- The vector of an edge code, where vectors have `count` words. For a number above 255 no bit is set.
+-- The vector of an edge code, where vectors have `count` words: four words, whatever the count. For a number above 255 no bit is set.
 unfoldable pub vector_at : EdgeVectors → ℕ → ℕ → List ℕ
-vector_at table code count = list_of count (λ w. cond (ltb code byte_codes) (word_of table code count w) 0)
+vector_at table code count = list_of (suc last_part) (λ w. cond (ltb code byte_codes) (word_of table code count w) 0)
 
 -- "one occurrence vector of m bits per edge code", where vectors have `count` words.
 pub record OccurrenceTable (ring : List ℕ) (count : ℕ) (table : EdgeVectors) : Type 0 where

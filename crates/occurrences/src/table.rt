@@ -4,8 +4,8 @@
 // words take 3,080 bytes; all words of all 256 codes would take 8,192.
 ghost use Rattle.std.specs.Prelude.{◌≡◌, cond, ◌≤◌, ◌<◌, eqb, length};
 ghost use Rattle.vectors.specs.Bits.{word_bits};
-ghost use Rattle.vectors.specs.ByValue.{vector_bits};
-ghost use Rattle.occurrences.specs.EdgeVectors.{word_place, word_of, vector_at};
+ghost use Rattle.vectors.specs.ByValue.{vector_words, vector_bits};
+ghost use Rattle.occurrences.specs.EdgeVectors.{word_place, slot_word, vector_at};
 ghost use Rattle.occurrences.specs.Storing.{no_slot, kept_count, Occurrences, IsCleared};
 
 use crate::widths::{BYTE_CODES, KEPT_WORDS, LAST_PART, SLOTS};
@@ -102,31 +102,29 @@ impl EdgeVectors {
         }
     }
 
-    // The word of an edge code in a part, where vectors have W words. There is a kept word for any byte, so no slot is
+    // The word of an edge code in a part, of vectors with several words. There is a kept word for any byte, so nothing is
     // tested.
-    fn word_of<const W: usize>(&self, code: u8, part: usize) -> u64
-        requires { part < W }
-        ensures { result ≡ word_of self.now code W part }
+    fn word_of(&self, code: u8, part: usize) -> u64
+        requires { part < vector_words }
+        ensures { result ≡ slot_word self.now code part }
     {
-        if W == 1 {
-            self.kept[usize::from(code)]
-        } else if part < VECTOR_WORDS {
-            let slot = self.slots[usize::from(code) + part * BYTE_CODES];
-            self.kept[word_place(part, slot)]
-        } else {
-            0
-        }
+        let slot = self.slots[usize::from(code) + part * BYTE_CODES];
+        self.kept[word_place(part, slot)]
     }
 
-    // The occurrence vector of an edge code, for a ring whose vectors have W words. All W are read; those past the ring's
-    // last part are 0.
-    pub fn vector_of<const W: usize>(&self, code: u8) -> [u64; W]
-        ensures { result ≡ vector_at self.now code W }
+    // The occurrence vector of an edge code, for a ring whose vectors have `count` words. It has four words. For a count
+    // above 1 all four are read; in the arrays of a ring those past its last part are 0.
+    pub fn vector_of(&self, code: u8, count: usize) -> [u64; VECTOR_WORDS]
+        ensures { result ≡ vector_at self.now code count }
     {
-        let mut vector = [0u64; W];
-        for (part, word) in vector.iter_mut().enumerate() {
-            *word = self.word_of::<W>(code, part);
+        if count <= 1 {
+            return [self.kept[usize::from(code)], 0, 0, 0];
         }
-        vector
+        [
+            self.word_of(code, 0),
+            self.word_of(code, 1),
+            self.word_of(code, 2),
+            self.word_of(code, 3),
+        ]
     }
 }

@@ -20,7 +20,7 @@ use Rattle.lists.proofs.Cases.{by_test, not_passed}
 use Rattle.meaning.proofs.Some.{some_yes, some_by}
 use Rattle.meaning.proofs.WindowLoop.{AllSet, GrownBy, WindowLoop, ReadTo, window_start, window_end, window_stopped, window_grows, window_marked, window_breaks}
 use Rattle.vectors.specs.Bits.{word_count, is_set, first_bits, no_bit}
-use Rattle.vectors.specs.ByValue.{vector_bits, HeldVector}
+use Rattle.vectors.specs.ByValue.{vector_words, vector_bits, HeldVector}
 use Rattle.vectors.proofs.HeldVectors.{first_held, first_set, no_bit_iff_lem, no_bit_no_lem}
 use Rattle.occurrences.specs.declared.table.EdgeVectors.{EdgeVectors}
 use Rattle.occurrences.specs.EdgeVectors.{vector_at}
@@ -49,7 +49,7 @@ module _ (ring window : List ℕ) (table : EdgeVectors) (k : ℕ) (own : OwnVect
 
   -- The vector with every bit set.
   abbrev full : List ℕ
-  full = first_bits m words
+  full = first_bits m vector_words
 
   some_edge : 0 < m
   some_edge = omega (arith, own.some_edge)
@@ -59,7 +59,7 @@ module _ (ring window : List ℕ) (table : EdgeVectors) (k : ℕ) (own : OwnVect
 
   full_set : AllSet ring (is_set full)
   unfolding AllSet
-  full_set r l = first_set m r (omega arith)
+  full_set r l = first_set m most r (omega arith)
 
   -- Where reading ends by the rules, this is its result.
   read_to : (left breaks looks : ℕ) (marked : Bool) (at : Option ℕ) → looks + left ≡ length ring → unread_from at ≡ left → is_some at ≡ stops_at k breaks marked → ReadTo ring window k 0 left breaks marked
@@ -128,7 +128,7 @@ module _ (ring window : List ℕ) (table : EdgeVectors) (k : ℕ) (own : OwnVect
       empties : stops_at k (breaks + 1) (is_mark edge) ≡ false → StandsFor ring window k full left (breaks + 1) (looks + 1)
       empties goes_on =
           let both = or_fails (ltb k (breaks + 1)) (is_mark edge) goes_on in
-          record { few = ltb-false k (breaks + 1) both.0; looks_are = omega (arith, h.looks_are); vector = first_held m; reading = broken both.1 }
+          record { few = ltb-false k (breaks + 1) both.0; looks_are = omega (arith, h.looks_are); vector = first_held m most; reading = broken both.1 }
 
       -- If it is a mark or break k + 1, reading stops, as the rules say.
       stops : stops_at k (breaks + 1) (is_mark edge) ≡ true → Stops
@@ -161,6 +161,6 @@ module _ (ring window : List ℕ) (table : EdgeVectors) (k : ℕ) (own : OwnVect
       read_on_lem m full 0 0 (record {
         few = omega arith;
         looks_are = omega arith;
-        vector = first_held m;
+        vector = first_held m most;
         reading = subst (λ (left : ℕ). WindowLoop ring window k 0 left 0 (is_set full)) (sym long) (window_start ring window k 0 (is_set full) full_set);
       })

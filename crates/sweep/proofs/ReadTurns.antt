@@ -13,7 +13,7 @@ use Rattle.lists.proofs.Cases.{by_test}
 use Rattle.meaning.specs.Meanings.{is_mark}
 use Rattle.meaning.specs.Rules.{stops_at}
 use Rattle.vectors.specs.Bits.{first_bits, no_bit}
-use Rattle.vectors.specs.ByValue.{grown_words}
+use Rattle.vectors.specs.ByValue.{vector_words, grown_words}
 use Rattle.occurrences.specs.declared.table.EdgeVectors.{EdgeVectors}
 use Rattle.occurrences.specs.EdgeVectors.{vector_at}
 use Rattle.sweep.specs.declared.reading.WindowRead.{WindowRead}
@@ -27,7 +27,7 @@ pub record StillToRead (table : EdgeVectors) (window : List ℕ) (k words : ℕ)
   pub still : read_on table window k words (length rest) held breaks looks ≡ read_with table window k words
 
 -- The invariant holds before the first turn.
-pub to_read_all : (table : EdgeVectors) (window : List ℕ) (k words : ℕ) → StillToRead table window k words (first_bits (length window) words) window 0 0
+pub to_read_all : (table : EdgeVectors) (window : List ℕ) (k words : ℕ) → StillToRead table window k words (first_bits (length window) vector_words) window 0 0
 to_read_all table window k words =
     record { rest_is = sym (take_all (length window) window (omega arith)); looks_are = omega arith; breaks_le = omega arith; still = refl }
 
@@ -69,7 +69,7 @@ module _ {table : EdgeVectors} {window : List ℕ} {k words : ℕ} {held rest : 
       to_read_stops stop = rw (new_is, none, says_here ∙ stop) at from_here
 
       -- If not, it is one of the first k breaks, and the invariant holds with every bit set again.
-      pub to_read_empties : stops ≡ false → StillToRead table window k words (first_bits (length window) words) before (breaks + 1) (looks + 1)
+      pub to_read_empties : stops ≡ false → StillToRead table window k words (first_bits (length window) vector_words) before (breaks + 1) (looks + 1)
       unfolding read_on
       to_read_empties goes_on = record {
         rest_is = before_is;
@@ -93,7 +93,7 @@ module _ (table : EdgeVectors) (window : List ℕ) (k words : ℕ) where
   m = length window
 
   abbrev full : List ℕ
-  full = first_bits m words
+  full = first_bits m vector_words
 
   -- What holds for the result r of reading on with `left` edges unread: each edge read is one look, and if an edge is left, at least one is read.
   record ReadGoes (left looks : ℕ) (r : WindowRead) : Type 0 where

@@ -15,7 +15,7 @@ use Rattle.std.specs.Option.{is_some}
 use Rattle.meaning.specs.Meanings.{fits_in_line, is_mark}
 use Rattle.meaning.specs.Rules.{stops_at}
 use Rattle.vectors.specs.Bits.{word_count, first_bits, no_bit}
-use Rattle.vectors.specs.ByValue.{grown_words}
+use Rattle.vectors.specs.ByValue.{vector_words, grown_words}
 use Rattle.occurrences.specs.declared.table.EdgeVectors.{EdgeVectors}
 use Rattle.occurrences.specs.EdgeVectors.{vector_at}
 use Rattle.windows.specs.Windows.{Parts, window_of, whole_line}
@@ -46,7 +46,7 @@ read_on table window k words zero held breaks looks = record { looks = looks; st
 read_on table window k words (suc left) held breaks looks =
     let next : List ℕ = held_with table window words left held in
     let stopped : WindowRead = record { looks = looks + 1; stopped_at = Some left } in
-    let emptied : WindowRead = read_on table window k words left (first_bits (length window) words) (breaks + 1) (looks + 1) in
+    let emptied : WindowRead = read_on table window k words left (first_bits (length window) vector_words) (breaks + 1) (looks + 1) in
     let grown : WindowRead = read_on table window k words left next breaks (looks + 1) in
     let unfit : WindowRead = cond (stops_at k (breaks + 1) (is_mark (get_or window left 0))) stopped emptied in
     cond (no_bit next words) unfit grown
@@ -54,7 +54,7 @@ read_on table window k words (suc left) held breaks looks =
 -- Rule 1: "read its edges from the last towards the first". At first all m bits are set, because the empty stretch is the beginning of every rotation. `words` is
 -- the number of machine words of a vector, of the held one and of the edges' occurrence vectors.
 abbrev pub read_with : EdgeVectors → List ℕ → ℕ → ℕ → WindowRead
-read_with table window k words = read_on table window k words (length window) (first_bits (length window) words) 0 0
+read_with table window k words = read_on table window k words (length window) (first_bits (length window) vector_words) 0 0
 
 -- The window read with as few words as m bits need.
 abbrev pub read_by : EdgeVectors → List ℕ → ℕ → WindowRead

@@ -4,7 +4,6 @@
 ghost use Rattle.std.specs.Prelude.{◌≡◌, ◌+◌, ◌<◌, ◌≤◌, length};
 ghost use Rattle.meaning.specs.Meanings.{is_mark};
 ghost use Rattle.meaning.specs.Rules.{stops_at};
-ghost use Rattle.vectors.specs.ByValue.{vector_words};
 ghost use Rattle.tally.specs.Counts.{most_counts};
 ghost use Rattle.sweep.specs.Reads.{read_with, read_by};
 
@@ -28,21 +27,20 @@ fn stops_at(edge: u8, k: usize, breaks: usize) -> bool
     k <= breaks || is_mark(edge)
 }
 
-// Rules 1 to 3, where vectors have W words. Whether reading stops is asked only where the grown vector has no bit: the
+// Rules 1 to 3, where vectors have `words` words. Whether reading stops is asked only where the grown vector has no bit: the
 // number of breaks changes nowhere else, and a mark fits nothing, because a ring holds none.
-fn read_words<const W: usize>(window: &[u8], vectors: &EdgeVectors, k: usize) -> WindowRead
-    requires { W ≤ vector_words }
-    ensures { result ≡ read_with vectors.now window.now k W }
+fn read_words(window: &[u8], vectors: &EdgeVectors, k: usize, words: usize) -> WindowRead
+    ensures { result ≡ read_with vectors.now window.now k words }
 {
     let m = window.len();
-    let full: [u64; W] = first_bits(m);
+    let full = first_bits(m);
     let mut held = full;
     let mut breaks: usize = 0;
     let mut looks: usize = 0;
     for (left, edge) in window.iter().enumerate().rev() {
         looks += 1; // one look
-        let next = grown(held, vectors.vector_of(*edge), m);
-        if no_bit(next) {
+        let next = grown(held, vectors.vector_of(*edge, words), m, words);
+        if no_bit(next, words) {
             if stops_at(*edge, k, breaks) {
                 return WindowRead {
                     looks,
@@ -61,15 +59,16 @@ fn read_words<const W: usize>(window: &[u8], vectors: &EdgeVectors, k: usize) ->
     }
 }
 
-// Reads the window with as few words as m bits need.
+// Reads the window with as few words as m bits need. Each call passes the number of words as a literal, so that the
+// compiler can make code of its own for each number.
 pub fn read_window(window: &[u8], vectors: &EdgeVectors, k: usize) -> WindowRead
     requires { (0 < length window.now) × (length window.now ≤ most_counts) }
     ensures { result ≡ read_by vectors.now window.now k }
 {
     match window.len() {
-        0..=64 => read_words::<1>(window, vectors, k),
-        65..=128 => read_words::<2>(window, vectors, k),
-        129..=192 => read_words::<3>(window, vectors, k),
-        _ => read_words::<4>(window, vectors, k),
+        0..=64 => read_words(window, vectors, k, 1),
+        65..=128 => read_words(window, vectors, k, 2),
+        129..=192 => read_words(window, vectors, k, 3),
+        _ => read_words(window, vectors, k, 4),
     }
 }

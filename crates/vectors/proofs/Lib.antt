@@ -1,5 +1,6 @@
 -- Laws about vectors of bits in machine words. Start with HeldVectors: crates/sweep cites only its laws, as Rattle.vectors.proofs.HeldVectors.NAME;
--- crates/occurrences, which puts vectors together bit by bit, also laws about bits and words. Every law holds for any word count. Each group below uses only itself and the groups above it.
+-- crates/occurrences, which puts vectors together bit by bit, also laws about bits and words. Every law holds for any word count, except the laws of the last two
+-- groups. Each group below uses only itself and the groups above it.
 
 -- the bits of one word, of a vector, and of a vector given word by word
 pub mod WordBits
@@ -12,7 +13,7 @@ pub mod NoBitIsSet
 pub mod CarryBetweenWords
 pub mod WrapToLastBit
 pub mod HeldVectorGrows
--- the grown vector, as the code makes it word by word
+-- vectors of four words, as the code makes them word by word
 pub mod JoinedWords
 pub mod GrownWords
 pub mod GrownInFewestWords

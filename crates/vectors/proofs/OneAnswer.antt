@@ -4,11 +4,11 @@ use mathlib.Core.Bool.{Bool}
 use mathlib.Core.List.{List}
 use Prim.Native.Nat.{ℕ}
 use Rattle.vectors.specs.Bits.{first_bits, no_bit}
-use Rattle.vectors.specs.ByValue.{grown_words}
+use Rattle.vectors.specs.ByValue.{vector_words, grown_words}
 
 -- Any two answers of `first_bits` are equal.
-pub first_bits_unique : (m count : ℕ) (a b : List ℕ) → a ≡ first_bits m count → b ≡ first_bits m count → a ≡ b
-first_bits_unique m count a b p q = p ∙ sym q
+pub first_bits_unique : (m : ℕ) (a b : List ℕ) → a ≡ first_bits m vector_words → b ≡ first_bits m vector_words → a ≡ b
+first_bits_unique m a b p q = p ∙ sym q
 
 -- Any two answers of `grown` are equal.
 pub grown_unique : (m count : ℕ) (occurs held a b : List ℕ) → a ≡ grown_words m count occurs held → b ≡ grown_words m count occurs held → a ≡ b

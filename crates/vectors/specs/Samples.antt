@@ -115,22 +115,23 @@ pub all_samples_right : map computed samples ≡ samples
 unfolding computed places_below rotated shifted put_bit list_of bit is_set both grown or_below no_bit first_bits first_word
 all_samples_right = refl
 
+-- The vector with only bit 0 set.
+abbrev bit_zero : List ℕ
+bit_zero = 1 ∷ 0 ∷ 0 ∷ 0 ∷ []
+
+-- The vector with every bit set.
+abbrev every_bit : List ℕ
+every_bit = 0xffff_ffff_ffff_ffff ∷ 0xffff_ffff_ffff_ffff ∷ 0xffff_ffff_ffff_ffff ∷ 0xffff_ffff_ffff_ffff ∷ []
+
 -- Five bits with bits 0 and 1 set, grown as the code does it. By an occurrence vector of five bits they become bits 4 and 0. By one that also has bits from 5
 -- on, as no ring of five edges gives, bit 5 is set too.
-pub bits_past_m_right : grown_words 5 1 (0x1f ∷ []) (3 ∷ []) ∷ grown_words 5 1 (0xffff_ffff_ffff_ffff ∷ []) (3 ∷ []) ∷ [] ≡ (0x11 ∷ []) ∷ (0x31 ∷ []) ∷ []
+pub bits_past_m_right : grown_words 5 1 (0x1f ∷ 0 ∷ 0 ∷ 0 ∷ []) (3 ∷ 0 ∷ 0 ∷ 0 ∷ []) ∷ grown_words 5 1 every_bit (3 ∷ 0 ∷ 0 ∷ 0 ∷ []) ∷ []
+    ≡ (0x11 ∷ 0 ∷ 0 ∷ 0 ∷ []) ∷ (0x31 ∷ 0 ∷ 0 ∷ 0 ∷ []) ∷ []
 unfolding grown_words grown_word carry_into list_of
 bits_past_m_right = refl
 
--- The vector of 7 words with every bit set.
-abbrev every_bit : List ℕ
-every_bit = list_of 7 (λ w. 0xffff_ffff_ffff_ffff)
-
--- The vector of 7 words with only bit 0 set.
-abbrev bit_zero : List ℕ
-bit_zero = 1 ∷ 0 ∷ 0 ∷ 0 ∷ 0 ∷ 0 ∷ 0 ∷ []
-
--- Word counts and bit counts that no scan uses: count 0; count 7; and m = 0.
-pub other_counts_right : grown_words 5 0 every_bit bit_zero ∷ grown_words 448 7 every_bit bit_zero ∷ grown_words 0 1 every_bit bit_zero ∷ []
-    ≡ [] ∷ (0 ∷ 0 ∷ 0 ∷ 0 ∷ 0 ∷ 0 ∷ 0x8000_0000_0000_0000 ∷ []) ∷ (0x8000_0000_0000_0000 ∷ []) ∷ []
+-- Word counts and bit counts that no scan uses: count 0; count 7, which is taken as 4; and m = 0.
+pub other_counts_right : grown_words 5 0 every_bit bit_zero ∷ grown_words 256 7 every_bit bit_zero ∷ grown_words 0 1 every_bit bit_zero ∷ []
+    ≡ (0 ∷ 0 ∷ 0 ∷ 0 ∷ []) ∷ (0 ∷ 0 ∷ 0 ∷ 0x8000_0000_0000_0000 ∷ []) ∷ (0x8000_0000_0000_0000 ∷ 0 ∷ 0 ∷ 0 ∷ []) ∷ []
 unfolding grown_words grown_word carry_into list_of
 other_counts_right = refl

@@ -1,10 +1,10 @@
-// Vectors of W words, held by value. The compiler makes code of its own for each W, without a loop, and keeps the words in
-// registers.
-ghost use Rattle.std.specs.Prelude.{◌≡◌, ◌-◌, ◌^◌, ◌≤◌, ◌<◌, min};
+// Vectors of four words, held by value. A caller can keep a vector in its first `count` words; a count above 4 is taken
+// as 4.
+ghost use Rattle.std.specs.Prelude.{◌≡◌, cond, ◌-◌, ◌^◌, ◌≤◌, ◌<◌, min, ltb, get_or};
 ghost use Rattle.vectors.specs.Bits.{word_bits, first_bits, no_bit};
-ghost use Rattle.vectors.specs.ByValue.{carry_into, grown_words};
+ghost use Rattle.vectors.specs.ByValue.{vector_words, carry_into, grown_word, grown_words};
 
-use crate::widths::WORD_BITS;
+use crate::widths::{VECTOR_WORDS, WORD_BITS};
 
 // The place of a word's highest bit.
 const TOP: usize = 63;
@@ -24,26 +24,24 @@ fn low_bits(count: usize) -> u64
 }
 
 // The vector whose first m bits are set. It stands for the empty stretch, which is the beginning of every rotation.
-pub fn first_bits<const W: usize>(m: usize) -> [u64; W]
-    ensures { result ≡ first_bits m W }
+pub fn first_bits(m: usize) -> [u64; VECTOR_WORDS]
+    ensures { result ≡ first_bits m vector_words }
 {
-    let mut new = [0u64; W];
-    let mut left = m;
-    for word in new.iter_mut() {
-        *word = low_bits(left);
-        left = left.saturating_sub(WORD_BITS);
+    let mut new = [0u64; VECTOR_WORDS];
+    for w in 0..VECTOR_WORDS {
+        new[w] = low_bits(m.saturating_sub(w * WORD_BITS));
     }
     new
 }
 
-// What comes into word w when the words are shifted down by one: the next word's lowest bit at the top, or into the last
-// word what was bit 0, at the place of bit m - 1. Word 0 is shifted up whole: what comes to stand above that place lies
-// past bit m - 1, where no occurrence vector has a bit, so a mask would only cost time.
-fn carry_into<const W: usize>(held: [u64; W], m: usize, w: usize) -> u64
-    requires { w < W }
-    ensures { result ≡ carry_into m W held.entry w }
+// What comes into word w when the first `words` words are shifted down by one: the next word's lowest bit at the top, or
+// into the last word what was bit 0, at the place of bit m - 1. Word 0 is shifted up whole: what comes to stand above that
+// place lies past bit m - 1, where no occurrence vector has a bit, so a mask would only cost time.
+fn carry_into(held: [u64; VECTOR_WORDS], m: usize, words: usize, w: usize) -> u64
+    requires { (w < vector_words) × (words ≤ vector_words) }
+    ensures { result ≡ carry_into m words held w }
 {
-    if w + 1 < W {
+    if w + 1 < words {
         held[w + 1] << TOP
     } else {
         // 63 is added in place of subtracting 1, because m may be 0
@@ -51,20 +49,63 @@ fn carry_into<const W: usize>(held: [u64; W], m: usize, w: usize) -> u64
     }
 }
 
-// The held vector of m bits grown by one edge: rotated by one place, AND the edge's occurrence vector.
-pub fn grown<const W: usize>(held: [u64; W], occurs: [u64; W], m: usize) -> [u64; W]
-    ensures { result ≡ grown_words m W occurs.entry held.entry }
+// Word w of the held vector grown by one edge.
+fn grown_word(
+    held: [u64; VECTOR_WORDS],
+    occurs: [u64; VECTOR_WORDS],
+    m: usize,
+    words: usize,
+    w: usize,
+) -> u64
+    requires { (w < vector_words) × (words ≤ vector_words) }
+    ensures { result ≡ grown_word m words occurs held w }
 {
-    let mut new = occurs;
-    for w in 0..W {
-        new[w] = ((held[w] >> 1) | carry_into(held, m, w)) & occurs[w];
+    if w < words {
+        ((held[w] >> 1) | carry_into(held, m, words, w)) & occurs[w]
+    } else {
+        0
     }
-    new
 }
 
-// Whether no bit is set. The words are joined before the one test, so that a caller has one branch and not W.
-pub fn no_bit<const W: usize>(held: [u64; W]) -> bool
-    ensures { result ≡ no_bit held.entry W }
+// The held vector of m bits, kept in its first `count` words, grown by one edge: rotated by one place, AND the edge's
+// occurrence vector. It is written word by word, without a loop, so that the compiler keeps a vector in registers and
+// makes code of its own for each count that a caller passes as a literal. The count is a number and no const parameter:
+// `grown_words`, `vector_at` and the samples of specs/ speak of four words with a count, which may be known only at run
+// time, and with a const parameter the scan of rings above 128 edges took 2 to 11 % longer.
+pub fn grown(
+    held: [u64; VECTOR_WORDS],
+    occurs: [u64; VECTOR_WORDS],
+    m: usize,
+    count: usize,
+) -> [u64; VECTOR_WORDS]
+    ensures { result ≡ grown_words m count occurs held }
 {
-    held.iter().fold(0, |joined, word| joined | *word) == 0
+    let words = count.min(VECTOR_WORDS);
+    [
+        grown_word(held, occurs, m, words, 0),
+        grown_word(held, occurs, m, words, 1),
+        grown_word(held, occurs, m, words, 2),
+        grown_word(held, occurs, m, words, 3),
+    ]
+}
+
+// Word w if it is one of the first `words`, else 0.
+fn word_below(held: [u64; VECTOR_WORDS], words: usize, w: usize) -> u64
+    requires { w < vector_words }
+    ensures { result ≡ cond (ltb w words) (get_or held w 0) 0 }
+{
+    if w < words { held[w] } else { 0 }
+}
+
+// Whether no bit of the first `count` words is set. The words are joined before the one test, so that a caller has one
+// branch and not `count`.
+pub fn no_bit(held: [u64; VECTOR_WORDS], count: usize) -> bool
+    ensures { result ≡ no_bit held count }
+{
+    let words = count.min(VECTOR_WORDS);
+    let joined = word_below(held, words, 0)
+        | word_below(held, words, 1)
+        | word_below(held, words, 2)
+        | word_below(held, words, 3);
+    joined == 0
 }

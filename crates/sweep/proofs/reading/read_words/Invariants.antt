@@ -3,10 +3,11 @@
 use mathlib.Core.Path.{◌≡◌}
 use lib.ListN.{length}
 use Rattle.vectors.specs.Bits.{first_bits}
+use Rattle.vectors.specs.ByValue.{vector_words}
 use Rattle.sweep.proofs.ReadTurns.{StillToRead}
 use Rattle.sweep.proofs.reading.read_words.Given as goal
 
 abbrev pub invariant-loop-left : goal.invariant-loop-left
-invariant-loop-left g l =
-    (l.full ≡ first_bits (length l.window) g.row.W) × (l.left-iterator.iter.count ≡ 0)
-    × StillToRead l.vectors l.window l.k g.row.W l.held l.left-iterator.iter.iter.rest.now l.breaks l.looks
+invariant-loop-left l =
+    (l.full ≡ first_bits (length l.window) vector_words) × (l.left-iterator.iter.count ≡ 0)
+    × StillToRead l.vectors l.window l.k l.words l.held l.left-iterator.iter.iter.rest.now l.breaks l.looks

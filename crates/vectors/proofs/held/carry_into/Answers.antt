@@ -4,8 +4,8 @@ use native.Mathlib.Omega.{arith}
 use Rattle.vectors.proofs.GrownWords.{carry_next, carry_last}
 use Rattle.vectors.proofs.held.carry_into.Goals as goal
 
-pub returns-then-w : goal.returns-then-w
-returns-then-w g c = sym (carry_next _ _ _ _ (omega arith))
+pub returns-then-w-words : goal.returns-then-w-words
+returns-then-w-words c = sym (carry_next _ _ _ _ (omega arith))
 
-pub returns-else-w : goal.returns-else-w
-returns-else-w g c = sym (carry_last _ _ _ _ (omega arith))
+pub returns-else-w-words : goal.returns-else-w-words
+returns-else-w-words c = sym (carry_last _ _ _ _ (omega arith))

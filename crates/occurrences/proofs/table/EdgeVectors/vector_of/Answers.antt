@@ -1,11 +1,11 @@
--- `EdgeVectors::vector_of` meets its contract. Turn w reads the word of part w.
+-- `EdgeVectors::vector_of` meets its contract: it reads the one word at the code, or the word of each part (`whole_words` and `parted_words` of VectorsRead).
 use native.Mathlib.Omega.{arith}
-use lib.ListN.{length-replicate}
-use Prim.Native.Nat.{ℕ}
-use Rattle.lists.proofs.StoreLoop.{stored_end, stored_all}
-use Rattle.occurrences.specs.EdgeVectors.{vector_at}
+use Rattle.occurrences.proofs.VectorsRead.{whole_words, parted_words}
 use Rattle.occurrences.proofs.table.EdgeVectors.vector_of.Goals as goal
 
+pub returns-then-count-le1 : goal.returns-then-count-le1
+returns-then-count-le1 c = rw c.from.ensures (whole_words _ _ _ (omega arith) c.if-count-le1.true)
+
 pub returns : goal.returns
-unfolding vector_at
-returns g c = stored_all (stored_end c.loop-part.invariant (omega arith)) (omega (arith, length-replicate {A = ℕ}))
+returns c =
+    rw (c.word_of.ensures, c.word_of-2.ensures, c.word_of-3.ensures, c.word_of-4.ensures) (parted_words _ _ _ (omega arith) c.if-count-le1.false)
