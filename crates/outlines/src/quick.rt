@@ -5,7 +5,7 @@ ghost use Rattle.windows.specs.Windows.{parts_of, whole_line};
 ghost use Rattle.outlines.specs.Scan.{IsScanned};
 ghost use Rattle.outlines.specs.LineScan.{CanScan, CanScanLine, LineScanned};
 
-use crate::asking::{BookAsked, NOBODY, Subject, ask, put_shown};
+use crate::asking::{BookAsked, NOBODY, Subject, ask};
 use answers::{LinePlace, Refusal};
 use findings::{SearchCounts, admit};
 use occurrences::{EdgeVectors, KEPT_WORDS, SLOTS};
@@ -52,15 +52,14 @@ fn scan_windows<'a>(
         hidden: 0,
         held,
     };
+    // No `for`: a turn may jump over many starts, and the sweep's answer alone says how far.
     while at.start.0 + m <= n {
         match sweep_on(at, ring, doubled, vectors, parts, k, tally) {
             Swept::Ended(next) | Swept::NoFinding(next) => {
                 at = next;
             }
             Swept::Found(next, finding) => {
-                let before = asked.shown;
-                asked = ask(subject, book, asked, finding);
-                put_shown(words, before, asked.shown, finding);
+                asked = ask(subject, book, asked, finding, words);
                 at = next;
             }
         }
