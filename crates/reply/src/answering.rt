@@ -49,12 +49,16 @@ fn answer_request(parts: Parts, text: &mut [u8]) -> usize
                 area: text,
                 next: 0,
             };
+            // (Casts, because `From` does not lead from u32 to usize.)
             writer.put_line(
                 b"cell # ring # edges # allow #\n",
                 &[cell as usize, ring_number as usize, ring.len(), allowance],
             );
             writer.put_finding_lines(&words[..shown]);
-            writer.put_line(b"found # hidden # looks #\n", &[counts.found, counts.hidden, counts.looks]);
+            writer.put_line(
+                b"found # hidden # looks #\n",
+                &[counts.found, counts.hidden, counts.looks],
+            );
             writer.next
         }
     }
