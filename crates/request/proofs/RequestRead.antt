@@ -49,7 +49,7 @@ number_of_field {input} {at} count f =
 
 -- Refusal 11 where row 11 is given meets the contract.
 pub request_refused : {input : List ℕ} {place : ℕ} → IsInputFault input place → IsRequestRead input (Err (Input place))
-request_refused {input} {place} fault = record { is = sym ((row_11_iff input place).1 fault) }
+request_refused {input} {place} fault = record { is = sym ((row_11_iff input place).1 fault); within = tt }
 
 -- Where a field stands, a fault among the later ones is one among these.
 pub fault_later : {input : List ℕ} {kind : FieldKind} {kinds : List FieldKind} {at end place : ℕ} → IsFieldEnd kind input at (Ok end)
@@ -118,4 +118,19 @@ module _ {input : List ℕ} {cell ring_number allowance ring line : ℕ} (read :
           book = book_read i;
         }))
             ∙ sym (ap (request_by input) no_fault);
+        within = record {
+          ring_from = allowance + head_length;
+          ring_to = ring;
+          line_from = ring + head_length;
+          line_to = line;
+          ring_is = ring_is;
+          line_is = line_is;
+          book_is = book_is ∙ to_end;
+          ring_le = read.ring_read.within.0;
+          line_behind = refl;
+          line_le = read.line_read.within.0;
+          ring_within = read.ring_read.within.1;
+          line_within = read.line_read.within.1;
+          line_most = omega (arith, line_field_lem.ends, line_field_lem.field.most_le);
+        };
       }
