@@ -22,7 +22,8 @@ pub struct Answer {
     pub looks: u64,
 }
 
-// A refusal's number and place, "zero in every count". The proof of each call shows that its places fit 32 bits.
+// A refusal's number and place, "zero in every count". The proof of each call shows that its places fit 32 bits, and every
+// number does: so these are plain casts.
 pub fn refused_answer(refusal: Refusal) -> Answer
     requires { place_of refusal < 2 ^ 32 }
     ensures { paper_of result ≡ answer_paper no_report_counts (refused refusal) }
@@ -38,7 +39,7 @@ pub fn refused_answer(refusal: Refusal) -> Answer
     }
 }
 
-// The answer of the report.
+// The answer of the report. (Casts, because `From` does not lead from usize to u64; none changes a count.)
 pub fn report_answer(reported: Result<ReportCounts, Refusal>) -> Answer
     requires { (report_paper_of reported).place < 2 ^ 32 }
     ensures { paper_of result ≡ report_paper_of reported }

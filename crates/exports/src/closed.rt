@@ -2,7 +2,7 @@
 ghost use Rattle.exports.specs.Exported.{IsSurveyClosedExported, IsScanClosedExported, IsReportClosedExported};
 
 use crate::answering::{Answer, report_answer, search_answer};
-use outlines::{report_closed, scan_closed, survey_closed};
+use outlines::{Subject, report_closed, scan_closed, survey_closed};
 
 // `outlines::survey_closed` for C.
 #[unsafe(no_mangle)]
@@ -46,5 +46,6 @@ pub extern "C" fn outlines_report_closed(
 ) -> Answer
     ensures { IsReportClosedExported cell ring_number ring.now line.now k book.now join.old words.old result join.new words.new }
 {
-    report_answer(report_closed(cell, ring_number, ring, line, k, book, join, words))
+    let subject = Subject { cell, ring_number };
+    report_answer(report_closed(subject, ring, line, k, book, join, words))
 }

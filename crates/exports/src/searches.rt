@@ -2,7 +2,7 @@
 ghost use Rattle.exports.specs.Exported.{IsSurveyExported, IsScanExported, IsReportExported};
 
 use crate::answering::{Answer, report_answer, search_answer};
-use outlines::{report, scan, survey};
+use outlines::{Subject, report, scan, survey};
 
 // `outlines::survey` for C.
 #[unsafe(no_mangle)]
@@ -33,5 +33,6 @@ pub extern "C" fn outlines_report(
 ) -> Answer
     ensures { IsReportExported cell ring_number ring.now line.now k book.now words.old result words.new }
 {
-    report_answer(report(cell, ring_number, ring, line, k, book, words))
+    let subject = Subject { cell, ring_number };
+    report_answer(report(subject, ring, line, k, book, words))
 }

@@ -20,8 +20,8 @@ pub struct TwoWayAnswer {
     pub backward_looks: u64,
 }
 
-// The answer of the two-way scan. (The C interface gives it a struct of its own, so it goes through no `report_answer`; only a
-// refusal's number and place come from `refused_answer`.)
+// The answer of the two-way scan. (It goes through no `report_answer`, because the C interface gives it a struct of its
+// own; `refused_answer` gives a refusal's number and place. Casts as in `report_answer`.)
 fn two_way_answer(scanned: Result<TwoWayCounts, Refusal>) -> TwoWayAnswer
     requires { (two_way_scan_paper_of scanned).place < 2 ^ 32 }
     ensures { two_way_paper_of result ≡ two_way_scan_paper_of scanned }

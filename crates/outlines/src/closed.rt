@@ -4,6 +4,7 @@
 ghost use Rattle.outlines.specs.ClosedScan.{IsClosedScanned};
 ghost use Rattle.outlines.specs.ClosedReport.{IsClosedReported};
 
+use crate::asking::{NOBODY, Subject};
 use crate::quick::{ReportCounts, scan_line};
 use answers::Refusal;
 use book::read;
@@ -26,7 +27,7 @@ pub fn scan_closed(
     admit_closed(ring, k, line.len(), words.len(), join.len())?;
     let used = fill_join(line, ring.len(), join);
     let lent = &join[..used];
-    let counted = scan_line(0, 0, ring, LineParts { line, join: lent }, k, b"", words);
+    let counted = scan_line(NOBODY, ring, LineParts { line, join: lent }, k, b"", words);
     Ok(SearchCounts {
         found: counted.found,
         looks: counted.looks,
@@ -35,8 +36,7 @@ pub fn scan_closed(
 
 // The report in closed mode, with refusals in the order 1, 12, 2, 3, 4, 10, 5, 6, 7.
 pub fn report_closed(
-    cell: u32,
-    ring_number: u16,
+    subject: Subject,
     ring: &[u8],
     line: &[u8],
     k: usize,
@@ -44,11 +44,18 @@ pub fn report_closed(
     join: &mut [u8],
     words: &mut [u32],
 ) -> Result<ReportCounts, Refusal>
-    ensures { IsClosedReported cell ring_number ring.now line.now k book.now join.old words.old result join.new words.new }
+    ensures { IsClosedReported subject.cell subject.ring_number ring.now line.now k book.now join.old words.old result join.new words.new }
 {
     admit_closed(ring, k, line.len(), words.len(), join.len())?;
     read(book)?;
     let used = fill_join(line, ring.len(), join);
     let lent = &join[..used];
-    Ok(scan_line(cell, ring_number, ring, LineParts { line, join: lent }, k, book, words))
+    Ok(scan_line(
+        subject,
+        ring,
+        LineParts { line, join: lent },
+        k,
+        book,
+        words,
+    ))
 }

@@ -5,7 +5,7 @@ ghost use Rattle.windows.specs.Windows.{parts_of, whole_line};
 ghost use Rattle.outlines.specs.Scan.{IsScanned};
 ghost use Rattle.outlines.specs.LineScan.{CanScan, CanScanLine, LineScanned};
 
-use crate::asking::{BookAsked, ask, put_shown};
+use crate::asking::{BookAsked, NOBODY, Subject, ask};
 use answers::{LinePlace, Refusal};
 use findings::{SearchCounts, admit};
 use occurrences::{EdgeVectors, KEPT_WORDS, SLOTS};
@@ -26,8 +26,7 @@ pub struct ReportCounts {
 // `ask` goes on. (`seek` for start 0 would do as well; but then `seek` has two callers, and the compiler does not inline
 // it.)
 fn scan_windows<'a>(
-    cell: u32,
-    ring_number: u16,
+    subject: Subject,
     ring: &[u8],
     doubled: &[u8],
     vectors: &EdgeVectors,
@@ -38,7 +37,7 @@ fn scan_windows<'a>(
     words: &mut [u32],
 ) -> ReportCounts
     requires { CanScan ring.now doubled.now vectors.now (parts_of parts) k book.now tally.old.counts words.old }
-    ensures { LineScanned cell ring_number ring.now (whole_line (length ring.now) (parts_of parts.entry)) k book.now words.old result.found result.hidden result.looks words.new }
+    ensures { LineScanned subject.cell subject.ring_number ring.now (whole_line (length ring.now) (parts_of parts.entry)) k book.now words.old result.found result.hidden result.looks words.new }
 {
     let m = ring.len();
     let n = parts.whole_length(m);
@@ -53,15 +52,14 @@ fn scan_windows<'a>(
         hidden: 0,
         held,
     };
+    // No `for`: a turn may jump over many starts, and the sweep's answer alone says how far.
     while at.start.0 + m <= n {
         match sweep_on(at, ring, doubled, vectors, parts, k, tally) {
             Swept::Ended(next) | Swept::NoFinding(next) => {
                 at = next;
             }
             Swept::Found(next, finding) => {
-                let before = asked.shown;
-                asked = ask(cell, ring_number, book, asked, finding);
-                put_shown(words, before, asked.shown, finding);
+                asked = ask(subject, book, asked, finding, words);
                 at = next;
             }
         }
@@ -77,8 +75,7 @@ fn scan_windows<'a>(
 // Makes the ring's occurrence vectors, its double and the tally, once for each call, and scans the line. Making them
 // reads no line edge.
 pub fn scan_line<'a>(
-    cell: u32,
-    ring_number: u16,
+    subject: Subject,
     ring: &[u8],
     parts: LineParts<'a>,
     k: usize,
@@ -86,7 +83,7 @@ pub fn scan_line<'a>(
     words: &mut [u32],
 ) -> ReportCounts
     requires { CanScanLine ring.now (parts_of parts) k book.now words.old }
-    ensures { LineScanned cell ring_number ring.now (whole_line (length ring.now) (parts_of parts.entry)) k book.now words.old result.found result.hidden result.looks words.new }
+    ensures { LineScanned subject.cell subject.ring_number ring.now (whole_line (length ring.now) (parts_of parts.entry)) k book.now words.old result.found result.hidden result.looks words.new }
 {
     let mut vectors = EdgeVectors {
         slots: [0; SLOTS],
@@ -99,27 +96,18 @@ pub fn scan_line<'a>(
         counts: [0; MOST_COUNTS],
     };
     scan_windows(
-        cell,
-        ring_number,
-        ring,
-        &doubled,
-        &vectors,
-        parts,
-        k,
-        book,
-        &mut tally,
-        words,
+        subject, ring, &doubled, &vectors, parts, k, book, &mut tally, words,
     )
 }
 
-// The quick scan of an open line: no window crosses its end, so an empty part of it is lent as the join area. With an
-// empty book all findings are shown, whatever the cell and the ring number, so both are 0 here.
+// The quick scan of an open line: no window crosses its end, so an empty part of it is lent as the join area. The
+// book is empty too.
 pub fn scan(ring: &[u8], line: &[u8], k: usize, words: &mut [u32]) -> Result<SearchCounts, Refusal>
     ensures { IsScanned ring.now line.now k words.old result words.new }
 {
     admit(ring, k, line.len(), words.len())?;
     let none = &line[..0];
-    let counted = scan_line(0, 0, ring, LineParts { line, join: none }, k, b"", words);
+    let counted = scan_line(NOBODY, ring, LineParts { line, join: none }, k, b"", words);
     Ok(SearchCounts {
         found: counted.found,
         looks: counted.looks,

@@ -7,7 +7,7 @@ ghost use Rattle.reply.specs.Writing.{CanAnswer, IsText};
 use crate::refusing::put_refusal;
 use crate::writer::Writer;
 use findings::WORDS_EACH;
-use outlines::report;
+use outlines::{Subject, report};
 use request::{MOST_LINE_BYTES, Parts, read_request};
 
 // Words for a finding at each edge of the longest line. Row 4 never requires more.
@@ -40,7 +40,8 @@ fn answer_request(parts: Parts, text: &mut [u8]) -> usize
         book,
     } = parts;
     let mut words = [0u32; MOST_FINDING_WORDS];
-    match report(cell, ring_number, ring, line, allowance, book, &mut words) {
+    let subject = Subject { cell, ring_number };
+    match report(subject, ring, line, allowance, book, &mut words) {
         Err(refusal) => put_refusal(text, refusal),
         Ok(counts) => {
             let shown = WORDS_EACH * (counts.found - counts.hidden);
@@ -48,12 +49,16 @@ fn answer_request(parts: Parts, text: &mut [u8]) -> usize
                 area: text,
                 next: 0,
             };
+            // (Casts, because `From` does not lead from u32 to usize.)
             writer.put_line(
                 b"cell # ring # edges # allow #\n",
                 &[cell as usize, ring_number as usize, ring.len(), allowance],
             );
             writer.put_finding_lines(&words[..shown]);
-            writer.put_line(b"found # hidden # looks #\n", &[counts.found, counts.hidden, counts.looks]);
+            writer.put_line(
+                b"found # hidden # looks #\n",
+                &[counts.found, counts.hidden, counts.looks],
+            );
             writer.next
         }
     }

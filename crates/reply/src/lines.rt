@@ -24,7 +24,7 @@ impl Writer<'_> {
         }
     }
 
-    // Puts "one line per shown finding": start, rotation, distance, ties.
+    // Puts "one line per shown finding": start, rotation, distance, ties. (Casts, because `From` does not lead from u32 to usize.)
     pub fn put_finding_lines(&mut self, words: &[u32])
         ensures { HasPut (lines_of_words words.now) self.old self.new }
     {

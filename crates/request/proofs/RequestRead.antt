@@ -14,6 +14,7 @@ use borrow.Author.Tests.{le-ltb}
 use Rattle.answers.specs.declared.refusals.Refusal.{Refusal}
 use Rattle.answers.specs.declared.refusals.Refusal.TheVariants.{Input}
 use Rattle.answers.specs.Paper.{accepted}
+use Rattle.answers.proofs.Returned.{returned}
 use Rattle.fields.specs.Numbers.{number_at}
 use Rattle.fields.specs.Tagged.{head_length}
 use Rattle.request.specs.declared.field.FieldKind.{FieldKind}
@@ -59,10 +60,9 @@ fault_later read fault = let h = end_stands read in later h.field (rw h.ends at 
 pub field_refused : {input : List ℕ} {kind : FieldKind} {kinds : List FieldKind} {at : ℕ} {refusal : Refusal} {r : Result Parts Refusal} → length input ≤ most_input
     → IsFieldEnd kind input at (Err refusal) → (FirstFault input (kind ∷ kinds) at at → FirstFault input input_fields 0 at) → IsErrAnd r (λ e. e ≡ refusal)
     → IsRequestRead input r
-field_refused {r = Ok p} short read reached returned = absurd returned
-field_refused {r = Err e} short read reached returned =
+field_refused short read reached says =
     let h = end_refused read in
-    rw (returned, h.1) (request_refused (no_field short (reached (here h.0))))
+    rw (returned says, h.1) (request_refused (no_field short (reached (here h.0))))
 
 -- The five fields stand one after the other, and the input is not too long.
 pub record AllRead (input : List ℕ) (cell ring_number allowance ring line : ℕ) : Type 0 where

@@ -5,6 +5,7 @@ ghost use Rattle.std.specs.Prelude.{◌<◌};
 
 use crate::area;
 use crate::table::{Row, count_numbers, fill_numbers, next, whole};
+use outlines::Subject;
 use silences::{CEILING_BYTES, MOST_SILENCES, PACKED_LENGTH, RECORD_WORDS};
 use std::str::Split;
 
@@ -124,11 +125,10 @@ pub fn book<'a>(row: Row<'_>, at: usize, area: &'a mut [u8]) -> &'a [u8]
     book
 }
 
-// What a report is given besides a search: cell, ring number and book.
+// What a report is given besides a search: whom it is for, and the book.
 #[derive(Clone, Copy)]
 pub struct Silenced<'a> {
-    pub cell: u32,
-    pub ring_number: u16,
+    pub subject: Subject,
     pub book: &'a [u8],
 }
 
@@ -139,8 +139,10 @@ impl<'a> Silenced<'a> {
         requires { at < 7 }
     {
         Silenced {
-            cell: whole(row.field(at)),
-            ring_number: whole(row.field(at + 1)),
+            subject: Subject {
+                cell: whole(row.field(at)),
+                ring_number: whole(row.field(at + 1)),
+            },
             book: book(row, at + 2, area),
         }
     }

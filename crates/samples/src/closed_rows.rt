@@ -21,8 +21,7 @@ fn report(
     let mut bytes: [u8; AREA_BYTES] = area::filled(0);
     let of = Silenced::of_row(row, 6, &mut bytes);
     let answer = outlines::report_closed(
-        of.cell,
-        of.ring_number,
+        of.subject,
         ring,
         line,
         k,

@@ -11,6 +11,6 @@ pub fn report_row(rt: &impl Print, searched: Searched<'_>, lent: &mut [u32]) -> 
     let Searched { row, ring, line, k } = searched;
     let mut bytes: [u8; AREA_BYTES] = area::filled(0);
     let of = Silenced::of_row(row, 5, &mut bytes);
-    let answer = outlines::report(of.cell, of.ring_number, ring, line, k, of.book, lent);
+    let answer = outlines::report(of.subject, ring, line, k, of.book, lent);
     paper::print_report(rt, answer)
 }

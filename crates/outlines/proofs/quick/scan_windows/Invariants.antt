@@ -9,7 +9,7 @@ use Rattle.outlines.proofs.quick.scan_windows.Given as goal
 
 abbrev pub invariant-loop-at : goal.invariant-loop-at
 invariant-loop-at l =
-    (l.m ≡ length l.ring) × (IsWholeLength (length l.ring) (parts_of l.parts) l.n × QuickLoop l.cell l.ring_number l.ring l.doubled l.vectors (parts_of l.parts) l.k l.book l.initial.tally.counts l.initial.words l.at l.asked l.tally.counts l.words)
+    (l.m ≡ length l.ring) × (IsWholeLength (length l.ring) (parts_of l.parts) l.n × QuickLoop l.subject.cell l.subject.ring_number l.ring l.doubled l.vectors (parts_of l.parts) l.k l.book l.initial.tally.counts l.initial.words l.at l.asked l.tally.counts l.words)
 
 abbrev pub decreases-loop-at : goal.decreases-loop-at
 decreases-loop-at l =
