@@ -3,7 +3,7 @@
 //
 // The compiler rejects a ring place or a bare number where a line place is stored, passed or returned, and the other way
 // round. The rest is for a reader to check, because `.0` gives a place's number and any number can be wrapped. In the
-// search a ring place is made in three ways: by `to_ring`, as rotation 0 (`count_some`), and from the index of a count
+// search a ring place is made in three ways: by `to_ring`, as rotation 0 (`count_run`), and from the index of a count
 // (`lowest_rotation`); never from a line place's number. A place's number is used as an index, as a word of a finding, as
 // the start in a silence's address, and in sums, differences and comparisons with lengths, limits and places of the same
 // kind.

@@ -70,7 +70,7 @@ impl Refusal {
         }
     }
 
-    // The number of a refusal: the table's column "No.". The compiler makes one addition of `row_of`; of a match whose numbers
+    // The number of a refusal: the table's column "No.". The compiler makes one addition of `row`; of a match whose numbers
     // leave one out it makes a table of jumps, which tools/stack does not follow.
     pub fn number(self) -> usize
         ensures { IsNumber self result }

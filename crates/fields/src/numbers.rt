@@ -5,7 +5,8 @@ ghost use Rattle.fields.specs.Numbers.{IsNumberRead};
 const MOST_NUMBER_BYTES: usize = 4;
 
 // The number in the `count` bytes from byte offset `at`; 0 if `count` is above 4, or if these bytes reach past the end.
-// Offset and count can have any value, so nothing is added to them.
+// Offset and count can have any value, so nothing is added to them. (0 and no `None`: `IsNumberRead` promises a number on
+// every input.)
 pub fn number_at(bytes: &[u8], at: usize, count: usize) -> u32
     ensures { IsNumberRead bytes.now at count result }
 {

@@ -3,7 +3,7 @@ use answers::{LinePlace, RingPlace};
 
 // A finding "carries start, rotation, distance", and ties: how many rotations reach that distance. The distance is a
 // usize, as the allowance k is, because the two are compared. Distance and ties are written as words beside the two
-// places, by the same cast.
+// places, by `word` of putting.rt, without a cast.
 #[derive(Clone, Copy)]
 pub struct Finding {
     pub start: LinePlace,

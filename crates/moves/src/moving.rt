@@ -55,7 +55,8 @@ fn move_counts<'a>(
     move_along(counts, ring, parts, from, steps, below)
 }
 
-// Moves a lent tally along the line, as `move_counts` moves its counts.
+// Moves a lent tally along the line, as `move_counts` moves its counts. (Not one function with `move_counts`: document 01
+// asks for one thin stepping function that is lent the tally, above a covered function on the counts.)
 pub fn move_tally<'a>(
     tally: &mut Tally,
     ring: &[u8],

@@ -11,7 +11,8 @@ use book::read;
 use findings::{SearchCounts, admit_closed};
 use windows::{LineParts, fill_join};
 
-// (Not one function each with scan and report of an open line: those have no join area, and row 4 asks for other words.)
+// (Not one function each with scan and report of an open line: those have no join area, and row 4 asks for another number
+// of words.)
 
 // The quick scan in closed mode.
 pub fn scan_closed(

@@ -8,7 +8,8 @@ use fields::{HEAD_LENGTH, number_at};
 // "It reads at most 32,768 bytes of standard input".
 pub const MOST_INPUT: usize = 32768;
 
-// The bytes of a cell.
+// The bytes of a cell. (As many as in a silence's field, but another sentence of the document says so. So it is for a ring
+// number.)
 const CELL_BYTES: usize = 4;
 
 // The bytes of a ring number.

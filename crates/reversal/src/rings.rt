@@ -3,7 +3,8 @@ ghost use Rattle.reversal.specs.Reversing.{IsReversed};
 
 use crate::codes::reversed_code;
 
-// Room for the longest ring: "m edges, 1 to 256".
+// Room for the longest ring: "m edges, 1 to 256". (A number of its own: crates/findings, which has the limit of a ring,
+// stands above this crate.)
 pub const MOST_REVERSED: usize = 256;
 
 // "Reversed, the edges come in opposite order". Of the lent places the first m get the reversed ring, and the others 0. A

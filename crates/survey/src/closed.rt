@@ -8,7 +8,7 @@ use windows::{LineParts, fill_join};
 
 // The plain survey in closed mode: "edges continue from the beginning after the last". The join area is written once no
 // refusal is left to be given. Only its first 2·m − 2 bytes, or none for n < m, are lent to the survey.
-// (Not one function with the open survey: that has no join area, and row 4 asks for other words.)
+// (Not one function with the open survey: that has no join area, and row 4 asks for another number of words.)
 pub fn survey_closed(
     ring: &[u8],
     line: &[u8],
