@@ -7,7 +7,6 @@ use mathlib.Core.List.{List, [], ◌∷◌, ◌++◌}
 use Rattle.std.specs.Prelude.{None, Some}
 use native.Mathlib.Omega.{arith}
 use lib.ListN.{length, get_or, take}
-use lib.Seq.{take_all}
 use Rattle.std.proofs.lemmas.List.{take_at, get_or_at, take-take, get_or-take, length-append}
 use Rattle.lists.proofs.Cases.{by_test}
 use Rattle.meaning.specs.Meanings.{is_mark}
@@ -25,11 +24,6 @@ pub record StillToRead (table : EdgeVectors) (window : List ℕ) (k words : ℕ)
   pub looks_are : looks + length rest ≡ length window
   pub breaks_le : breaks ≤ looks
   pub still : read_on table window k words (length rest) held breaks looks ≡ read_with table window k words
-
--- The invariant holds before the first turn.
-pub to_read_all : (table : EdgeVectors) (window : List ℕ) (k words : ℕ) → StillToRead table window k words (first_bits (length window) words) window 0 0
-to_read_all table window k words =
-    record { rest_is = sym (take_all (length window) window (omega arith)); looks_are = omega arith; breaks_le = omega arith; still = refl }
 
 module _ {table : EdgeVectors} {window : List ℕ} {k words : ℕ} {held rest : List ℕ} {breaks looks : ℕ} (known : StillToRead table window k words held rest breaks looks) where
   -- If no edge is left, the contract is met.
