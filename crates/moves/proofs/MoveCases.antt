@@ -1,17 +1,15 @@
 -- Whether counts can be moved. The test `can_move` is a conjunction of comparisons, and the record `CanMove` states the same (`can_move_iff`). So counts that pass
--- meet the precondition of `move_along`, and the two returns of `move_counts` are the two cases of its contract.
+-- meet the precondition of `move_along` (`can_be_moved`).
 use Prim.Native.Nat.{ℕ, ◌+◌}
-use mathlib.Core.Path.{◌≡◌, refl, sym}
-use mathlib.Core.Bool.{Bool, true, false}
-use mathlib.Core.List.{List}
+use mathlib.Core.Path.{◌≡◌, sym}
+use mathlib.Core.Bool.{true}
 use mathlib.Core.Logic.{◌↔◌}
 use lib.ListN.{length}
 use Rattle.findings.specs.Limits.{most_places}
 use Rattle.windows.specs.Windows.{Parts, whole_line, IsWholeLength}
 use Rattle.tally.specs.Counts.{most_counts}
 use Rattle.lists.proofs.SizesTested.{lt_iff, le_iff, and_iff}
-use Rattle.moves.specs.declared.steps.Reached.{Reached}
-use Rattle.moves.specs.Moves.{can_move, CanMove, IsMovedOn, IsMoved}
+use Rattle.moves.specs.Moves.{can_move, CanMove}
 
 -- The test `can_move` passes exactly when the counts can be moved.
 pub can_move_iff : (m room n from steps : ℕ) → (can_move m room n from steps ≡ true) ↔ CanMove m room n from steps
@@ -26,15 +24,3 @@ can_move_iff m room n from steps =
 pub can_be_moved : {m room n from steps : ℕ} {p : Parts} → IsWholeLength m p n → can_move m room n from steps ≡ true
     → CanMove m room (length (whole_line m p)) from steps
 can_be_moved {m} {room} {n} {from} {steps} long passed = rw (sym long.is) ((can_move_iff m room n from steps).0 passed)
-
-module _ (ring : List ℕ) (p : Parts) (from steps below : ℕ) (old : List ℕ) {n : ℕ} (long : IsWholeLength (length ring) p n) where
-  abbrev test : Bool
-  test = can_move (length ring) (length old) n from steps
-
-  -- If the test `can_move` passes and the counts are moved, the contract of `move_counts` is met.
-  pub moved_yes : (new : List ℕ) (r : Reached) → test ≡ true → IsMovedOn ring p from steps below old new r → IsMoved ring p from steps below old new r
-  moved_yes new r passed moved = record { is = rw (sym long.is, passed) moved.is }
-
-  -- If the test `can_move` fails, leaving the counts as they were and returning `from` and zeros meets the contract of `move_counts`.
-  pub moved_no : test ≡ false → IsMoved ring p from steps below old old (record { start = record { 0 = from }; least = 0; looks = 0; past = 0 })
-  moved_no failed = record { is = rw (sym long.is, failed) refl }

@@ -15,7 +15,7 @@ use Rattle.answers.specs.declared.places.LinePlace.{LinePlace}
 use Rattle.windows.specs.Windows.{Parts, whole_line, IsWindow}
 use Rattle.tally.specs.declared.counts.Least.{Least}
 use Rattle.tally.specs.Marks.{past_after, IsPastMark}
-use Rattle.tally.specs.Counts.{most_counts, least_of, HasCounts}
+use Rattle.tally.specs.Counts.{most_counts, least_of}
 use Rattle.moves.specs.Moves.{stepped_counts, leaving_edge, entering_edge, CountsAt, unmoved, step_on, move_on, CanMove, IsStepped, IsMovedOn}
 use Rattle.lists.proofs.StoreLoop.{stored_first_length}
 
@@ -49,17 +49,7 @@ module _ (ring : List ℕ) (p : Parts) (from steps below : ℕ) (old : List ℕ)
   abbrev m : ℕ
   m = length ring
 
-  -- The invariant holds before the first turn, where all steps are left.
-  pub moving_start : Moving ring p from steps below old old 0 0 0 from
-  moving_start =
-      let all : from + steps - from ≡ steps = omega arith in
-      record { from_le = omega arith; start_le = omega arith; size = refl; looks_le = omega arith; still = rw all refl }
-
   module _ (counts : List ℕ) (least looks past i : ℕ) (before : Moving ring p from steps below old counts least looks past i) where
-    -- In every turn there is a count for each rotation.
-    pub moving_has_counts : HasCounts m (length counts)
-    moving_has_counts = record { some_edge = can.has_counts.some_edge; most = can.has_counts.most; room = omega (arith, before.size, can.has_counts.room) }
-
     abbrev here_at : CountsAt
     here_at = record { start = i; counts = counts; least = least; looks = looks; past = past }
 

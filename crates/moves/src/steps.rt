@@ -67,7 +67,8 @@ fn step(counts: &mut [u16; MOST_COUNTS], ring: &[u8], leaving: u8, entering: u8)
 }
 
 // The result of a move: the start reached, the least of its counts, the looks of all steps, and the place just past the
-// last mark among the edges that entered; 0 if none of them is a mark.
+// last mark among the edges that entered; 0 if none of them is a mark. (No Option: it is the first place whose window can
+// be free of these marks, and without a mark that is 0.)
 #[derive(Clone, Copy)]
 pub struct Reached {
     pub start: LinePlace,

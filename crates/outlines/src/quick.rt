@@ -51,6 +51,7 @@ fn scan_windows<'a>(
         hidden: 0,
         held,
     };
+    // A turn goes on past the candidate that it reached, so this is no `for`.
     while at.start.0 + m <= n {
         match sweep_on(at, tables, parts, k, tally) {
             Swept::Ended(next) | Swept::NoFinding(next) => {

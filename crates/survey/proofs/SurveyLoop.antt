@@ -33,7 +33,7 @@ use Rattle.tally.proofs.PastMark.{past_none, past_join, start_iff_past}
 use Rattle.tally.proofs.TallyFinding.{least_no, least_yes}
 use Rattle.findings.specs.declared.searching.Finding.{Finding as FindingStruct}
 use Rattle.findings.specs.Putting.{finding_of, IsFindingPut}
-use Rattle.survey.specs.Survey.{edges_seen, is_found, CanVerifyOn, IsVerifiedOn, CanSurvey, LineSurveyed}
+use Rattle.survey.specs.Survey.{edges_seen, is_found, IsVerifiedOn, CanSurvey, LineSurveyed}
 use Rattle.findings.proofs.WordsSoFar.{search_words, WordsSoFar, so_far_none, so_far_length, so_far_more}
 
 -- The invariant of the loop of `survey_starts`, before start i.
@@ -85,18 +85,6 @@ module _ {ring doubled : List ℕ} {p : Parts} {k : ℕ} {area : List ℕ} {i fo
   survey_found_le = omega (arith, keeps.put.count_is_lem, below_length_le ring line k i)
 
   module _ (in_line : FitsInLine ring line i) where
-    -- If a window fits in the line at i, the precondition of `verify_on` holds.
-    pub survey_can_verify : CanVerifyOn ring doubled p k i counts
-    survey_can_verify = record {
-      can_tally = record { size = keeps.can.size; some_edge = within.some_edge; most = within.most_ring };
-      allowed = within.allowed;
-      twice = keeps.can.twice;
-      joined = keeps.can.can_survey.joined;
-      in_line = in_line;
-      most_places = within.most_places;
-      before = keeps.before;
-    }
-
     -- there is room for one finding more
     room_behind : words_each * found + words_each ≤ length area
     room_behind = omega (arith, survey_found_le, within.room_for (omega arith))
@@ -123,10 +111,6 @@ module _ {ring doubled : List ℕ} {p : Parts} {k : ℕ} {area : List ℕ} {i fo
       -- The place after the start reached is at most n.
       pub survey_next_le : start + 1 ≤ length line
       survey_next_le = omega (arith, verified.in_line, within.some_edge)
-
-      -- The turn makes the measure n + 1 - i smaller.
-      pub survey_less : length line + 1 - (start + 1) < length line + 1 - i
-      survey_less = omega (arith, verified.start_ge)
 
       -- the starts passed are no findings, so only the start reached adds to them
       below_turn : findings_below ring line k (start + 1) ≡ findings_below ring line k i ++ found_at ring line k start

@@ -11,7 +11,7 @@ use windows::LineParts;
 
 // Counts place 0 afresh; for a later place it moves the tally of the place before, a step for each, to the next place
 // whose least count is at most k or to the last window. Rule 5's test 2·s > m is not made here: "each next by one step, at
-// m = 1 too".
+// m = 1 too". (The ring and its double are no struct here: the first place uses the double alone, a later one the ring.)
 fn verify_on<'a>(
     tally: &mut Tally,
     ring: &[u8],

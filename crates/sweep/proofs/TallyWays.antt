@@ -1,7 +1,7 @@
 -- The four cases of verifying a start: there is no earlier tally; the start is not beyond the last verified one; it is s beyond it and 2·s > m; or 2·s ≤ m, and the
 -- tally is moved. Each is a case of `tally_by`. None takes more looks than a fresh count for the longest ring, 256·256.
 use Prim.Native.Nat.{ℕ, ◌-◌, ◌*◌, ◌≤◌, ◌<◌}
-use mathlib.Core.Path.{◌≡◌, ap, ◌∙◌}
+use mathlib.Core.Path.{◌≡◌, ap}
 use mathlib.Core.List.{List}
 use Rattle.std.specs.Prelude.{Option, None, Some}
 use native.Mathlib.Nat.{mul-le-mul, mul-le-mul_right}
@@ -11,11 +11,10 @@ use lib.ListN.{length}
 use borrow.Author.Tests.{lt-ltb, le-ltb, le-leb, lt-leb, ltb-false}
 use Rattle.lists.proofs.Cases.{by_test}
 use Rattle.answers.specs.declared.places.LinePlace.{LinePlace}
-use Rattle.windows.specs.Windows.{Parts, window_of, whole_line, IsWindow}
-use Rattle.tally.specs.Counts.{most_counts, can_count, TallyResult, counted_to, IsCounted}
+use Rattle.windows.specs.Windows.{Parts, window_of, whole_line}
+use Rattle.tally.specs.Counts.{most_counts, can_count, TallyResult, counted_to}
 use Rattle.moves.specs.Moves.{CountsAt, unmoved, can_move, IsMoved}
 use Rattle.tally.specs.declared.counts.Least.{Least}
-use Rattle.tally.specs.declared.afresh.Fresh.{Fresh}
 use Rattle.tally.proofs.CountCases.{can_count_iff}
 use Rattle.moves.specs.declared.steps.Reached.{Reached}
 use Rattle.moves.proofs.MoveLoop.{move_looks_le}
@@ -24,14 +23,6 @@ use Rattle.sweep.specs.Sweeps.{moved_to, tally_by, IsCountedTo, IsTalliedBy}
 -- The looks of a fresh count for the longest ring.
 abbrev pub most_tally : ℕ
 most_tally = most_counts * most_counts
-
--- If the window that `window` returned for start i is counted afresh, the contract of `verify_afresh` is met.
-pub afresh_is : {m : ℕ} {doubled : List ℕ} {p : Parts} {i : ℕ} {old edges new : List ℕ} {z : Fresh} → IsWindow p i m edges → IsCounted doubled edges old new z
-    → IsCountedTo m doubled p i old new (record { least = z.least; looks = z.looks })
-afresh_is {doubled = doubled} {old = old} handed counted = record {
-  is = (λ j. record { counts = counted.written j; least = counted.least_is j; looks = counted.looks_are j })
-      ∙ ap (λ (w : List ℕ). counted_to doubled w old) handed.is;
-}
 
 module _ (ring : List ℕ) {doubled : List ℕ} {p : Parts} {i : ℕ} {old : List ℕ} where
   -- The window at i is counted afresh.

@@ -16,7 +16,8 @@ pub struct LineParts<'a> {
 impl<'a> LineParts<'a> {
     // "Windows that cross come from a lent join area, the others from the line itself, and the caller gets the part that
     // applies" (document 02, ticket 3). Nearly every window lies in the line, so that is tested before the join area is
-    // looked at.
+    // looked at. The answer is no Option: it is the part that applies, and where no window fits that part is empty, so that
+    // a reader takes no look at it.
     pub fn window(self, start: LinePlace, m: usize) -> &'a [u8]
         ensures { IsWindow (parts_of self.entry) start.0 m result.now }
     {

@@ -2,13 +2,10 @@
 use mathlib.Core.Path.{◌≡◌}
 use native.Mathlib.Omega.{arith}
 use lib.ListN.{length}
-use Rattle.lists.proofs.StoreLoop.{stored_start, stored_turn, stored_end}
-use Rattle.tally.proofs.LeastSoFar.{least_so_far_start, least_so_far_stored}
+use Rattle.lists.proofs.StoreLoop.{stored_turn, stored_end}
+use Rattle.tally.proofs.LeastSoFar.{least_so_far_stored}
 use Rattle.moves.proofs.ChangeLoop.{changed_here, changed_least}
 use Rattle.moves.proofs.steps.change.Goals as goal
-
-pub loop-r-init : goal.loop-r-init
-loop-r-init c = (omega arith, stored_start, least_so_far_start _ _)
 
 pub loop-r-preserved : goal.loop-r-preserved
 loop-r-preserved c =

@@ -2,11 +2,8 @@
 use mathlib.Core.Path.{refl}
 use native.Mathlib.Omega.{arith}
 use Rattle.windows.proofs.WindowEdges.{fitting_length}
-use Rattle.moves.proofs.MoveLoop.{moving_start, moving_has_counts, moving_turn, moving_stops, moving_end}
+use Rattle.moves.proofs.MoveLoop.{moving_turn, moving_stops, moving_end}
 use Rattle.moves.proofs.steps.move_along.Goals as goal
-
-pub loop-i-init : goal.loop-i-init
-loop-i-init c = (refl, moving_start _ _ _ _ _ _ c.requires)
 
 pub bounds-next-m : goal.bounds-next-m
 bounds-next-m c =
@@ -15,14 +12,6 @@ bounds-next-m c =
 pub bounds-here-0 : goal.bounds-here-0
 bounds-here-0 c =
     omega (arith, fitting_length {ring = c.args.ring.now} c.requires.has_counts.some_edge c.window-here.ensures (omega arith))
-
-pub step-stepped-requires : goal.step-stepped-requires
-step-stepped-requires c =
-    moving_has_counts _ _ _ _ _ _ c.requires _ _ _ _ _ c.loop-i.invariant.1
-
-pub overflow_add-reached : goal.overflow_add-reached
-overflow_add-reached c =
-    omega (arith, c.loop-i.invariant.1.looks_le, c.step-stepped.ensures.looks_are, c.requires.has_counts.most)
 
 -- The least count is below the bound: the move ends here.
 pub returns-then-reached-below : goal.returns-then-reached-below

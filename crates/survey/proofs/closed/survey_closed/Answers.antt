@@ -1,21 +1,12 @@
 -- `survey::closed::survey_closed` meets its contract: a row is given and the call is refused, or the join area is filled and the closed line is surveyed
 -- (`LentParts` of crates/windows). These are the two ways in which a search on a closed line meets its contract (`ClosedSearchAnswers` of crates/findings).
 use mathlib.Core.Path.{refl, sym}
-use lib.Seq.{length-take-le}
-use Rattle.windows.proofs.JoinFilled.{used_le}
 use Rattle.windows.proofs.LentParts.{closed_lent, closed_joined}
 use Rattle.findings.proofs.Returned.{returned}
 use Rattle.findings.proofs.ClosedAdmitRows.{closed_no_row_iff}
 use Rattle.findings.proofs.ClosedSearchAnswers.{refused_closed_search, accepted_closed_search}
 use Rattle.survey.proofs.LentSurvey.{can_survey_line, searched_surveyed}
 use Rattle.survey.proofs.closed.survey_closed.Goals as goal
-
--- The used part is within the join area.
-pub slice_bounds-lent-end : goal.slice_bounds-lent-end
-slice_bounds-lent-end c = used_le c.fill_join-used.ensures
-
-pub slice_bounds-lent-end-2 : goal.slice_bounds-lent-end-2
-slice_bounds-lent-end-2 c = sym (length-take-le _ _ (used_le c.fill_join-used.ensures))
 
 pub survey_line-requires : goal.survey_line-requires
 survey_line-requires c =

@@ -2,35 +2,20 @@
 use mathlib.Core.Path.{sym, ◌∙◌}
 use native.Mathlib.Omega.{arith}
 use Rattle.windows.proofs.WindowEdges.{fits_whole, past_whole}
-use Rattle.survey.proofs.SurveyLoop.{survey_start, survey_can_verify, survey_end, survey_found_le, survey_looks_le, survey_next_le, survey_less, survey_none, survey_found}
+use Rattle.survey.proofs.SurveyLoop.{survey_start, survey_end, survey_found_le, survey_looks_le, survey_none, survey_found}
 use Rattle.survey.proofs.plain.survey_starts.Goals as goal
 
 pub loop-i-init : goal.loop-i-init
 loop-i-init c = (c.whole_length-n.ensures, survey_start c.requires)
 
-pub overflow_add-i : goal.overflow_add-i
-overflow_add-i c = let keeps = c.loop-i.invariant.1 in omega (arith, keeps.start_le, keeps.can.can_survey.can_search.most_places, keeps.can.can_survey.can_search.most_ring)
-
-pub verify_on-reached-requires : goal.verify_on-reached-requires
-verify_on-reached-requires c = survey_can_verify c.loop-i.invariant.1 (fits_whole c.loop-i.invariant.0 c.loop-i-test.true)
-
 pub overflow_add-looks : goal.overflow_add-looks
 overflow_add-looks c =
     omega (arith, survey_looks_le c.loop-i.invariant.1 (fits_whole c.loop-i.invariant.0 c.loop-i-test.true) c.verify_on-reached.ensures)
-
-pub overflow_add-i-in-loop-i : goal.overflow_add-i-in-loop-i
-overflow_add-i-in-loop-i c =
-    let keeps = c.loop-i.invariant.1 in
-    omega (arith, survey_next_le keeps (fits_whole c.loop-i.invariant.0 c.loop-i-test.true) c.verify_on-reached.ensures, keeps.can.can_survey.can_search.most_places)
 
 pub overflow_add-found : goal.overflow_add-found
 overflow_add-found c =
     let keeps = c.loop-i.invariant.1 in
     omega (arith, survey_found_le keeps, keeps.start_le, keeps.can.can_survey.can_search.most_places)
-
-pub loop-i-smaller-then-is_finding : goal.loop-i-smaller-then-is_finding
-loop-i-smaller-then-is_finding c =
-    survey_less c.loop-i.invariant.1 (fits_whole c.loop-i.invariant.0 c.loop-i-test.true) c.verify_on-reached.ensures
 
 -- A finding.
 pub loop-i-preserved-then-is_finding : goal.loop-i-preserved-then-is_finding
@@ -40,10 +25,6 @@ loop-i-preserved-then-is_finding c = (
       c.max-past.ensures (sym c.is_finding.ensures ∙ c.if-is_finding.true) c.finding_at.ensures c.put_finding.ensures,
 )
 
-pub loop-i-smaller : goal.loop-i-smaller
-loop-i-smaller c =
-    survey_less c.loop-i.invariant.1 (fits_whole c.loop-i.invariant.0 c.loop-i-test.true) c.verify_on-reached.ensures
-
 -- No finding.
 pub loop-i-preserved : goal.loop-i-preserved
 loop-i-preserved c = (
@@ -51,9 +32,6 @@ loop-i-preserved c = (
   survey_none c.loop-i.invariant.1 (fits_whole c.loop-i.invariant.0 c.loop-i-test.true) c.verify_on-reached.ensures
       c.max-past.ensures (sym c.is_finding.ensures ∙ c.if-is_finding.false),
 )
-
-pub shape_of-words : goal.shape_of-words
-shape_of-words c = c.loop-i.invariant.1.length_is
 
 pub returns : goal.returns
 returns c = survey_end c.loop-i.invariant.1 (past_whole c.loop-i.invariant.0 c.loop-i-test.false)

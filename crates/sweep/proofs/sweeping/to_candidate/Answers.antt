@@ -4,9 +4,6 @@ use Rattle.windows.specs.Windows.{parts_of}
 use Rattle.sweep.proofs.SweepWays.{sweep_looks_le, sweep_start_le, way_ended, sweep_all_looks_le, way_none, way_found}
 use Rattle.sweep.proofs.sweeping.to_candidate.Goals as goal
 
-pub read_windows-read-requires : goal.read_windows-read-requires
-read_windows-read-requires c = c.requires.can_read
-
 pub overflow_add-looks : goal.overflow_add-looks
 overflow_add-looks c =
     omega (arith, sweep_looks_le _ c.args.tables.vectors.now (parts_of c.args.parts) c.args.k c.args.at c.requires _ c.read_windows-read.ensures)
