@@ -7,6 +7,7 @@ use mathlib.Core.List.{List, [], ◌∷◌, ◌++◌}
 use Rattle.std.specs.Prelude.{None, Some}
 use native.Mathlib.Omega.{arith}
 use lib.ListN.{length, get_or, take}
+use lib.Seq.{take_all}
 use Rattle.std.proofs.lemmas.List.{take_at, get_or_at, take-take, get_or-take, length-append}
 use Rattle.lists.proofs.Cases.{by_test}
 use Rattle.meaning.specs.Meanings.{is_mark}

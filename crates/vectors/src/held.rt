@@ -71,7 +71,7 @@ fn grown_word(
 // occurrence vector. It is written word by word, without a loop, so that the compiler keeps a vector in registers and
 // makes code of its own for each count that a caller passes as a literal. The count is a number and no const parameter:
 // `grown_words`, `vector_at` and the samples of specs/ speak of four words with a count, which may be known only at run
-// time, and with a const parameter the scan of rings above 128 edges took 2 to 11 % longer.
+// time.
 pub fn grown(
     held: [u64; VECTOR_WORDS],
     occurs: [u64; VECTOR_WORDS],
