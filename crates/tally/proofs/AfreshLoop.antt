@@ -4,10 +4,11 @@
 use Prim.Native.Nat.{ℕ, ◌+◌, ◌-◌, ◌*◌, ◌≤◌, ◌<◌}
 use mathlib.Core.Path.{◌≡◌, refl, sym, ap, ◌∙◌}
 use mathlib.Core.Bool.{Bool}
-use mathlib.Core.List.{List}
+use mathlib.Core.List.{List, ◌++◌}
 use native.Mathlib.Nat.{add-mul, mul-le-mul_left}
 use native.Mathlib.Omega.{arith}
-use lib.ListN.{length, get_or, replicate, length-replicate, get_or-replicate}
+use lib.ListN.{length, take, drop, get_or, replicate, length-replicate, get_or-replicate}
+use Rattle.std.proofs.lemmas.List.{length-take, length-drop, length-append, get_or-drop, get_or_append_left, get_or-append_right}
 use Rattle.meaning.specs.Counting.{count}
 use Rattle.meaning.proofs.Count.{count_split, count_le}
 use Rattle.lists.specs.ByPlace.{StoredFirst}
@@ -38,15 +39,28 @@ pub record CountingAfresh (doubled window zeros : List ℕ) (from end : ℕ) (co
 with_room : {m room other long : ℕ} → CanCount m room long → m ≤ other → CanCount m other long
 with_room can enough = record { has_counts = record { some_edge = can.has_counts.some_edge; most = can.has_counts.most; room = enough }; twice = can.twice }
 
--- `count_edges` begins with the cleared counts, at place 0.
-pub edges_begin : {doubled window old cleared : List ℕ} → CanCount (length window) (length old) (length doubled) → StoredFirst (length window) (λ _. 0) old cleared
-    → NoneCounted doubled window cleared 0 (length window)
-edges_begin can none = record {
-  can = with_room can (omega (arith, none.size, can.has_counts.room));
-  has_edge = can.has_counts.some_edge;
-  end_le = omega arith;
-  each = none.first;
-}
+-- Filling the first m counts with zeros stores a 0 at each of them.
+pub cleared : (m : ℕ) {old zeros : List ℕ} → m ≤ length old → zeros ≡ replicate (length (take m old)) 0 → StoredFirst m (λ _. 0) old (zeros ++ drop m old)
+cleared m {old} {zeros} room filled =
+    let long : length zeros ≡ m = ap length filled ∙ length-replicate _ 0 ∙ omega (arith, length-take m old) in
+    record {
+      size = omega (arith, length-append zeros (drop m old), length-drop m old, long);
+      first = λ r l. get_or_append_left zeros (drop m old) 0 r (omega (arith, long)) ∙ ap (λ (xs : List ℕ). get_or xs r 0) filled
+          ∙ get_or-replicate _ r 0 0 (omega (arith, length-take m old));
+      rest = λ r l. get_or-append_right zeros (drop m old) m r 0 long l ∙ get_or-drop m old (r - m) 0 ∙ ap (λ (s : ℕ). get_or old s 0) (omega arith);
+    }
+
+-- `count_edges` begins with the counts so cleared, at place 0.
+pub edges_begin : {doubled window zeros : List ℕ} (old : List ℕ) → CanCount (length window) (length old) (length doubled) → zeros ≡ replicate (length (take (length window) old)) 0
+    → NoneCounted doubled window (zeros ++ drop (length window) old) 0 (length window)
+edges_begin {window = window} old can filled =
+    let none = cleared (length window) {old = old} can.has_counts.room filled in
+    record {
+      can = with_room can (omega (arith, none.size, can.has_counts.room));
+      has_edge = can.has_counts.some_edge;
+      end_le = omega arith;
+      each = none.first;
+    }
 
 -- `count_part` begins with an array of zeros. The part ends with the window at the latest (`IsPartEnd`).
 pub part_begins : {doubled window counts : List ℕ} {last from past end : ℕ} → CanCountOn doubled window counts last from (length window) past

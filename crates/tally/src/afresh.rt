@@ -3,7 +3,7 @@ ghost use Rattle.std.specs.Prelude.{◌≡◌, ℕ, ◌+◌, ◌*◌, ◌<◌, �
 ghost use Rattle.lists.specs.ByPlace.{StoredFirst};
 ghost use Rattle.tally.specs.Counts.{last_count, last_part_count, can_count, CanCount, IsDoubled, run_counted, CanCountOn, IsCountedOn, IsPartEnd, CanAddPart, IsCountedAfresh, IsCounted};
 
-use crate::counts::{MOST_COUNTS, Tally, clear, differing, least_of};
+use crate::counts::{MOST_COUNTS, Tally, differing, least_of};
 use crate::marks::past_mark;
 use answers::{LinePlace, RingPlace, to_ring};
 
@@ -181,7 +181,7 @@ fn count_edges(counts: &mut [u16; MOST_COUNTS], doubled: &[u8], window: &[u8]) -
     ensures { IsCountedAfresh doubled.now window.now counts.old counts.new result }
 {
     let m = window.len();
-    clear(counts, m);
+    counts[..m].fill(0);
     let mut looks: usize = 0;
     let mut past: usize = 0;
     let mut q = 0;

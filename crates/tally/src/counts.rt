@@ -1,7 +1,6 @@
 // Counts of differing edges, one for each rotation. A tally's count is at most 256, one more than eight bits hold, so
 // it is a u16.
 ghost use Rattle.std.specs.Prelude.{◌≡◌, eqb, length};
-ghost use Rattle.lists.specs.ByPlace.{StoredFirst};
 ghost use Rattle.tally.specs.Counts.{IsComparison, IsFindingAt, HasCounts, IsLeast, IsLowestWith, IsTies};
 
 use answers::{LinePlace, RingPlace};
@@ -30,14 +29,6 @@ pub fn differing(a: u8, b: u8) -> u8
     ensures { IsComparison a b result }
 {
     u8::from(a != b)
-}
-
-// Sets the counts of m rotations to 0.
-pub fn clear(counts: &mut [u16; MOST_COUNTS], m: usize)
-    requires { HasCounts m (length counts.old) }
-    ensures { StoredFirst m (λ _. 0) counts.old counts.new }
-{
-    counts[..m].fill(0);
 }
 
 // The least of the first m counts.
