@@ -192,7 +192,7 @@ fn count_edges(counts: &mut [u16; MOST_COUNTS], doubled: &[u8], window: &[u8]) -
         past = counted.past;
         q += counted.edges;
     }
-    let least = usize::from(least_of(counts, m));
+    let least = usize::from(least_of(&counts[..m]));
     Fresh { least, looks, past }
 }
 

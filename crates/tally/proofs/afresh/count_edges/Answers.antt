@@ -2,7 +2,8 @@
 use mathlib.Core.Path.{sym}
 use native.Mathlib.Omega.{arith}
 use Rattle.tally.proofs.PastMark.{past_none}
-use Rattle.tally.proofs.AfreshLoop.{cleared, edges_begin, counting_afresh_start, counting_afresh_on, counting_afresh_turn, counting_afresh_end}
+use Rattle.tally.proofs.LeastIsOne.{least_of_cut}
+use Rattle.tally.proofs.AfreshLoop.{cleared, edges_begin, counting_afresh_start, counting_afresh_can, counting_afresh_on, counting_afresh_turn, counting_afresh_end}
 use Rattle.tally.proofs.afresh.count_edges.Goals as goal
 
 pub loop-q-init : goal.loop-q-init
@@ -19,4 +20,7 @@ loop-q-preserved c =
 
 pub returns : goal.returns
 returns c =
-    counting_afresh_end (cleared _ c.requires.has_counts.room (c.fill.ensures.after (λ y h. h))) c.loop-q.invariant c.loop-q-test.false (rw c.from-least.ensures c.least_of.ensures)
+    let known = c.loop-q.invariant in
+    let filled = c.fill.ensures.after (λ y h. h) in
+    let room = (counting_afresh_can (edges_begin _ c.requires filled) known).has_counts.room in
+    counting_afresh_end (cleared _ c.requires.has_counts.room filled) known c.loop-q-test.false (rw c.from-least.ensures (least_of_cut _ _ room c.least_of.ensures))
