@@ -7,9 +7,10 @@ use mathlib.Core.Logic.{dite}
 use native.Mathlib.Decide.{ℕ_discrete}
 use native.Mathlib.Omega.{arith}
 use lib.ListN.{length, take, drop, get_or}
-use Rattle.std.proofs.lemmas.List.{length-take, length-drop, length-append, get_or-take, get_or-drop, get_or_append_left, get_or-append_right}
+use Rattle.std.proofs.lemmas.List.{length-take, get_or-take}
 use Rattle.std.specs.List.{RotatedRight}
 use Rattle.lists.specs.ByPlace.{StoredFirst}
+use Rattle.tally.proofs.StoredFront.{stored_front}
 use Rattle.moves.specs.Moves.{earlier}
 use Rattle.moves.proofs.NextRotation.{earlier_first, earlier_later}
 
@@ -20,11 +21,7 @@ renumbered m old turned room size rotated =
     let all : length (take m old) ≡ m = omega (arith, length-take m old, room) in
     let long : length turned ≡ m = size ∙ all in
     let at : (ℕ → ℕ) = λ r. get_or old r 0 in
-    record {
-      size = omega (arith, length-append turned (drop m old), length-drop m old, long, room);
-      first = λ r l. get_or_append_left turned (drop m old) 0 r (omega (arith, long))
-          ∙ dite (ℕ_discrete r 0)
-          (λ first. rotated.0 r 0 (omega arith) ∙ get_or-take m old _ 0 (omega (arith, all, first)) ∙ ap at (omega (arith, all, first, earlier_first m r first)))
-          (λ later. rotated.1 r 0 (omega (arith, later)) (omega (arith, all)) ∙ get_or-take m old (r - 1) 0 (omega arith) ∙ ap at (sym (earlier_later m r later)));
-      rest = λ r l. get_or-append_right turned (drop m old) m r 0 long l ∙ get_or-drop m old (r - m) 0 ∙ ap at (omega arith);
-    }
+    stored_front old turned room long
+    (λ r l. dite (ℕ_discrete r 0)
+    (λ first. rotated.0 r 0 (omega arith) ∙ get_or-take m old _ 0 (omega (arith, all, first)) ∙ ap at (omega (arith, all, first, earlier_first m r first)))
+    (λ later. rotated.1 r 0 (omega (arith, later)) (omega (arith, all)) ∙ get_or-take m old (r - 1) 0 (omega arith) ∙ ap at (sym (earlier_later m r later))))

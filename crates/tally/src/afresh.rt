@@ -121,12 +121,12 @@ fn part_end(from: usize, m: usize) -> usize
     from + PART_EDGES.min(m - from)
 }
 
-// Adds a part's counts of m rotations to the counts of the parts before it.
-fn add_part(counts: &mut [u16; MOST_COUNTS], part: &[u8; MOST_COUNTS], m: usize)
-    requires { CanAddPart m counts.old part.now }
-    ensures { StoredFirst m (λ r. get_or counts.old r 0 + get_or part.now r 0) counts.old counts.new }
+// Adds a part's counts to the counts of the parts before it, of as many rotations.
+fn add_part(counts: &mut [u16], part: &[u8])
+    requires { CanAddPart counts.old part.now }
+    ensures { StoredFirst (length part.now) (λ r. get_or counts.old r 0 + get_or part.now r 0) counts.old counts.new }
 {
-    for r in 0..m {
+    for r in 0..part.len() {
         counts[r] += u16::from(part[r]);
     }
 }
@@ -157,7 +157,7 @@ fn count_part(
         past_here = counted.past;
         q += counted.edges;
     }
-    add_part(counts, &part, m);
+    add_part(&mut counts[..m], &part[..m]);
     let edges = end - from;
     EdgesCounted {
         edges,
