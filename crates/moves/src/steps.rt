@@ -1,11 +1,11 @@
 // Rule 5: the tally moved along the line, each step 2·m looks. The count of rotation r is kept under the number r
 // (specs/Tallied.antt of crates/tally), so a step renumbers the counts.
-ghost use Rattle.std.specs.Prelude.{◌≡◌, length, get_or};
+ghost use Rattle.std.specs.Prelude.{◌≡◌, length};
 ghost use Rattle.meaning.specs.Looks.{step_looks};
 ghost use Rattle.lists.specs.ByPlace.{StoredFirst};
 ghost use Rattle.windows.specs.Windows.{parts_of, whole_line};
 ghost use Rattle.tally.specs.Counts.{HasCounts, IsLeast};
-ghost use Rattle.moves.specs.Moves.{changed_count, changed_at, earlier, IsStepped, CanMove, IsMovedOn};
+ghost use Rattle.moves.specs.Moves.{changed_count, changed_at, IsStepped, CanMove, IsMovedOn};
 
 use answers::LinePlace;
 use tally::{Least, MOST_COUNTS, differing, past_mark};
@@ -48,21 +48,14 @@ fn change(counts: &mut [u16; MOST_COUNTS], ring: &[u8], leaving: u8, entering: u
     }
 }
 
-// Moves each count to the next rotation's number, and the last one to rotation 0.
-fn renumber(counts: &mut [u16; MOST_COUNTS], m: usize)
-    requires { HasCounts m (length counts.old) }
-    ensures { StoredFirst m (λ r. get_or counts.old (earlier m r) 0) counts.old counts.new }
-{
-    counts[..m].rotate_right(1);
-}
-
-// One step. The least is found before the renumbering, which does not change it: it only moves the counts.
+// One step: the counts are changed, and then each is moved to the next rotation's number, and the last one to rotation
+// 0. The least is found before this renumbering, which does not change it: it only moves the counts.
 fn step(counts: &mut [u16; MOST_COUNTS], ring: &[u8], leaving: u8, entering: u8) -> Least
     requires { HasCounts (length ring.now) (length counts.old) }
     ensures { IsStepped ring.now leaving entering counts.old counts.new result }
 {
     let least = change(counts, ring, leaving, entering);
-    renumber(counts, ring.len());
+    counts[..ring.len()].rotate_right(1);
     least
 }
 

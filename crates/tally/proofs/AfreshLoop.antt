@@ -4,10 +4,11 @@
 use Prim.Native.Nat.{ℕ, ◌+◌, ◌-◌, ◌*◌, ◌≤◌, ◌<◌}
 use mathlib.Core.Path.{◌≡◌, refl, sym, ap, ◌∙◌}
 use mathlib.Core.Bool.{Bool}
-use mathlib.Core.List.{List}
+use mathlib.Core.List.{List, ◌++◌}
 use native.Mathlib.Nat.{add-mul, mul-le-mul_left}
 use native.Mathlib.Omega.{arith}
-use lib.ListN.{length, get_or, replicate, length-replicate, get_or-replicate}
+use lib.ListN.{length, take, drop, get_or, replicate, length-replicate, get_or-replicate}
+use Rattle.std.proofs.lemmas.List.{length-take, get_or-take}
 use Rattle.meaning.specs.Counting.{count}
 use Rattle.meaning.proofs.Count.{count_split, count_le}
 use Rattle.lists.specs.ByPlace.{StoredFirst}
@@ -15,6 +16,7 @@ use Rattle.lists.proofs.StoreLoop.{stored_again, stored_is}
 use Rattle.tally.specs.declared.afresh.EdgesCounted.{EdgesCounted}
 use Rattle.tally.specs.Marks.{past_mark}
 use Rattle.tally.specs.Counts.{most_counts, last_count, differs_there, afresh_count, afresh_counts, CanCount, IsLeast, CanCountOn, IsCountedOn, IsPartEnd, CanAddPart, IsCountedAfresh}
+use Rattle.tally.proofs.StoredFront.{stored_front}
 use Rattle.tally.proofs.LeastIsOne.{least_of_only}
 
 -- What a loop begins with: a window that can be counted, with an edge at `from`, before `end`, and with a 0 for each rotation.
@@ -38,15 +40,23 @@ pub record CountingAfresh (doubled window zeros : List ℕ) (from end : ℕ) (co
 with_room : {m room other long : ℕ} → CanCount m room long → m ≤ other → CanCount m other long
 with_room can enough = record { has_counts = record { some_edge = can.has_counts.some_edge; most = can.has_counts.most; room = enough }; twice = can.twice }
 
--- `count_edges` begins with the cleared counts, at place 0.
-pub edges_begin : {doubled window old cleared : List ℕ} → CanCount (length window) (length old) (length doubled) → StoredFirst (length window) (λ _. 0) old cleared
-    → NoneCounted doubled window cleared 0 (length window)
-edges_begin can none = record {
-  can = with_room can (omega (arith, none.size, can.has_counts.room));
-  has_edge = can.has_counts.some_edge;
-  end_le = omega arith;
-  each = none.first;
-}
+-- Filling the first m counts with zeros stores a 0 at each of them.
+pub cleared : (m : ℕ) {old zeros : List ℕ} → m ≤ length old → zeros ≡ replicate (length (take m old)) 0 → StoredFirst m (λ _. 0) old (zeros ++ drop m old)
+cleared m {old} {zeros} room filled =
+    let long : length zeros ≡ m = ap length filled ∙ length-replicate _ 0 ∙ omega (arith, length-take m old) in
+    stored_front _ _ room long (λ r l. ap (λ (xs : List ℕ). get_or xs r 0) filled ∙ get_or-replicate _ r 0 0 (omega (arith, length-take m old)))
+
+-- `count_edges` begins with the counts so cleared, at place 0.
+pub edges_begin : {doubled window zeros : List ℕ} (old : List ℕ) → CanCount (length window) (length old) (length doubled) → zeros ≡ replicate (length (take (length window) old)) 0
+    → NoneCounted doubled window (zeros ++ drop (length window) old) 0 (length window)
+edges_begin {window = window} old can filled =
+    let none = cleared (length window) {old = old} can.has_counts.room filled in
+    record {
+      can = with_room can (omega (arith, none.size, can.has_counts.room));
+      has_edge = can.has_counts.some_edge;
+      end_le = omega arith;
+      each = none.first;
+    }
 
 -- `count_part` begins with an array of zeros. The part ends with the window at the latest (`IsPartEnd`).
 pub part_begins : {doubled window counts : List ℕ} {last from past end : ℕ} → CanCountOn doubled window counts last from (length window) past
@@ -115,30 +125,40 @@ module _ {doubled window zeros : List ℕ} {from end : ℕ} (begin : NoneCounted
         }
 
     -- The part's counts can be added to those that `count_part` was given.
-    pub counting_part_add : {old : List ℕ} {past₀ : ℕ} → CanCountOn doubled window old last_count from m past₀ → CanAddPart m old counts
-    counting_part_add on = record {
-      has_counts = on.can.has_counts;
-      part_room = counting_afresh_can.has_counts.room;
-      each_le = λ r l. omega (arith, known.turn_le, begin.end_le, on.each_le r l, counting_afresh_le r l);
-    }
+    pub counting_part_add : {old : List ℕ} {past₀ : ℕ} → CanCountOn doubled window old last_count from m past₀ → CanAddPart (take m old) (take m counts)
+    counting_part_add {old} on =
+        let long : length (take m counts) ≡ m = omega (arith, length-take m counts, counting_afresh_can.has_counts.room) in
+        record {
+          size = omega (arith, length-take m old, on.can.has_counts.room, long);
+          each_le = λ r l.
+              let below : r < m = omega (arith, long) in
+              omega (
+                arith,
+                known.turn_le,
+                begin.end_le,
+                on.each_le r below,
+                counting_afresh_le r below,
+                get_or-take m old r 0 below,
+                get_or-take m counts r 0 below,
+              );
+        }
 
-    -- After the last turn of `count_part` the part's counts are added: its edges are counted.
-    pub counting_part_end : {old new : List ℕ} → end ≤ q → StoredFirst m (λ r. get_or old r 0 + get_or counts r 0) old new
-        → IsCountedOn doubled window from m old new (record { edges = end - from; looks = looks; past = past })
-    counting_part_end {old} h added =
-        let all : q ≡ end = omega (arith, known.turn_le) in
-        let part_edges : q - from ≡ end - from = omega arith in
+    -- After the last turn of `count_part` the part's counts are added to the first m of those before it: its edges are counted.
+    pub counting_part_end : {old sums : List ℕ} → m ≤ length old → end ≤ q
+        → StoredFirst (length (take m counts)) (λ r. get_or (take m old) r 0 + get_or (take m counts) r 0) (take m old) sums
+        → IsCountedOn doubled window from m old (sums ++ drop m old) (record { edges = end - from; looks = looks; past = past })
+    counting_part_end {old} {sums} room h added =
+        let long : length (take m counts) ≡ m = omega (arith, length-take m counts, counting_afresh_can.has_counts.room) in
+        let part_edges : q - from ≡ end - from = omega (arith, known.turn_le) in
+        let sum : (r : ℕ) → r < m → get_or sums r 0 ≡ get_or old r 0 + count (differs_there doubled window r) from (end - from) = λ r l.
+        added.first r (omega (arith, long))
+        ∙ rw (get_or-take m old r 0 l, get_or-take m counts r 0 l, known.stored.first r l, part_edges) refl in
         record {
           some = omega (arith, begin.has_edge);
           within = omega (arith, begin.has_edge, begin.end_le);
-          stored = record {
-            size = added.size;
-            first = λ r l. added.first r l
-                ∙ ap (λ (n : ℕ). get_or old r 0 + n) (known.stored.first r l ∙ ap (count (differs_there doubled window r) from) part_edges);
-            rest = added.rest;
-          };
+          stored = stored_front _ _ room (omega (arith, added.size, length-take m old)) sum;
           looks_are = known.looks_are ∙ ap (λ (n : ℕ). n * m) part_edges;
-          past_is = known.past_is ∙ ap (past_mark window 0) (omega (arith, begin.has_edge));
+          past_is = known.past_is ∙ ap (past_mark window 0) (omega (arith, known.turn_le, begin.has_edge));
         }
 
 -- After the last turn of `count_edges` the window is counted afresh, at m·m looks.

@@ -9,6 +9,8 @@ pub mod LeastSoFar
 pub mod LeastIsOne
 pub mod LowestLoop
 pub mod TiesLoop
+-- A write to the first of the counts.
+pub mod StoredFront
 -- The fresh count: what `double`, `count_run`, `count_part` and `count_edges` compute.
 pub mod DoubledLoop
 pub mod SomeCounted

@@ -1,7 +1,7 @@
 -- `lowest_rotation` seeks the first place among the counts that has the given count. It is the lowest rotation that has it, or past the last one if none has it, and
 -- this is `lowest_from`. If the given count is the least, this is the lowest rotation at which the counts are least.
 use Prim.Native.Nat.{ℕ, zero, suc, ◌+◌, ◌-◌, ◌≤◌, ◌<◌, min}
-use mathlib.Core.Path.{◌≡◌, refl, sym, ◌∙◌}
+use mathlib.Core.Path.{◌≡◌, refl, sym, ap, ◌∙◌}
 use mathlib.Core.List.{List}
 use mathlib.Core.Logic.{dite}
 use native.Mathlib.Nat.{zero-add}
@@ -39,23 +39,36 @@ module _ (counts : List ℕ) (least : ℕ) where
       lowest_after n 0 d le (λ s _ l. none s (omega arith)) (λ l. rw (zero-add d) (has l)) ∙ zero-add d
 
   -- If no rotation below r has the count, and r has it or is past the last rotation, then returning r meets the contract of `lowest_rotation`.
-  seeking_ends : {m all r : ℕ} → all ≡ min m most_counts → r ≤ all → ((s : ℕ) → s < r → get_or counts s 0 ≡ least → ⊥) → (r < all → get_or counts r 0 ≡ least)
-      → IsLowestWith m counts least r
-  seeking_ends {m} {all} {r} all_is le none has = record { is = sym (rw all_is at (lowest_first all r le none has)) }
+  seeking_ends : {r : ℕ} → length counts ≤ most_counts → r ≤ length counts → ((s : ℕ) → s < r → get_or counts s 0 ≡ least → ⊥)
+      → (r < length counts → get_or counts r 0 ≡ least) → IsLowestWith (length counts) counts least r
+  seeking_ends {r} most le none has =
+      let all : min (length counts) most_counts ≡ length counts = omega arith in
+      record { is = rw all (sym (lowest_first (length counts) r le none has)) }
 
-  -- So if `position` found r as the first place among the first m counts that has the count, or none, then r, or m if there is none, meets the contract of
-  -- `lowest_rotation`.
-  pub first_with : {m all : ℕ} (r : Option ℕ) → all ≡ min m most_counts → length counts ≡ most_counts
-      → MatchOption r (AllWithin (λ x. x ≡ least → ⊥) (take all counts) 0 (length (take all counts)))
-      (λ i. (i < length (take all counts)) × HoldsAt (λ x. x ≡ least) (take all counts) i × AllWithin (λ x. x ≡ least → ⊥) (take all counts) 0 i)
-      → IsLowestWith m counts least (unwrap_or r all)
-  first_with {all = all} None all_is size none =
-      seeking_ends all_is (omega arith)
-      (λ s l same. none s 0 (omega arith) (omega (arith, length-take all counts)) (get_or-take all counts s 0 l ∙ same)) (λ l. absurd (omega arith))
-  first_with {all = all} (Some i) all_is size found =
-      let below : i < all = omega (arith, found.0, length-take all counts) in
-      seeking_ends all_is (omega arith)
-      (λ s l same. found.2 s 0 (omega arith) l (get_or-take all counts s 0 (omega arith) ∙ same)) (λ l. sym (get_or-take all counts i 0 below) ∙ found.1 0)
+  -- So if `position` found r as the first place among the counts that has the count, or none, then r, or the number of the counts if there is none, meets the
+  -- contract of `lowest_rotation`.
+  pub first_with : (r : Option ℕ) → length counts ≤ most_counts
+      → MatchOption r (AllWithin (λ x. x ≡ least → ⊥) counts 0 (length counts))
+      (λ i. (i < length counts) × HoldsAt (λ x. x ≡ least) counts i × AllWithin (λ x. x ≡ least → ⊥) counts 0 i)
+      → IsLowestWith (length counts) counts least (unwrap_or r (length counts))
+  first_with None most none = seeking_ends most (omega arith) (λ s l same. none s 0 (omega arith) l same) (λ l. absurd (omega arith))
+  first_with (Some i) most found = seeking_ends most (omega (arith, found.0)) (λ s l same. found.2 s 0 (omega arith) l same) (λ l. found.1 0)
+
+  -- Of the first n counts alone, the lowest rotation among them that has the count is the same.
+  lowest_cut : (n k r : ℕ) → r + k ≤ n → lowest_from (take n counts) least k r ≡ lowest_from counts least k r
+  unfolding lowest_from
+  lowest_cut n zero r le = refl
+  lowest_cut n (suc k) r le = rw (get_or-take n counts r 0 (omega arith), lowest_cut n k (r + 1) (omega arith)) refl
+
+  -- So `finding_at` may cut the counts at m, or at 256 if m is above that.
+  pub lowest_of_cut : (m : ℕ) {all r : ℕ} → all ≡ min m most_counts → all ≤ length counts → IsLowestWith (length (take all counts)) (take all counts) least r
+      → r ≡ lowest_with m counts least
+  lowest_of_cut m {all} all_is room cut =
+      let long : min (length (take all counts)) most_counts ≡ all = omega (arith, length-take all counts) in
+      cut.is
+      ∙ ap (λ (n : ℕ). lowest_from (take all counts) least n 0) long
+      ∙ lowest_cut all all 0 (omega arith)
+      ∙ ap (λ (n : ℕ). lowest_from counts least n 0) all_is
 
   -- For m of at most 256 and the least of the first m counts, `lowest_with` is the lowest rotation at which the counts are least.
   pub lowest_least : {m : ℕ} → m ≤ most_counts → IsLeast m counts least → lowest_with m counts least ≡ lowest (λ r. get_or counts r 0) m

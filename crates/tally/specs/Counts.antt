@@ -197,11 +197,10 @@ pub record IsPartEnd (from m end : ℕ) : Type 0 where
   pub end_le : end ≤ m
   pub fits : end ≤ from + last_part_count
 
--- The precondition of `add_part`: both lists have a count for each of m rotations, and sixteen bits hold each sum.
-pub record CanAddPart (m : ℕ) (counts part : List ℕ) : Type 0 where
-  pub has_counts : HasCounts m (length counts)
-  pub part_room : m ≤ length part
-  pub each_le : (r : ℕ) → r < m → get_or counts r 0 + get_or part r 0 ≤ last_count
+-- The precondition of `add_part`: there are as many counts as in the part, and sixteen bits hold each sum.
+pub record CanAddPart (counts part : List ℕ) : Type 0 where
+  pub size : length counts ≡ length part
+  pub each_le : (r : ℕ) → r < length part → get_or counts r 0 + get_or part r 0 ≤ last_count
 
 -- The contract of `count_edges`: a window that can be counted is counted afresh, at m·m looks. `old` and `new` are the counts at entry and exit, z is returned.
 pub record IsCountedAfresh (doubled window old new : List ℕ) (z : Fresh) : Type 0 where

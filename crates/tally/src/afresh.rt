@@ -3,7 +3,7 @@ ghost use Rattle.std.specs.Prelude.{◌≡◌, ℕ, ◌+◌, ◌*◌, ◌<◌, �
 ghost use Rattle.lists.specs.ByPlace.{StoredFirst};
 ghost use Rattle.tally.specs.Counts.{last_count, last_part_count, can_count, CanCount, IsDoubled, run_counted, CanCountOn, IsCountedOn, IsPartEnd, CanAddPart, IsCountedAfresh, IsCounted};
 
-use crate::counts::{MOST_COUNTS, Tally, clear, differing, least_of};
+use crate::counts::{MOST_COUNTS, Tally, differing, least_of};
 use crate::marks::past_mark;
 use answers::{LinePlace, RingPlace, to_ring};
 
@@ -121,12 +121,12 @@ fn part_end(from: usize, m: usize) -> usize
     from + PART_EDGES.min(m - from)
 }
 
-// Adds a part's counts of m rotations to the counts of the parts before it.
-fn add_part(counts: &mut [u16; MOST_COUNTS], part: &[u8; MOST_COUNTS], m: usize)
-    requires { CanAddPart m counts.old part.now }
-    ensures { StoredFirst m (λ r. get_or counts.old r 0 + get_or part.now r 0) counts.old counts.new }
+// Adds a part's counts to the counts of the parts before it, of as many rotations.
+fn add_part(counts: &mut [u16], part: &[u8])
+    requires { CanAddPart counts.old part.now }
+    ensures { StoredFirst (length part.now) (λ r. get_or counts.old r 0 + get_or part.now r 0) counts.old counts.new }
 {
-    for r in 0..m {
+    for r in 0..part.len() {
         counts[r] += u16::from(part[r]);
     }
 }
@@ -157,7 +157,7 @@ fn count_part(
         past_here = counted.past;
         q += counted.edges;
     }
-    add_part(counts, &part, m);
+    add_part(&mut counts[..m], &part[..m]);
     let edges = end - from;
     EdgesCounted {
         edges,
@@ -181,7 +181,7 @@ fn count_edges(counts: &mut [u16; MOST_COUNTS], doubled: &[u8], window: &[u8]) -
     ensures { IsCountedAfresh doubled.now window.now counts.old counts.new result }
 {
     let m = window.len();
-    clear(counts, m);
+    counts[..m].fill(0);
     let mut looks: usize = 0;
     let mut past: usize = 0;
     let mut q = 0;
@@ -192,7 +192,7 @@ fn count_edges(counts: &mut [u16; MOST_COUNTS], doubled: &[u8], window: &[u8]) -
         past = counted.past;
         q += counted.edges;
     }
-    let least = usize::from(least_of(counts, m));
+    let least = usize::from(least_of(&counts[..m]));
     Fresh { least, looks, past }
 }
 

@@ -1,8 +1,7 @@
 // Counts of differing edges, one for each rotation. A tally's count is at most 256, one more than eight bits hold, so
 // it is a u16.
-ghost use Rattle.std.specs.Prelude.{◌≡◌, eqb, length};
-ghost use Rattle.lists.specs.ByPlace.{StoredFirst};
-ghost use Rattle.tally.specs.Counts.{IsComparison, IsFindingAt, HasCounts, IsLeast, IsLowestWith, IsTies};
+ghost use Rattle.std.specs.Prelude.{◌≡◌, ◌<◌, ◌≤◌, eqb, length};
+ghost use Rattle.tally.specs.Counts.{most_counts, IsComparison, IsFindingAt, IsLeast, IsLowestWith, IsTies};
 
 use answers::{LinePlace, RingPlace};
 use findings::{Finding, MOST_RING};
@@ -32,49 +31,39 @@ pub fn differing(a: u8, b: u8) -> u8
     u8::from(a != b)
 }
 
-// Sets the counts of m rotations to 0.
-pub fn clear(counts: &mut [u16; MOST_COUNTS], m: usize)
-    requires { HasCounts m (length counts.old) }
-    ensures { StoredFirst m (λ _. 0) counts.old counts.new }
-{
-    counts[..m].fill(0);
-}
-
-// The least of the first m counts.
-pub fn least_of(counts: &[u16; MOST_COUNTS], m: usize) -> u16
-    requires { HasCounts m (length counts.now) }
-    ensures { IsLeast m counts.now result }
+// The least of a ring's counts.
+pub fn least_of(counts: &[u16]) -> u16
+    requires { 0 < length counts.now }
+    ensures { IsLeast (length counts.now) counts.now result }
 {
     let mut least = counts[0];
-    for count in &counts[1..m] {
+    for count in &counts[1..] {
         least = least.min(*count);
     }
     least
 }
 
-// The lowest of m rotations whose count is `least`; m if none has that count. An m above 256 is taken as 256 (the
-// result is then 256 if none has it).
-fn lowest_rotation(counts: &[u16; MOST_COUNTS], m: usize, least: usize) -> RingPlace
-    ensures { IsLowestWith m counts.now least result.0 }
+// The lowest rotation whose count is `least`; the number of the counts if none has that count.
+fn lowest_rotation(counts: &[u16], least: usize) -> RingPlace
+    requires { length counts.now ≤ most_counts }
+    ensures { IsLowestWith (length counts.now) counts.now least result.0 }
 {
-    let all = m.min(MOST_COUNTS);
-    let lowest = counts[..all]
-        .iter()
-        .position(|count| usize::from(*count) == least);
-    RingPlace(lowest.unwrap_or(all))
+    let lowest = counts.iter().position(|count| usize::from(*count) == least);
+    RingPlace(lowest.unwrap_or(counts.len()))
 }
 
-// "how many rotations reach the least distance" (document 02, ticket 1): how many of m rotations have the count `least`.
-// An m above 256 is taken as 256. Counts are compared in their own sixteen bits, because the compiler then compares eight
-// of them at once. A `least` above 65,535 has no ties: no count is that large.
-fn count_ties(counts: &[u16; MOST_COUNTS], m: usize, least: usize) -> usize
-    ensures { IsTies m counts.now least result }
+// "how many rotations reach the least distance" (document 02, ticket 1): how many of the rotations have the count
+// `least`. Counts are compared in their own sixteen bits, because the compiler then compares eight of them at once. A
+// `least` above 65,535 has no ties: no count is that large.
+fn count_ties(counts: &[u16], least: usize) -> usize
+    requires { length counts.now ≤ most_counts }
+    ensures { IsTies (length counts.now) counts.now least result }
 {
     let Ok(wanted) = u16::try_from(least) else {
         return 0;
     };
     let mut ties: u16 = 0;
-    for count in &counts[..m.min(MOST_COUNTS)] {
+    for count in counts {
         ties += u16::from(*count == wanted);
     }
     usize::from(ties)
@@ -83,15 +72,17 @@ fn count_ties(counts: &[u16; MOST_COUNTS], m: usize, least: usize) -> usize
 impl Tally {
     // "It carries start, rotation, distance: the least distance, and the lowest r that reaches it", and how many reach
     // it: the finding at a start whose least count is `least`. Callers call it only for a start that is a finding, so
-    // rotation and ties are sought only then. Both are read off the counts, so no line edge is read.
+    // rotation and ties are sought only then. Both are read off the counts, so no line edge is read. An m above 256 is
+    // taken as 256.
     pub fn finding_at(&self, m: usize, start: LinePlace, least: usize) -> Finding
         ensures { IsFindingAt m self.now.counts start least result }
     {
+        let counts = &self.counts[..m.min(MOST_COUNTS)];
         Finding {
             start,
-            rotation: lowest_rotation(&self.counts, m, least),
+            rotation: lowest_rotation(counts, least),
             distance: least,
-            ties: count_ties(&self.counts, m, least),
+            ties: count_ties(counts, least),
         }
     }
 }

@@ -14,7 +14,7 @@ pub loop-count-init : goal.loop-count-init
 loop-count-init c = ties_start
 
 pub loop-count-preserved : goal.loop-count-preserved
-loop-count-preserved c = ties_turn c.loop-count.invariant (one_tie c.args.counts.now _ _ c.loop-count-test.true c.in-Ok.ensures.1 c.from-ties.ensures)
+loop-count-preserved c = ties_turn c.loop-count.invariant (one_tie c.args.counts.now _ _ c.in-Ok.ensures.1 c.from-ties.ensures)
 
 pub returns : goal.returns
-returns c = rw c.from.ensures (ties_end c.loop-count.invariant (omega arith) c.min.ensures (omega arith))
+returns c = rw c.from.ensures (ties_end c.loop-count.invariant (omega arith) c.requires (omega arith))
