@@ -20,15 +20,7 @@ fn report(
     let Searched { row, ring, line, k } = searched;
     let mut bytes: [u8; AREA_BYTES] = area::filled(0);
     let of = Silenced::of_row(row, 6, &mut bytes);
-    let answer = outlines::report_closed(
-        of.subject,
-        ring,
-        line,
-        k,
-        of.book,
-        join,
-        lent,
-    );
+    let answer = outlines::report_closed(of.subject, ring, line, k, of.book, join, lent);
     paper::print_report(rt, answer)
 }
 
