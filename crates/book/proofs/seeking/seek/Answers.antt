@@ -5,11 +5,8 @@ use mathlib.Core.Bool.{not}
 use native.Mathlib.Omega.{arith}
 use Rattle.silences.proofs.DerivedOrder.{derived_not_below}
 use Rattle.silences.proofs.FieldTest.{field_ends}
-use Rattle.book.proofs.SeekLoop.{seek_start, seek_nothing, seek_end, seek_turn}
+use Rattle.book.proofs.SeekLoop.{seek_nothing, seek_end, seek_turn}
 use Rattle.book.proofs.seeking.seek.Goals as goal
-
-pub loop-field-init : goal.loop-field-init
-loop-field-init c = seek_start _ _ _
 
 -- a field that is not below the address
 pub returns-then-ge : goal.returns-then-ge

@@ -1,12 +1,6 @@
 -- `exports::two_way_scan::outlines_scan_two_way` meets its contract: it returns the answer of `scan_two_way` as a struct.
-use mathlib.Core.Path.{◌∙◌}
 use Rattle.exports.proofs.PassedOn.{two_way_place}
 use Rattle.exports.proofs.two_way_scan.outlines_scan_two_way.Goals as goal
 
 pub two_way_answer-requires : goal.two_way_answer-requires
 two_way_answer-requires c = two_way_place c.scan_two_way.ensures
-
-pub returns : goal.returns
-returns c =
-    let answered = c.scan_two_way.ensures in
-    record { paper = c.two_way_answer.ensures ∙ answered.paper; written = answered.written }

@@ -1,8 +1,6 @@
 -- `outlines::closed::report_closed` meets its contract: one of the search's rows is given; none of them is, and the book is refused; or the join area is filled and the
 -- closed line is scanned with the book (`LentParts` of crates/windows, `ClosedReportAnswers`).
 use mathlib.Core.Path.{refl, sym}
-use lib.Seq.{length-take-le}
-use Rattle.windows.proofs.JoinFilled.{used_le}
 use Rattle.windows.proofs.LentParts.{closed_lent, closed_joined}
 use Rattle.answers.proofs.Returned.{returned}
 use Rattle.findings.proofs.ClosedAdmitRows.{closed_no_row_iff}
@@ -10,13 +8,6 @@ use Rattle.outlines.proofs.LentScan.{can_scan_line, searched_scanned}
 use Rattle.outlines.proofs.ReportAnswers.{read_accepted, read_refused}
 use Rattle.outlines.proofs.ClosedReportAnswers.{closed_report_refused_row, closed_report_refused_book, closed_report_accepted}
 use Rattle.outlines.proofs.closed.report_closed.Goals as goal
-
--- The used part is within the join area.
-pub slice_bounds-lent-end : goal.slice_bounds-lent-end
-slice_bounds-lent-end c = used_le c.fill_join-used.ensures
-
-pub slice_bounds-lent-end-2 : goal.slice_bounds-lent-end-2
-slice_bounds-lent-end-2 c = sym (length-take-le _ _ (used_le c.fill_join-used.ensures))
 
 pub scan_line-requires : goal.scan_line-requires
 scan_line-requires c =

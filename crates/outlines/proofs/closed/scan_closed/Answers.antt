@@ -1,8 +1,6 @@
 -- `outlines::closed::scan_closed` meets its contract: a row is given and the call is refused, or the join area is filled and the closed line is scanned with an empty
 -- book (`LentParts` of crates/windows, `empty_book_searched`). These are the two ways in which a search on a closed line meets its contract (`ClosedSearchAnswers` of crates/findings).
 use mathlib.Core.Path.{refl, sym}
-use lib.Seq.{length-take-le}
-use Rattle.windows.proofs.JoinFilled.{used_le}
 use Rattle.windows.proofs.LentParts.{closed_lent, closed_joined}
 use Rattle.answers.proofs.Returned.{returned}
 use Rattle.findings.proofs.ClosedAdmitRows.{closed_no_row_iff}
@@ -10,13 +8,6 @@ use Rattle.findings.proofs.ClosedSearchAnswers.{refused_closed_search, accepted_
 use Rattle.outlines.proofs.LentScan.{can_scan_line, searched_scanned}
 use Rattle.outlines.proofs.EmptyBookIsScan.{empty_book_read, empty_book_searched}
 use Rattle.outlines.proofs.closed.scan_closed.Goals as goal
-
--- The used part is within the join area.
-pub slice_bounds-lent-end : goal.slice_bounds-lent-end
-slice_bounds-lent-end c = used_le c.fill_join-used.ensures
-
-pub slice_bounds-lent-end-2 : goal.slice_bounds-lent-end-2
-slice_bounds-lent-end-2 c = sym (length-take-le _ _ (used_le c.fill_join-used.ensures))
 
 pub scan_line-counted-requires : goal.scan_line-counted-requires
 scan_line-counted-requires c =

@@ -4,15 +4,12 @@ use mathlib.Core.Path.{refl, ap}
 use native.Mathlib.Omega.{arith}
 use Rattle.windows.proofs.WindowEdges.{fits_whole, past_whole}
 use Rattle.sweep.specs.SweepRules.{state_of, found_of}
-use Rattle.outlines.proofs.QuickLoop.{quick_start, quick_found_le, quick_length, quick_end, quick_less, quick_none, quick_can_ask, quick_found}
+use Rattle.outlines.proofs.QuickLoop.{quick_start, quick_found_le, quick_end, quick_less, quick_none, quick_can_ask, quick_found}
 use Rattle.outlines.proofs.quick.scan_windows.Goals as goal
 
 pub loop-at-init : goal.loop-at-init
 loop-at-init c =
     (refl, (c.whole_length-n.ensures, quick_start c.requires refl refl refl refl refl c.field_at-held.ensures))
-
-pub overflow_add-at : goal.overflow_add-at
-overflow_add-at c = omega (arith, c.loop-at.invariant.1.1.sweep.start_le)
 
 -- A finding, for which the book is asked.
 pub ask-asked-requires : goal.ask-asked-requires
@@ -55,9 +52,6 @@ loop-at-preserved c =
 -- Past the last window.
 pub overflow_add-found : goal.overflow_add-found
 overflow_add-found c = omega (arith, quick_found_le c.loop-at.invariant.1.1)
-
-pub shape_of-words : goal.shape_of-words
-shape_of-words c = quick_length c.loop-at.invariant.1.1
 
 pub returns : goal.returns
 returns c = quick_end c.loop-at.invariant.1.1 (past_whole c.loop-at.invariant.1.0 c.loop-at-test.false)

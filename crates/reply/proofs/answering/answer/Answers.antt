@@ -1,10 +1,6 @@
 -- `reply::answering::answer` meets its contract: it writes the line of refusal 11, or the text of the request.
-use Rattle.reply.proofs.RequestCases.{answered_by, parts_line_le, parts_text, refused_line}
-use borrow.Author.Rules.{rules}
+use Rattle.reply.proofs.RequestCases.{answered_by, parts_text, refused_line}
 use Rattle.reply.proofs.answering.answer.Goals as goal
-
-pub answer_request-requires : goal.answer_request-requires
-answer_request-requires c = record { line_le = parts_line_le c.in-Ok.ensures; room_for = search rules }
 
 pub returns-in-Err : goal.returns-in-Err
 returns-in-Err c = answered_by (refused_line c.in-Err.ensures) c.put_refusal.ensures

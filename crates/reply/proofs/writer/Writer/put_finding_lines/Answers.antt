@@ -3,12 +3,8 @@ use mathlib.Core.Path.{◌∙◌}
 use native.Mathlib.Omega.{arith}
 use Rattle.lists.specs.ByPlace.{list_of}
 use Rattle.reply.specs.Writing.{filled}
-use Rattle.reply.proofs.LinesLoop.{lines_start, lines_turn, lines_end}
+use Rattle.reply.proofs.LinesLoop.{lines_turn, lines_end}
 use Rattle.reply.proofs.writer.Writer.put_finding_lines.Goals as goal
-
-pub loop-finding-init : goal.loop-finding-init
-loop-finding-init c =
-    rw (c.into_iter-finding-iterator.ensures.into_iter_gives, c.chunks_exact-finding-items.ensures.rest) (c.chunks_exact-finding-items.ensures.size, lines_start)
 
 pub loop-finding-preserved : goal.loop-finding-preserved
 unfolding filled list_of

@@ -1,12 +1,9 @@
 -- `reply::writer::Writer::put_line` meets its contract: its loop keeps `Filling`.
 use mathlib.Core.Path.{ap, ◌∙◌}
 use Rattle.std.specs.Option.{unwrap_or}
-use Rattle.reply.proofs.FormLoop.{number_next, form_start, form_number, form_byte, form_end}
+use Rattle.reply.proofs.FormLoop.{number_next, form_number, form_byte, form_end}
 use Rattle.reply.proofs.writer.Writer.put_line.Goals as goal
 use Rattle.reply.proofs.writer.Writer.put_line.Goals.{then-byte-eq-HOLE, else-byte-eq-HOLE}
-
-pub loop-byte-init : goal.loop-byte-init
-loop-byte-init c = rw c.iter-numbers.ensures.rest form_start
 
 pub loop-byte-preserved : goal.loop-byte-preserved
 loop-byte-preserved c =

@@ -6,11 +6,8 @@ use lib.ListN.{drop_of_length-le}
 use lib.Seq.{drop-cons}
 use Rattle.reply.proofs.DecimalDigits.{decimal_printed}
 use Rattle.reply.proofs.TextWritten.{written_same}
-use Rattle.reply.proofs.PutLoop.{put_start, put_turn, put_end}
+use Rattle.reply.proofs.PutLoop.{put_turn, put_end}
 use Rattle.reply.proofs.writer.Writer.put_number.Goals as goal
-
-pub loop-digit-init : goal.loop-digit-init
-loop-digit-init c = put_start
 
 pub loop-digit-preserved : goal.loop-digit-preserved
 loop-digit-preserved c =
