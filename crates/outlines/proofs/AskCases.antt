@@ -20,7 +20,7 @@ module _ {book : List ℕ} (asked : BookAsked) (cell ring_number : ℕ) (f : Fin
   held_is : sought_of held ≡ held_for cell ring_number book f (sought_of asked.held)
   held_is = rw address_is at sought.is
 
-  -- counting by the answer t of `hides` counts as `ask` must
+  -- counting by the answer t of `hides` meets the contract of `ask`
   is_asked : {now_shown now_hidden : ℕ} → now_shown ≡ cond t asked.shown (asked.shown + 1) → now_hidden ≡ cond t (asked.hidden + 1) asked.hidden
       → IsHiddenOrShown cell ring_number book asked f (record { shown = now_shown; hidden = now_hidden; held = held })
   is_asked s h =
@@ -31,10 +31,10 @@ module _ {book : List ℕ} (asked : BookAsked) (cell ring_number : ℕ) (f : Fin
         hidden_is = h ∙ ap (λ (b : Bool). cond b (asked.hidden + 1) asked.hidden) hides_is;
       }
 
-  -- If the field hides the finding, counting it as hidden is what `ask` must return.
+  -- If the field hides the finding, counting it as hidden meets the contract of `ask`.
   pub ask_hidden : t ≡ true → IsHiddenOrShown cell ring_number book asked f (record { shown = asked.shown; hidden = asked.hidden + 1; held = held })
   ask_hidden e = is_asked (rw e refl) (rw e refl)
 
-  -- If the field does not hide the finding, counting it as shown is what `ask` must return.
+  -- If the field does not hide the finding, counting it as shown meets the contract of `ask`.
   pub ask_shown : t ≡ false → IsHiddenOrShown cell ring_number book asked f (record { shown = asked.shown + 1; hidden = asked.hidden; held = held })
   ask_shown e = is_asked (rw e refl) (rw e refl)

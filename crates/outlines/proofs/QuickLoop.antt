@@ -138,7 +138,7 @@ module _ {cell ring_number : ℕ} {ring doubled : List ℕ} {table : EdgeVectors
           room_behind =
               omega (arith, counts_add, scan_found_le ring line k _ _ _ _ sweep_next.scanning, length-append h.so_far (f ∷ []), room_for_all ring line k h.can.can_scan.can_search)
 
-          -- If the turn reports a finding f, the invariant holds after `ask`.
+          -- If the turn reports a finding f, the invariant holds after `ask` and `put_shown`.
           pub quick_found : QuickLoop cell ring_number ring doubled table p k book counts₀ area next asked' counts' out
           quick_found =
               go (is_hidden ss cell ring_number f) refl (held_hides h.held_from f (turn.found f e).from_le h.can.can_scan.book_read)

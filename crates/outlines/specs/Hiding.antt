@@ -5,9 +5,8 @@
 --   held_for           the first field of the book, from the field held on, that is not below this address; `faulty` if a faulty field or the book's end comes first
 --   hides_finding      whether that field hides the finding: it has this very address, and a ceiling of at least the finding's distance
 --   CanAsk             the precondition of `ask`
---   IsHiddenOrShown    the finding is counted as hidden or as shown
---   IsShownPut         its words are put if it is shown
---   IsAsked            the contract of `ask`: both of these
+--   IsHiddenOrShown    the contract of `ask`
+--   IsShownPut         the contract of `put_shown`
 use Rattle.std.specs.Prelude.{ℕ, ◌+◌, ◌≤◌, ◌<◌, ◌≡◌, Bool, cond, List}
 use Rattle.meaning.specs.Findings.{Finding}
 use Rattle.silences.specs.Silences.{Address, address}
@@ -37,19 +36,14 @@ pub record CanAsk (so_far : BookAsked) (f : Finding) : Type 0 where
   pub shown_le : so_far.shown ≤ most_places
   pub hidden_le : so_far.hidden ≤ most_places
 
--- What `ask` returns as r: the field for the finding is held, and one finding more is counted as hidden or as shown.
+-- The contract of `ask`, which returns r: the field for the finding is held, and one finding more is counted as hidden or as shown.
 pub record IsHiddenOrShown (cell ring_number : ℕ) (book : List ℕ) (so_far : BookAsked) (f : Finding) (r : BookAsked) : Type 0 where
   pub held_is : sought_of r.held ≡ held_for cell ring_number book f (sought_of so_far.held)
   pub shown_is : r.shown ≡ cond (hides_finding cell ring_number book f (sought_of so_far.held)) so_far.shown (so_far.shown + 1)
   pub hidden_is : r.hidden ≡ cond (hides_finding cell ring_number book f (sought_of so_far.held)) (so_far.hidden + 1) so_far.hidden
 
--- What `ask` writes; `before` and `now_shown` are the numbers of shown findings before and after the finding was counted. If it was counted as shown,
+-- The contract of `put_shown`; `before` and `now_shown` are the numbers of shown findings before and after the finding was counted. If it was counted as shown,
 -- its words are put behind those of the shown ones before it; else no word changes.
 pub record IsShownPut (words : List ℕ) (before now_shown : ℕ) (f : Finding) (out : List ℕ) : Type 0 where
   pub shown_put : before < now_shown → IsFindingPut words before f out
   pub hidden_same : now_shown ≤ before → out ≡ words
-
--- The contract of `ask`, which returns r and leaves the lent words as `out`.
-pub record IsAsked (cell ring_number : ℕ) (book : List ℕ) (so_far : BookAsked) (words : List ℕ) (f : Finding) (r : BookAsked) (out : List ℕ) : Type 0 where
-  pub counted : IsHiddenOrShown cell ring_number book so_far f r
-  pub put : IsShownPut words so_far.shown r.shown f out

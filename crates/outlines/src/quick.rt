@@ -5,7 +5,7 @@ ghost use Rattle.windows.specs.Windows.{parts_of, whole_line};
 ghost use Rattle.outlines.specs.Scan.{IsScanned};
 ghost use Rattle.outlines.specs.LineScan.{CanScan, CanScanLine, LineScanned};
 
-use crate::asking::{BookAsked, NOBODY, Subject, ask};
+use crate::asking::{BookAsked, NOBODY, Subject, ask, put_shown};
 use answers::{LinePlace, Refusal};
 use findings::{SearchCounts, admit};
 use occurrences::{EdgeVectors, KEPT_WORDS, SLOTS};
@@ -57,7 +57,9 @@ fn scan_windows<'a>(
                 at = next;
             }
             Swept::Found(next, finding) => {
-                asked = ask(subject, book, asked, finding, words);
+                let before = asked.shown;
+                asked = ask(subject, book, asked, finding);
+                put_shown(words, before, asked.shown, finding);
                 at = next;
             }
         }

@@ -25,7 +25,7 @@ loop-at-smaller-in-Found-1 c =
 pub loop-at-preserved-in-Found-1 : goal.loop-at-preserved-in-Found-1
 loop-at-preserved-in-Found-1 c =
     let told = c.in-Found.is in
-    (refl, (c.loop-at.invariant.1.0, quick_found c.loop-at.invariant.1.1 c.sweep_on.ensures (ap state_of told) (ap found_of told) c.ask-asked.ensures.counted c.ask-asked.ensures.put))
+    (refl, (c.loop-at.invariant.1.0, quick_found c.loop-at.invariant.1.1 c.sweep_on.ensures (ap state_of told) (ap found_of told) c.ask-asked.ensures c.put_shown.ensures))
 
 -- No window fits in the line any more.
 pub loop-at-smaller-in-Ended : goal.loop-at-smaller-in-Ended
