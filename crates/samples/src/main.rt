@@ -3,6 +3,8 @@
 // crates/samples/stdout.
 #![tactic(auto)]
 
+ghost use Rattle.std.specs.Prelude.{◌≤◌, IfOk, length};
+
 mod answer_rows;
 mod area;
 mod book_rows;
@@ -61,7 +63,9 @@ fn run(rt: &impl Print, call: Call, text: &[u8], number: usize) -> io::Result<()
 }
 
 // Reads the input until the area is full or the input ends, and returns what was read.
-fn read_text<'a>(reader: impl Read + Drop, area: &'a mut [u8]) -> io::Result<&'a [u8]> {
+fn read_text<'a>(reader: impl Read + Drop, area: &'a mut [u8]) -> io::Result<&'a [u8]>
+    ensures { IfOk result (λ text. length text.now ≤ length area.old) }
+{
     let room = area.len();
     let mut rest: &mut [u8] = &mut *area;
     io::copy(&mut reader.take(room as u64), &mut rest)?;
