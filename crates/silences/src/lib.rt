@@ -11,7 +11,7 @@ mod order;
 pub use addresses::{Address, Field};
 pub use field::field_at;
 pub use lengths::{
-    CEILING_BYTES, CEILING_TAG, EXACT_TAG, MOST_SILENCES, PACKED_LENGTH, PACKED_VALUE_LENGTH,
-    RECORD_WORDS,
+    CEILING_BYTES, CEILING_TAG, CELL_BYTES, EXACT_TAG, MOST_SILENCES, PACKED_LENGTH,
+    PACKED_VALUE_LENGTH, RECORD_WORDS, RING_NUMBER_BYTES, START_BYTES,
 };
 pub use order::is_above;
