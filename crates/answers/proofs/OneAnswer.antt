@@ -89,11 +89,11 @@ module _ {C : Type 0} (zeros : C) where
   pub answer_unique : (a b : Answer C) → answer_paper zeros a ≡ answer_paper zeros b → a ≡ b
   answer_unique a b e = sym (answer_back_lem a) ∙ ap answer_with e ∙ answer_back_lem b
 
--- Any two answers of `number_of` are equal.
+-- Any two answers of `Refusal::number` are equal.
 pub number_of_unique : (refusal : Refusal) (a b : ℕ) → IsNumber refusal a → IsNumber refusal b → a ≡ b
 number_of_unique refusal a b s t = s.is ∙ sym t.is
 
--- Any two answers of `place_of` are equal.
+-- Any two answers of `Refusal::place` are equal.
 pub place_of_unique : (refusal : Refusal) (a b : ℕ) → IsPlace refusal a → IsPlace refusal b → a ≡ b
 place_of_unique refusal a b s t = s.is ∙ sym t.is
 

@@ -4,7 +4,7 @@
 --   number_of            the column "No."
 --   place_of             the column "Place"
 --   number_of_row        the number of a row, if the rows are counted from 1
---   IsNumber, IsPlace    the contracts of `number_of` and `place_of`
+--   IsNumber, IsPlace    the contracts of `Refusal::number` and `Refusal::place`
 --
 -- A refusal whose place is always 0 holds no place. All 15 rows built so far are here, 1 to 12 and 14 to 16, and no
 -- other. Row 13 comes with ticket 9.
@@ -85,10 +85,10 @@ place_of (EqualNeighbours place) = place
 abbrev pub number_of_row : ℕ → ℕ
 number_of_row row = cond (ltb row 13) row (row + 1)
 
--- The contract of `number_of`, which returns r.
+-- The contract of `Refusal::number`, which returns r.
 pub record IsNumber (refusal : Refusal) (r : ℕ) : Type 0 where
   pub is : r ≡ number_of refusal
 
--- The contract of `place_of`, which returns r.
+-- The contract of `Refusal::place`, which returns r.
 pub record IsPlace (refusal : Refusal) (r : ℕ) : Type 0 where
   pub is : r ≡ place_of refusal

@@ -1,6 +1,6 @@
 -- The first number below n that passes a test: no number before it passes, and it passes itself unless it is n (`first_below_lem`, by induction on how many numbers
--- are asked). No other number has these properties (`first_unique`). So a loop that asks the numbers one after the other, with the invariant `NoneBefore`, ends at
--- the first that passes (`first_by`).
+-- are asked). No other number has these properties (`first_unique`). So a number before which none passes (`NoneBefore`), and which passes itself or is n, is the
+-- first that passes (`first_by`).
 use Prim.Native.Nat.{ℕ, zero, suc, ◌+◌, ◌≤◌, ◌<◌}
 use mathlib.Core.Path.{◌≡◌, sym, ap, ◌∙◌}
 use mathlib.Core.Bool.{Bool, true, false, true≢false}
@@ -35,7 +35,7 @@ first_from_lem p (suc n) a =
     (λ e. record { from_le = omega arith; to_le = omega arith; fails = λ r from l. absurd (omega arith); passes = λ _. e })
     (λ e. past_failed e (first_from_lem p n (suc a)))
 
--- q is at most n, and no number below q passes: the invariant of a loop that asks the numbers below n one after the other.
+-- q is at most n, and no number below q passes.
 pub record NoneBefore (p : ℕ → Bool) (n q : ℕ) : Type 0 where
   pub place_le : q ≤ n
   pub fails : (r : ℕ) → r < q → p r ≡ false
@@ -66,7 +66,7 @@ module _ {p : ℕ → Bool} {n : ℕ} where
       let not_more : b < a → ⊥ = not_above first.none_before other.passes in
       omega arith
 
-  -- The loop's invariant holds at the start: there is no number before 0.
+  -- There is no number before 0.
   pub none_start : NoneBefore p n 0
   none_start = record { place_le = omega arith; fails = λ r l. absurd (omega arith) }
 
@@ -77,7 +77,7 @@ module _ {p : ℕ → Bool} {n : ℕ} where
     fails = λ r l. ⊎_elim (λ here. ap p here ∙ failed) (λ earlier. before.fails r earlier) (eq-or-lt_of_le (omega arith));
   }
 
-  -- Where the loop ends, because q passes or is n, it has found the first.
+  -- If no number before q passes, and q passes or is n, q is the first.
   pub first_by : {q : ℕ} → NoneBefore p n q → (q < n → p q ≡ true) → q ≡ first_below p n
   first_by before passes = first_unique (record { none_before = before; passes = passes }) first_below_lem
 

@@ -3,7 +3,7 @@
 --   FoundExactly    `findings_iff`, `found_iff`            the list `findings` has exactly the findings
 --   Ties            `ties_most`, `another_iff`             a finding has 1 to m ties, above 1 exactly when another rotation is as near
 --   Rising          `findings_rising`, `findings_unique`   they are listed by strictly rising start, at most one for each start
---   FitDecided      `Fits-iff`                             the test for a stretch that fits is right
+--   FitDecided      `fits_iff`                             the test for a stretch that fits is right
 --   NothingLost     `nothing_lost`, `no_start_to_mark`     a jump passes over no finding; up to a mark it passes over no start
 --   QuickFindsAll   `quick_finds_all`                      the rules report exactly the findings
 --   LookBound       `quick_looks_le`                        for n ≥ m the quick scan takes at most 3·m·n − 2·m·m + m looks

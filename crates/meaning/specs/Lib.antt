@@ -58,7 +58,7 @@
 -- Where a window, a tally or a sweep has a `start`, this is the place where its window begins; since document 02, ticket 2, that place need not be a start.
 --
 -- Where a word has two forms, the lower-case one computes, and the upper-case one states the same as a fact: window in the line, mark held, start, finding, fit.
--- proofs/ has the laws that join the two: `fits_line_iff`, `holds_iff`, `start_iff`, `findings_iff`, `Fits-iff`.
+-- proofs/ has the laws that join the two: `fits_line_iff`, `holds_iff`, `start_iff`, `findings_iff`, `fits_iff`.
 pub mod Counting
 pub mod Meanings
 pub mod Findings

@@ -1,4 +1,4 @@
--- Document 01, "Meanings": the stretch that fits. `Fits` is the sentence to believe, `fits` is the same as a test, and `Fits-iff` of proofs/
+-- Document 01, "Meanings": the stretch that fits. `Fits` is the sentence to believe, `fits` is the same as a test, and `fits_iff` of proofs/
 -- joins them.
 use Rattle.std.specs.Prelude.{ℕ, suc, ◌%◌, ◌≤◌, ◌<◌, ◌≡◌, Bool, true, ◌&&◌, List, [], ◌∷◌, leb, eqb, length, get_or}
 use Rattle.meaning.specs.Counting.{some_below}

@@ -30,8 +30,8 @@ fn can_move(m: usize, room: usize, n: usize, from: LinePlace, steps: usize) -> b
 
 // Moves the counts of a search along the line by at most `steps` steps; stops at the first start reached whose least
 // count is below `below`. If they cannot be moved, they stay as they are, and `from` and zeros are returned: the start
-// where they are, no step and no look. (An Option would be no plainer: both callers move only what can be moved, and their
-// case for None would never come.)
+// where they are, no step and no look. (An Option would be no plainer: the callers of the one caller, `move_tally`, move
+// only what can be moved, and their case for None would never come.)
 fn move_counts<'a>(
     counts: &mut [u16; MOST_COUNTS],
     ring: &[u8],

@@ -1,4 +1,4 @@
--- `windows::windows::window` meets its contract: the tests decide whether the window begins behind the line, lies in it, or crosses its end; `part` takes a window
+-- `windows::windows::LineParts::window` meets its contract: the tests decide whether the window begins behind the line, lies in it, or crosses its end; `part` takes a window
 -- that crosses out of the join area (`WindowEdges`).
 use native.Mathlib.Omega.{arith}
 use mathlib.Core.Path.{◌∙◌}
