@@ -62,13 +62,13 @@ pub record LieAlike {input : List ℕ} {p p' : Parts} (a : PartsWithin input p) 
   pub line_to : a.line_to ≡ b.line_to
 
 -- The same of two returned values. A refusal has no parts.
-abbrev pub PartsLieAlike : {input : List ℕ} (r r' : Result Parts Refusal) → IfOk r (PartsWithin input) → IfOk r' (PartsWithin input) → Type 0
-PartsLieAlike (Ok p) (Ok p') a b = LieAlike a b
-PartsLieAlike (Ok p) (Err refusal) a b = Unit {0}
-PartsLieAlike (Err refusal) r' a b = Unit {0}
+abbrev pub PartsLieAlike : (input : List ℕ) (r r' : Result Parts Refusal) → IfOk r (PartsWithin input) → IfOk r' (PartsWithin input) → Type 0
+PartsLieAlike input (Ok p) (Ok p') a b = LieAlike a b
+PartsLieAlike input (Ok p) (Err refusal) a b = Unit {0}
+PartsLieAlike input (Err refusal) r' a b = Unit {0}
 
 -- the request that is accepted
-accepted_or : Request → Answer Request → Request
+abbrev accepted_or : Request → Answer Request → Request
 accepted_or other (accepted q) = q
 accepted_or other (refused refusal) = other
 
@@ -82,14 +82,14 @@ lie_alike {input} a b same = record {
 }
 
 -- the parts of two answers that stand for the same request or refusal
-parts_alike : {input : List ℕ} (r r' : Result Parts Refusal) (a : IfOk r (PartsWithin input)) (b : IfOk r' (PartsWithin input)) → requested_of r ≡ requested_of r'
-    → PartsLieAlike r r' a b
-parts_alike (Ok p) (Ok p') a b same = lie_alike a b (ap (accepted_or (request_with p)) same)
-parts_alike (Ok p) (Err refusal) a b same = tt
-parts_alike (Err refusal) r' a b same = tt
+parts_alike : (input : List ℕ) (r r' : Result Parts Refusal) (a : IfOk r (PartsWithin input)) (b : IfOk r' (PartsWithin input)) → requested_of r ≡ requested_of r'
+    → PartsLieAlike input r r' a b
+parts_alike input (Ok p) (Ok p') a b same = lie_alike a b (ap (accepted_or (request_with p)) same)
+parts_alike input (Ok p) (Err refusal) a b same = tt
+parts_alike input (Err refusal) r' a b same = tt
 
 -- Any two answers of `read_request` that meet its contract are equal: the same refusal, or the same numbers and the same bytes of ring, line and book, at the same byte
 -- offsets of the input.
 pub requested_unique : (input : List ℕ) (r r' : Result Parts Refusal) (a : IsRequestRead input r) (b : IsRequestRead input r')
-    → (requested_of r ≡ requested_of r') × PartsLieAlike r r' a.within b.within
-requested_unique input r r' a b = let same = a.is ∙ sym b.is in (same, parts_alike r r' a.within b.within same)
+    → (requested_of r ≡ requested_of r') × PartsLieAlike input r r' a.within b.within
+requested_unique input r r' a b = let same = a.is ∙ sym b.is in (same, parts_alike input r r' a.within b.within same)
