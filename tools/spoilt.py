@@ -13,6 +13,7 @@ NOT_FOLLOWED = "the line goes where it is not followed"
 NO_LOOK = "an edge of the line is used without a look"
 NOT_COUNTED = "is asked whether it is a mark, and is not counted"
 NO_ROW = "has no row for what it takes of the line"
+HIDDEN = "the line's struct is part of another type or has another name"
 
 
 def copies(tree, check):
@@ -98,6 +99,37 @@ def copies(tree, check):
     yield "an item of the line compared without a look", in_public("for edge in line.iter() {\nlet same = *edge == 7;\n}"), NO_LOOK
     yield "an item of the line asked only for a mark", in_public("for edge in line.iter() {\nlet marked = is_mark(*edge);\n}"), NOT_COUNTED
     yield "the struct of the line passed on to a function outside these crates", at_start_of(structed, "let sum = checksum(parts);"), NOT_FOLLOWED
+    made, plain = "LineParts { line, join: line }", tree[public.path]
+    alone = "fn {name}({of}) -> {result} {{\n    {body}\n}}\n"
+    yield "an edge compared by a name that `let` gives to the struct", in_public(f"let whole = {made};\nif 0 < whole.line.len() && whole.line[0] == 7 {{\n    return;\n}}"), NO_LOOK
+    yield "an edge compared by a name of the struct, for a value that changes nothing", in_public(f"let whole = {made};\nlet seven = !whole.line.is_empty() && whole.line[0] == 7;\nlet most = if seven {{ k }} else {{ k }};"), NO_LOOK
+    yield "an edge read by a name of the struct", in_public(f"let whole = {made};\nlet first = whole.line[0];"), NO_ROW
+    yield "an edge compared by the second name of the struct", in_public(f"let whole = {made};\nlet mut other = whole;\nlet seven = other.join[0] == 7;"), NO_LOOK
+    yield "an edge compared by a name that is given to the struct later", in_public(f"let whole;\nwhole = {made};\nlet seven = whole.line[0] == 7;"), NO_LOOK
+    yield "an edge compared by a name of a parameter that is the struct", at_start_of(structed, "let whole: LineParts<'a> = parts;\nlet seven = whole.line[0] == 7;"), NO_LOOK
+    yield "an edge compared in the struct as it is made", in_public(f"let seven = {made}.line[0] == 7;"), NO_LOOK
+    yield "an edge compared in a window of the struct as it is made", in_public(f"let seven = {made}.window(LinePlace(0), 1)[0] == 7;"), NO_LOOK
+    yield "an edge compared in a window by a name of the struct", in_public(f"let whole = {made};\nlet seven = whole.window(LinePlace(0), 1)[0] == 7;"), NO_LOOK
+    yield "an edge compared in a window by the path of the method", at_start_of(structed, "let seven = LineParts::window(parts, LinePlace(0), 1)[0] == 7;"), NO_LOOK
+    yield "an edge compared in what a function returns of the struct", at_start_of(structed, "let seven = edges_of(parts)[0] == 7;", alone.format(name="edges_of", of="parts: LineParts<'_>", result="&[u8]", body="parts.line")), NO_LOOK
+    maker = alone.format(name="whole_of", of="edges: &[u8]", result="LineParts<'_>", body="LineParts { line: edges, join: edges }")
+    yield "an edge compared in the struct that a function returns", in_public("let seven = whole_of(line).line[0] == 7;", maker), NO_LOOK
+    yield "an edge compared by a name of the struct that a function returns", in_public("let whole = whole_of(line);\nlet seven = whole.line[0] == 7;", maker), NO_LOOK
+    yield "the struct in a pair that a function returns", in_public("let (whole, m) = pair_of(line);\nlet seven = whole.line[0] == 7;", alone.format(name="pair_of", of="edges: &[u8]", result="(LineParts<'_>, usize)", body="(LineParts { line: edges, join: edges }, 0)")), NOT_FOLLOWED
+    yield "an edge compared in a function that the struct is passed to under another type", in_public(f"let seven = is_seven({made});", "fn is_seven<P: Parts>(whole: P) -> bool {\n    whole.line[0] == 7\n}\n"), NO_LOOK
+    yield "an edge compared in a copy of the struct", at_start_of(structed, "let seven = parts.clone().line[0] == 7;"), NOT_FOLLOWED
+    yield "an edge compared in brackets", at_start_of(structed, "let seven = (parts).line[0] == 7;"), NOT_FOLLOWED
+    yield "the struct taken apart in an argument", at_start_of(structed, "let n = part_end(match parts {\n    LineParts { line: edges, join: _ } => usize::from(edges[0]),\n}, 1);"), NOT_FOLLOWED
+    yield "the struct taken apart by `let`", at_start_of(structed, "let LineParts { line: edges, join: _ } = parts;\nlet seven = edges[0] == 7;"), NOT_FOLLOWED
+    yield "an edge of a struct in an array, as an argument", with_text(public.path, plain + "fn seven_of(all: &[LineParts<'_>]) -> usize {\n    part_end(usize::from(all[0].line[0]), 1)\n}\n"), NOT_FOLLOWED
+    yield "an edge compared in a closure that takes the struct", in_public(f"let read = |whole: LineParts<'_>| whole.line[0] == 7;\nlet seven = read({made});"), NO_LOOK
+    yield "an edge compared in a closure by the name of a function", in_public("let part = |edges: &[u8]| edges[0] == 7;\nlet seven = part(line);"), NOT_FOLLOWED
+    yield "the struct in a struct", with_text(public.path, plain + "struct Held<'a> {\n    parts: LineParts<'a>,\n}\nfn seven_of(held: Held<'_>) -> bool {\n    held.parts.line[0] == 7\n}\n"), HIDDEN
+    yield "the struct under another name in its module", with_text(public.path, plain + "type Whole<'a> = LineParts<'a>;\nfn seven_of(whole: Whole<'_>) -> bool {\n    whole.line[0] == 7\n}\n"), HIDDEN
+    yield "the struct used under another name", with_text(public.path, plain + "use windows::LineParts as Whole;\nfn seven_of(whole: Whole<'_>) -> bool {\n    whole.line[0] == 7\n}\n"), HIDDEN
+    yield "items of the line beside others", in_public("for (edge, at) in line.iter().zip(0..9) {\n    let seven = *edge == 7;\n}"), NOT_FOLLOWED
+    yield "items of the line sifted, and one look for each that is left", in_public("for edge in line.iter().filter(|edge| **edge == 7) {\n    looks += 1; // one look\n}"), NOT_FOLLOWED
+    yield "edges copied elsewhere where the join area is filled", with_text(copy.path, tree[copy.path].replace("join[..ends].copy", "let mut kept = [0; 9];\n    kept[..ends].copy_from_slice(&line[..ends]);\n    let seven = kept[0] == 7;\n    join[..ends].copy")), NOT_FOLLOWED
     moved = re.sub(r"\b%s\[([^\]]*)\]" % reader.reads[0].split("[")[0], lambda m: m[0].replace("[", ", ").replace("]", ")").replace(m[0].split("[")[0], "edge_at(" + m[0].split("[")[0], 1), tree[reader.path])
     yield "a read moved out of its function", with_text(reader.path, moved + "fn edge_at(edges: &[u8], place: usize) -> u8 {\n    edges[place]\n}\n"), NO_ROW
     yield "no row for a read", without_row(r"\| `%s` \(" % reader.name), NO_ROW
