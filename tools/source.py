@@ -153,6 +153,29 @@ def functions(text):
     return [Function(tokens, lines, at, fellow, owner(at)) for at, token in enumerate(tokens) if token == "fn" and tokens[at + 1] not in OPENING]
 
 
+DERIVED = {"lt": "PartialOrd", "eq": "PartialEq"}  # the comparisons `<` and `==`, and the traits that have them
+
+
+def types(text):
+    """{name: (derives, fields {name: type}, its first and last line)} of the structs and enums that a file declares; the fields of a struct in order, with those that its
+    comparisons skip left out, and the types as words"""
+    found, bare = {}, without_comments(text)
+    for m in re.finditer(r"(?ms)^((?:#\[[^\n]*\]\s*)*)(?:pub )?(?:struct|enum) (\w+)[^{};]*(?:\{(.*?)^\}|;)", bare):
+        fields = {}
+        for part in parted([token[0] for token in TOKEN.finditer(m[3] or "")]):
+            head = part[:part.index(":")] if ":" in part else []
+            if head and "skip" not in head:
+                fields[head[-1]] = part[len(head) + 1:]
+        first = bare.count("\n", 0, m.start()) + 1
+        found[m[2]] = re.findall(r"\w+", m[1]), fields, (first, first + m[0].count("\n"))
+    return found
+
+
+def derived(text):
+    """the comparisons that the types of a file derive, as `Type::lt` and `Type::eq`"""
+    return {f"{name}::{way}" for name, (derives, _, _) in types(text).items() for way, trait in DERIVED.items() if trait in derives}
+
+
 def handed_on(text):
     """the names that a file's `pub use` lines hand on, as they are called where they come from; * for all"""
     names = set()
