@@ -124,6 +124,11 @@ def copies(tree, check):
     yield "an edge of a struct in an array, as an argument", with_text(public.path, plain + "fn seven_of(all: &[LineParts<'_>]) -> usize {\n    part_end(usize::from(all[0].line[0]), 1)\n}\n"), NOT_FOLLOWED
     yield "an edge compared in a closure that takes the struct", in_public(f"let read = |whole: LineParts<'_>| whole.line[0] == 7;\nlet seven = read({made});"), NO_LOOK
     yield "an edge compared in a closure by the name of a function", in_public("let part = |edges: &[u8]| edges[0] == 7;\nlet seven = part(line);"), NOT_FOLLOWED
+    yield "an edge compared in a closure in a pair, by the name of a function", in_public("let (part, n) = (|edges: &[u8]| edges[0] == 7, 1);\nlet seven = part(line);"), NOT_FOLLOWED
+    yield "an edge passed to a method by the name of a function", in_public("let seven = sums.double(line[0]);"), NO_LOOK
+    yield "the line passed to a function of a type by the name of a function", in_public("let sum = Sums::double(line);"), NOT_FOLLOWED
+    yield "a method called on the struct by the name of a function", at_start_of(structed, "let seven = parts.double(0);"), NOT_FOLLOWED
+    yield "an item of the struct's line asked only for a mark", at_start_of(structed, "for edge in parts.line.iter() {\n    let marked = is_mark(*edge);\n}"), NOT_COUNTED
     yield "the struct in a struct", with_text(public.path, plain + "struct Held<'a> {\n    parts: LineParts<'a>,\n}\nfn seven_of(held: Held<'_>) -> bool {\n    held.parts.line[0] == 7\n}\n"), HIDDEN
     yield "the struct under another name in its module", with_text(public.path, plain + "type Whole<'a> = LineParts<'a>;\nfn seven_of(whole: Whole<'_>) -> bool {\n    whole.line[0] == 7\n}\n"), HIDDEN
     yield "the struct used under another name", with_text(public.path, plain + "use windows::LineParts as Whole;\nfn seven_of(whole: Whole<'_>) -> bool {\n    whole.line[0] == 7\n}\n"), HIDDEN
