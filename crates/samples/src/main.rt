@@ -62,21 +62,28 @@ fn run(rt: &impl Print, call: Call, text: &[u8], number: usize) -> io::Result<()
     Ok(())
 }
 
-// Reads the input until the area is full or the input ends, and returns what was read.
-fn read_text<'a>(reader: impl Read + Drop, area: &'a mut [u8]) -> io::Result<&'a [u8]>
-    ensures { IfOk result (λ text. length text.now ≤ length area.old) }
+// Reads until `text` is full or the input ends, and returns the number of bytes read. (A loop, because `io::copy` tries an
+// interrupted read again, takes 8 KiB more of the stack, and asks for at most 8 KiB at once, so that a longer packet of a
+// socket is cut.)
+fn read_text(reader: &mut impl Read, text: &mut [u8]) -> io::Result<usize>
+    ensures { IfOk result (λ n. n ≤ length text.new) }
 {
-    let room = area.len();
-    let mut rest: &mut [u8] = &mut *area;
-    io::copy(&mut reader.take(room as u64), &mut rest)?;
-    let got = room.saturating_sub(rest.len());
-    Ok(&area[..got])
+    let mut got: usize = 0;
+    while got < text.len() {
+        let more = reader.read(&mut text[got..])?;
+        if more == 0 {
+            return Ok(got);
+        }
+        got += more;
+    }
+    Ok(got)
 }
 
 // Reads the table of rows and runs each of its fourteen sections through its calls.
 fn main(rt: HostRuntime) -> io::Result<()> {
     let mut input: [u8; TEXT_BYTES] = area::filled(0);
-    let text = read_text(rt.stdin(), &mut input)?;
+    let n = read_text(&mut rt.stdin(), &mut input)?;
+    let text = &input[..n];
     run(&rt, Call::Pack, text, 1)?;
     run(&rt, Call::Read, text, 2)?;
     run(&rt, Call::Unpack, text, 2)?;

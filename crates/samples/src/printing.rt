@@ -41,11 +41,18 @@ fn print_value(rt: &impl Print, shown: PrintedAs, at: usize, word: u32) -> io::R
     }
 }
 
+// The checksum with one word more.
+fn sum_with(sum: u32, word: u32) -> u32
+    ensures { result < 1000003 }
+{
+    ((u64::from(sum) * 31 + u64::from(word)) % CHECKSUM_MODULUS) as u32
+}
+
 // The checksum of words: for each word, 31 times the sum so far plus the word, mod 1,000,003.
 fn checksum<T: Place>(places: &[T]) -> u32 {
-    places.iter().fold(0, |sum: u32, place| {
-        ((u64::from(sum) * 31 + u64::from(place.word())) % CHECKSUM_MODULUS) as u32
-    })
+    places
+        .iter()
+        .fold(0, |sum: u32, place| sum_with(sum, place.word()))
 }
 
 // Prints bytes or words, or their checksum if they are many.
