@@ -1,4 +1,6 @@
 // Printing the line of a row after the call and the row's name: numbers with their labels, then what the call wrote.
+ghost use Rattle.std.specs.Prelude.{◌<◌};
+
 use crate::area::{Place, Room};
 use findings::WORDS_EACH;
 use silences::RECORD_WORDS;
