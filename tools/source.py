@@ -160,7 +160,7 @@ def types(text):
     """{name: (derives, fields {name: type}, its first and last line)} of the structs and enums that a file declares; the fields of a struct in order, with those that its
     comparisons skip left out, and the types as words"""
     found, bare = {}, without_comments(text)
-    for m in re.finditer(r"(?ms)^((?:#\[[^\n]*\]\s*)*)(?:pub )?(?:struct|enum) (\w+)[^{};]*(?:\{(.*?)^\}|;)", bare):
+    for m in re.finditer(r"(?ms)(?:^|(?<=\} ))((?:#\[[^\n]*\]\s*)*)(?:pub )?(?:struct|enum) (\w+)[^{};]*(?:\{(.*?)^\}|;)", bare):
         fields = {}
         for part in parted([token[0] for token in TOKEN.finditer(m[3] or "")]):
             head = part[:part.index(":")] if ":" in part else []

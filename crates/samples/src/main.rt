@@ -47,6 +47,15 @@ fn run_row(rt: &impl Print, call: Call, row: Row<'_>) -> io::Result<()> {
     }
 }
 
+// Begins a row's line: the call, the row's name, and a colon. (Not inlined, so that the buffers of printing are not on the
+// stack while the row runs.)
+#[inline(never)]
+fn begin_row(rt: &impl Print, call: Call, row: Row<'_>) -> io::Result<()> {
+    print!(rt; "{call} ")?;
+    rt.write_all(row.field(0))?;
+    print!(rt; ":")
+}
+
 // Runs every row of a section through one call. The section's first line is a heading, and what stands behind its last
 // newline is no row.
 fn run(rt: &impl Print, call: Call, text: &[u8], number: usize) -> io::Result<()> {
@@ -54,16 +63,14 @@ fn run(rt: &impl Print, call: Call, text: &[u8], number: usize) -> io::Result<()
     lines.next_back();
     for line in lines.skip(1) {
         let row = Row(line);
-        print!(rt; "{call} ")?;
-        rt.write_all(row.field(0))?;
-        print!(rt; ":")?;
+        begin_row(rt, call, row)?;
         run_row(rt, call, row)?;
     }
     Ok(())
 }
 
 // Reads until `text` is full or the input ends, and returns the number of bytes read. (A loop, because `io::copy` tries an
-// interrupted read again, takes 8 KiB more of the stack, and asks for at most 8 KiB at once, so that a longer packet of a
+// interrupted read again, takes 7 KiB more of the stack, and asks for at most 8 KiB at once, so that a longer packet of a
 // socket is cut.)
 fn read_text(reader: &mut impl Read, text: &mut [u8]) -> io::Result<usize>
     ensures { IfOk result (λ n. n ≤ length text.new) }
